@@ -1,0 +1,166 @@
+ghost use Rattle.std.specs.Prelude.{◌≡◌, drop};
+ghost use Rattle.nb_units.specs.Fields.{raw_at, u8_at, u32_at, u64_at, bytes_at, done_at, moved_by, moved_past, seen};
+
+use std::marker::Model;
+
+/// Why no such field stands at the place of a cut. The place is that of the field's first byte.
+#[derive(Clone, Copy, PartialEq, Eq, Debug)]
+pub enum CutFault {
+    /// Fewer bytes are left than the field has: for a text, than its length field has or says.
+    Short { place: usize },
+    /// A text's length field says more than its limit.
+    Long { place: usize, len: u32, max: u32 },
+    /// Bytes are left over behind the last field.
+    Extra { place: usize },
+}
+
+/// Reads a slice from its front, field by field.
+#[derive(Drop)]
+pub struct Cut<'a> {
+    bytes: &'a [u8],
+    place: usize,
+}
+
+impl<'a> Model for Cut<'a> {
+    ghost use Rattle.std.specs.Prelude.{◌≤◌, length};
+    ghost use Rattle.nb_units.specs.Reading.{Reading};
+
+    ghost Value = { Reading };
+
+    ghost view = { λ c. record { bytes = c.bytes.now; place = c.place } };
+
+    ghost invariant = { λ c. c.place ≤ length c.bytes.now };
+}
+
+#[tactic(auto, unfolding(crate::specs::Fields::raw_at, crate::specs::Fields::u8_at, crate::specs::Fields::u32_at, crate::specs::Fields::u64_at, crate::specs::Fields::bytes_at, crate::specs::Fields::done_at))]
+impl<'a> Cut<'a> {
+    /// A cut at the front of the bytes.
+    pub fn new(bytes: &'a [u8]) -> Cut<'a>
+        ensures bytes { result.bytes ≡ bytes.now }
+        ensures place { result.place ≡ 0 }
+    {
+        Cut { bytes, place: 0 }
+    }
+
+    /// How many bytes were read.
+    pub fn place(&self) -> usize
+        ensures { result ≡ self.now.place }
+    {
+        self.place
+    }
+
+    /// One byte.
+    pub fn u8(&mut self) -> Result<u8, CutFault>
+        ensures value { result ≡ u8_at self.old.bytes self.old.place }
+        ensures moved { self.new ≡ moved_by self.old 1 result }
+    {
+        let rest = self.rest();
+        if rest.is_empty() {
+            return Err(CutFault::Short { place: self.place });
+        }
+        self.place += 1;
+        Ok(rest[0])
+    }
+
+    /// A number of 4 bytes, big-endian.
+    pub fn u32(&mut self) -> Result<u32, CutFault>
+        ensures value { result ≡ u32_at self.old.bytes self.old.place }
+        ensures moved { self.new ≡ moved_by self.old 4 result }
+    {
+        let rest = self.rest();
+        if rest.len() < 4 {
+            return Err(CutFault::Short { place: self.place });
+        }
+        let mut word = [0u8; 4];
+        word.copy_from_slice(rest.split_at(4).0);
+        self.place += 4;
+        Ok(u32::from_be_bytes(word))
+    }
+
+    /// A number of 8 bytes, big-endian.
+    pub fn u64(&mut self) -> Result<u64, CutFault>
+        ensures value { result ≡ u64_at self.old.bytes self.old.place }
+        ensures moved { self.new ≡ moved_by self.old 8 result }
+    {
+        let rest = self.rest();
+        if rest.len() < 8 {
+            return Err(CutFault::Short { place: self.place });
+        }
+        let mut word = [0u8; 8];
+        word.copy_from_slice(rest.split_at(8).0);
+        self.place += 8;
+        Ok(u64::from_be_bytes(word))
+    }
+
+    /// 16 bytes as they stand.
+    pub fn fixed16(&mut self) -> Result<[u8; 16], CutFault>
+        ensures value { result ≡ raw_at 16 self.old.bytes self.old.place }
+        ensures moved { self.new ≡ moved_by self.old 16 result }
+    {
+        let rest = self.rest();
+        if rest.len() < 16 {
+            return Err(CutFault::Short { place: self.place });
+        }
+        let mut field = [0u8; 16];
+        field.copy_from_slice(rest.split_at(16).0);
+        self.place += 16;
+        Ok(field)
+    }
+
+    /// 32 bytes as they stand.
+    pub fn fixed32(&mut self) -> Result<[u8; 32], CutFault>
+        ensures value { result ≡ raw_at 32 self.old.bytes self.old.place }
+        ensures moved { self.new ≡ moved_by self.old 32 result }
+    {
+        let rest = self.rest();
+        if rest.len() < 32 {
+            return Err(CutFault::Short { place: self.place });
+        }
+        let mut field = [0u8; 32];
+        field.copy_from_slice(rest.split_at(32).0);
+        self.place += 32;
+        Ok(field)
+    }
+
+    /// A text of at most `max` bytes: its length in 4 bytes, big-endian, and then the text.
+    pub fn bytes(&mut self, max: u32) -> Result<&'a [u8], CutFault>
+        ensures value { seen result ≡ bytes_at max self.old.bytes self.old.place }
+        ensures moved { self.new ≡ moved_past self.old result }
+    {
+        let place = self.place;
+        let rest = self.rest();
+        if rest.len() < 4 {
+            return Err(CutFault::Short { place });
+        }
+        let (front, behind) = rest.split_at(4);
+        let mut word = [0u8; 4];
+        word.copy_from_slice(front);
+        let len = u32::from_be_bytes(word);
+        if len > max {
+            return Err(CutFault::Long { place, len, max });
+        }
+        if behind.len() < len as usize {
+            return Err(CutFault::Short { place });
+        }
+        let (text, _) = behind.split_at(len as usize);
+        self.place += 4 + len as usize;
+        Ok(text)
+    }
+
+    /// Whether no bytes are left over.
+    pub fn done(&self) -> Result<(), CutFault>
+        ensures { result ≡ done_at self.now.bytes self.now.place }
+    {
+        if self.place < self.bytes.len() {
+            return Err(CutFault::Extra { place: self.place });
+        }
+        Ok(())
+    }
+
+    // What is left, from the place on.
+    fn rest(&self) -> &'a [u8]
+        ensures { result.now ≡ drop self.now.place self.now.bytes }
+    {
+        self.bytes.split_at(self.place).1
+    }
+}

@@ -1,0 +1,31 @@
+ghost use Rattle.std.specs.Prelude.{◌≡◌, ◌≤◌, ◌-◌, IsOk, OnOk, vec_capacity, vec_len};
+ghost use Rattle.nb_units.specs.Room.{spare_of};
+
+use std::alloc::{AllocError, AllocFailed};
+
+/// There was no memory for what a call had to make or to keep.
+#[derive(Clone, Copy, PartialEq, Eq, Debug)]
+pub struct NoMemory;
+
+impl From<AllocError> for NoMemory {
+    fn from(_error: AllocError) -> NoMemory {
+        NoMemory
+    }
+}
+
+impl<T: Drop> From<AllocFailed<T>> for NoMemory {
+    fn from(_failed: AllocFailed<T>) -> NoMemory {
+        NoMemory
+    }
+}
+
+/// Makes the room of `out` at least `n` bytes: so many can be appended without taking memory.
+pub fn room(out: &mut Vec<u8>, n: usize) -> Result<(), NoMemory>
+    ensures ok { OnOk result (n ≤ spare_of out.new) }
+    ensures bytes { out.new.items ≡ out.old.items }
+    ensures kept { spare_of out.old ≤ spare_of out.new }
+    ensures had { n ≤ spare_of out.old → IsOk result }
+{
+    out.reserve(n)?;
+    Ok(())
+}
