@@ -8,6 +8,7 @@
 #![tactic(auto)]
 
 mod cut;
+pub mod frames;
 mod ids;
 mod memory;
 mod pen;

@@ -1,0 +1,195 @@
+-- A whole frame at the front is read as that frame, what is read as a frame is its spelling, and a stream
+-- has one splitting into frames, which is the longest.
+use Rattle.std.proofs.Common.{◌≡◌, ℕ, zero, suc, ◌+◌, ◌^◌, ◌<◌, ◌≤◌, Bool, true, false, cond, ltb, eqb, ◌&&◌, List, [], ◌∷◌, ◌++◌, length, get_or, take, drop, refl, sym, ap, subst, ◌∙◌, append_assoc, arith, inl, inr}
+use Rattle.std.specs.Prelude.{if◌then◌else◌, nat_lt, ◌==◌}
+use Rattle.std.specs.Int.{w32, from_be_bytes, to_be_bytes}
+use Rattle.std.specs.List.{flat_map, AllByRecursion}
+use Rattle.std.proofs.lemmas.Bool.{ltb-true, ltb-false, lt-ltb, le-ltb, eqb-true}
+use Rattle.std.proofs.lemmas.List.{length-append, append-nil}
+use Rattle.std.proofs.Math.Seq.{take-append_seam, drop-append_seam}
+use Rattle.std.proofs.lemmas.Nat.{from_be_bytes-to_be_bytes_4, be_bytes_4}
+use Rattle.std.proofs.lemmas.List.Concat.{flat_map-cons}
+use Rattle.nb_units.specs.Fields.{be4, sized}
+use Rattle.nb_units.specs.Frames.{Frame, IsFrame, frame, Front, Whole, Empty, Partial, Bad, HeaderFault, BadMagic, BadVersion, BadKind, TooLong, body_of, behind_kind, behind_version, behind_magic, behind_first, front_of, IsWhole, Splits}
+
+-- a test that fails leaves the other branch
+unless : {A : Type 0} (a b : ℕ) (x y : A) → b ≤ a → (if nat_lt a b then x else y) ≡ y
+unless a b x y h = rw (le-ltb a b h) refl
+
+-- a test that holds takes the first branch
+when : {A : Type 0} (a b : ℕ) (x y : A) → a < b → (if nat_lt a b then x else y) ≡ x
+when a b x y h = rw (lt-ltb a b h) refl
+
+body_whole : (kind : ℕ) (body rest : List ℕ) → length body ≤ 1048576 → body_of kind (length body) (body ++ rest) ≡ Whole (record { kind = kind; body = body }) rest
+body_whole kind body rest fits =
+    unless 1048576 (length body) _ _ fits
+    ∙ unless (length (body ++ rest)) (length body) _ _ (omega (arith, length-append body rest))
+    ∙ rw (take-append_seam body rest, drop-append_seam body rest) refl
+
+-- both bounds of a kind are tested
+kind_allowed : {A : Type 0} (k : ℕ) (x y : A) → 1 ≤ k → k ≤ 16 → cond (ltb 0 k && ltb k 17) x y ≡ x
+kind_allowed k x y low high = let a : ltb 0 k ≡ true = lt-ltb 0 k (omega arith) in let b : ltb k 17 ≡ true = lt-ltb k 17 (omega arith) in rw (a, b) refl
+
+pub whole_front : (f : Frame) (rest : List ℕ) → IsFrame f → front_of (frame f ++ rest) ≡ Whole f rest
+unfolding front_of
+whole_front f rest h =
+    kind_allowed f.kind _ _ h.0 h.1
+    ∙ ap (λ (n : ℕ). body_of f.kind n (f.body ++ rest)) (from_be_bytes-to_be_bytes_4 (length f.body) (omega (arith, h.2)))
+    ∙ body_whole f.kind f.body rest h.2
+
+abbrev whole : Frame → List ℕ → Front
+whole f rest = Whole f rest
+
+same_frame : (f g : Frame) (r s : List ℕ) → whole f r ≡ whole g s → f ≡ g
+same_frame f g r s e = cc
+
+same_rest : (f g : Frame) (r s : List ℕ) → whole f r ≡ whole g s → r ≡ s
+same_rest f g r s e = cc
+
+is_whole : (front : Front) (f : Frame) (rest : List ℕ) → front ≡ Whole f rest → IsWhole front
+is_whole front f rest e = rw e tt
+
+pub longest : (fs gs : List Frame) (r t : List ℕ) → flat_map frame fs ++ r ≡ flat_map frame gs ++ t → AllByRecursion IsFrame fs → AllByRecursion IsFrame gs → (IsWhole (front_of r) → ⊥)
+    → (more : List Frame) × (fs ≡ gs ++ more) × (t ≡ flat_map frame more ++ r)
+longest fs [] r t e lawful given ends = (fs, refl, sym e)
+longest [] (g ∷ gs) r t e lawful given ends =
+    let one : r ≡ frame g ++ (flat_map frame gs ++ t) = e ∙ append_assoc (frame g) (flat_map frame gs) t in
+    absurd (ends (is_whole (front_of r) g (flat_map frame gs ++ t) (ap front_of one ∙ whole_front g (flat_map frame gs ++ t) given.0)))
+longest (f ∷ fs) (g ∷ gs) r t e lawful given ends =
+    let one : frame f ++ (flat_map frame fs ++ r) ≡ frame g ++ (flat_map frame gs ++ t) =
+    sym (append_assoc (frame f) (flat_map frame fs) r) ∙ e ∙ append_assoc (frame g) (flat_map frame gs) t in
+    let both : whole f (flat_map frame fs ++ r) ≡ whole g (flat_map frame gs ++ t) =
+    sym (whole_front f (flat_map frame fs ++ r) lawful.0) ∙ ap front_of one ∙ whole_front g (flat_map frame gs ++ t) given.0 in
+    let more = longest fs gs r t (same_rest f g _ _ both) lawful.1 given.1 ends in
+    (more.0, cons_same f g fs (gs ++ more.0) (same_frame f g _ _ both) more.1, more.2)
+  where
+    cons_same : (f g : Frame) (fs gs : List Frame) → f ≡ g → fs ≡ gs → f ∷ fs ≡ g ∷ gs
+    cons_same f g fs gs a b = cc
+
+pub longest_in : (stream r t : List ℕ) (fs gs : List Frame) → Splits stream fs r → AllByRecursion IsFrame gs → stream ≡ flat_map frame gs ++ t
+    → (more : List Frame) × (fs ≡ gs ++ more) × (t ≡ flat_map frame more ++ r)
+longest_in stream r t fs gs p given e = longest fs gs r t (sym p.bytes ∙ e) p.lawful given p.ends
+
+nil_cons : (g : Frame) (gs : List Frame) → [] ≡ g ∷ gs → ⊥
+nil_cons g gs e = cc
+
+tail_same : (f g : Frame) (fs gs : List Frame) → f ∷ fs ≡ g ∷ gs → fs ≡ gs
+tail_same f g fs gs e = cc
+
+pub one_reading : (stream r s : List ℕ) (fs gs : List Frame) → Splits stream fs r → Splits stream gs s → (fs ≡ gs) × (r ≡ s)
+one_reading stream r s fs gs p q =
+    let a = longest fs gs r s (sym p.bytes ∙ q.bytes) p.lawful q.lawful p.ends in
+    ended a.0 fs gs r s a.1 a.2 (lawful_more fs gs a.0 a.1 p.lawful) q.ends
+  where
+    lawful_more : (fs gs more : List Frame) → fs ≡ gs ++ more → AllByRecursion IsFrame fs → AllByRecursion IsFrame more
+    lawful_more fs [] more e h = subst (λ (xs : List Frame). AllByRecursion IsFrame xs) e h
+    lawful_more [] (g ∷ gs) more e h = absurd (nil_cons g (gs ++ more) e)
+    lawful_more (f ∷ fs) (g ∷ gs) more e h = lawful_more fs gs more (tail_same f g fs (gs ++ more) e) h.1
+
+    ended : (more fs gs : List Frame) (r s : List ℕ) → fs ≡ gs ++ more → s ≡ flat_map frame more ++ r → AllByRecursion IsFrame more → (IsWhole (front_of s) → ⊥) → (fs ≡ gs) × (r ≡ s)
+    ended [] fs gs r s a b h ends = (a ∙ append-nil gs, sym b)
+    ended (m ∷ more) fs gs r s a b h ends =
+        absurd (ends (is_whole (front_of s) m (flat_map frame more ++ r) (ap front_of (b ∙ append_assoc (frame m) (flat_map frame more) r) ∙ whole_front m (flat_map frame more ++ r) h.0)))
+
+-- ---- bytes that follow
+
+-- a test that both pass, or both fail
+through : (test : Bool) (x y other before after : Front) → (other ≡ before → ⊥) → (x ≡ before → y ≡ after) → cond test x other ≡ before → cond test y other ≡ after
+through true x y other before after never goes e = goes e
+through false x y other before after never goes e = absurd (never e)
+
+-- a test that fails the same way
+stays : (test : Bool) (x y other z : Front) → (x ≡ z → y ≡ z) → cond test x other ≡ z → cond test y other ≡ z
+stays true x y other z goes e = goes e
+stays false x y other z goes e = e
+
+partial_bad : (fault : HeaderFault) → Partial ≡ Bad fault → ⊥
+partial_bad fault e = cc
+
+whole_bad : (f : Frame) (rest : List ℕ) (fault : HeaderFault) → whole f rest ≡ Bad fault → ⊥
+whole_bad f rest fault e = cc
+
+body_bad : (kind len : ℕ) (rest more : List ℕ) (fault : HeaderFault) → body_of kind len rest ≡ Bad fault → body_of kind len (rest ++ more) ≡ Bad fault
+body_bad kind len rest more fault e = bad_cases (ltb 1048576 len) (ltb (length rest) len) _ _ _ _ fault e
+  where
+    bad_cases : (long short : Bool) (f : Frame) (r : List ℕ) (tooLong other : Front) (fault : HeaderFault) → cond long tooLong (cond short Partial (Whole f r)) ≡ Bad fault → cond long tooLong other ≡ Bad fault
+    bad_cases true short f r tooLong other fault e = e
+    bad_cases false true f r tooLong other fault e = absurd (partial_bad fault e)
+    bad_cases false false f r tooLong other fault e = absurd (whole_bad f r fault e)
+
+behind_kind_bad : (kind : ℕ) (bytes more : List ℕ) (fault : HeaderFault) → behind_kind kind bytes ≡ Bad fault → behind_kind kind (bytes ++ more) ≡ Bad fault
+behind_kind_bad kind [] more fault e = absurd (partial_bad fault e)
+behind_kind_bad kind (a ∷ []) more fault e = absurd (partial_bad fault e)
+behind_kind_bad kind (a ∷ b ∷ []) more fault e = absurd (partial_bad fault e)
+behind_kind_bad kind (a ∷ b ∷ c ∷ []) more fault e = absurd (partial_bad fault e)
+behind_kind_bad kind (a ∷ b ∷ c ∷ d ∷ rest) more fault e = body_bad kind (from_be_bytes w32 (a ∷ b ∷ c ∷ d ∷ [])) rest more fault e
+
+behind_version_bad : (bytes more : List ℕ) (fault : HeaderFault) → behind_version bytes ≡ Bad fault → behind_version (bytes ++ more) ≡ Bad fault
+behind_version_bad [] more fault e = absurd (partial_bad fault e)
+behind_version_bad (k ∷ bytes) more fault e = stays (ltb 0 k && ltb k 17) _ _ _ _ (behind_kind_bad k bytes more fault) e
+
+behind_magic_bad : (bytes more : List ℕ) (fault : HeaderFault) → behind_magic bytes ≡ Bad fault → behind_magic (bytes ++ more) ≡ Bad fault
+behind_magic_bad [] more fault e = absurd (partial_bad fault e)
+behind_magic_bad (v ∷ bytes) more fault e = stays (eqb v 1) _ _ _ _ (behind_version_bad bytes more fault) e
+
+behind_first_bad : (bytes more : List ℕ) (fault : HeaderFault) → behind_first bytes ≡ Bad fault → behind_first (bytes ++ more) ≡ Bad fault
+behind_first_bad [] more fault e = absurd (partial_bad fault e)
+behind_first_bad (m ∷ bytes) more fault e = stays (eqb m 66) _ _ _ _ (behind_magic_bad bytes more fault) e
+
+empty_bad : (fault : HeaderFault) → Empty ≡ Bad fault → ⊥
+empty_bad fault e = cc
+
+pub bad_stays : (bytes more : List ℕ) (fault : HeaderFault) → front_of bytes ≡ Bad fault → front_of (bytes ++ more) ≡ Bad fault
+unfolding front_of
+bad_stays [] more fault e = absurd (empty_bad fault e)
+bad_stays (m ∷ bytes) more fault e = stays (eqb m 78) _ _ _ _ (behind_first_bad bytes more fault) e
+
+-- a header of eight bytes that is good so far: what follows decides, by its length alone
+abbrev pub behind_header : List ℕ → List ℕ → Front
+behind_header header more =
+    let len : ℕ = from_be_bytes w32 (drop 4 header) in
+    if nat_lt (length more) len then Partial else Whole (record { kind = get_or header 3 0; body = take len more }) (drop len more)
+
+bad_partial : (fault : HeaderFault) → Bad fault ≡ Partial → ⊥
+bad_partial fault e = cc
+
+body_then : (long : Bool) (fault : HeaderFault) (before after : Front) → cond long (Bad fault) before ≡ Partial → cond long (Bad fault) after ≡ after
+body_then true fault before after e = absurd (bad_partial fault e)
+body_then false fault before after e = refl
+
+pub header_then : (header more : List ℕ) → length header ≡ 8 → front_of header ≡ Partial → front_of (header ++ more) ≡ behind_header header more
+unfolding front_of
+header_then (m ∷ n ∷ v ∷ k ∷ a ∷ b ∷ c ∷ d ∷ []) more is e =
+    through (eqb m 78) _ _ _ _ _ (bad_partial _) (through (eqb n 66) _ _ _ _ _ (bad_partial _) (through (eqb v 1) _ _ _ _ _ (bad_partial _) (through (ltb 0 k && ltb k 17) _ _ _ _ _ (bad_partial _)
+    (body_then (ltb 1048576 (from_be_bytes w32 (a ∷ b ∷ c ∷ d ∷ []))) _ _ _)))) e
+header_then (m ∷ n ∷ v ∷ k ∷ a ∷ b ∷ c ∷ d ∷ x ∷ rest) more is e = absurd (omega arith)
+header_then few more is e = absurd (omega arith)
+
+-- fewer bytes than a header has are no whole frame
+not_whole : (test : Bool) (x other : Front) → (IsWhole x → ⊥) → (IsWhole other → ⊥) → IsWhole (cond test x other) → ⊥
+not_whole true x other a b e = a e
+not_whole false x other a b e = b e
+
+behind_kind_short : (kind : ℕ) (bytes : List ℕ) → length bytes < 4 → IsWhole (behind_kind kind bytes) → ⊥
+behind_kind_short kind [] n e = e
+behind_kind_short kind (a ∷ []) n e = e
+behind_kind_short kind (a ∷ b ∷ []) n e = e
+behind_kind_short kind (a ∷ b ∷ c ∷ []) n e = e
+behind_kind_short kind (a ∷ b ∷ c ∷ d ∷ rest) n e = absurd (omega arith)
+
+behind_version_short : (bytes : List ℕ) → length bytes < 5 → IsWhole (behind_version bytes) → ⊥
+behind_version_short [] n e = e
+behind_version_short (k ∷ bytes) n e = not_whole (ltb 0 k && ltb k 17) _ _ (behind_kind_short k bytes (omega arith)) (λ is. is) e
+
+behind_magic_short : (bytes : List ℕ) → length bytes < 6 → IsWhole (behind_magic bytes) → ⊥
+behind_magic_short [] n e = e
+behind_magic_short (v ∷ bytes) n e = not_whole (eqb v 1) _ _ (behind_version_short bytes (omega arith)) (λ is. is) e
+
+behind_first_short : (bytes : List ℕ) → length bytes < 7 → IsWhole (behind_first bytes) → ⊥
+behind_first_short [] n e = e
+behind_first_short (m ∷ bytes) n e = not_whole (eqb m 66) _ _ (behind_magic_short bytes (omega arith)) (λ is. is) e
+
+pub short_front : (bytes : List ℕ) → length bytes < 8 → IsWhole (front_of bytes) → ⊥
+unfolding front_of
+short_front [] n e = e
+short_front (m ∷ bytes) n e = not_whole (eqb m 78) _ _ (behind_first_short bytes (omega arith)) (λ is. is) e

@@ -1,0 +1,95 @@
+-- A frame of the protocol: 4E 42, the version 01, the kind from 01 to 10, the length of the body in four
+-- bytes, and the body of at most 1,048,576 bytes. A stream is whole frames and a rest that begins with none.
+use Rattle.std.specs.Prelude.{◌≡◌, ℕ, ◌+◌, ◌≤◌, List, [], ◌∷◌, ◌++◌, length, take, drop, nat_lt, ◌==◌, ◌&&◌, if◌then◌else◌}
+use Rattle.std.specs.List.{flat_map, AllByRecursion}
+use Rattle.std.specs.Int.{w32, from_be_bytes}
+use Rattle.nb_units.specs.Fields.{sized}
+use Rattle.nb_units.specs.declared.frames.TheConstants.{FIRST_MAGIC, SECOND_MAGIC, VERSION, LAST_KIND, MAX_BODY}
+
+pub record Frame : Type 0 where
+  pub kind : ℕ
+  pub body : List ℕ
+
+-- its kind and its length are allowed
+abbrev pub IsFrame : Frame → Type 0
+IsFrame f = (1 ≤ f.kind) × (f.kind ≤ LAST_KIND) × (length f.body ≤ MAX_BODY)
+
+-- its one spelling
+abbrev pub frame : Frame → List ℕ
+frame f = FIRST_MAGIC ∷ SECOND_MAGIC ∷ VERSION ∷ f.kind ∷ sized f.body
+
+-- the first part of a header that is not allowed: its place in the frame, and what stands there
+pub data HeaderFault : Type 0 where
+  BadMagic : ℕ → ℕ → HeaderFault
+  BadVersion : ℕ → ℕ → HeaderFault
+  BadKind : ℕ → ℕ → HeaderFault
+  TooLong : ℕ → ℕ → HeaderFault
+
+-- what stands at the front of a list of bytes: a whole frame and what follows it, nothing, less than a
+-- frame that may still become one, or what no frame begins with
+pub data Front : Type 0 where
+  Whole : Frame → List ℕ → Front
+  Empty : Front
+  Partial : Front
+  Bad : HeaderFault → Front
+
+abbrev pub body_of : ℕ → ℕ → List ℕ → Front
+body_of kind len rest =
+    if nat_lt MAX_BODY len then Bad (TooLong 4 len)
+    else if nat_lt (length rest) len then Partial
+    else Whole (record { kind = kind; body = take len rest }) (drop len rest)
+
+abbrev pub behind_kind : ℕ → List ℕ → Front
+behind_kind kind (a ∷ b ∷ c ∷ d ∷ rest) = body_of kind (from_be_bytes w32 (a ∷ b ∷ c ∷ d ∷ [])) rest
+behind_kind kind few = Partial
+
+abbrev pub behind_version : List ℕ → Front
+behind_version [] = Partial
+behind_version (k ∷ bytes) = if nat_lt 0 k && nat_lt k (LAST_KIND + 1) then behind_kind k bytes else Bad (BadKind 3 k)
+
+abbrev pub behind_magic : List ℕ → Front
+behind_magic [] = Partial
+behind_magic (v ∷ bytes) = if v == VERSION then behind_version bytes else Bad (BadVersion 2 v)
+
+abbrev pub behind_first : List ℕ → Front
+behind_first [] = Partial
+behind_first (m ∷ bytes) = if m == SECOND_MAGIC then behind_magic bytes else Bad (BadMagic 1 m)
+
+unfoldable pub front_of : List ℕ → Front
+front_of [] = Empty
+front_of (m ∷ bytes) = if m == FIRST_MAGIC then behind_first bytes else Bad (BadMagic 0 m)
+
+-- a whole frame stands at the front
+abbrev pub IsWhole : Front → Type 0
+IsWhole (Whole f rest) = Unit {0}
+IsWhole other = ⊥
+
+-- a rest that a stream ends in within a frame, and one that no frame begins with
+abbrev pub IsBad : Front → Type 0
+IsBad (Bad fault) = Unit {0}
+IsBad other = ⊥
+
+-- the stream is these frames, and then a rest that begins with none
+pub record Splits (stream : List ℕ) (frames : List Frame) (rest : List ℕ) : Type 0 where
+  pub bytes : stream ≡ flat_map frame frames ++ rest
+  pub lawful : AllByRecursion IsFrame frames
+  pub ends : IsWhole (front_of rest) → ⊥
+
+-- ---- laws
+
+-- a whole frame at the front is read as that frame, whatever follows it
+abbrev pub FrontIsFrame : Type 0
+FrontIsFrame = (f : Frame) (rest : List ℕ) → IsFrame f → front_of (frame f ++ rest) ≡ Whole f rest
+
+-- no longer list of frames begins the stream
+abbrev pub LongestReading : Type 0
+LongestReading = (stream r t : List ℕ) (fs gs : List Frame) → Splits stream fs r → AllByRecursion IsFrame gs → stream ≡ flat_map frame gs ++ t
+    → (more : List Frame) × (fs ≡ gs ++ more) × (t ≡ flat_map frame more ++ r)
+
+-- a stream is read in one way
+abbrev pub OneReading : Type 0
+OneReading = (stream r s : List ℕ) (fs gs : List Frame) → Splits stream fs r → Splits stream gs s → (fs ≡ gs) × (r ≡ s)
+
+-- what no frame begins with stays so, whatever follows
+abbrev pub BadStays : Type 0
+BadStays = (bytes more : List ℕ) (fault : HeaderFault) → front_of bytes ≡ Bad fault → front_of (bytes ++ more) ≡ Bad fault

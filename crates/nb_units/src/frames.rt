@@ -1,0 +1,44 @@
+//! What a frame of the protocol is. The definitions stand in `specs/Frames.antt`; here are the header's
+//! constants, and the laws that make the definitions one reading of a stream.
+
+ghost use Rattle.nb_units.specs.Frames.{FrontIsFrame, LongestReading, OneReading, BadStays};
+
+/// The first byte of a frame, `N`.
+pub const FIRST_MAGIC: u8 = 0x4E;
+
+/// The second byte of a frame, `B`.
+pub const SECOND_MAGIC: u8 = 0x42;
+
+/// The third byte of a frame: the protocol's version.
+pub const VERSION: u8 = 1;
+
+/// The greatest kind of a frame; the least is 1.
+pub const LAST_KIND: u8 = 0x10;
+
+/// The most bytes that the body of a frame has.
+pub const MAX_BODY: u32 = 1_048_576;
+
+/// The bytes of a frame before its body: two of magic, the version, the kind, and four of length.
+pub const HEADER: usize = 8;
+
+/// A law: a whole frame at the front of a stream is read as that frame, whatever follows it.
+#[tactic(auto, using(crate::proofs::FrameLaws::whole_front))]
+pub fn front_is_frame()
+    ensures { FrontIsFrame }
+{}
+
+/// A law: the frames of a stream are the longest list of frames that it begins with.
+pub fn longest_reading()
+    ensures { LongestReading }
+{}
+
+/// A law: a stream has one list of frames, and one rest.
+pub fn one_reading()
+    ensures { OneReading }
+{}
+
+/// A law: bytes that no frame begins with stay so, whatever comes behind them.
+#[tactic(auto, using(crate::proofs::FrameLaws::bad_stays))]
+pub fn bad_stays()
+    ensures { BadStays }
+{}
