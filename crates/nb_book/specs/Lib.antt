@@ -1,0 +1,5 @@
+pub mod Ledger
+pub mod Searches
+pub mod Money
+pub mod Legal
+pub mod Laws

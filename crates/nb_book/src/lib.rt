@@ -1,13 +1,28 @@
-// A library with one function.
+//! The book of a house: its entries in order, and what they say of parties, accounts and money.
+//!
+//! A [`Book`] is seen as a [`Ledger`](specs/Ledger.antt): the list of its entries, its cap, and its spare, the
+//! number of entries that can be applied without taking memory. A look-up gives the first entry that names its
+//! key, a balance is a sum over the whole list, and [`Book::legal`] says whether an entry may come next. The list
+//! of a book is Legal at all times: each entry was legal after those before it.
+//!
+//! What the words mean stands in `specs/`: the look-ups in `Searches.antt`, the sums in `Money.antt`, the rule for
+//! each entry in `Legal.antt`. What holds of every Legal list stands in `specs/Laws.antt` and is proved by the
+//! functions of [`laws`].
+//!
+//! Left to others: how an entry is spelled in bytes, where it is kept, and who may ask for it.
 #![tactic(auto)]
 
-ghost use Rattle.std.specs.Prelude.{◌≡◌};
-ghost use Rattle.nb_book.specs.Echo.{echo_of};
+mod account;
+mod book;
+mod entry;
+mod funded;
+pub mod laws;
+mod limits;
+mod party;
 
-// The `ensures` clause is the contract: what `echo` returns is `echo_of` of its argument, a definition
-// in `specs/Echo.antt`, which a caller's clause can cite too.
-pub fn echo(x: usize) -> usize
-    ensures { result ≡ echo_of x }
-{
-    x
-}
+pub use account::Account;
+pub use book::Book;
+pub use entry::{CONSUMER, Entry, MERCHANT};
+pub use funded::Funded;
+pub use limits::{MAX_CAP, MAX_TOTAL};
+pub use party::Party;

@@ -5,12 +5,12 @@ use Rattle.std.specs.Prelude.{if◌then◌else◌, nat_lt, ◌==◌}
 use Rattle.std.specs.Int.{w32, from_be_bytes, to_be_bytes}
 use Rattle.std.specs.List.{flat_map, AllByRecursion}
 use Rattle.std.proofs.lemmas.Bool.{ltb-true, ltb-false, lt-ltb, le-ltb, eqb-true}
-use Rattle.std.proofs.lemmas.List.{length-append, append-nil}
+use Rattle.std.proofs.lemmas.List.{length-append, append-nil, length-take-le, take-append-drop}
 use Rattle.std.proofs.Math.Seq.{take-append_seam, drop-append_seam}
 use Rattle.std.proofs.lemmas.Nat.{from_be_bytes-to_be_bytes_4, be_bytes_4}
 use Rattle.std.proofs.lemmas.List.Concat.{flat_map-cons}
 use Rattle.nb_units.specs.Fields.{be4, sized}
-use Rattle.nb_units.specs.Frames.{Frame, IsFrame, frame, Front, Whole, Empty, Partial, Bad, HeaderFault, BadMagic, BadVersion, BadKind, TooLong, body_of, behind_kind, behind_version, behind_magic, behind_first, front_of, IsWhole, Splits}
+use Rattle.nb_units.specs.Frames.{Frame, IsFrame, frame, Front, Whole, Empty, Partial, Bad, HeaderFault, BadMagic, BadVersion, BadKind, TooLong, body_of, behind_kind, behind_version, behind_magic, behind_first, front_of, IsWhole, Splits, AreBytes}
 
 -- a test that fails leaves the other branch
 unless : {A : Type 0} (a b : ℕ) (x y : A) → b ≤ a → (if nat_lt a b then x else y) ≡ y
@@ -193,3 +193,114 @@ pub short_front : (bytes : List ℕ) → length bytes < 8 → IsWhole (front_of 
 unfolding front_of
 short_front [] n e = e
 short_front (m ∷ bytes) n e = not_whole (eqb m 78) _ _ (behind_first_short bytes (omega arith)) (λ is. is) e
+
+-- only no bytes at all are empty
+bad_empty : (fault : HeaderFault) → Bad fault ≡ Empty → ⊥
+bad_empty fault e = cc
+
+part_empty : Partial ≡ Empty → ⊥
+part_empty e = cc
+
+whole_empty : (f : Frame) (rest : List ℕ) → whole f rest ≡ Empty → ⊥
+whole_empty f rest e = cc
+
+-- a test of which neither side is empty
+not_empty : (test : Bool) (x other : Front) → (x ≡ Empty → ⊥) → (other ≡ Empty → ⊥) → cond test x other ≡ Empty → ⊥
+not_empty true x other a b e = a e
+not_empty false x other a b e = b e
+
+behind_kind_empty : (kind : ℕ) (bytes : List ℕ) → behind_kind kind bytes ≡ Empty → ⊥
+behind_kind_empty kind [] e = part_empty e
+behind_kind_empty kind (a ∷ []) e = part_empty e
+behind_kind_empty kind (a ∷ b ∷ []) e = part_empty e
+behind_kind_empty kind (a ∷ b ∷ c ∷ []) e = part_empty e
+behind_kind_empty kind (a ∷ b ∷ c ∷ d ∷ rest) e =
+    not_empty (ltb 1048576 (from_be_bytes w32 (a ∷ b ∷ c ∷ d ∷ []))) _ _ (bad_empty _) (not_empty (ltb (length rest) (from_be_bytes w32 (a ∷ b ∷ c ∷ d ∷ []))) _ _ part_empty (whole_empty _ _)) e
+
+behind_version_empty : (bytes : List ℕ) → behind_version bytes ≡ Empty → ⊥
+behind_version_empty [] e = part_empty e
+behind_version_empty (k ∷ bytes) e = not_empty (ltb 0 k && ltb k 17) _ _ (behind_kind_empty k bytes) (bad_empty _) e
+
+behind_magic_empty : (bytes : List ℕ) → behind_magic bytes ≡ Empty → ⊥
+behind_magic_empty [] e = part_empty e
+behind_magic_empty (v ∷ bytes) e = not_empty (eqb v 1) _ _ (behind_version_empty bytes) (bad_empty _) e
+
+behind_first_empty : (bytes : List ℕ) → behind_first bytes ≡ Empty → ⊥
+behind_first_empty [] e = part_empty e
+behind_first_empty (m ∷ bytes) e = not_empty (eqb m 66) _ _ (behind_magic_empty bytes) (bad_empty _) e
+
+pub empty_front : (bytes : List ℕ) → front_of bytes ≡ Empty → bytes ≡ []
+unfolding front_of
+empty_front [] e = refl
+empty_front (m ∷ bytes) e = absurd (not_empty (eqb m 78) _ _ (behind_first_empty bytes) (bad_empty _) e)
+
+-- what is read as a frame is its spelling
+abbrev chosen_whole : Bool → Front → HeaderFault → Front
+chosen_whole test x fault = cond test x (Bad fault)
+
+whole_chosen : (test : Bool) (x : Front) (fault : HeaderFault) (f : Frame) (rest : List ℕ) → cond test x (Bad fault) ≡ Whole f rest → (test ≡ true) × (x ≡ Whole f rest)
+whole_chosen true x fault f rest e = (refl, e)
+whole_chosen false x fault f rest e = absurd (bad_whole fault f rest e)
+  where
+    bad_whole : (fault : HeaderFault) (f : Frame) (rest : List ℕ) → Bad fault ≡ Whole f rest → ⊥
+    bad_whole fault f rest e = cc
+
+body_chosen : (long short : Bool) (fault : HeaderFault) (g f : Frame) (r rest : List ℕ) → cond long (Bad fault) (cond short Partial (Whole g r)) ≡ Whole f rest → (long ≡ false) × (short ≡ false) × (g ≡ f) × (r ≡ rest)
+body_chosen true short fault g f r rest e = absurd (bad_whole fault f rest e)
+  where
+    bad_whole : (fault : HeaderFault) (f : Frame) (rest : List ℕ) → Bad fault ≡ Whole f rest → ⊥
+    bad_whole fault f rest e = cc
+body_chosen false true fault g f r rest e = absurd (partial_whole f rest e)
+  where
+    partial_whole : (f : Frame) (rest : List ℕ) → Partial ≡ Whole f rest → ⊥
+    partial_whole f rest e = cc
+body_chosen false false fault g f r rest e = (refl, refl, same_frame g f r rest e, same_rest g f r rest e)
+
+both_true : (a b : Bool) → (a && b) ≡ true → (a ≡ true) × (b ≡ true)
+both_true true b e = (refl, e)
+both_true false b e = absurd cc
+
+length_spelled : (a b c d len : ℕ) → AreBytes (a ∷ b ∷ c ∷ d ∷ []) → len ≡ from_be_bytes w32 (a ∷ b ∷ c ∷ d ∷ []) → be4 len ≡ a ∷ b ∷ c ∷ d ∷ []
+length_spelled a b c d len fits e = be_bytes_4 (a ∷ b ∷ c ∷ d ∷ []) len refl fits e
+
+text_spelled : (a b c d len : ℕ) (body : List ℕ) → be4 len ≡ a ∷ b ∷ c ∷ d ∷ [] → len ≤ length body → a ∷ b ∷ c ∷ d ∷ body ≡ sized (take len body) ++ drop len body
+text_spelled a b c d len body word le =
+    let text : List ℕ = take len body in
+    let long : length text ≡ len = length-take-le len body le in
+    let first : List ℕ = a ∷ b ∷ c ∷ d ∷ [] in
+    ap (λ (x : List ℕ). first ++ x) (sym (take-append-drop len body))
+    ∙ ap (λ (x : List ℕ). x ++ (text ++ drop len body)) (sym (ap be4 long ∙ word))
+    ∙ sym (append_assoc (be4 (length text)) text (drop len body))
+
+header_spelled : (m n v k : ℕ) (tail text : List ℕ) → m ≡ 78 → n ≡ 66 → v ≡ 1 → tail ≡ text → m ∷ n ∷ v ∷ k ∷ tail ≡ 78 ∷ 66 ∷ 1 ∷ k ∷ text
+header_spelled m n v k tail text p q r e = cc
+
+frame_spelled : (m n v k a b c d len : ℕ) (body : List ℕ) → AreBytes (a ∷ b ∷ c ∷ d ∷ []) → m ≡ 78 → n ≡ 66 → v ≡ 1 → 0 < k → k < 17 → len ≡ from_be_bytes w32 (a ∷ b ∷ c ∷ d ∷ []) → len ≤ 1048576 → len ≤ length body
+    → let f : Frame = record { kind = k; body = take len body } in IsFrame f × (m ∷ n ∷ v ∷ k ∷ a ∷ b ∷ c ∷ d ∷ body ≡ frame f ++ drop len body)
+frame_spelled m n v k a b c d len body fits p q r low high is small le = (
+  (omega arith, omega arith, omega (arith, length-take-le len body le)),
+  header_spelled m n v k (a ∷ b ∷ c ∷ d ∷ body) (sized (take len body) ++ drop len body) p q r (text_spelled a b c d len body (length_spelled a b c d len fits is) le),
+)
+
+word_bytes : (a b c d : ℕ) (body : List ℕ) → AreBytes (a ∷ b ∷ c ∷ d ∷ body) → AreBytes (a ∷ b ∷ c ∷ d ∷ [])
+word_bytes a b c d body fits zero = fits 0
+word_bytes a b c d body fits (suc zero) = fits 1
+word_bytes a b c d body fits (suc (suc zero)) = fits 2
+word_bytes a b c d body fits (suc (suc (suc zero))) = fits 3
+word_bytes a b c d body fits (suc (suc (suc (suc i)))) = omega arith
+
+pub frame_is : (bytes rest : List ℕ) (f : Frame) → AreBytes bytes → front_of bytes ≡ Whole f rest → IsFrame f × (bytes ≡ frame f ++ rest)
+unfolding front_of
+frame_is (m ∷ n ∷ v ∷ k ∷ a ∷ b ∷ c ∷ d ∷ body) rest f fits e =
+    let len : ℕ = from_be_bytes w32 (a ∷ b ∷ c ∷ d ∷ []) in
+    let p = whole_chosen (eqb m 78) (behind_first (n ∷ v ∷ k ∷ a ∷ b ∷ c ∷ d ∷ body)) _ f rest e in
+    let q = whole_chosen (eqb n 66) (behind_magic (v ∷ k ∷ a ∷ b ∷ c ∷ d ∷ body)) _ f rest p.1 in
+    let r = whole_chosen (eqb v 1) (behind_version (k ∷ a ∷ b ∷ c ∷ d ∷ body)) _ f rest q.1 in
+    let s = whole_chosen (ltb 0 k && ltb k 17) (behind_kind k (a ∷ b ∷ c ∷ d ∷ body)) _ f rest r.1 in
+    let t = body_chosen (ltb 1048576 len) (ltb (length body) len) _ (record { kind = k; body = take len body }) f (drop len body) rest s.1 in
+    let kinds = both_true (ltb 0 k) (ltb k 17) s.0 in
+    let made = frame_spelled m n v k a b c d len body (word_bytes a b c d body (λ i. fits (suc (suc (suc (suc i)))))) (eqb-true m 78 p.0) (eqb-true n 66 q.0) (eqb-true v 1 r.0) (ltb-true 0 k kinds.0) (ltb-true k 17 kinds.1) refl
+    (ltb-false 1048576 len t.0) (ltb-false (length body) len t.1) in
+    let P : Frame → List ℕ → Type 0 = λ g tail. IsFrame g × (m ∷ n ∷ v ∷ k ∷ a ∷ b ∷ c ∷ d ∷ body ≡ frame g ++ tail) in
+    subst (λ (g : Frame). P g rest) t.2 (subst (λ (tail : List ℕ). P (record { kind = k; body = take len body }) tail) t.3 made)
+frame_is few rest f fits e = absurd (short_front few (omega arith) (is_whole (front_of few) f rest e))

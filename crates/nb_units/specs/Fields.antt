@@ -1,6 +1,6 @@
 -- Fields in a row. A field is read at a place of the bytes: it gives its value, or the first reason why
 -- no such field stands there. Numbers are big-endian. A text has its length before it, in four bytes.
-use Rattle.std.specs.Prelude.{◌≡◌, ℕ, ◌+◌, List, [], ◌∷◌, ◌++◌, length, take, drop, slice_index, Result, Ok, Err, nat_lt, if◌then◌else◌}
+use Rattle.std.specs.Prelude.{◌≡◌, ℕ, ◌+◌, List, [], ◌∷◌, ◌++◌, length, take, drop, slice_index, Bool, true, false, Result, Ok, Err, nat_lt, if◌then◌else◌}
 use Rattle.std.specs.Int.{w32, w64, to_be_bytes, from_be_bytes}
 use Rattle.std.specs.Borrow.{Bor}
 use Rattle.nb_units.specs.declared.cut.CutFault.{CutFault}
@@ -53,17 +53,27 @@ bytes_at max bytes place = behind_length max (drop 4 (drop place bytes)) place (
 unfoldable pub done_at : List ℕ → ℕ → Result (Unit {0}) CutFault
 done_at bytes place = if nat_lt place (length bytes) then Err (Extra place) else Ok tt
 
--- one field behind another: the first fault is the answer
-infixl 10 ◌>>=◌
-abbrev pub ◌>>=◌ : {A B : Type 0} → Result A CutFault → (A → Result B CutFault) → Result B CutFault
-(Ok x) >>= next = next x
-(Err fault) >>= next = Err fault
-
 -- the place at which a reading failed
 abbrev pub place_of : CutFault → ℕ
 place_of (Short place) = place
 place_of (Long place len max) = place
 place_of (Extra place) = place
+
+-- a reading that tells the bad place alone
+abbrev pub or_place : {A : Type 0} → Result A CutFault → Result A ℕ
+or_place (Ok x) = Ok x
+or_place (Err fault) = Err (place_of fault)
+
+-- a value is allowed in the field at the place, or the place is bad
+abbrev pub allowed : Bool → ℕ → Result (Unit {0}) ℕ
+allowed true place = Ok tt
+allowed false place = Err place
+
+-- one step behind another: the first that fails is the answer
+infixl 10 ◌>>=◌
+abbrev pub ◌>>=◌ : {A B E : Type 0} → Result A E → (A → Result B E) → Result B E
+(Ok x) >>= next = next x
+(Err fault) >>= next = Err fault
 
 -- ---- what a cut does
 

@@ -1,6 +1,6 @@
 -- A frame of the protocol: 4E 42, the version 01, the kind from 01 to 10, the length of the body in four
 -- bytes, and the body of at most 1,048,576 bytes. A stream is whole frames and a rest that begins with none.
-use Rattle.std.specs.Prelude.{◌≡◌, ℕ, ◌+◌, ◌≤◌, List, [], ◌∷◌, ◌++◌, length, take, drop, nat_lt, ◌==◌, ◌&&◌, if◌then◌else◌}
+use Rattle.std.specs.Prelude.{◌≡◌, ℕ, ◌+◌, ◌<◌, ◌≤◌, slice_index, List, [], ◌∷◌, ◌++◌, length, take, drop, nat_lt, ◌==◌, ◌&&◌, if◌then◌else◌}
 use Rattle.std.specs.List.{flat_map, AllByRecursion}
 use Rattle.std.specs.Int.{w32, from_be_bytes}
 use Rattle.nb_units.specs.Fields.{sized}
@@ -75,11 +75,19 @@ pub record Splits (stream : List ℕ) (frames : List Frame) (rest : List ℕ) : 
   pub lawful : AllByRecursion IsFrame frames
   pub ends : IsWhole (front_of rest) → ⊥
 
+-- each number fits a byte
+abbrev pub AreBytes : List ℕ → Type 0
+AreBytes bytes = (i : ℕ) → slice_index bytes i < 256
+
 -- ---- laws
 
 -- a whole frame at the front is read as that frame, whatever follows it
 abbrev pub FrontIsFrame : Type 0
 FrontIsFrame = (f : Frame) (rest : List ℕ) → IsFrame f → front_of (frame f ++ rest) ≡ Whole f rest
+
+-- what is read as a frame at the front of bytes is a frame's spelling
+abbrev pub FrameIsFront : Type 0
+FrameIsFront = (bytes rest : List ℕ) (f : Frame) → AreBytes bytes → front_of bytes ≡ Whole f rest → IsFrame f × (bytes ≡ frame f ++ rest)
 
 -- no longer list of frames begins the stream
 abbrev pub LongestReading : Type 0

@@ -1,4 +1,4 @@
-ghost use Rattle.std.specs.Prelude.{◌≡◌, ◌≤◌, ◌+◌, ◌<◌, ◌^◌, ◌++◌, ◌∷◌, [], length};
+ghost use Rattle.std.specs.Prelude.{◌≡◌, ◌≤◌, ◌+◌, ◌<◌, ◌^◌, ◌++◌, ◌∷◌, [], length, vec_capacity};
 ghost use Rattle.nb_units.specs.Fields.{be4, be8, sized};
 ghost use Rattle.nb_units.specs.Room.{spare_of};
 
@@ -23,6 +23,7 @@ impl<'a> Pen<'a> {
         ensures same { self.new.out.ghost_name ≡ self.old.out.ghost_name }
         ensures value { self.new.out.now.items ≡ self.old.out.now.items ++ v ∷ [] }
         ensures spare { spare_of self.old.out.now ≤ spare_of self.new.out.now + 1 }
+        ensures room { vec_capacity self.old.out.now ≤ vec_capacity self.new.out.now }
     {
         self.out.push(v).unwrap();
     }
@@ -33,6 +34,7 @@ impl<'a> Pen<'a> {
         ensures same { self.new.out.ghost_name ≡ self.old.out.ghost_name }
         ensures value { self.new.out.now.items ≡ self.old.out.now.items ++ be4 v }
         ensures spare { spare_of self.old.out.now ≤ spare_of self.new.out.now + 4 }
+        ensures room { vec_capacity self.old.out.now ≤ vec_capacity self.new.out.now }
     {
         self.raw(&v.to_be_bytes());
     }
@@ -43,6 +45,7 @@ impl<'a> Pen<'a> {
         ensures same { self.new.out.ghost_name ≡ self.old.out.ghost_name }
         ensures value { self.new.out.now.items ≡ self.old.out.now.items ++ be8 v }
         ensures spare { spare_of self.old.out.now ≤ spare_of self.new.out.now + 8 }
+        ensures room { vec_capacity self.old.out.now ≤ vec_capacity self.new.out.now }
     {
         self.raw(&v.to_be_bytes());
     }
@@ -53,6 +56,7 @@ impl<'a> Pen<'a> {
         ensures same { self.new.out.ghost_name ≡ self.old.out.ghost_name }
         ensures value { self.new.out.now.items ≡ self.old.out.now.items ++ b.now }
         ensures spare { spare_of self.old.out.now ≤ spare_of self.new.out.now + length b.now }
+        ensures room { vec_capacity self.old.out.now ≤ vec_capacity self.new.out.now }
     {
         self.out.extend_from_slice(b).unwrap();
     }
@@ -64,6 +68,7 @@ impl<'a> Pen<'a> {
         ensures same { self.new.out.ghost_name ≡ self.old.out.ghost_name }
         ensures value { self.new.out.now.items ≡ self.old.out.now.items ++ sized b.now }
         ensures spare { spare_of self.old.out.now ≤ spare_of self.new.out.now + (4 + length b.now) }
+        ensures room { vec_capacity self.old.out.now ≤ vec_capacity self.new.out.now }
     {
         self.u32(b.len() as u32);
         self.raw(b);

@@ -1,0 +1,8 @@
+-- What a `Book` is seen as: its entries, how many it may hold, and how many can be applied without taking memory.
+use Rattle.std.specs.Prelude.{ℕ, List}
+use Rattle.nb_book.specs.declared.entry.Entry.{Entry}
+
+pub record Ledger : Type 0 where
+  pub entries : List Entry
+  pub cap : ℕ
+  pub spare : ℕ

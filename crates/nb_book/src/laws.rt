@@ -1,0 +1,48 @@
+//! What holds of every Legal list. Each function here does nothing: its contract is the law.
+
+ghost use Rattle.nb_book.specs.Laws.{NoneOverdrawn, BalancesMakeTotal, TotalFits, UnheldIsEmpty, BalanceAfter, StaysLegal, EnrolledOnce, OpenedOnce, FundedOnce};
+
+/// No balance is below zero: what was taken from an account is at most what came into it.
+pub fn none_overdrawn()
+    ensures { NoneOverdrawn }
+{}
+
+/// No money is made or lost: the balances of all enrolled accounts sum to the total of the funds.
+pub fn balances_make_total()
+    ensures { BalancesMakeTotal }
+{}
+
+/// The total of the funds is at most [`MAX_TOTAL`](crate::MAX_TOTAL), so that every balance fits 8 bytes.
+pub fn total_fits()
+    ensures { TotalFits }
+{}
+
+/// An account that nobody holds has nothing in it.
+pub fn unheld_is_empty()
+    ensures { UnheldIsEmpty }
+{}
+
+/// An entry changes each balance by what it brings to the account and what it takes from it.
+pub fn balance_after()
+    ensures { BalanceAfter }
+{}
+
+/// A list stays Legal when an entry that is legal next comes after it.
+pub fn stays_legal()
+    ensures { StaysLegal }
+{}
+
+/// A party is enrolled at most once.
+pub fn enrolled_once()
+    ensures { EnrolledOnce }
+{}
+
+/// An account is opened at most once.
+pub fn opened_once()
+    ensures { OpenedOnce }
+{}
+
+/// A reference stands in at most one fund.
+pub fn funded_once()
+    ensures { FundedOnce }
+{}

@@ -1,0 +1,88 @@
+ghost use Rattle.std.specs.Prelude.{◌≡◌, ◌≤◌, ℕ, List, [], ◌++◌, bit_xor, length, map};
+ghost use Rattle.nb_seal.specs.Hmac.{hmac_of, pad_of};
+
+use sha2::{Digest, Sha256};
+
+// The marks of the inner and of the outer hash (RFC 2104, section 2: ipad and opad).
+const INNER: u8 = 0x36;
+
+const OUTER: u8 = 0x5C;
+
+/// HMAC-SHA-256 (RFC 2104) of a message that comes piece by piece.
+#[derive(Drop)]
+pub struct Mac {
+    // The inner hash: it has taken the inner block and the pieces so far.
+    inner: Sha256,
+    // The block that the outer hash begins with.
+    outer: [u8; 64],
+}
+
+impl Mac {
+    ghost use Rattle.nb_seal.specs.Hmac.{MacHolds};
+
+    /// Begins a code under a key of at most 64 bytes.
+    pub fn new(key: &[u8]) -> Mac
+        requires { length key.now ≤ 64 }
+        ensures { MacHolds result key.now [] }
+    {
+        let mut inner = Sha256::new();
+        inner.update(&padded(key, INNER));
+        Mac {
+            inner,
+            outer: padded(key, OUTER),
+        }
+    }
+
+    /// Takes the next piece of the message.
+    pub fn push(&mut self, piece: &[u8])
+        ensures { (key message : List ℕ) → MacHolds self.old key message
+            → MacHolds self.new key (message ++ piece.now) }
+    {
+        self.inner.update(piece);
+    }
+
+    /// The code of the pieces joined.
+    #[tactic(auto, unfolding(crate::specs::Hmac::hmac_of))]
+    pub fn finish(self) -> [u8; 32]
+        ensures { (key message : List ℕ) → MacHolds self key message
+            → result ≡ hmac_of key message }
+    {
+        let Mac { inner, outer } = self;
+        let inside = inner.finalize();
+        let mut hasher = Sha256::new();
+        hasher.update(&outer);
+        hasher.update(&inside);
+        hasher.finalize()
+    }
+}
+
+/// HMAC-SHA-256 (RFC 2104) of `head` followed by `tail`, under a key of at most 64 bytes.
+pub fn hmac(key: &[u8], head: &[u8], tail: &[u8]) -> [u8; 32]
+    requires { length key.now ≤ 64 }
+    ensures { result ≡ hmac_of key.now (head.now ++ tail.now) }
+{
+    let mut mac = Mac::new(key);
+    mac.push(head);
+    mac.push(tail);
+    mac.finish()
+}
+
+// The key padded with zeros to a block, each byte xored with the mark.
+fn padded(key: &[u8], mark: u8) -> [u8; 64]
+    requires { length key.now ≤ 64 }
+    ensures { result ≡ pad_of key.now mark }
+{
+    let mut block = [0u8; 64];
+    block[..key.len()].copy_from_slice(key);
+    mark_all(&mut block, mark);
+    block
+}
+
+// Xors each byte of a block with the mark.
+fn mark_all(block: &mut [u8; 64], mark: u8)
+    ensures { block.new ≡ map (λ b. bit_xor b mark) block.old }
+{
+    for b in block.iter_mut() {
+        *b ^= mark;
+    }
+}
