@@ -1,0 +1,13 @@
+//! The forms of a source, a sink, a disk and a clock that hold all in memory and tell all of it. The
+//! calls that are to fail are chosen when one is made.
+
+mod clock;
+mod counter;
+mod disk;
+mod sink;
+mod source;
+
+pub use clock::MemClock;
+pub use disk::MemDisk;
+pub use sink::MemSink;
+pub use source::MemSource;

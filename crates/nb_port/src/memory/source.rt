@@ -1,0 +1,111 @@
+ghost use Rattle.std.specs.Prelude.{◌≡◌, ◌↔◌, ◌<◌, ◌≤◌, Some, length, drop, IfOk};
+ghost use Rattle.nb_port.specs.Calls.{no_calls, NextFails};
+ghost use Rattle.nb_port.specs.Memory.{SourceReads};
+ghost use Rattle.nb_port.specs.Source.{ReadGives};
+
+use crate::memory::counter::Counter;
+use crate::source::{ReadOut, Source};
+use nb_units::NoMemory;
+use std::alloc::Global;
+use std::marker::Model;
+
+/// A source of given bytes.
+#[derive(Drop)]
+pub struct MemSource {
+    content: Vec<u8>,
+    at: usize,
+    step: usize,
+    calls: Counter,
+}
+
+impl Model for MemSource {
+    ghost use Rattle.std.specs.Prelude.{◌≤◌, ◌<◌, drop, vec_len};
+    ghost use Rattle.nb_port.specs.Memory.{SourceState};
+
+    ghost Value = { SourceState };
+
+    ghost view = { λ s. record { left = drop s.at s.content.items; step = s.step; calls = s.calls } };
+
+    ghost invariant = { λ s. (s.at ≤ vec_len s.content) × (0 < s.step) };
+}
+
+impl MemSource {
+    /// A source of the bytes of `content`, of which a read gives at most `step`. `fails` has the numbers
+    /// of the calls that are to fail.
+    pub fn new(
+        alloc: Global,
+        content: &[u8],
+        step: usize,
+        fails: &[u64],
+    ) -> Result<MemSource, NoMemory>
+        requires { 0 < step }
+        ensures { IfOk result (λ source. source ≡
+            record { left = content.now; step = step; calls = no_calls fails.now }) }
+    {
+        Ok(MemSource {
+            content: Vec::from_slice(alloc, content)?,
+            at: 0,
+            step,
+            calls: Counter::new(alloc, fails)?,
+        })
+    }
+}
+
+impl Source for MemSource {
+    ghost faults = { λ s. s.calls.faults };
+
+    ghost left = { λ s. Some s.left };
+
+    fn read(&mut self, buf: &mut [u8]) -> ReadOut
+        requires { 0 < length buf.old }
+        ensures gives { ReadGives self.old.calls.faults self.new.calls.faults (Some self.old.left)
+            (Some self.new.left) (length buf.old) buf.new result }
+        ensures count { self.old.calls.faults ≤ self.new.calls.faults }
+        ensures fails { (result ≡ ReadOut.Failed) ↔ NextFails self.old.calls }
+        ensures state { SourceReads self.old self.new (length buf.old) result }
+    {
+        if self.calls.next() {
+            return ReadOut::Failed;
+        }
+        let left = self.content.len() - self.at;
+        if left == 0 {
+            return ReadOut::End;
+        }
+        let n = left.min(self.step).min(buf.len());
+        let (_, rest) = self.content.as_slice().split_at(self.at);
+        let (front, _) = rest.split_at(n);
+        buf[..n].copy_from_slice(front);
+        self.at += n;
+        ReadOut::Bytes(n)
+    }
+}
+
+#[cfg(test)]
+mod tests {
+    use super::*;
+    use std::test::Fail;
+
+    #[test]
+    fn fails_once_and_goes_on(rt: HostRuntime) -> Result<(), Fail> {
+        let mut source = MemSource::new(rt.alloc(), b"abcdefg", 2, &[3])?;
+        let mut got = Vec::new(rt.alloc());
+        for want in [
+            ReadOut::Bytes(2),
+            ReadOut::Bytes(2),
+            ReadOut::Failed,
+            ReadOut::Bytes(2),
+            ReadOut::Bytes(1),
+            ReadOut::End,
+            ReadOut::End,
+        ] {
+            let mut buf = [0u8; 4];
+            let out = source.read(&mut buf);
+            assert_eq!(rt; out, want);
+            if let ReadOut::Bytes(n) = out {
+                got.extend_from_slice(&buf[..n])?;
+            }
+        }
+        assert_eq!(rt; got.as_slice(), &b"abcdefg"[..]);
+        Ok(())
+    }
+}

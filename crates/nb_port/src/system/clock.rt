@@ -1,0 +1,58 @@
+ghost use Rattle.std.specs.Prelude.{◌≡◌, None};
+
+use crate::clock;
+use std::marker::Model;
+use std::rt::Clock;
+use std::time::{SystemTime, UNIX_EPOCH};
+
+/// The system's clock.
+#[derive(Drop)]
+pub struct SystemClock<R: Clock + Drop> {
+    rt: R,
+}
+
+impl<R: Clock + Drop> Model for SystemClock<R> {
+    ghost Value = { R };
+
+    ghost view = { λ c. c.rt };
+}
+
+impl<R: Clock + Drop> SystemClock<R> {
+    /// The clock of the runtime `rt`. It gives 0 where the system knows no time, or one before 1970.
+    pub fn over(rt: R) -> SystemClock<R>
+        ensures { result ≡ rt }
+    {
+        SystemClock { rt }
+    }
+}
+
+impl<R: Clock + Drop> clock::Clock for SystemClock<R> {
+    ghost moments = { λ _. None };
+
+    fn now(&mut self) -> u64 {
+        match SystemTime::now(&self.rt) {
+            Ok(now) => match now.duration_since(UNIX_EPOCH) {
+                Ok(passed) => passed.as_secs(),
+                Err(_) => 0,
+            },
+            Err(_) => 0,
+        }
+    }
+}
+
+#[cfg(test)]
+mod tests {
+    use super::*;
+    use crate::clock::Clock;
+    use std::test::Fail;
+
+    // 2020-01-01 00:00 UTC
+    const YEAR_2020: u64 = 1_577_836_800;
+
+    #[test]
+    fn gives_a_moment_past_2020(rt: HostRuntime) -> Result<(), Fail> {
+        let mut clock = SystemClock::over(rt.clone()?);
+        assert!(rt; clock.now() > YEAR_2020);
+        Ok(())
+    }
+}

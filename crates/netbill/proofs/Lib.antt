@@ -1,0 +1,9 @@
+pub mod Reading
+pub mod Holding
+pub mod Writing
+pub mod OpeningLaws
+pub mod Sending
+pub mod Serving
+pub mod Stepping
+pub mod Running
+pub mod Completeness

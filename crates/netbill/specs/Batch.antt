@@ -1,0 +1,155 @@
+-- What a batch does: the frames of the input are answered in order, one turn after another.
+use Rattle.std.specs.Prelude.{◌≡◌, ◌≢◌, ℕ, ◌+◌, ◌≤◌, ◌⊎◌, List, [], ◌∷◌, ◌++◌, Option, None, Some, ⊤, length, map, take}
+use Rattle.std.specs.List.{flat_map, AllByRecursion}
+use Rattle.std.specs.Io.KnownBytes.{Consumes, Appends, IsAtEnd}
+use Rattle.nb_port.specs.Faults.{Rose}
+use Rattle.nb_port.specs.Clock.{Gives}
+use Rattle.nb_units.specs.Frames.{Frame, frame, IsFrame, Partial, front_of, IsWhole, IsBad, Splits}
+use Rattle.nb_book.specs.declared.entry.Entry.{Entry}
+use Rattle.netbill.specs.declared.batch.TheConstants.{MOST_FRAMES}
+use Rattle.netbill.specs.declared.batch.BatchEnd.{BatchEnd}
+use Rattle.netbill.specs.declared.batch.BatchEnd.TheVariants.{Clean, ReadFault, WriteFault, BadInput, NoMemory, Spent}
+use Rattle.netbill.specs.declared.batch.Step.{Step}
+use Rattle.netbill.specs.declared.batch.Step.TheVariants as step
+use Rattle.netbill.specs.declared.ending.TheConstants.{CLEAN, SOURCE_FAILED, SINK_FAILED, BAD_INPUT, OUT_OF_MEMORY, SPENT}
+use Rattle.netbill.specs.Send.{SentPart}
+use Rattle.netbill.specs.Turns.{Request, Ruling, State, Answered, Turn, Run, replies, decided, AllDecided, IsFree, AllFree}
+
+abbrev pub status_of : BatchEnd → ℕ
+status_of Clean = CLEAN
+status_of ReadFault = SOURCE_FAILED
+status_of WriteFault = SINK_FAILED
+status_of BadInput = BAD_INPUT
+status_of NoMemory = OUT_OF_MEMORY
+status_of Spent = SPENT
+
+-- a house with nothing in doubt and no faults
+abbrev pub at_rest : List Entry → State
+at_rest entries = record { entries = entries; doubt = []; faults = 0 }
+
+-- the frame that a request came in
+abbrev pub frame_of : Answered → Frame
+frame_of a = record { kind = a.request.kind; body = a.request.body }
+
+-- the moment at which it was answered
+abbrev pub moment_of : Answered → ℕ
+moment_of a = a.request.moment
+
+-- a clock gave these moments
+abbrev pub Gave : Option (List ℕ) → Option (List ℕ) → List ℕ → Type 0
+Gave old None moments = ⊤
+Gave None (Some given) moments = ⊥
+Gave (Some before) (Some given) moments = given ≡ before ++ moments
+
+-- ---- one step
+
+-- a frame was taken, the clock was asked, and a turn answered it
+pub record Stepped (rules : List Entry → Request → Ruling) (old new : List Entry) (left left' moments moments' : Option (List ℕ)) : Type 0 where
+  pub one : Answered
+  pub turn : Turn rules (at_rest old) one.request one.mark one.reply (at_rest new)
+  pub free : IsFree one.mark
+  pub lawful : IsFrame (frame_of one)
+  pub took : Consumes left left' (frame (frame_of one))
+  pub asked : Gives moments moments' one.request.moment
+
+-- bytes were taken that are no frame, and nothing else was done
+pub record Stopped (old new : List Entry) (left left' sent sent' moments moments' : Option (List ℕ)) : Type 0 where
+  pub rest : List ℕ
+  pub took : Consumes left left' rest
+  pub none : IsWhole (front_of rest) → ⊥
+  pub entries : new ≡ old
+  pub unsent : sent' ≡ sent
+  pub unasked : moments' ≡ moments
+
+-- the input ended within a frame, or no frame begins so
+abbrev pub EndsBadly : List ℕ → Option (List ℕ) → Type 0
+EndsBadly rest left = ((front_of rest ≡ Partial) × IsAtEnd left) ⊎ IsBad (front_of rest)
+
+abbrev pub StepIs : (List Entry → Request → Ruling) → List Entry → List Entry → Option (List ℕ) → Option (List ℕ) → Option (List ℕ) → Option (List ℕ) → Option (List ℕ) → Option (List ℕ) → Step → Type 0
+StepIs rules old new left left' sent sent' moments moments' step.Answered =
+    (s : Stepped rules old new left left' moments moments') × Appends sent sent' s.one.reply
+StepIs rules old new left left' sent sent' moments moments' (step.Ended WriteFault) =
+    (s : Stepped rules old new left left' moments moments') × SentPart sent sent' s.one.reply
+StepIs rules old new left left' sent sent' moments moments' (step.Ended Clean) =
+    (s : Stopped old new left left' sent sent' moments moments') × (s.rest ≡ []) × IsAtEnd left'
+StepIs rules old new left left' sent sent' moments moments' (step.Ended BadInput) =
+    (s : Stopped old new left left' sent sent' moments moments') × EndsBadly s.rest left'
+StepIs rules old new left left' sent sent' moments moments' (step.Ended ReadFault) = Stopped old new left left' sent sent' moments moments'
+StepIs rules old new left left' sent sent' moments moments' (step.Ended NoMemory) =
+    (s : Stopped old new left left' sent sent' moments moments') × (IsBad (front_of s.rest) → ⊥)
+StepIs rules old new left left' sent sent' moments moments' (step.Ended Spent) = ⊥
+
+-- ---- the whole batch
+
+-- the replies so far were sent, and there are so many
+pub record Ran (rules : List Entry → Request → Ruling) (left left' sent sent' moments moments' : Option (List ℕ)) (count : ℕ) (entries : List Entry) : Type 0 where
+  pub answered : List Answered
+  pub turns : Run rules (at_rest []) answered (at_rest entries)
+  pub free : AllFree answered
+  pub lawful : AllByRecursion IsFrame (map frame_of answered)
+  pub took : Consumes left left' (flat_map frame (map frame_of answered))
+  pub wrote : Appends sent sent' (replies answered)
+  pub asked : Gave moments moments' (map moment_of answered)
+  pub counted : length answered ≡ count
+
+-- all replies were sent, or, where the sink failed, all before the last and a part of the last
+pub record WroteShort (sent sent' : Option (List ℕ)) (answered : List Answered) : Type 0 where
+  pub whole : List Answered
+  pub last : Answered
+  pub split : answered ≡ whole ++ last ∷ []
+  pub count : ℕ
+  pub less : count ≤ length last.reply
+  pub appends : Appends sent sent' (replies whole ++ take count last.reply)
+
+abbrev pub Wrote : BatchEnd → Option (List ℕ) → Option (List ℕ) → List Answered → Type 0
+Wrote WriteFault sent sent' answered = WroteShort sent sent' answered
+Wrote other sent sent' answered = Appends sent sent' (replies answered)
+
+-- the frames of all bytes that were taken are answered
+abbrev pub AnswersAll : BatchEnd → Type 0
+AnswersAll Clean = ⊤
+AnswersAll BadInput = ⊤
+AnswersAll ReadFault = ⊤
+AnswersAll other = ⊥
+
+-- how the input stands where the batch ended so
+abbrev pub EndsAs : BatchEnd → List ℕ → Option (List ℕ) → Type 0
+EndsAs Clean rest left = (rest ≡ []) × IsAtEnd left
+EndsAs BadInput rest left = EndsBadly rest left
+EndsAs ReadFault rest left = ⊤
+EndsAs NoMemory rest left = IsBad (front_of rest) → ⊥
+EndsAs WriteFault rest left = rest ≡ []
+EndsAs Spent rest left = rest ≡ []
+
+-- how many were answered where the batch ended so
+abbrev pub CountsAs : BatchEnd → ℕ → Type 0
+CountsAs Spent count = count ≡ MOST_FRAMES
+CountsAs WriteFault count = count ≤ MOST_FRAMES
+CountsAs other count = count + 1 ≤ MOST_FRAMES
+
+pub record Served (rules : List Entry → Request → Ruling) (end : BatchEnd) (left left' sent sent' moments moments' : Option (List ℕ)) : Type 0 where
+  -- the requests that were answered, frames that were taken and not answered, and what follows them
+  pub answered : List Answered
+  pub unread : List Frame
+  pub rest : List ℕ
+  pub taken : List ℕ
+  pub entries : List Entry
+  pub took : Consumes left left' taken
+  pub frames : Splits taken (map frame_of answered ++ unread) rest
+  pub all : AnswersAll end → unread ≡ []
+  pub ends : EndsAs end rest left'
+  pub counted : CountsAs end (length answered)
+  pub asked : Gave moments moments' (map moment_of answered)
+  pub turns : Run rules (at_rest []) answered (at_rest entries)
+  pub free : AllFree answered
+  pub wrote : Wrote end sent sent' answered
+
+-- which count of faults rose
+abbrev pub FaultOf : ℕ → ℕ → ℕ → ℕ → BatchEnd → Type 0
+FaultOf source source' sink sink' ReadFault = Rose source source'
+FaultOf source source' sink sink' WriteFault = Rose sink sink'
+FaultOf source source' sink sink' other = ⊤
+
+abbrev pub StepFaultOf : ℕ → ℕ → ℕ → ℕ → Step → Type 0
+StepFaultOf source source' sink sink' step.Answered = ⊤
+StepFaultOf source source' sink sink' (step.Ended end) = FaultOf source source' sink sink' end

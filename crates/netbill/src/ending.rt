@@ -1,0 +1,41 @@
+//! How a run of the program ends.
+
+/// All was done.
+pub const CLEAN: u8 = 0;
+
+/// The words are none of the program's.
+pub const BAD_WORDS: u8 = 2;
+
+/// The source failed.
+pub const SOURCE_FAILED: u8 = 3;
+
+/// The sink failed.
+pub const SINK_FAILED: u8 = 4;
+
+/// The input ended within a frame, or holds what is no frame.
+pub const BAD_INPUT: u8 = 5;
+
+/// There was no memory.
+pub const OUT_OF_MEMORY: u8 = 6;
+
+/// The disk failed as the journal was opened.
+pub const DISK_FAILED: u8 = 7;
+
+/// The disk holds no journal that can be opened.
+pub const NO_JOURNAL: u8 = 8;
+
+/// As many frames were answered as one run answers.
+pub const SPENT: u8 = 11;
+
+/// A status, and the place that it speaks of: 0 where there is none.
+#[derive(Clone, Copy, PartialEq, Eq, Debug)]
+pub struct Ending {
+    pub status: u8,
+    pub place: u64,
+}
+
+/// What a run of the program came to.
+#[derive(Clone, Copy, PartialEq, Eq, Debug)]
+pub enum Outcome {
+    Done(Ending),
+}
