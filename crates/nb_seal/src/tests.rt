@@ -1,23 +1,30 @@
-// Values from outside: the examples of FIPS 180-4 and RFC 4231, and codes made by another program.
+// Values from outside: the examples of FIPS 180-4, RFC 4231 and RFC 8439, and values made by other programs.
+
+ghost use Rattle.std.specs.Prelude.{◌<◌};
 
 use super::*;
+use std::alloc::{AllocError, Global};
+use std::test::Fail;
 
-const DIGITS: &[u8; 16] = b"0123456789abcdef";
+// The value of a hexadecimal digit.
+fn value_of(digit: u8) -> u8
+    ensures { result < 16 }
+{
+    match digit {
+        b'0'..=b'9' => digit - b'0',
+        b'a'..=b'f' => digit - b'a' + 10,
+        _ => 0,
+    }
+}
 
-// Whether the text spells the bytes in hexadecimal.
-fn spells(text: &str, bytes: &[u8]) -> bool {
+// The bytes that a text spells in hexadecimal.
+fn bytes_of(alloc: Global, text: &str) -> Result<Vec<u8>, AllocError> {
     let digits = text.as_bytes();
-    if digits.len() != 2 * bytes.len() {
-        return false;
+    let mut bytes = Vec::new(alloc);
+    for i in 0..digits.len() / 2 {
+        bytes.push(value_of(digits[2 * i]) * 16 + value_of(digits[2 * i + 1]))?;
     }
-    for (i, b) in bytes.iter().enumerate() {
-        let high = DIGITS[(b / 16) as usize];
-        let low = DIGITS[(b % 16) as usize];
-        if digits[2 * i] != high || digits[2 * i + 1] != low {
-            return false;
-        }
-    }
-    true
+    Ok(bytes)
 }
 
 // Bytes that count up modulo 251.
@@ -31,7 +38,7 @@ fn counting() -> [u8; 200] {
 
 // FIPS 180-4, SHA-256 examples.
 #[test]
-fn digests(rt: HostRuntime) {
+fn digests(rt: HostRuntime) -> Result<(), Fail> {
     let cases: [(&[u8], &str); 3] = [
         (
             b"",
@@ -47,13 +54,15 @@ fn digests(rt: HostRuntime) {
         ),
     ];
     for (message, want) in cases {
-        assert!(rt; spells(want, &sha(message)), "{want}");
+        let want = bytes_of(rt.alloc(), want)?;
+        assert_eq!(rt; sha(message).as_slice(), want.as_slice());
     }
+    Ok(())
 }
 
-// RFC 4231, cases 1 to 4, whole, and the first 16 bytes of case 5. Each message is split at every place.
+// RFC 4231, cases 1 to 4, and the first 16 bytes of case 5. Each message is split at every place.
 #[test]
-fn codes_of_rfc_4231(rt: HostRuntime) {
+fn codes_of_rfc_4231(rt: HostRuntime) -> Result<(), Fail> {
     let cases: [(&[u8], &[u8], &str); 5] = [
         (
             &[0x0B; 20],
@@ -86,24 +95,23 @@ fn codes_of_rfc_4231(rt: HostRuntime) {
     ];
     for (key, message, want) in cases {
         assert!(rt; key.len() <= 64);
+        let want = bytes_of(rt.alloc(), want)?;
         for at in 0..=message.len() {
             let (head, tail) = message.split_at(at);
             let code = hmac(key, head, tail);
-            assert!(rt;
-                spells(want, &code[..want.len().min(64) / 2]),
-                "{want} at {at}"
-            );
+            assert!(rt; code.starts_with(&want), "at {at}");
             let mut mac = Mac::new(key);
             mac.push(head);
             mac.push(tail);
-            assert!(rt; same(&mac.finish(), &code), "{want} at {at}");
+            assert!(rt; same(&mac.finish(), &code), "at {at}");
         }
     }
+    Ok(())
 }
 
 // Keys and messages count up: how long each is, and the code.
 #[test]
-fn codes_of_counting_bytes(rt: HostRuntime) {
+fn codes_of_counting_bytes(rt: HostRuntime) -> Result<(), Fail> {
     let cases = [
         (
             0,
@@ -149,9 +157,11 @@ fn codes_of_counting_bytes(rt: HostRuntime) {
     let bytes = counting();
     for (key_len, message_len, want) in cases {
         assert!(rt; key_len <= 64 && message_len <= 200);
+        let want = bytes_of(rt.alloc(), want)?;
         let code = hmac(&bytes[..key_len], &bytes[..message_len], &[]);
-        assert!(rt; spells(want, &code), "{want}");
+        assert_eq!(rt; code.as_slice(), want.as_slice());
     }
+    Ok(())
 }
 
 // Two digests that differ in one byte, at each place.
@@ -164,4 +174,213 @@ fn digests_that_differ_in_a_byte(rt: HostRuntime) {
         other[i] ^= 1;
         assert!(rt; !same(&digest, &other), "at {i}");
     }
+}
+
+// Blocks of RFC 8439, appendix A.1, test vectors 1 to 4, each from 64 times its counter on; then other
+// words and other lengths.
+#[test]
+fn keystream_bytes(rt: HostRuntime) -> Result<(), Fail> {
+    let zeros = [0; 32];
+    let mut last_is_1 = zeros;
+    last_is_1[31] = 1;
+    let mut second_is_255 = zeros;
+    second_is_255[1] = 255;
+    let cases: [([u8; 32], u64, &str); 10] = [
+        (
+            zeros,
+            0,
+            "76b8e0ada0f13d90405d6ae55386bd28bdd219b8a08ded1aa836efcc8b770dc7da41597c5157488d7724e03fb8d84a376a43b8f41518a11cc387b669b2ee6586",
+        ),
+        (
+            zeros,
+            64,
+            "9f07e7be5551387a98ba977c732d080dcb0f29a048e3656912c6533e32ee7aed29b721769ce64e43d57133b074d839d531ed1f28510afb45ace10a1f4b794d6f",
+        ),
+        (
+            last_is_1,
+            64,
+            "3aeb5224ecf849929b9d828db1ced4dd832025e8018b8160b82284f3c949aa5a8eca00bbb4a73bdad192b5c42f73f2fd4e273644c8b36125a64addeb006c13a0",
+        ),
+        (
+            second_is_255,
+            128,
+            "72d54dfbf12ec44b362692df94137f328fea8da73990265ec1bbbea1ae9af0ca13b25aa26cb4a648cb9b9d1be65b2c0924a66c54d545ec1b7374f4872e99f096",
+        ),
+        (
+            zeros,
+            4,
+            "a0f13d90405d6ae55386bd28bdd219b8a08ded1aa836efcc8b770dc7da41597c5157488d7724e03fb8d84a376a43b8f41518a11cc387b669b2ee65869f07e7be",
+        ),
+        (
+            zeros,
+            60,
+            "b2ee65869f07e7be5551387a98ba977c732d080dcb0f29a048e3656912c6533e32ee7aed29b721769ce64e43d57133b074d839d531ed1f28510afb45ace10a1f",
+        ),
+        (
+            zeros,
+            68,
+            "5551387a98ba977c732d080dcb0f29a048e3656912c6533e32ee7aed29b721769ce64e43d57133b074d839d531ed1f28510afb45ace10a1f4b794d6f2d09a0e6",
+        ),
+        (
+            last_is_1,
+            252,
+            "78dc31e7184ee0ea9c50abe494727bb670acabbc9f2834154914602e193e3376de38f61cd64c38ccf68c0aab01b01e891fc50cf88ed11713fc72e7aae28f6f8a",
+        ),
+        (
+            second_is_255,
+            65000,
+            "033ffe904c878252dd00d5134b3a1dd12aeaf69efb6b12c29471ca01414f6b7c967feafdd243163ffec0aae8750a50ea72bf36c254f9e7068fe4e8a1f35c7d1a",
+        ),
+        (
+            zeros,
+            1099511627712,
+            "1b985a60791e28bc67ba76871dd2df4447effb5b59a9ed1c2bec1c1111d6ee87478e003ca3f40ff36f6d130713d9144a34b33a26ee2836278a53817a6fe2bd69",
+        ),
+    ];
+    for (key, first, want) in cases {
+        assert!(rt; first % 4 == 0 && first <= 1_099_511_627_712);
+        let want = bytes_of(rt.alloc(), want)?;
+        for len in 0..=64 {
+            let mut buf = [0; 64];
+            stream_xor(&key, first, &mut buf[..len]);
+            assert!(rt; want.starts_with(&buf[..len]), "{len} bytes from {first}");
+        }
+    }
+    Ok(())
+}
+
+// Texts that count up, under a key of 32 times 0x44: the label, how long the text is, and the seal.
+#[test]
+fn seals_of_counting_bytes(rt: HostRuntime) -> Result<(), Fail> {
+    let key = [0x44; 32];
+    let cases: [(&[u8; 4], usize, &str); 8] = [
+        (
+            b"hide",
+            0,
+            "9595fbf797503c6657d9819faec102896e61c385a511d382cdf5f8b8814e2749",
+        ),
+        (
+            b"hide",
+            1,
+            "c1745a54abb138dd011a157215afaf9e97d967e6b8a3ebbf29f61a9adbe80f8779",
+        ),
+        (
+            b"hide",
+            31,
+            "858819f5bbffd73ca6b2ebe8c96a91b49417bcbf7e699f1c7e4fc59cfc9eb75b7af05e02b562ced7f464e67b96ccdffbebd37dc65f9c257a721fa7f48592ad",
+        ),
+        (
+            b"hide",
+            32,
+            "73a2ec6ee906e04d339c7e9d4922cc817bc12396c4858b2c2f9379428c2110028f9fd2ceaf224d7c684c93a915ff6bebc247d8b789d15f023bcb07e5750bb69f",
+        ),
+        (
+            b"hide",
+            33,
+            "02ee0895756088a489425e34bf9f010332cd65564cfef30e56e4ae34e04e99d8b0a0b03a688b49ea0b099c955e654d5ff7843c2a77962400f79c30139c063d6dd9",
+        ),
+        (
+            b"hide",
+            64,
+            "d760cc174f500fa9f4f5e3737d73f8d354601e0895bc0a9235c6ebed3eb9a820a94bbf5370717f5acb52ba0237e291021ccd7f64f974467529e66bf094498ebd72fbf6f9cc2a0c82865fee16e92ad7eb0c0995c6469251f118f42eb4a832992a",
+        ),
+        (
+            b"hide",
+            65,
+            "caf7a7609075533a31ed7b846fb2ebed1ec011ae889e8867927889ec50a9690959b1ddd7ed3525ecdf986b0b50552c19b267ed9316d5725e60e0d92aa47506f99142041c240356f3b8326e7fc69e1948b86166beef6dc4629d1a096ce59f6b2dfd",
+        ),
+        (
+            b"rcpt",
+            33,
+            "fe52f0b499ed4e9a687c30f4dfc53ced1d9b7dc7d551767627904934f312149849ebb9fbc0f0aa8e3728d45ff23d2a0b3417aa5b3a90fc7b1e86c503dc1f273dab",
+        ),
+    ];
+    let bytes = counting();
+    for (label, len, want) in cases {
+        assert!(rt; len <= 65);
+        let want = bytes_of(rt.alloc(), want)?;
+        assert!(rt; want.len() <= 97);
+        let mut sealed = Vec::new(rt.alloc());
+        seal(&key, label, &bytes[..len], &mut sealed)?;
+        assert_eq!(rt; sealed.as_slice(), want.as_slice());
+        let mut opened = Vec::new(rt.alloc());
+        unseal(&key, label, &want, &mut opened)?;
+        assert_eq!(rt; opened.as_slice(), &bytes[..len]);
+    }
+    Ok(())
+}
+
+// Seals under a key of 32 times 0x77, made within the spare and opened in place.
+#[test]
+fn seals_that_take_no_memory(rt: HostRuntime) -> Result<(), Fail> {
+    let key = [0x77; 32];
+    let cases: [(&[u8], &str); 2] = [
+        (
+            b"",
+            "6a2efb83a90f7562b335d63f1fe74229c53661eb6b8d6877c42a1aae54491949",
+        ),
+        (
+            b"hi",
+            "8fc4cbb6a11df208b254319b0357123ddc1c61674a1261fdb0703eb1b3ba847d06b4",
+        ),
+    ];
+    for (plain, want) in cases {
+        assert!(rt; plain.len() <= 2);
+        let want = bytes_of(rt.alloc(), want)?;
+        let mut sealed = Vec::with_capacity(rt.alloc(), 34)?;
+        seal_spare(&key, b"good", plain, &mut sealed);
+        assert_eq!(rt; sealed.as_slice(), want.as_slice());
+        assert!(rt; want.len() <= 34);
+        let mut buf = [0; 34];
+        assert_eq!(rt; unseal_to(&key, b"good", &want, &mut buf), Ok(plain.len()));
+        assert!(rt; buf.starts_with(plain));
+    }
+    Ok(())
+}
+
+// A sealed endorsement and one byte more.
+const ENDORSEMENT: &str =
+    "82f196aaf0bc382c2ac539e60ec2c25fe6256a6ecd9ad32c2f688740dfc0a717ac54f7f8f5269b37b6905bfb4191ce4c780ca109519e8835446573bedbbfaaeeca3d8268043303764a79f3e7ca090f55a4a7eccd19efd4a8cf7bc3a9f41f355a5dca773950c25b558977d48071aad03e9bb8f904740d7cbbac92c7de929782bac8c87a2bb1094f7350d5ee2eb2fc3bd277a3a0976efbf81f466b903c447ea9bb25f0891d27714439c421513fca7d998cb7b9a26e6937c6ce4e1e8cdb9e366a31a35e31f6f9570c927e721d89f1bbb58a8f307cfbfc705478866f3493a37db9739b893448890a77d7e2ca9065eb156f8379b3df56e519eef9f789a7561032855c4880eb2ed9cbe56f95dec263d4b9764d153ec1f338e3cfe58e5cb53359b1685527850c6600";
+
+const ENDORSER: [u8; 32] = [0x55; 32];
+
+#[test]
+fn byte_too_many(rt: HostRuntime) -> Result<(), Fail> {
+    let longer = bytes_of(rt.alloc(), ENDORSEMENT)?;
+    let longer = longer.as_slice();
+    assert!(rt; longer.len() == 293);
+    let (sealed, _) = longer.split_at(292);
+    let mut buf = [0; 293];
+    assert_eq!(rt; unseal_to(&ENDORSER, b"endo", sealed, &mut buf), Ok(260));
+    match unseal_to(&ENDORSER, b"endo", longer, &mut buf) {
+        Ok(_) => assert!(rt; false),
+        Err(bad) => assert!(rt; longer.starts_with(&bad.iv)),
+    }
+    Ok(())
+}
+
+#[test]
+fn turned_bits(rt: HostRuntime) -> Result<(), Fail> {
+    for place in [0, 31, 32, 291] {
+        let mut turned = bytes_of(rt.alloc(), ENDORSEMENT)?;
+        turned.truncate(292);
+        assert!(rt; turned.len() == 292);
+        turned[place] ^= 1;
+        let mut out = Vec::from_slice(rt.alloc(), b"kept")?;
+        match unseal(&ENDORSER, b"endo", &turned, &mut out) {
+            Err(Unsealed::BadSeal { iv }) => assert!(rt; turned.starts_with(&iv)),
+            _ => assert!(rt; false, "at {place}"),
+        }
+        assert_eq!(rt; out.as_slice(), b"kept".as_slice());
+    }
+    Ok(())
+}
+
+#[test]
+fn too_few_bytes(rt: HostRuntime) {
+    let mut out = Vec::new(rt.alloc());
+    let mut iv = [0; 32];
+    iv[0] = 7;
+    let refused = unseal(&ENDORSER, b"endo", &[7], &mut out);
+    assert_eq!(rt; refused, Err(Unsealed::BadSeal { iv }));
 }

@@ -1,7 +1,7 @@
 -- A whole frame at the front is read as that frame, what is read as a frame is its spelling, and a stream
 -- has one splitting into frames, which is the longest.
 use Rattle.std.proofs.Common.{◌≡◌, ℕ, zero, suc, ◌+◌, ◌^◌, ◌<◌, ◌≤◌, Bool, true, false, cond, ltb, eqb, ◌&&◌, List, [], ◌∷◌, ◌++◌, length, get_or, take, drop, refl, sym, ap, subst, ◌∙◌, append_assoc, arith, inl, inr}
-use Rattle.std.specs.Prelude.{if◌then◌else◌, nat_lt, ◌==◌}
+use Rattle.std.specs.Prelude.{◌⊎◌, if◌then◌else◌, nat_lt, ◌==◌}
 use Rattle.std.specs.Int.{w32, from_be_bytes, to_be_bytes}
 use Rattle.std.specs.List.{flat_map, AllByRecursion}
 use Rattle.std.proofs.lemmas.Bool.{ltb-true, ltb-false, lt-ltb, le-ltb, eqb-true}
@@ -9,8 +9,9 @@ use Rattle.std.proofs.lemmas.List.{length-append, append-nil, length-take-le, ta
 use Rattle.std.proofs.Math.Seq.{take-append_seam, drop-append_seam}
 use Rattle.std.proofs.lemmas.Nat.{from_be_bytes-to_be_bytes_4, be_bytes_4}
 use Rattle.std.proofs.lemmas.List.Concat.{flat_map-cons}
+use Rattle.nb_units.proofs.ByteLists.{AreBytes-drop}
 use Rattle.nb_units.specs.Fields.{be4, sized}
-use Rattle.nb_units.specs.Frames.{Frame, IsFrame, frame, Front, Whole, Empty, Partial, Bad, HeaderFault, BadMagic, BadVersion, BadKind, TooLong, body_of, behind_kind, behind_version, behind_magic, behind_first, front_of, IsWhole, Splits, AreBytes}
+use Rattle.nb_units.specs.Frames.{Frame, IsFrame, frame, Front, Whole, Empty, Partial, Bad, HeaderFault, BadMagic, BadVersion, BadKind, TooLong, body_of, behind_kind, behind_version, behind_magic, behind_first, front_of, IsWhole, Splits, AreBytes, PartIsPartial, HasReading}
 
 -- a test that fails leaves the other branch
 unless : {A : Type 0} (a b : ℕ) (x y : A) → b ≤ a → (if nat_lt a b then x else y) ≡ y
@@ -304,3 +305,70 @@ frame_is (m ∷ n ∷ v ∷ k ∷ a ∷ b ∷ c ∷ d ∷ body) rest f fits e =
     let P : Frame → List ℕ → Type 0 = λ g tail. IsFrame g × (m ∷ n ∷ v ∷ k ∷ a ∷ b ∷ c ∷ d ∷ body ≡ frame g ++ tail) in
     subst (λ (g : Frame). P g rest) t.2 (subst (λ (tail : List ℕ). P (record { kind = k; body = take len body }) tail) t.3 made)
 frame_is few rest f fits e = absurd (short_front few (omega arith) (is_whole (front_of few) f rest e))
+
+-- ---- a part of a frame
+
+nothing_left : (rest more : List ℕ) → rest ++ more ≡ [] → more ≡ []
+nothing_left [] more e = e
+nothing_left (b ∷ rest) more e = absurd (cons_nil b (rest ++ more) e)
+  where
+    cons_nil : (b : ℕ) (bs : List ℕ) → b ∷ bs ≡ [] → ⊥
+    cons_nil b bs e = cc
+
+pub part_is_partial : PartIsPartial
+part_is_partial bytes more f fits is e some other = cases (front_of bytes) refl
+  where
+    whole : front_of (bytes ++ more) ≡ Whole f []
+    whole = ap front_of (e ∙ sym (append-nil (frame f))) ∙ whole_front f [] is
+
+    cases : (front : Front) → front_of bytes ≡ front → front ≡ Partial
+    cases Partial was = refl
+    cases Empty was = absurd (some (empty_front bytes was))
+    cases (Bad fault) was = absurd (whole_bad f [] fault (sym whole ∙ bad_stays bytes more fault was))
+    cases (Whole g rest) was =
+        let made = frame_is bytes rest g fits was in
+        let again : front_of (bytes ++ more) ≡ Whole g (rest ++ more) = ap (λ (x : List ℕ). front_of (x ++ more)) made.1 ∙ ap front_of (append_assoc (frame g) rest more) ∙ whole_front g (rest ++ more) made.0 in
+        absurd (other (nothing_left rest more (same_rest g f (rest ++ more) [] (sym again ∙ whole))))
+
+-- ---- each list of bytes has a reading
+
+-- a whole frame stands at the front, or none
+either_front : (front : Front) → ((f : Frame) × (rest : List ℕ) × (front ≡ Whole f rest)) ⊎ (IsWhole front → ⊥)
+either_front (Whole f rest) = inl (f, rest, refl)
+either_front Empty = inr (λ is. is)
+either_front Partial = inr (λ is. is)
+either_front (Bad fault) = inr (λ is. is)
+
+-- a frame before a stream that has a reading
+one_more : (stream rest last : List ℕ) (f : Frame) (fs : List Frame) → IsFrame f × (stream ≡ frame f ++ rest) → Splits rest fs last → Splits stream (f ∷ fs) last
+one_more stream rest last f fs is p = record {
+  bytes = is.1 ∙ ap (λ (x : List ℕ). frame f ++ x) p.bytes ∙ sym (append_assoc (frame f) (flat_map frame fs) last);
+  lawful = (is.0, p.lawful);
+  ends = p.ends;
+}
+
+-- what stands behind a frame is shorter, and bytes again
+shorter : (stream rest : List ℕ) (f : Frame) → stream ≡ frame f ++ rest → length rest < length stream
+shorter stream rest f e = omega (arith, ap length e, length-append (frame f) rest)
+
+behind_bytes : (stream rest : List ℕ) (f : Frame) → stream ≡ frame f ++ rest → AreBytes stream → AreBytes rest
+behind_bytes stream rest f e fits = subst AreBytes (ap (drop (length (frame f))) e ∙ drop-append_seam (frame f) rest) (AreBytes-drop (length (frame f)) stream fits)
+
+-- a stream has a reading where what stands behind its first frame has one
+read_on : (stream : List ℕ) → AreBytes stream → ((rest : List ℕ) → length rest < length stream → AreBytes rest → (fs : List Frame) × (last : List ℕ) × Splits rest fs last) → (fs : List Frame) × (last : List ℕ) × Splits stream fs last
+read_on stream fits behind = from_front (either_front (front_of stream))
+  where
+    from_front : ((f : Frame) × (rest : List ℕ) × (front_of stream ≡ Whole f rest)) ⊎ (IsWhole (front_of stream) → ⊥) → (fs : List Frame) × (last : List ℕ) × Splits stream fs last
+    from_front (inr none) = ([], stream, record { bytes = refl; lawful = tt; ends = none })
+    from_front (inl one) =
+        let is = frame_is stream one.1 one.0 fits one.2 in
+        let more = behind one.1 (shorter stream one.1 one.0 is.1) (behind_bytes stream one.1 one.0 is.1 fits) in
+        (one.0 ∷ more.0, more.1, one_more stream one.1 more.1 one.0 more.0 is more.2)
+
+-- a stream of fewer bytes has a reading
+read_in : (bound : ℕ) (stream : List ℕ) → length stream < bound → AreBytes stream → (fs : List Frame) × (last : List ℕ) × Splits stream fs last
+read_in zero stream short fits = absurd (omega arith)
+read_in (suc bound) stream short fits = read_on stream fits (λ rest less bytes. read_in bound rest (omega (arith, less, short)) bytes)
+
+pub has_reading : HasReading
+has_reading stream fits = read_in (suc (length stream)) stream (omega arith) fits

@@ -1,1 +1,4 @@
+pub mod ByteLists
 pub mod FrameLaws
+pub mod FieldLaws
+pub mod EpoidLaws

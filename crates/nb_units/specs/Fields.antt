@@ -9,9 +9,11 @@ use Rattle.nb_units.specs.Reading.{Reading}
 
 -- ---- spelling
 
+-- a number in four bytes
 abbrev pub be4 : ℕ → List ℕ
 be4 n = to_be_bytes w32 n
 
+-- a number in eight bytes
 abbrev pub be8 : ℕ → List ℕ
 be8 n = to_be_bytes w64 n
 
@@ -25,12 +27,15 @@ sized text = be4 (length text) ++ text
 unfoldable pub raw_at : ℕ → List ℕ → ℕ → Result (List ℕ) CutFault
 raw_at n bytes place = if nat_lt (length (drop place bytes)) n then Err (Short place) else Ok (take n (drop place bytes))
 
+-- a byte stands at the place
 unfoldable pub u8_at : List ℕ → ℕ → Result ℕ CutFault
 u8_at bytes place = if nat_lt (length (drop place bytes)) 1 then Err (Short place) else Ok (slice_index (drop place bytes) 0)
 
+-- a number of four bytes
 unfoldable pub u32_at : List ℕ → ℕ → Result ℕ CutFault
 u32_at bytes place = if nat_lt (length (drop place bytes)) 4 then Err (Short place) else Ok (from_be_bytes w32 (take 4 (drop place bytes)))
 
+-- a number of eight bytes
 unfoldable pub u64_at : List ℕ → ℕ → Result ℕ CutFault
 u64_at bytes place = if nat_lt (length (drop place bytes)) 8 then Err (Short place) else Ok (from_be_bytes w64 (take 8 (drop place bytes)))
 
@@ -41,6 +46,7 @@ text_of max n behind place =
     else if nat_lt (length behind) n then Err (Short place)
     else Ok (take n behind)
 
+-- the text behind a length, where the length was read
 abbrev pub behind_length : ℕ → List ℕ → ℕ → Result ℕ CutFault → Result (List ℕ) CutFault
 behind_length max behind place (Ok n) = text_of max n behind place
 behind_length max behind place (Err fault) = Err fault

@@ -1,11 +1,12 @@
 -- A frame of the protocol: 4E 42, the version 01, the kind from 01 to 10, the length of the body in four
 -- bytes, and the body of at most 1,048,576 bytes. A stream is whole frames and a rest that begins with none.
-use Rattle.std.specs.Prelude.{◌≡◌, ℕ, ◌+◌, ◌<◌, ◌≤◌, slice_index, List, [], ◌∷◌, ◌++◌, length, take, drop, nat_lt, ◌==◌, ◌&&◌, if◌then◌else◌}
+use Rattle.std.specs.Prelude.{◌≡◌, ◌≢◌, ◌↔◌, ℕ, ◌+◌, ◌<◌, ◌≤◌, slice_index, List, [], ◌∷◌, ◌++◌, length, take, drop, nat_lt, ◌==◌, ◌&&◌, if◌then◌else◌}
 use Rattle.std.specs.List.{flat_map, AllByRecursion}
 use Rattle.std.specs.Int.{w32, from_be_bytes}
-use Rattle.nb_units.specs.Fields.{sized}
-use Rattle.nb_units.specs.declared.frames.TheConstants.{FIRST_MAGIC, SECOND_MAGIC, VERSION, LAST_KIND, MAX_BODY}
+use Rattle.nb_units.specs.Fields.{be4, sized}
+use Rattle.nb_units.specs.declared.frames.TheConstants.{FIRST_MAGIC, SECOND_MAGIC, VERSION, LAST_KIND, MAX_BODY, HEADER}
 
+-- its kind and its body
 pub record Frame : Type 0 where
   pub kind : ℕ
   pub body : List ℕ
@@ -25,36 +26,42 @@ pub data HeaderFault : Type 0 where
   BadKind : ℕ → ℕ → HeaderFault
   TooLong : ℕ → ℕ → HeaderFault
 
--- what stands at the front of a list of bytes: a whole frame and what follows it, nothing, less than a
--- frame that may still become one, or what no frame begins with
+-- what stands at the front of a list of bytes: a whole frame and what follows it, nothing, a header or a body
+-- that is not all there, or a header that no frame has
 pub data Front : Type 0 where
   Whole : Frame → List ℕ → Front
   Empty : Front
   Partial : Front
   Bad : HeaderFault → Front
 
+-- behind the header: a length that is too long, fewer bytes than the length says, or the whole body
 abbrev pub body_of : ℕ → ℕ → List ℕ → Front
 body_of kind len rest =
     if nat_lt MAX_BODY len then Bad (TooLong 4 len)
     else if nat_lt (length rest) len then Partial
     else Whole (record { kind = kind; body = take len rest }) (drop len rest)
 
+-- behind the kind: the four bytes of the length, or fewer
 abbrev pub behind_kind : ℕ → List ℕ → Front
 behind_kind kind (a ∷ b ∷ c ∷ d ∷ rest) = body_of kind (from_be_bytes w32 (a ∷ b ∷ c ∷ d ∷ [])) rest
 behind_kind kind few = Partial
 
+-- behind the version: the kind
 abbrev pub behind_version : List ℕ → Front
 behind_version [] = Partial
 behind_version (k ∷ bytes) = if nat_lt 0 k && nat_lt k (LAST_KIND + 1) then behind_kind k bytes else Bad (BadKind 3 k)
 
+-- behind the magic: the version
 abbrev pub behind_magic : List ℕ → Front
 behind_magic [] = Partial
 behind_magic (v ∷ bytes) = if v == VERSION then behind_version bytes else Bad (BadVersion 2 v)
 
+-- behind the first byte of the magic: the second
 abbrev pub behind_first : List ℕ → Front
 behind_first [] = Partial
 behind_first (m ∷ bytes) = if m == SECOND_MAGIC then behind_magic bytes else Bad (BadMagic 1 m)
 
+-- the parts of the header are tested in their order, and the first that fails is the fault
 unfoldable pub front_of : List ℕ → Front
 front_of [] = Empty
 front_of (m ∷ bytes) = if m == FIRST_MAGIC then behind_first bytes else Bad (BadMagic 0 m)
@@ -64,7 +71,7 @@ abbrev pub IsWhole : Front → Type 0
 IsWhole (Whole f rest) = Unit {0}
 IsWhole other = ⊥
 
--- a rest that a stream ends in within a frame, and one that no frame begins with
+-- a header that no frame has stands at the front
 abbrev pub IsBad : Front → Type 0
 IsBad (Bad fault) = Unit {0}
 IsBad other = ⊥
@@ -81,6 +88,10 @@ AreBytes bytes = (i : ℕ) → slice_index bytes i < 256
 
 -- ---- laws
 
+-- the layout in numbers: 4E 42 01, the kind from 01 to 10, the length in four bytes, the body of at most 1,048,576
+abbrev pub FrameLayout : Type 0
+FrameLayout = (f : Frame) → (frame f ≡ 0x4E ∷ 0x42 ∷ 0x01 ∷ f.kind ∷ be4 (length f.body) ++ f.body) × (length (frame f) ≡ HEADER + length f.body) × (IsFrame f ↔ ((1 ≤ f.kind) × (f.kind ≤ 0x10) × (length f.body ≤ 1048576)))
+
 -- a whole frame at the front is read as that frame, whatever follows it
 abbrev pub FrontIsFrame : Type 0
 FrontIsFrame = (f : Frame) (rest : List ℕ) → IsFrame f → front_of (frame f ++ rest) ≡ Whole f rest
@@ -88,6 +99,14 @@ FrontIsFrame = (f : Frame) (rest : List ℕ) → IsFrame f → front_of (frame f
 -- what is read as a frame at the front of bytes is a frame's spelling
 abbrev pub FrameIsFront : Type 0
 FrameIsFront = (bytes rest : List ℕ) (f : Frame) → AreBytes bytes → front_of bytes ≡ Whole f rest → IsFrame f × (bytes ≡ frame f ++ rest)
+
+-- a part of a frame, from its front on, is read as a part
+abbrev pub PartIsPartial : Type 0
+PartIsPartial = (bytes more : List ℕ) (f : Frame) → AreBytes bytes → IsFrame f → bytes ++ more ≡ frame f → bytes ≢ [] → more ≢ [] → front_of bytes ≡ Partial
+
+-- each list of bytes is a list of frames and a rest that begins with none
+abbrev pub HasReading : Type 0
+HasReading = (stream : List ℕ) → AreBytes stream → (fs : List Frame) × (rest : List ℕ) × Splits stream fs rest
 
 -- no longer list of frames begins the stream
 abbrev pub LongestReading : Type 0

@@ -2,3 +2,6 @@ pub mod Reading
 pub mod Fields
 pub mod Room
 pub mod Frames
+pub mod Epoid
+pub mod Padding
+pub mod Laws

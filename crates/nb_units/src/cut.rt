@@ -1,6 +1,7 @@
 ghost use Rattle.std.specs.Prelude.{◌≡◌, drop};
 ghost use Rattle.nb_units.specs.Fields.{raw_at, u8_at, u32_at, u64_at, bytes_at, done_at, moved_by, moved_past, seen};
 
+use crate::number::{u32_of, u64_of};
 use std::marker::Model;
 
 /// Why no such field stands at the place of a cut. The place is that of the field's first byte.
@@ -71,10 +72,8 @@ impl<'a> Cut<'a> {
         if rest.len() < 4 {
             return Err(CutFault::Short { place: self.place });
         }
-        let mut word = [0u8; 4];
-        word.copy_from_slice(rest.split_at(4).0);
         self.place += 4;
-        Ok(u32::from_be_bytes(word))
+        Ok(u32_of(rest.split_at(4).0))
     }
 
     /// A number of 8 bytes, big-endian.
@@ -86,10 +85,8 @@ impl<'a> Cut<'a> {
         if rest.len() < 8 {
             return Err(CutFault::Short { place: self.place });
         }
-        let mut word = [0u8; 8];
-        word.copy_from_slice(rest.split_at(8).0);
         self.place += 8;
-        Ok(u64::from_be_bytes(word))
+        Ok(u64_of(rest.split_at(8).0))
     }
 
     /// 16 bytes as they stand.
@@ -132,10 +129,8 @@ impl<'a> Cut<'a> {
         if rest.len() < 4 {
             return Err(CutFault::Short { place });
         }
-        let (front, behind) = rest.split_at(4);
-        let mut word = [0u8; 4];
-        word.copy_from_slice(front);
-        let len = u32::from_be_bytes(word);
+        let (word, behind) = rest.split_at(4);
+        let len = u32_of(word);
         if len > max {
             return Err(CutFault::Long { place, len, max });
         }

@@ -1,7 +1,7 @@
 //! What a frame of the protocol is. The definitions stand in `specs/Frames.antt`; here are the header's
 //! constants, and the laws that make the definitions one reading of a stream.
 
-ghost use Rattle.nb_units.specs.Frames.{FrontIsFrame, LongestReading, OneReading, BadStays};
+ghost use Rattle.nb_units.specs.Frames.{FrameLayout, FrontIsFrame, FrameIsFront, PartIsPartial, HasReading, LongestReading, OneReading, BadStays};
 
 /// The first byte of a frame, `N`.
 pub const FIRST_MAGIC: u8 = 0x4E;
@@ -21,10 +21,30 @@ pub const MAX_BODY: u32 = 1_048_576;
 /// The bytes of a frame before its body: two of magic, the version, the kind, and four of length.
 pub const HEADER: usize = 8;
 
+/// A law: the layout of a frame in numbers.
+pub fn layout()
+    ensures { FrameLayout }
+{}
+
 /// A law: a whole frame at the front of a stream is read as that frame, whatever follows it.
 #[tactic(auto, using(crate::proofs::FrameLaws::whole_front))]
 pub fn front_is_frame()
     ensures { FrontIsFrame }
+{}
+
+/// A law: what is read as a frame at the front of a stream is a frame's spelling.
+pub fn frame_is_front()
+    ensures { FrameIsFront }
+{}
+
+/// A law: a part of a frame, from its front on, is read neither as a frame nor as bad.
+pub fn part_is_partial()
+    ensures { PartIsPartial }
+{}
+
+/// A law: each stream is a list of frames and a rest that begins with none.
+pub fn has_reading()
+    ensures { HasReading }
 {}
 
 /// A law: the frames of a stream are the longest list of frames that it begins with.

@@ -1,19 +1,37 @@
-//! The words that every other layer speaks in: identifiers, amounts of money, fixed secrets and
-//! digests, and the reading and writing of fields.
+//! The words that every other layer speaks in: identifiers, amounts of money, fixed secrets and digests, lists of
+//! bytes, and the reading and writing of fields.
 //!
-//! A [`Cut`] is a list of bytes and a place in it: each read gives the field that stands at the place, or the
-//! first reason why none stands there, and then the place has not moved. A [`Pen`] appends fields to a
-//! vector whose room was made before. What a field is stands once, in `specs/Fields.antt`; what a frame of
-//! the protocol is, in `specs/Frames.antt`.
+//! A [`Cut`] is seen as a list of bytes and a place in it: each read gives the field that stands at the place, or the
+//! first reason why none stands there, and then the place has not moved. A [`Pen`] appends fields to a vector whose
+//! [`room`] was made before. A [`Small`] and a [`Blob`] are seen as the list of their bytes, and an [`Epoid`] is
+//! 16 bytes that are read and written.
+//!
+//! What a field is stands once, in `specs/Fields.antt`; what a frame of the protocol is, in `specs/Frames.antt`. That
+//! a field is read exactly where its spelling stands, and that a stream of bytes has one list of frames, is proved by
+//! the functions of [`laws`] and [`frames`].
+//!
+//! Left to others: which fields make an order, an entry or a message, which values each may have, and the reading of
+//! frames from a stream that comes in pieces.
 #![tactic(auto)]
 
+mod blob;
 mod cut;
+mod epoid;
 pub mod frames;
 mod ids;
+pub mod laws;
 mod memory;
+mod number;
 mod pen;
+mod small;
 
+pub use blob::Blob;
 pub use cut::{Cut, CutFault};
+pub use epoid::Epoid;
 pub use ids::{AcctId, Digest, PartyId, Price, Secret, Tag};
 pub use memory::{NoMemory, room};
 pub use pen::Pen;
+pub use small::Small;
+
+#[cfg(test)]
+mod tests;

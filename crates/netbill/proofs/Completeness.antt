@@ -1,11 +1,11 @@
 -- An input of whole frames alone ends a batch well, unless something failed or memory was wanting.
-use Rattle.std.proofs.Common.{◌≡◌, ℕ, suc, ◌+◌, ◌<◌, ◌≤◌, ◌⊎◌, List, [], ◌∷◌, ◌++◌, length, Option, None, Some, refl, sym, ap, subst, ◌∙◌, append_assoc, append-nil, arith, inl, inr}
+use Rattle.std.proofs.Common.{◌≡◌, ℕ, suc, ◌⊎◌, List, [], ◌∷◌, ◌++◌, length, Option, None, Some, refl, sym, ap, subst, ◌∙◌, append_assoc, append-nil, arith, inl, inr}
 use Rattle.std.specs.Prelude.{map, IfSome}
 use Rattle.std.specs.List.{flat_map, AllByRecursion}
-use Rattle.std.specs.Io.KnownBytes.{Consumes, IsAtEnd}
+use Rattle.std.specs.Io.KnownBytes.{Consumes}
 use Rattle.std.proofs.lemmas.List.{length-append}
 use Rattle.nb_port.specs.Faults.{Rose}
-use Rattle.nb_units.specs.Frames.{Front, Whole, Empty, Partial, Bad, HeaderFault, Frame, frame, IsFrame, front_of, IsWhole, IsBad, Splits}
+use Rattle.nb_units.specs.Frames.{Front, Whole, Empty, Partial, Bad, HeaderFault, Frame, frame, IsFrame, front_of, IsBad, Splits}
 use Rattle.nb_units.proofs.FrameLaws.{longest, whole_front, bad_stays}
 use Rattle.nb_book.specs.declared.entry.Entry.{Entry}
 use Rattle.netbill.specs.declared.batch.BatchEnd.{BatchEnd}

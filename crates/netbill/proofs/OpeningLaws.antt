@@ -1,14 +1,12 @@
 -- The pieces of a journal's front, one behind the other.
-use Rattle.std.proofs.Common.{◌≡◌, ◌≢◌, ℕ, ◌+◌, ◌≤◌, ◌<◌, List, [], ◌∷◌, ◌++◌, length, take, drop, get_or, Option, None, Some, refl, sym, ap, subst, ◌∙◌, append_assoc, arith}
+use Rattle.std.proofs.Common.{◌≡◌, ◌≢◌, ℕ, ◌≤◌, ◌<◌, List, [], ◌∷◌, ◌++◌, length, take, drop, get_or, Option, None, Some, refl, sym, ap, subst, ◌∙◌, append_assoc, arith}
 use Rattle.std.specs.Prelude.{replicate, IfSome}
 use Rattle.std.proofs.lemmas.List.{take_at, drop_at, take-append-drop, length-append}
 use Rattle.std.proofs.Math.Seq.{take-length}
 use Rattle.nb_port.specs.Disk.{ReadsContent}
 use Rattle.netbill.specs.declared.opening.Opened.{Opened}
-use Rattle.std.proofs.lemmas.Nat.{from_be_bytes-to_be_bytes_4}
-use Rattle.std.specs.Int.{w32, from_be_bytes}
 use Rattle.nb_units.specs.Fields.{be4}
-use Rattle.netbill.specs.declared.opening.TheConstants.{MAGIC, OPEN_GATE}
+use Rattle.netbill.specs.declared.opening.TheConstants.{MAGIC}
 use Rattle.netbill.specs.Stands.{StandsEmpty, header_of, IsNoJournal, IsHeader, Opens}
 
 pub record Front (image head : List ℕ) (cap : ℕ) (tail : List ℕ) : Type 0 where

@@ -1,12 +1,12 @@
 -- A header and the body behind it make a frame, and less of either makes none.
-use Rattle.std.proofs.Common.{◌≡◌, ℕ, ◌+◌, ◌<◌, ◌≤◌, List, [], ◌∷◌, ◌++◌, length, take, drop, get_or, refl, sym, ap, subst, ◌∙◌, arith, inl, inr, lit<}
+use Rattle.std.proofs.Common.{◌≡◌, ℕ, ◌<◌, ◌≤◌, List, [], ◌∷◌, ◌++◌, length, take, drop, get_or, refl, ap, subst, ◌∙◌, arith, inl, inr, lit<}
 use Rattle.std.specs.Int.{w32, from_be_bytes}
 use Rattle.std.specs.Prelude.{if◌then◌else◌, nat_lt}
 use Rattle.std.proofs.lemmas.Bool.{lt-ltb, le-ltb, cases_lt}
 use Rattle.std.proofs.lemmas.List.{append-nil, length-append, length-drop, nil_from_length, get_or_past}
 use Rattle.std.proofs.Math.Seq.{take-length, drop-length}
-use Rattle.nb_units.specs.Frames.{Front, Frame, Whole, Empty, Partial, Bad, front_of, frame, IsFrame, IsWhole, IsBad, AreBytes}
-use Rattle.nb_units.proofs.FrameLaws.{behind_header, header_then, frame_is, empty_front}
+use Rattle.nb_units.specs.Frames.{Front, Frame, Whole, Empty, Partial, Bad, front_of, frame, IsWhole, IsBad, AreBytes}
+use Rattle.nb_units.proofs.FrameLaws.{header_then, frame_is, empty_front}
 use Rattle.netbill.specs.Reader.{HoldsFrame}
 
 -- past its end a list of bytes reads 0

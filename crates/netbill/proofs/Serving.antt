@@ -1,8 +1,8 @@
 -- A batch step by step: what ran so far goes on by one frame, and ends.
-use Rattle.std.proofs.Common.{◌≡◌, ℕ, ◌+◌, ◌<◌, ◌≤◌, List, [], ◌∷◌, ◌++◌, length, take, Option, None, Some, refl, sym, ap, subst, ◌∙◌, append_assoc, append-nil, arith, inl, inr}
+use Rattle.std.proofs.Common.{◌≡◌, ℕ, ◌+◌, ◌<◌, List, [], ◌∷◌, ◌++◌, length, take, Option, None, Some, refl, sym, ap, subst, ◌∙◌, append_assoc, append-nil, arith}
 use Rattle.std.specs.Prelude.{map}
 use Rattle.std.specs.List.{flat_map, AllByRecursion}
-use Rattle.std.specs.Io.KnownBytes.{Consumes, Appends, IsAtEnd}
+use Rattle.std.specs.Io.KnownBytes.{Consumes, Appends}
 use Rattle.std.proofs.KnownBytes.{Consumes-trans, Consumes-nil, Appends-trans, Appends-nil}
 use Rattle.std.proofs.lemmas.List.{map-append, length-append}
 use Rattle.std.proofs.lemmas.Grind.{flat_map-append}
@@ -14,7 +14,7 @@ use Rattle.netbill.specs.declared.batch.BatchEnd.TheVariants.{Clean, ReadFault, 
 use Rattle.netbill.specs.declared.batch.Step.TheVariants as step
 use Rattle.netbill.specs.Send.{SentPart}
 use Rattle.netbill.specs.Turns.{Request, Ruling, State, Answered, Turn, Run, replies, AllFree, IsFree}
-use Rattle.netbill.specs.Batch.{at_rest, frame_of, moment_of, Gave, Stepped, Stopped, StepIs, EndsBadly, EndsAs, CountsAs, Wrote, Ran, Served, WroteShort}
+use Rattle.netbill.specs.Batch.{at_rest, frame_of, moment_of, Gave, Stepped, Stopped, StepIs, EndsAs, CountsAs, Wrote, Ran, Served}
 
 -- ---- one more
 

@@ -1,7 +1,7 @@
 -- One step of a batch, from what its calls ensure.
-use Rattle.std.proofs.Common.{◌≡◌, ℕ, ◌+◌, ◌<◌, ◌≤◌, List, [], ◌∷◌, ◌++◌, length, take, drop, Option, None, Some, refl, sym, ap, subst, ◌∙◌, arith, inl, inr}
+use Rattle.std.proofs.Common.{◌≡◌, ℕ, List, [], ◌++◌, drop, Option, refl, sym, ap, subst, ◌∙◌, arith, inl, inr}
 use Rattle.std.specs.Prelude.{slice_index}
-use Rattle.std.specs.Io.KnownBytes.{Consumes, Appends, IsAtEnd}
+use Rattle.std.specs.Io.KnownBytes.{Consumes, IsAtEnd}
 use Rattle.nb_port.specs.Clock.{Gives}
 use Rattle.nb_units.specs.Frames.{Front, Whole, Empty, Partial, Bad, Frame, frame, IsFrame, front_of, IsWhole, IsBad}
 use Rattle.netbill.specs.declared.head.Head.{Head}
@@ -13,8 +13,8 @@ use Rattle.netbill.specs.declared.house.Answer.{Answer}
 use Rattle.netbill.specs.declared.house.Answer.TheVariants as answers
 use Rattle.netbill.specs.Reader.{HoldsFrame}
 use Rattle.netbill.specs.House.{house_rules, Answers}
-use Rattle.netbill.specs.Turns.{Request, Ruling, State, Mark, At, NoMemory, Answered, Turn, IsFree, refused}
-use Rattle.netbill.specs.Batch.{at_rest, frame_of, Stepped, Stopped, EndsBadly}
+use Rattle.netbill.specs.Turns.{Mark, At, NoMemory, Turn, IsFree, refused}
+use Rattle.netbill.specs.Batch.{at_rest, Stepped, Stopped, EndsBadly}
 
 -- the frame that is held, by what the reader says of it
 pub holds_frame : (held body : List ℕ) (kind : ℕ) → HoldsFrame held → kind ≡ slice_index held 3 → body ≡ drop 8 held

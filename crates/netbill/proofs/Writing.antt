@@ -1,6 +1,6 @@
 -- The frame of a refusal, as it is written.
-use Rattle.std.proofs.Common.{◌≡◌, ℕ, ◌+◌, List, [], ◌∷◌, ◌++◌, length, refl, sym, ap, ◌∙◌, append_assoc, arith}
-use Rattle.nb_units.specs.Fields.{be4, be8}
+use Rattle.std.proofs.Common.{◌≡◌, ℕ, List, [], ◌∷◌, ◌++◌, length, sym, ap, ◌∙◌, append_assoc, arith}
+use Rattle.nb_units.specs.Fields.{be8}
 use Rattle.nb_units.specs.Frames.{frame}
 use Rattle.netbill.specs.declared.refusal.Refusal.{Refusal}
 use Rattle.netbill.specs.Replies.{header_bytes, refusal_frame}

@@ -1,5 +1,5 @@
 -- What a batch does: the frames of the input are answered in order, one turn after another.
-use Rattle.std.specs.Prelude.{◌≡◌, ◌≢◌, ℕ, ◌+◌, ◌≤◌, ◌⊎◌, List, [], ◌∷◌, ◌++◌, Option, None, Some, ⊤, length, map, take}
+use Rattle.std.specs.Prelude.{◌≡◌, ℕ, ◌+◌, ◌≤◌, ◌⊎◌, List, [], ◌∷◌, ◌++◌, Option, None, Some, ⊤, length, map, take}
 use Rattle.std.specs.List.{flat_map, AllByRecursion}
 use Rattle.std.specs.Io.KnownBytes.{Consumes, Appends, IsAtEnd}
 use Rattle.nb_port.specs.Faults.{Rose}
@@ -13,7 +13,7 @@ use Rattle.netbill.specs.declared.batch.Step.{Step}
 use Rattle.netbill.specs.declared.batch.Step.TheVariants as step
 use Rattle.netbill.specs.declared.ending.TheConstants.{CLEAN, SOURCE_FAILED, SINK_FAILED, BAD_INPUT, OUT_OF_MEMORY, SPENT}
 use Rattle.netbill.specs.Send.{SentPart}
-use Rattle.netbill.specs.Turns.{Request, Ruling, State, Answered, Turn, Run, replies, decided, AllDecided, IsFree, AllFree}
+use Rattle.netbill.specs.Turns.{Request, Ruling, State, Answered, Turn, Run, replies, IsFree, AllFree}
 
 abbrev pub status_of : BatchEnd → ℕ
 status_of Clean = CLEAN

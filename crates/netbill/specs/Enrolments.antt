@@ -1,5 +1,5 @@
 -- The verdict on an enrolment: its tests in order, each a line.
-use Rattle.std.specs.Prelude.{ℕ, ◌==◌, ◌&&◌, ◌++◌, ◌∷◌, [], not, List, Option, Some, None, Result, Ok, Err, is_none, length, if◌then◌else◌}
+use Rattle.std.specs.Prelude.{ℕ, ◌==◌, ◌&&◌, ◌++◌, ◌∷◌, [], not, List, Option, Some, None, Result, Ok, is_none, length, if◌then◌else◌}
 use Rattle.std.specs.Str.{bytes_eq}
 use Rattle.nb_book.specs.declared.party.Party.{Party}
 use Rattle.nb_units.specs.declared.ids.AcctId.{AcctId}

@@ -1,5 +1,5 @@
 -- What the reader of frames gives, by the bytes that it took from the source.
-use Rattle.std.specs.Prelude.{◌≡◌, ℕ, ◌+◌, ◌<◌, List, [], ◌++◌, Option, length}
+use Rattle.std.specs.Prelude.{◌≡◌, ℕ, ◌+◌, ◌<◌, List, [], ◌++◌, Option}
 use Rattle.std.specs.Io.KnownBytes.{Consumes, IsAtEnd}
 use Rattle.nb_port.specs.Faults.{Rose}
 use Rattle.nb_units.specs.Frames.{Front, Frame, Empty, Partial, front_of, IsWhole, IsBad, frame, IsFrame}

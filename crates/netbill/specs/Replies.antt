@@ -1,5 +1,5 @@
 -- The bytes of a reply: its one frame.
-use Rattle.std.specs.Prelude.{ℕ, List, [], ◌∷◌, ◌++◌}
+use Rattle.std.specs.Prelude.{ℕ, List, ◌∷◌, ◌++◌}
 use Rattle.nb_units.specs.Fields.{be4, be8}
 use Rattle.nb_units.specs.Frames.{Frame, frame}
 use Rattle.nb_units.specs.declared.frames.TheConstants.{FIRST_MAGIC, SECOND_MAGIC, VERSION}

@@ -1,12 +1,11 @@
 -- What a run of the program does.
-use Rattle.std.specs.Prelude.{◌≡◌, ◌≢◌, ℕ, ◌+◌, ◌≤◌, ◌<◌, ◌⊎◌, List, [], ◌++◌, Option, None, Some, ⊤, length, map, IfSome}
+use Rattle.std.specs.Prelude.{◌≡◌, ◌≢◌, ℕ, ◌≤◌, ◌<◌, ◌⊎◌, List, [], ◌++◌, Option, Some, length, map, IfSome}
 use Rattle.std.specs.List.{flat_map, AllByRecursion}
 use Rattle.std.specs.Io.KnownBytes.{Consumes, Appends, IsAtEnd}
 use Rattle.nb_port.specs.Faults.{Rose}
 use Rattle.nb_units.specs.Frames.{Frame, frame, IsFrame, front_of, IsBad, Splits}
 use Rattle.netbill.specs.declared.batch.TheConstants.{MOST_FRAMES}
 use Rattle.netbill.specs.declared.ending.TheConstants.{CLEAN, BAD_WORDS, SOURCE_FAILED, SINK_FAILED, BAD_INPUT, OUT_OF_MEMORY, DISK_FAILED, NO_JOURNAL, SPENT}
-use Rattle.netbill.specs.declared.ending.Ending.{Ending}
 use Rattle.netbill.specs.declared.ending.Outcome.{Outcome}
 use Rattle.netbill.specs.declared.ending.Outcome.TheVariants.{Done}
 use Rattle.netbill.specs.Head.{head_of}

@@ -1,5 +1,5 @@
 -- What an image of the disk stands for: a journal that holds no entries yet.
-use Rattle.std.specs.Prelude.{◌≡◌, ◌≢◌, ℕ, ◌≤◌, List, [], ◌∷◌, ◌++◌, length, replicate, Option, IfSome}
+use Rattle.std.specs.Prelude.{◌≡◌, ◌≢◌, ℕ, ◌≤◌, List, ◌∷◌, ◌++◌, length, replicate, Option, IfSome}
 use Rattle.nb_units.specs.Fields.{be4}
 use Rattle.nb_book.specs.declared.limits.TheConstants.{MAX_CAP}
 use Rattle.nb_port.specs.Faults.{Rose}

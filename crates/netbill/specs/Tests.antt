@@ -1,5 +1,5 @@
 -- The tests that requests of several kinds share. Each goes on, or gives the refusal that it stands for.
-use Rattle.std.specs.Prelude.{ℕ, List, Bool, true, false, Result, Ok, Err, replicate, nat_lt, length, if◌then◌else◌}
+use Rattle.std.specs.Prelude.{ℕ, List, Bool, true, false, Result, Ok, Err, replicate, nat_lt, length}
 use Rattle.std.specs.Str.{bytes_eq}
 use Rattle.nb_book.specs.declared.entry.Entry.{Entry}
 use Rattle.netbill.specs.declared.refusal.TheConstants.{MALFORMED, WRONG_TAG, NOT_TOLD}

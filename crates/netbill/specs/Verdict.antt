@@ -1,12 +1,10 @@
 -- The verdict on a request over a list of entries: one reply, and at most one entry that is recorded.
-use Rattle.std.specs.Prelude.{ℕ, ◌==◌, List, Option, Some, None, Result, Ok, Err, if◌then◌else◌}
-use Rattle.nb_units.specs.declared.ids.AcctId.{AcctId}
+use Rattle.std.specs.Prelude.{ℕ, ◌==◌, List, None, Result, Ok, Err, if◌then◌else◌}
 use Rattle.nb_book.specs.declared.entry.Entry.{Entry}
 use Rattle.netbill.specs.declared.kind.TheConstants.{ENROL, FUND}
 use Rattle.netbill.specs.declared.head.Head.{Head}
 use Rattle.netbill.specs.declared.refusal.Refusal.{Refusal}
 use Rattle.netbill.specs.declared.refusal.TheConstants.{NOT_SERVED}
-use Rattle.netbill.specs.declared.reply.Reply.{Reply}
 use Rattle.netbill.specs.declared.reply.Reply.TheVariants.{Refused}
 use Rattle.netbill.specs.declared.decision.Decision.{Decision}
 use Rattle.netbill.specs.Tests.{refusal}

@@ -1,4 +1,4 @@
-use Rattle.std.proofs.Common.{List, ℕ, subst, ap, sym, ◌∙◌}
+use Rattle.std.proofs.Common.{List, ℕ, subst}
 use Rattle.std.specs.Io.KnownBytes.{Appends}
 use Rattle.netbill.specs.Send.{SentPart}
 use Rattle.netbill.proofs.Stepping.{stepped_with, stop_end, stop_cut, stop_bad, stop_memory}

@@ -1,4 +1,4 @@
-use Rattle.std.proofs.Common.{List, ℕ, ◌∙◌, subst, arith}
+use Rattle.std.proofs.Common.{List, ◌∙◌, subst, arith}
 use Rattle.nb_book.specs.declared.entry.Entry.{Entry}
 use Rattle.netbill.specs.House.{house_rules}
 use Rattle.netbill.specs.Turns.{Request, Ruling}

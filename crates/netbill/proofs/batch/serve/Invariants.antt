@@ -1,4 +1,4 @@
-use Rattle.std.proofs.Common.{◌≡◌, ℕ, ◌≤◌, vec_capacity}
+use Rattle.std.proofs.Common.{◌≡◌, ◌≤◌, vec_capacity}
 use Rattle.netbill.specs.House.{house_rules}
 use Rattle.netbill.specs.Batch.{Ran}
 use Rattle.netbill.proofs.batch.serve.Given as goal

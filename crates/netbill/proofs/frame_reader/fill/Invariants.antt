@@ -1,4 +1,4 @@
-use Rattle.std.proofs.Common.{◌≡◌, ℕ, ◌-◌, ◌≤◌, vec_len, vec_capacity}
+use Rattle.std.proofs.Common.{◌-◌, ◌≤◌, vec_len, vec_capacity}
 use Rattle.netbill.specs.Reader.{Took}
 use Rattle.netbill.proofs.frame_reader.fill.Given as goal
 

@@ -1,4 +1,4 @@
-use Rattle.std.proofs.Common.{◌≡◌, ◌<◌, ℕ, List, length, take, drop, sym, ap, ◌∙◌, arith, rules}
+use Rattle.std.proofs.Common.{◌≡◌, ◌<◌, length, take, drop, ap, ◌∙◌, rules}
 use Rattle.netbill.specs.Head.{head_of}
 use Rattle.netbill.proofs.OpeningLaws.{stands_made}
 use Rattle.netbill.proofs.opening.header.Goals as goal

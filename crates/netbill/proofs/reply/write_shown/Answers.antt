@@ -1,5 +1,3 @@
-use Rattle.std.proofs.Common.{◌≡◌, ◌++◌, ◌∷◌, [], ℕ, List, ap, ◌∙◌}
-use Rattle.nb_units.specs.Fields.{be8}
 use Rattle.netbill.proofs.Writing.{shown_spelled}
 use Rattle.netbill.proofs.reply.write_shown.Goals as goal
 

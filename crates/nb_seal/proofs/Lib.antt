@@ -1,0 +1,3 @@
+pub mod Xoring
+pub mod Opening
+pub mod Fronts

@@ -1,0 +1,32 @@
+-- Seals: a text behind the code of its label and itself, hidden by the keystream of a key made from that code.
+use Rattle.std.specs.Prelude.{◌≡◌, ℕ, List, ◌++◌, codes, replicate, take}
+use Rattle.nb_seal.specs.Hmac.{hmac_of}
+use Rattle.nb_seal.specs.Keystream.{xored}
+
+-- the iv of a text: the code of its label followed by the text
+abbrev pub iv_of : List ℕ → List ℕ → List ℕ → List ℕ
+iv_of key label plain = hmac_of key (label ++ plain)
+
+-- the key of the keystream behind an iv
+abbrev pub stream_key_of : List ℕ → List ℕ → List ℕ
+stream_key_of key iv = hmac_of key (codes "enc" ++ iv)
+
+-- the seal of a text under a key and a label: its iv, and the text xored with the keystream behind that iv
+unfoldable pub seal_of : List ℕ → List ℕ → List ℕ → List ℕ
+seal_of key label plain = iv_of key label plain ++ xored (stream_key_of key (iv_of key label plain)) 0 plain
+
+-- under a key and a label the bytes open to a text: they are its seal
+abbrev pub Opens : List ℕ → List ℕ → List ℕ → List ℕ → Type 0
+Opens key label bytes plain = bytes ≡ seal_of key label plain
+
+-- the bytes are the seal of no text
+abbrev pub IsNoSeal : List ℕ → List ℕ → List ℕ → Type 0
+IsNoSeal key label bytes = (plain : List ℕ) → ¬ Opens key label bytes plain
+
+-- the new bytes are the old ones and a text that the sealed bytes open to
+abbrev pub AppendsOpened : List ℕ → List ℕ → List ℕ → List ℕ → List ℕ → Type 0
+AppendsOpened key label bytes old new = (plain : List ℕ) × Opens key label bytes plain × (new ≡ old ++ plain)
+
+-- the first 32 bytes, with zeros where there are fewer
+abbrev pub front_of : List ℕ → List ℕ
+front_of bytes = take 32 (bytes ++ replicate 32 0)
