@@ -9,7 +9,7 @@ use Rattle.nb_units.specs.Frames.{Front, Whole, Empty, Partial, Bad, HeaderFault
 use Rattle.nb_units.proofs.FrameLaws.{longest, whole_front, bad_stays}
 use Rattle.nb_book.specs.declared.entry.Entry.{Entry}
 use Rattle.netbill.specs.declared.batch.BatchEnd.{BatchEnd}
-use Rattle.netbill.specs.declared.batch.BatchEnd.TheVariants.{Clean, ReadFault, WriteFault, BadInput, NoMemory, Spent}
+use Rattle.netbill.specs.declared.batch.BatchEnd.TheVariants.{Clean, ReadFault, WriteFault, BadInput, NoMemory, FrameLimit}
 use Rattle.netbill.specs.Turns.{Request, Ruling, Answered}
 use Rattle.netbill.specs.Batch.{frame_of, EndsBadly, Served, FaultOf, status_of}
 use Rattle.netbill.specs.Stands.{StandsEmpty, IsNoJournal}
@@ -100,7 +100,7 @@ complete_end rules BadInput left left' sent sent' moments moments' source source
     let P : List Frame → Type 0 = λ fs. AllByRecursion IsFrame fs in
     let Q : Option (List ℕ) → Type 0 = λ o. EndsBadly s.rest o in
     absurd (no_bad_rest s.rest p.left p.more (lawful_rest gs p.more (subst P p.all input.lawful)) p.after (subst Q p.known s.ends))
-complete_end rules Spent left left' sent sent' moments moments' source source' sink sink' s fault input no_source no_sink =
+complete_end rules FrameLimit left left' sent sent' moments moments' source source' sink sink' s fault input no_source no_sink =
     let gs : List Frame = map frame_of s.answered ++ s.unread in
     let p = parts input.frames gs s.rest s.taken left left' input.is input.lawful s.took s.frames in
     absurd (omega (arith, input.few, s.counted, ap length p.all, length-append gs p.more, length-append (map frame_of s.answered) s.unread, length_frames s.answered))

@@ -5,7 +5,7 @@ use Rattle.std.specs.Io.KnownBytes.{Appends, IsAtEnd}
 use Rattle.nb_units.specs.Frames.{front_of, IsBad}
 use Rattle.nb_book.specs.declared.entry.Entry.{Entry}
 use Rattle.netbill.specs.declared.batch.BatchEnd.{BatchEnd}
-use Rattle.netbill.specs.declared.batch.BatchEnd.TheVariants.{Clean, ReadFault, WriteFault, BadInput, NoMemory, Spent}
+use Rattle.netbill.specs.declared.batch.BatchEnd.TheVariants.{Clean, ReadFault, WriteFault, BadInput, NoMemory, FrameLimit}
 use Rattle.netbill.specs.declared.opening.Opened.{Opened}
 use Rattle.netbill.specs.declared.head.Head.{Head}
 use Rattle.netbill.specs.Head.{head_of}
@@ -60,7 +60,7 @@ answers_all BadInput is = tt
 answers_all ReadFault is = tt
 answers_all WriteFault is = elim is [ inl e ↦ absurd (omega arith) | inr o ↦ elim o [ inl e ↦ absurd (omega arith) | inr e ↦ absurd (omega arith) ] ]
 answers_all NoMemory is = elim is [ inl e ↦ absurd (omega arith) | inr o ↦ elim o [ inl e ↦ absurd (omega arith) | inr e ↦ absurd (omega arith) ] ]
-answers_all Spent is = elim is [ inl e ↦ absurd (omega arith) | inr o ↦ elim o [ inl e ↦ absurd (omega arith) | inr e ↦ absurd (omega arith) ] ]
+answers_all FrameLimit is = elim is [ inl e ↦ absurd (omega arith) | inr o ↦ elim o [ inl e ↦ absurd (omega arith) | inr e ↦ absurd (omega arith) ] ]
 
 wrote_all : (end : BatchEnd) (sent sent' : Option (List ℕ)) (answered : List Answered) → Wrote end sent sent' answered → status_of end ≢ 4 → Appends sent sent' (replies answered)
 wrote_all Clean sent sent' answered wrote other = wrote
@@ -68,7 +68,7 @@ wrote_all BadInput sent sent' answered wrote other = wrote
 wrote_all ReadFault sent sent' answered wrote other = wrote
 wrote_all WriteFault sent sent' answered wrote other = absurd (other refl)
 wrote_all NoMemory sent sent' answered wrote other = wrote
-wrote_all Spent sent sent' answered wrote other = wrote
+wrote_all FrameLimit sent sent' answered wrote other = wrote
 
 wrote_part : (end : BatchEnd) (sent sent' : Option (List ℕ)) (answered : List Answered) → Wrote end sent sent' answered → status_of end ≡ 4 → WroteShort sent sent' answered
 wrote_part Clean sent sent' answered wrote is = absurd (omega arith)
@@ -76,7 +76,7 @@ wrote_part BadInput sent sent' answered wrote is = absurd (omega arith)
 wrote_part ReadFault sent sent' answered wrote is = absurd (omega arith)
 wrote_part WriteFault sent sent' answered wrote is = wrote
 wrote_part NoMemory sent sent' answered wrote is = absurd (omega arith)
-wrote_part Spent sent sent' answered wrote is = absurd (omega arith)
+wrote_part FrameLimit sent sent' answered wrote is = absurd (omega arith)
 
 ends_clean : (end : BatchEnd) (rest : List ℕ) (left : Option (List ℕ)) → EndsAs end rest left → status_of end ≡ 0 → (rest ≡ []) × IsAtEnd left
 ends_clean Clean rest left ends is = ends
@@ -84,7 +84,7 @@ ends_clean BadInput rest left ends is = absurd (omega arith)
 ends_clean ReadFault rest left ends is = absurd (omega arith)
 ends_clean WriteFault rest left ends is = absurd (omega arith)
 ends_clean NoMemory rest left ends is = absurd (omega arith)
-ends_clean Spent rest left ends is = absurd (omega arith)
+ends_clean FrameLimit rest left ends is = absurd (omega arith)
 
 ends_bad : (end : BatchEnd) (rest : List ℕ) (left : Option (List ℕ)) → EndsAs end rest left → status_of end ≡ 5 → EndsBadly rest left
 ends_bad Clean rest left ends is = absurd (omega arith)
@@ -92,7 +92,7 @@ ends_bad BadInput rest left ends is = ends
 ends_bad ReadFault rest left ends is = absurd (omega arith)
 ends_bad WriteFault rest left ends is = absurd (omega arith)
 ends_bad NoMemory rest left ends is = absurd (omega arith)
-ends_bad Spent rest left ends is = absurd (omega arith)
+ends_bad FrameLimit rest left ends is = absurd (omega arith)
 
 nothing_is_bad : (rest : List ℕ) → rest ≡ [] → IsBad (front_of rest) → ⊥
 nothing_is_bad rest none bad = nothing_bad_there (subst (λ (xs : List ℕ). IsBad (front_of xs)) none bad)
@@ -103,7 +103,7 @@ bad_ends BadInput rest left ends bad = inl refl
 bad_ends ReadFault rest left ends bad = inr refl
 bad_ends WriteFault rest left ends bad = absurd (nothing_is_bad rest ends bad)
 bad_ends NoMemory rest left ends bad = absurd (ends bad)
-bad_ends Spent rest left ends bad = absurd (nothing_is_bad rest ends bad)
+bad_ends FrameLimit rest left ends bad = absurd (nothing_is_bad rest ends bad)
 
 cut_ends : (end : BatchEnd) (rest : List ℕ) (left : Option (List ℕ)) → EndsAs end rest left → rest ≢ [] → (status_of end ≡ 5) ⊎ (status_of end ≡ 3) ⊎ (status_of end ≡ 6)
 cut_ends Clean rest left ends some = absurd (some ends.0)
@@ -111,7 +111,7 @@ cut_ends BadInput rest left ends some = inl refl
 cut_ends ReadFault rest left ends some = inr (inl refl)
 cut_ends WriteFault rest left ends some = absurd (some ends)
 cut_ends NoMemory rest left ends some = inr (inr refl)
-cut_ends Spent rest left ends some = absurd (some ends)
+cut_ends FrameLimit rest left ends some = absurd (some ends)
 
 counts_few : (end : BatchEnd) (count : ℕ) → CountsAs end count → count ≤ 10000000
 counts_few Clean count is = omega arith
@@ -119,7 +119,7 @@ counts_few BadInput count is = omega arith
 counts_few ReadFault count is = omega arith
 counts_few WriteFault count is = is
 counts_few NoMemory count is = omega arith
-counts_few Spent count is = omega arith
+counts_few FrameLimit count is = omega arith
 
 counts_spent : (end : BatchEnd) (count : ℕ) → CountsAs end count → status_of end ≡ 11 → count ≡ 10000000
 counts_spent Clean count is e = absurd (omega arith)
@@ -127,7 +127,7 @@ counts_spent BadInput count is e = absurd (omega arith)
 counts_spent ReadFault count is e = absurd (omega arith)
 counts_spent WriteFault count is e = absurd (omega arith)
 counts_spent NoMemory count is e = absurd (omega arith)
-counts_spent Spent count is e = is
+counts_spent FrameLimit count is e = is
 
 counts_most : (end : BatchEnd) (count : ℕ) → CountsAs end count → count ≡ 10000000 → (status_of end ≡ 11) ⊎ (status_of end ≡ 4)
 counts_most Clean count is e = absurd (omega arith)
@@ -135,7 +135,7 @@ counts_most BadInput count is e = absurd (omega arith)
 counts_most ReadFault count is e = absurd (omega arith)
 counts_most WriteFault count is e = inr refl
 counts_most NoMemory count is e = absurd (omega arith)
-counts_most Spent count is e = inl refl
+counts_most FrameLimit count is e = inl refl
 
 pub batch_of : (rules : List Entry → Request → Ruling) (end : BatchEnd) (opened : Opened) (content left left' sent sent' moments moments' : Option (List ℕ)) (faults faults' : ℕ)
     → rules ≡ house_rules opened.head opened.cap → Opens content opened → faults ≤ faults' → Served rules end left left' sent sent' moments moments'
@@ -158,6 +158,7 @@ batch_of rules end opened content left left' sent sent' moments moments' faults 
       all = λ is. s.all (answers_all end is);
       asked = s.asked;
       turns = turns;
+      legal = s.legal;
       wrote = wrote_all end sent sent' s.answered s.wrote;
       wrote_short = wrote_part end sent sent' s.answered s.wrote;
       backed = backed_free s.answered faults faults' s.free count;

@@ -9,8 +9,9 @@ use Rattle.std.proofs.lemmas.Grind.{flat_map-append}
 use Rattle.nb_port.specs.Clock.{Gives}
 use Rattle.nb_units.specs.Frames.{Frame, frame, IsFrame, front_of, IsWhole, IsBad, Splits}
 use Rattle.nb_book.specs.declared.entry.Entry.{Entry}
+use Rattle.nb_book.specs.Legal.{Legal}
 use Rattle.netbill.specs.declared.batch.BatchEnd.{BatchEnd}
-use Rattle.netbill.specs.declared.batch.BatchEnd.TheVariants.{Clean, ReadFault, WriteFault, BadInput, NoMemory, Spent}
+use Rattle.netbill.specs.declared.batch.BatchEnd.TheVariants.{Clean, ReadFault, WriteFault, BadInput, NoMemory, FrameLimit}
 use Rattle.netbill.specs.declared.batch.Step.TheVariants as step
 use Rattle.netbill.specs.Send.{SentPart}
 use Rattle.netbill.specs.Turns.{Request, Ruling, State, Answered, Turn, Run, replies, AllFree, IsFree}
@@ -50,10 +51,14 @@ bytes_more done a =
     ap (flat_map frame) (map-append frame_of done (a ∷ [])) ∙ flat_map-append frame (map frame_of done) (frame_of a ∷ [])
     ∙ ap (λ (xs : List ℕ). flat_map frame (map frame_of done) ++ xs) (append-nil (frame (frame_of a)))
 
+no_entries_legal : Legal []
+no_entries_legal = record { each = λ k below. absurd (omega arith) }
+
 pub ran_none : (rules : List Entry → Request → Ruling) (left sent moments : Option (List ℕ)) → Ran rules left left sent sent moments moments 0 []
 ran_none rules left sent moments = record {
   answered = [];
   turns = refl;
+  legal = no_entries_legal;
   free = tt;
   lawful = tt;
   took = Consumes-nil left;
@@ -72,6 +77,7 @@ ran_more rules a b c s t u x y z n old new ran more sent =
     record {
       answered = ran.answered ++ more.one ∷ [];
       turns = run_more rules (at_rest []) (at_rest old) (at_rest new) ran.answered more.one ran.turns more.turn;
+      legal = more.legal;
       free = free_more ran.answered more.one ran.free more.free;
       lawful = subst L (sym (map-append frame_of ran.answered (more.one ∷ []))) (lawful_more (map frame_of ran.answered) (frame_of more.one) ran.lawful more.lawful);
       took = subst P (sym (bytes_more ran.answered more.one)) (Consumes-trans a b c (flat_map frame (map frame_of ran.answered)) (frame (frame_of more.one)) ran.took more.took);
@@ -87,6 +93,7 @@ unsent : (rules : List Entry → Request → Ruling) (a b s t x y : Option (List
 unsent rules a b s t x y n entries ran = record {
   answered = ran.answered;
   turns = ran.turns;
+  legal = ran.legal;
   free = ran.free;
   lawful = ran.lawful;
   took = ran.took;
@@ -105,7 +112,7 @@ split fs rest taken lawful none is =
     }
 
 -- with nothing behind the last frame that was answered
-pub spent : (rules : List Entry → Request → Ruling) (a b s t x y : Option (List ℕ)) (n : ℕ) (entries : List Entry) → (IsWhole (front_of []) → ⊥) → n ≡ 10000000 → Ran rules a b s t x y n entries → Served rules Spent a b s t x y
+pub spent : (rules : List Entry → Request → Ruling) (a b s t x y : Option (List ℕ)) (n : ℕ) (entries : List Entry) → (IsWhole (front_of []) → ⊥) → n ≡ 10000000 → Ran rules a b s t x y n entries → Served rules FrameLimit a b s t x y
 spent rules a b s t x y n entries none all ran = record {
   answered = ran.answered;
   unread = [];
@@ -119,6 +126,7 @@ spent rules a b s t x y n entries none all ran = record {
   counted = ran.counted ∙ all;
   asked = ran.asked;
   turns = ran.turns;
+  legal = ran.legal;
   free = ran.free;
   wrote = ran.wrote;
 }
@@ -143,6 +151,7 @@ stop_with rules end a b c s t x y n old new sent' moments' ran stop wrote ends c
       counted = counts (length ran.answered) ran.counted;
       asked = subst P (sym stop.unasked) ran.asked;
       turns = ran.turns;
+      legal = ran.legal;
       free = ran.free;
       wrote = wrote ran.answered (subst Q (sym stop.unsent) ran.wrote);
     }
@@ -166,6 +175,7 @@ stop_short rules a b c s t u x y z n old new none ran few more part =
       counted = omega (arith, next.counted);
       asked = next.asked;
       turns = next.turns;
+      legal = next.legal;
       free = next.free;
       wrote = record {
         whole = ran.answered;
@@ -189,7 +199,7 @@ ended rules BadInput a b c s t u x y z n old new none ran few is =
     stop_with rules BadInput a b c s t x y n old new u z ran is.0 (λ answered wrote. wrote) is.1 (λ count same. omega arith)
 ended rules NoMemory a b c s t u x y z n old new none ran few is =
     stop_with rules NoMemory a b c s t x y n old new u z ran is.0 (λ answered wrote. wrote) is.1 (λ count same. omega arith)
-ended rules Spent a b c s t u x y z n old new none ran few is = absurd is
+ended rules FrameLimit a b c s t u x y z n old new none ran few is = absurd is
 
 -- without memory nothing was begun
 pub unbegun : (rules : List Entry → Request → Ruling) (left sent moments : Option (List ℕ)) → (IsWhole (front_of []) → ⊥) → (IsBad (front_of []) → ⊥) → Served rules NoMemory left left sent sent moments moments
@@ -206,6 +216,7 @@ unbegun rules left sent moments none good = record {
   counted = omega arith;
   asked = gave_none moments;
   turns = refl;
+  legal = no_entries_legal;
   free = tt;
   wrote = Appends-nil sent;
 }

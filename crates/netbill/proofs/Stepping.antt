@@ -8,6 +8,7 @@ use Rattle.netbill.specs.declared.head.Head.{Head}
 use Rattle.netbill.proofs.Reading.{partial_not_whole}
 use Rattle.netbill.proofs.Serving.{nothing_whole}
 use Rattle.nb_book.specs.declared.entry.Entry.{Entry}
+use Rattle.nb_book.specs.Legal.{Legal}
 use Rattle.netbill.specs.declared.house.House.{House}
 use Rattle.netbill.specs.declared.house.Answer.{Answer}
 use Rattle.netbill.specs.declared.house.Answer.TheVariants as answers
@@ -51,15 +52,16 @@ free_of (answers.Answered at) = tt
 free_of answers.NoMemory = tt
 
 pub stepped_with : (old new : House) (kind moment : ℕ) (held body out out' : List ℕ) (answer : Answer) (left left' moments moments' : Option (List ℕ))
-    → HoldsFrame held → kind ≡ slice_index held 3 → body ≡ drop 8 held → Consumes left left' held → Gives moments moments' moment → out ≡ [] → Answers old new kind body moment out out' answer
+    → HoldsFrame held → kind ≡ slice_index held 3 → body ≡ drop 8 held → Consumes left left' held → Gives moments moments' moment → out ≡ [] → Answers old new kind body moment out out' answer → Legal new.book.entries
     → (done : List ℕ → Type 0) → done out'
     → (s : Stepped (house_rules old.head old.book.cap) old.book.entries new.book.entries left left' moments moments') × done s.one.reply
-stepped_with old new kind moment held body out out' answer left left' moments moments' h k b took now none a done sent =
+stepped_with old new kind moment held body out out' answer left left' moments moments' h k b took now none a legal done sent =
     let f = holds_frame held body kind h k b in
     let P : List ℕ → Type 0 = λ bytes. Consumes left left' bytes in (
       record {
         one = record { request = record { kind = kind; body = body; moment = moment }; mark = mark_of answer; reply = out' };
         turn = turn_of old new kind moment body out out' answer none a;
+        legal = legal;
         free = free_of answer;
         lawful = f.0;
         took = subst P f.1 took;

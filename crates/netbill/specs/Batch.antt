@@ -6,12 +6,13 @@ use Rattle.nb_port.specs.Faults.{Rose}
 use Rattle.nb_port.specs.Clock.{Gives}
 use Rattle.nb_units.specs.Frames.{Frame, frame, IsFrame, Partial, front_of, IsWhole, IsBad, Splits}
 use Rattle.nb_book.specs.declared.entry.Entry.{Entry}
+use Rattle.nb_book.specs.Legal.{Legal}
 use Rattle.netbill.specs.declared.batch.TheConstants.{MOST_FRAMES}
 use Rattle.netbill.specs.declared.batch.BatchEnd.{BatchEnd}
-use Rattle.netbill.specs.declared.batch.BatchEnd.TheVariants.{Clean, ReadFault, WriteFault, BadInput, NoMemory, Spent}
+use Rattle.netbill.specs.declared.batch.BatchEnd.TheVariants.{Clean, ReadFault, WriteFault, BadInput, NoMemory, FrameLimit}
 use Rattle.netbill.specs.declared.batch.Step.{Step}
 use Rattle.netbill.specs.declared.batch.Step.TheVariants as step
-use Rattle.netbill.specs.declared.ending.TheConstants.{CLEAN, SOURCE_FAILED, SINK_FAILED, BAD_INPUT, OUT_OF_MEMORY, SPENT}
+use Rattle.netbill.specs.declared.ending.TheConstants.{CLEAN, SOURCE_FAILED, SINK_FAILED, BAD_INPUT, OUT_OF_MEMORY, FRAME_LIMIT}
 use Rattle.netbill.specs.Send.{SentPart}
 use Rattle.netbill.specs.Turns.{Request, Ruling, State, Answered, Turn, Run, replies, IsFree, AllFree}
 
@@ -21,7 +22,7 @@ status_of ReadFault = SOURCE_FAILED
 status_of WriteFault = SINK_FAILED
 status_of BadInput = BAD_INPUT
 status_of NoMemory = OUT_OF_MEMORY
-status_of Spent = SPENT
+status_of FrameLimit = FRAME_LIMIT
 
 -- a house with nothing in doubt and no faults
 abbrev pub at_rest : List Entry → State
@@ -47,6 +48,7 @@ Gave (Some before) (Some given) moments = given ≡ before ++ moments
 pub record Stepped (rules : List Entry → Request → Ruling) (old new : List Entry) (left left' moments moments' : Option (List ℕ)) : Type 0 where
   pub one : Answered
   pub turn : Turn rules (at_rest old) one.request one.mark one.reply (at_rest new)
+  pub legal : Legal new
   pub free : IsFree one.mark
   pub lawful : IsFrame (frame_of one)
   pub took : Consumes left left' (frame (frame_of one))
@@ -77,7 +79,7 @@ StepIs rules old new left left' sent sent' moments moments' (step.Ended BadInput
 StepIs rules old new left left' sent sent' moments moments' (step.Ended ReadFault) = Stopped old new left left' sent sent' moments moments'
 StepIs rules old new left left' sent sent' moments moments' (step.Ended NoMemory) =
     (s : Stopped old new left left' sent sent' moments moments') × (IsBad (front_of s.rest) → ⊥)
-StepIs rules old new left left' sent sent' moments moments' (step.Ended Spent) = ⊥
+StepIs rules old new left left' sent sent' moments moments' (step.Ended FrameLimit) = ⊥
 
 -- ---- the whole batch
 
@@ -85,6 +87,7 @@ StepIs rules old new left left' sent sent' moments moments' (step.Ended Spent) =
 pub record Ran (rules : List Entry → Request → Ruling) (left left' sent sent' moments moments' : Option (List ℕ)) (count : ℕ) (entries : List Entry) : Type 0 where
   pub answered : List Answered
   pub turns : Run rules (at_rest []) answered (at_rest entries)
+  pub legal : Legal entries
   pub free : AllFree answered
   pub lawful : AllByRecursion IsFrame (map frame_of answered)
   pub took : Consumes left left' (flat_map frame (map frame_of answered))
@@ -119,11 +122,11 @@ EndsAs BadInput rest left = EndsBadly rest left
 EndsAs ReadFault rest left = ⊤
 EndsAs NoMemory rest left = IsBad (front_of rest) → ⊥
 EndsAs WriteFault rest left = rest ≡ []
-EndsAs Spent rest left = rest ≡ []
+EndsAs FrameLimit rest left = rest ≡ []
 
 -- how many were answered where the batch ended so
 abbrev pub CountsAs : BatchEnd → ℕ → Type 0
-CountsAs Spent count = count ≡ MOST_FRAMES
+CountsAs FrameLimit count = count ≡ MOST_FRAMES
 CountsAs WriteFault count = count ≤ MOST_FRAMES
 CountsAs other count = count + 1 ≤ MOST_FRAMES
 
@@ -141,6 +144,7 @@ pub record Served (rules : List Entry → Request → Ruling) (end : BatchEnd) (
   pub counted : CountsAs end (length answered)
   pub asked : Gave moments moments' (map moment_of answered)
   pub turns : Run rules (at_rest []) answered (at_rest entries)
+  pub legal : Legal entries
   pub free : AllFree answered
   pub wrote : Wrote end sent sent' answered
 

@@ -17,7 +17,7 @@ use Rattle.netbill.specs.declared.refusal.Refusal.{Refusal}
 use Rattle.netbill.specs.declared.refusal.TheConstants.{NOT_TOLD}
 use Rattle.netbill.specs.declared.request.Enrolment.{Enrolment}
 use Rattle.netbill.specs.Requests.{enrol_of}
-use Rattle.netbill.specs.Tests.{well_formed, right_tag, room_left, unless_refused, refusal}
+use Rattle.netbill.specs.Checks.{well_formed, right_tag, room_left, unless_refused, refusal}
 use Rattle.netbill.specs.Held.{place_in, signed_part, done}
 
 -- what is recorded

@@ -16,7 +16,7 @@ use Rattle.netbill.specs.declared.refusal.Refusal.{Refusal}
 use Rattle.netbill.specs.declared.refusal.TheConstants.{NOT_TOLD, REFERENCE_HELD}
 use Rattle.netbill.specs.declared.request.Funding.{Funding}
 use Rattle.netbill.specs.Requests.{fund_of}
-use Rattle.netbill.specs.Tests.{well_formed, right_tag, room_left, unless_refused, refusal}
+use Rattle.netbill.specs.Checks.{well_formed, right_tag, room_left, unless_refused, refusal}
 use Rattle.netbill.specs.Held.{place_in, signed_part, done}
 
 -- what is recorded

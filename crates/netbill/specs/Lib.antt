@@ -2,7 +2,7 @@ pub mod Reader
 pub mod Head
 pub mod Replies
 pub mod Requests
-pub mod Tests
+pub mod Checks
 pub mod Held
 pub mod Enrolments
 pub mod Fundings

@@ -4,8 +4,9 @@ use Rattle.std.specs.List.{flat_map, AllByRecursion}
 use Rattle.std.specs.Io.KnownBytes.{Consumes, Appends, IsAtEnd}
 use Rattle.nb_port.specs.Faults.{Rose}
 use Rattle.nb_units.specs.Frames.{Frame, frame, IsFrame, front_of, IsBad, Splits}
+use Rattle.nb_book.specs.Legal.{Legal}
 use Rattle.netbill.specs.declared.batch.TheConstants.{MOST_FRAMES}
-use Rattle.netbill.specs.declared.ending.TheConstants.{CLEAN, BAD_WORDS, SOURCE_FAILED, SINK_FAILED, BAD_INPUT, OUT_OF_MEMORY, DISK_FAILED, NO_JOURNAL, SPENT}
+use Rattle.netbill.specs.declared.ending.TheConstants.{CLEAN, BAD_WORDS, SOURCE_FAILED, SINK_FAILED, BAD_INPUT, OUT_OF_MEMORY, DISK_FAILED, NO_JOURNAL, FRAME_LIMIT}
 use Rattle.netbill.specs.declared.ending.Outcome.{Outcome}
 use Rattle.netbill.specs.declared.ending.Outcome.TheVariants.{Done}
 use Rattle.netbill.specs.Head.{head_of}
@@ -25,7 +26,7 @@ place (Done ending) = ending.place
 
 -- the statuses that a run can end with
 abbrev pub IsStatus : ℕ → Type 0
-IsStatus n = (n ≡ CLEAN) ⊎ (n ≡ BAD_WORDS) ⊎ (n ≡ SOURCE_FAILED) ⊎ (n ≡ SINK_FAILED) ⊎ (n ≡ BAD_INPUT) ⊎ (n ≡ OUT_OF_MEMORY) ⊎ (n ≡ DISK_FAILED) ⊎ (n ≡ NO_JOURNAL) ⊎ (n ≡ SPENT)
+IsStatus n = (n ≡ CLEAN) ⊎ (n ≡ BAD_WORDS) ⊎ (n ≡ SOURCE_FAILED) ⊎ (n ≡ SINK_FAILED) ⊎ (n ≡ BAD_INPUT) ⊎ (n ≡ OUT_OF_MEMORY) ⊎ (n ≡ DISK_FAILED) ⊎ (n ≡ NO_JOURNAL) ⊎ (n ≡ FRAME_LIMIT)
 
 -- What a batch that opened its journal did, by the status that it ended with.
 pub record Batch (status : ℕ) (content left left' sent sent' moments moments' : Option (List ℕ)) (faults faults' : ℕ) : Type 0 where
@@ -49,6 +50,8 @@ pub record Batch (status : ℕ) (content left left' sent sent' moments moments' 
   pub asked : Gave moments moments' (map moment_of answered)
   -- there is a run of turns over them, from a house without entries
   pub turns : Run (house_rules (head_of head) cap) (at_rest []) answered last
+  -- what was recorded is legal: each entry was so after those before it
+  pub legal : Legal last.entries
   -- their replies are what was written
   pub wrote : status ≢ SINK_FAILED → Appends sent sent' (replies answered)
   -- after a failed write: all replies before the last one, and a part of that
@@ -67,8 +70,8 @@ pub record Batch (status : ℕ) (content left left' sent sent' moments moments' 
   pub cut_frame : rest ≢ [] → (status ≡ BAD_INPUT) ⊎ (status ≡ SOURCE_FAILED) ⊎ (status ≡ OUT_OF_MEMORY)
   -- at most so many frames are answered
   pub few : length answered ≤ MOST_FRAMES
-  pub spent : status ≡ SPENT → length answered ≡ MOST_FRAMES
-  pub most : length answered ≡ MOST_FRAMES → (status ≡ SPENT) ⊎ (status ≡ SINK_FAILED)
+  pub spent : status ≡ FRAME_LIMIT → length answered ≡ MOST_FRAMES
+  pub most : length answered ≡ MOST_FRAMES → (status ≡ FRAME_LIMIT) ⊎ (status ≡ SINK_FAILED)
 
 -- the input is fewer than so many whole frames and nothing else
 pub record IsWholeInput (left : Option (List ℕ)) : Type 0 where

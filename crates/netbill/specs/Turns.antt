@@ -5,7 +5,7 @@ use Rattle.nb_book.specs.declared.entry.Entry.{Entry}
 use Rattle.netbill.specs.declared.refusal.TheConstants.{DISK_FAULT, WORN, NO_MEMORY}
 use Rattle.netbill.specs.declared.reply.Reply.TheVariants.{Refused}
 use Rattle.netbill.specs.Replies.{reply_bytes}
-use Rattle.netbill.specs.Tests.{refusal}
+use Rattle.netbill.specs.Checks.{refusal}
 
 -- what is asked, and when
 pub record Request : Type 0 where

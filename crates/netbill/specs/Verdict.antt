@@ -7,7 +7,7 @@ use Rattle.netbill.specs.declared.refusal.Refusal.{Refusal}
 use Rattle.netbill.specs.declared.refusal.TheConstants.{NOT_SERVED}
 use Rattle.netbill.specs.declared.reply.Reply.TheVariants.{Refused}
 use Rattle.netbill.specs.declared.decision.Decision.{Decision}
-use Rattle.netbill.specs.Tests.{refusal}
+use Rattle.netbill.specs.Checks.{refusal}
 use Rattle.netbill.specs.Enrolments.{enrol_steps}
 use Rattle.netbill.specs.Fundings.{fund_steps}
 

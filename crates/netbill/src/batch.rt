@@ -3,7 +3,7 @@ ghost use Rattle.netbill.specs.declared.reply.TheConstants.{MOST_REPLY};
 ghost use Rattle.netbill.specs.House.{house_rules, SameHouse};
 ghost use Rattle.netbill.specs.Batch.{StepIs, Served, FaultOf, StepFaultOf, status_of};
 
-use crate::ending::{BAD_INPUT, CLEAN, OUT_OF_MEMORY, SINK_FAILED, SOURCE_FAILED, SPENT};
+use crate::ending::{BAD_INPUT, CLEAN, FRAME_LIMIT, OUT_OF_MEMORY, SINK_FAILED, SOURCE_FAILED};
 use crate::frame_reader::{FrameReader, Next};
 use crate::house::House;
 use crate::reply::MOST_REPLY;
@@ -28,7 +28,7 @@ pub enum BatchEnd {
     /// There was no memory.
     NoMemory,
     /// So many frames were answered.
-    Spent,
+    FrameLimit,
 }
 
 impl BatchEnd {
@@ -42,7 +42,7 @@ impl BatchEnd {
             BatchEnd::WriteFault => SINK_FAILED,
             BatchEnd::BadInput => BAD_INPUT,
             BatchEnd::NoMemory => OUT_OF_MEMORY,
-            BatchEnd::Spent => SPENT,
+            BatchEnd::FrameLimit => FRAME_LIMIT,
         }
     }
 }
@@ -78,7 +78,7 @@ pub fn serve<S: Source, K: Sink, C: Clock>(
             Step::Ended(end) => return end,
         }
     }
-    BatchEnd::Spent
+    BatchEnd::FrameLimit
 }
 
 // Takes one frame from the source, answers it, and sends the reply.

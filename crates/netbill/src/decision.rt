@@ -3,7 +3,7 @@ ghost use Rattle.nb_book.specs.declared.limits.TheConstants.{MAX_TOTAL};
 ghost use Rattle.nb_book.specs.Searches.{party_in, holder_in, funded_in};
 ghost use Rattle.nb_book.specs.Legal.{LegalAfter};
 ghost use Rattle.nb_book.specs.Money.{balance, total};
-ghost use Rattle.netbill.specs.Tests.{right_tag, room_left};
+ghost use Rattle.netbill.specs.Checks.{right_tag, room_left};
 ghost use Rattle.netbill.specs.Held.{place_in, signed_part, done as done_at};
 ghost use Rattle.netbill.specs.Enrolments.{enrol_entry, numbers_free, enrol_steps};
 ghost use Rattle.netbill.specs.Fundings.{fund_entry, reference_new, account_held, total_within, fund_steps};
@@ -36,11 +36,12 @@ pub struct Decision {
 
 /// Decides on one request over the entries that are held. This takes no memory. No test of the kinds that are
 /// served asks for the moment.
-pub fn decide(book: &Book, head: &Head, kind: u8, body: &[u8], _moment: u64) -> Decision
-    ensures verdict { result ≡ verdict book.now.entries head.now book.now.cap kind body.now _moment }
+pub fn decide(book: &Book, head: &Head, kind: u8, body: &[u8], moment: u64) -> Decision
+    ensures verdict { result ≡ verdict book.now.entries head.now book.now.cap kind body.now moment }
     ensures legal { IfSome result.entry (LegalAfter book.now.entries) }
     ensures room { IsSome result.entry → length book.now.entries < book.now.cap }
 {
+    let _moment = moment;
     let decided = match kind {
         ENROL => decide_enrolment(book, head, body),
         FUND => decide_funding(book, head, body),
@@ -154,7 +155,7 @@ fn funded_at(book: &Book, asked: &Funding) -> Option<u64>
     }
 }
 
-#[tactic(auto, unfolding(crate::specs::Tests::right_tag))]
+#[tactic(auto, unfolding(crate::specs::Checks::right_tag))]
 fn check_tag(given: &Tag, wanted: &Tag) -> Result<(), Refusal>
     ensures { result ≡ right_tag given.now wanted.now }
 {
@@ -218,7 +219,7 @@ fn check_total(book: &Book, amount: u64) -> Result<(), Refusal>
     }
 }
 
-#[tactic(auto, unfolding(crate::specs::Tests::room_left))]
+#[tactic(auto, unfolding(crate::specs::Checks::room_left))]
 fn check_room(book: &Book) -> Result<(), Refusal>
     ensures test { result ≡ room_left book.now.entries book.now.cap }
     ensures room { OnOk result (length book.now.entries < book.now.cap) }

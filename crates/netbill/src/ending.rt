@@ -24,8 +24,8 @@ pub const DISK_FAILED: u8 = 7;
 /// The disk holds no journal that can be opened.
 pub const NO_JOURNAL: u8 = 8;
 
-/// As many frames were answered as one run answers.
-pub const SPENT: u8 = 11;
+/// As many frames were answered as one run answers, 10,000,000.
+pub const FRAME_LIMIT: u8 = 11;
 
 /// A status, and the place that it speaks of: 0 where there is none.
 #[derive(Clone, Copy, PartialEq, Eq, Debug)]

@@ -161,6 +161,7 @@ fn next_frame<S: Source>(held: &mut Vec<u8>, source: &mut S) -> Next
         Front::Whole => Next::Frame,
         Front::Bad => Next::Bad,
         Front::Partial => next_body(held, source),
+        // eight bytes are never empty
         Front::Empty => Next::End,
     }
 }
@@ -214,6 +215,7 @@ fn at_end(held: &[u8]) -> Next
         Front::Empty => Next::End,
         Front::Bad => Next::Bad,
         Front::Partial => Next::Cut,
+        // fewer bytes than a header has are never a whole frame
         Front::Whole => Next::Cut,
     }
 }

@@ -2,6 +2,7 @@ ghost use Rattle.std.specs.Prelude.{◌≡◌, ◌≤◌, [], IfOk, vec_capacity
 ghost use Rattle.nb_book.specs.declared.limits.TheConstants.{MAX_CAP};
 ghost use Rattle.nb_units.specs.Room.{spare_of};
 ghost use Rattle.netbill.specs.declared.reply.TheConstants.{MOST_REPLY};
+ghost use Rattle.nb_book.specs.Legal.{Legal};
 ghost use Rattle.netbill.specs.House.{Answers};
 
 use crate::decision::decide;
@@ -48,13 +49,14 @@ impl House {
     pub fn answer(&mut self, kind: u8, body: &[u8], moment: u64, out: &mut Vec<u8>) -> Answer
         requires { MOST_REPLY ≤ spare_of out.old }
         ensures answers { Answers self.old self.new kind body.now moment out.old.items out.new.items result }
+        ensures legal { Legal self.new.book.entries }
         ensures room { vec_capacity out.old ≤ vec_capacity out.new }
     {
+        let at = u64::from(self.book.len());
         if self.book.reserve(1).is_err() {
             write_reply(&Reply::Refused(Refusal::of(NO_MEMORY, 0, 0)), out);
             return Answer::NoMemory;
         }
-        let at = u64::from(self.book.len());
         let decision = decide(&self.book, &self.head, kind, body, moment);
         if let Some(entry) = decision.entry {
             self.book.apply(&entry);

@@ -1,5 +1,5 @@
 ghost use Rattle.std.specs.Prelude.{◌≡◌};
-ghost use Rattle.netbill.specs.Tests.{refusal, zeros};
+ghost use Rattle.netbill.specs.Checks.{refusal, zeros};
 
 use crate::request::Malformed;
 
@@ -54,7 +54,7 @@ impl Refusal {
 impl From<Malformed> for Refusal {
     ghost use Rattle.std.specs.Prelude.{◌≡◌};
     ghost use Rattle.netbill.specs.declared.refusal.TheConstants.{MALFORMED};
-    ghost use Rattle.netbill.specs.Tests.{refusal};
+    ghost use Rattle.netbill.specs.Checks.{refusal};
 
     ghost from_gives = { λ malformed r. r ≡ refusal MALFORMED malformed.place 0 };
 

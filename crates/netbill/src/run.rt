@@ -1,6 +1,6 @@
 ghost use Rattle.std.specs.Prelude.{◌≡◌, ◌≢◌, ◌≤◌, ◌⊎◌, ℕ, List, map, string_bytes, IfSome};
 ghost use Rattle.nb_port.specs.Faults.{Rose};
-ghost use Rattle.netbill.specs.declared.ending.TheConstants.{CLEAN, BAD_WORDS, SOURCE_FAILED, SINK_FAILED, BAD_INPUT, OUT_OF_MEMORY, DISK_FAILED, NO_JOURNAL, SPENT};
+ghost use Rattle.netbill.specs.declared.ending.TheConstants.{CLEAN, BAD_WORDS, SOURCE_FAILED, SINK_FAILED, BAD_INPUT, OUT_OF_MEMORY, DISK_FAILED, NO_JOURNAL, FRAME_LIMIT};
 ghost use Rattle.netbill.specs.Words.{IsBatch};
 ghost use Rattle.netbill.specs.Stands.{IsNoJournal};
 ghost use Rattle.netbill.specs.Run.{Batch, IsJournal, IsWholeInput, IsStatus, done_with, status, place};

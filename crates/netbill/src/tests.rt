@@ -1,9 +1,11 @@
 //! Worked cases of `run`. Frames and replies are from another program, or made by hand from the layouts; keys are one
 //! byte repeated.
 
+ghost use Rattle.std.specs.Prelude.{Some};
+
 use crate::ending::{Ending, Outcome};
 use crate::run::run;
-use nb_port::{MemClock, MemDisk, MemSink, MemSource};
+use nb_port::{MemClock, MemDisk, MemSink, MemSource, Sink, WriteOut};
 use std::alloc::Global;
 use std::process::Abort;
 use std::test::Fail;
@@ -761,6 +763,53 @@ fn hold(rt: &impl Abort, alloc: Global, cases: &[Case<'_>]) -> Result<(), Fail> 
         assert_eq!(rt; status, case.status, "{}", case.name);
         assert_eq!(rt; written.as_slice(), wanted.as_slice(), "{}", case.name);
     }
+    Ok(())
+}
+
+// A sink that takes one byte a call.
+#[derive(Drop)]
+struct Slow {
+    to: MemSink,
+}
+
+impl Sink for Slow {
+    ghost faults = { λ s. s.to.calls.faults };
+
+    ghost sent = { λ s. Some s.to.sent };
+
+    fn write(&mut self, piece: &[u8]) -> WriteOut {
+        self.to.write(piece.split_at(1).0)
+    }
+}
+
+// A slow sink fails within the second reply: the first one was written whole, and a part of the second.
+#[test]
+fn slow_sink_fails_within_a_reply(rt: HostRuntime) -> Result<(), Fail> {
+    let alloc = rt.alloc();
+    let mut words = Vec::new(alloc);
+    words.push(String::from_str(alloc, "batch")?)?;
+    words.push(String::from_str(alloc, "house.journal")?)?;
+    let journal = bytes(alloc, &[Piece::Journal])?;
+    let input = bytes(alloc, &[Piece::Enrol1, Piece::Enrol2])?;
+    let replies = bytes(alloc, &[Piece::Done1, Piece::Done2])?;
+    let mut source = MemSource::new(alloc, input.as_slice(), 7, &[])?;
+    let mut sink = Slow {
+        to: MemSink::new(alloc, &[40])?,
+    };
+    let disk = MemDisk::new(alloc, journal.as_slice(), &[])?;
+    let mut clock = MemClock::new(alloc, &[])?;
+    let (ended, _disk) = run(
+        alloc,
+        words.as_slice(),
+        &mut source,
+        &mut sink,
+        disk,
+        &mut clock,
+    );
+    let Outcome::Done(Ending { status, place: _ }) = ended;
+    assert_eq!(rt; status, 4);
+    assert!(rt; replies.len() == 56);
+    assert_eq!(rt; sink.to.sent(), replies.as_slice().split_at(39).0);
     Ok(())
 }
 

@@ -28,7 +28,7 @@ pub returns-in-All-clause-step : goal.returns-in-All-clause-step
 returns-in-All-clause-step g c =
     stepped_with c.args.house.now c.answer-answer.new.self c.kind.result c.now-moment.result c.next.new.self c.body.result.now c.clear.new.self.items c.answer-answer.new.out.items c.answer-answer.result
     (g.S.Source.left c.args.source.now) (g.S.Source.left c.next.new.source) (g.C.Clock.moments c.args.clock.now) (g.C.Clock.moments c.now-moment.new.self)
-    c.in-Frame.ensures.gives c.kind.ensures c.body.ensures c.in-Frame.ensures.took c.now-moment.ensures.gives c.clear.ensures.items c.answer-answer.ensures.answers
+    c.in-Frame.ensures.gives c.kind.ensures c.body.ensures c.in-Frame.ensures.took c.now-moment.ensures.gives c.clear.ensures.items c.answer-answer.ensures.answers c.answer-answer.ensures.legal
     (λ (bytes : List ℕ). Appends (g.K.Sink.sent c.args.sink.now) (g.K.Sink.sent c.send.new.sink) bytes)
     (subst (λ (bytes : List ℕ). Appends (g.K.Sink.sent c.args.sink.now) (g.K.Sink.sent c.send.new.sink) bytes) c.as_slice.ensures.value c.in-All.ensures.sent)
 
@@ -36,6 +36,6 @@ pub returns-in-Failed-send-clause-step : goal.returns-in-Failed-send-clause-step
 returns-in-Failed-send-clause-step g c =
     stepped_with c.args.house.now c.answer-answer.new.self c.kind.result c.now-moment.result c.next.new.self c.body.result.now c.clear.new.self.items c.answer-answer.new.out.items c.answer-answer.result
     (g.S.Source.left c.args.source.now) (g.S.Source.left c.next.new.source) (g.C.Clock.moments c.args.clock.now) (g.C.Clock.moments c.now-moment.new.self)
-    c.in-Frame.ensures.gives c.kind.ensures c.body.ensures c.in-Frame.ensures.took c.now-moment.ensures.gives c.clear.ensures.items c.answer-answer.ensures.answers
+    c.in-Frame.ensures.gives c.kind.ensures c.body.ensures c.in-Frame.ensures.took c.now-moment.ensures.gives c.clear.ensures.items c.answer-answer.ensures.answers c.answer-answer.ensures.legal
     (λ (bytes : List ℕ). SentPart (g.K.Sink.sent c.args.sink.now) (g.K.Sink.sent c.send.new.sink) bytes)
     (subst (λ (bytes : List ℕ). SentPart (g.K.Sink.sent c.args.sink.now) (g.K.Sink.sent c.send.new.sink) bytes) c.as_slice.ensures.value c.in-Failed-send.ensures.sent.1)

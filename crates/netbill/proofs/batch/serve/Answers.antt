@@ -1,10 +1,10 @@
-use Rattle.std.proofs.Common.{List, ◌∙◌, subst, arith}
+use Rattle.std.proofs.Common.{List, ◌∙◌, subst, arith, refl, sym}
 use Rattle.nb_book.specs.declared.entry.Entry.{Entry}
 use Rattle.netbill.specs.House.{house_rules}
 use Rattle.netbill.specs.Turns.{Request, Ruling}
 use Rattle.netbill.specs.declared.batch.Step.TheVariants as step
-use Rattle.netbill.specs.Batch.{StepIs}
-use Rattle.netbill.proofs.Serving.{ran_more, ended, spent, unbegun, nothing_whole, nothing_bad_there}
+use Rattle.netbill.specs.Batch.{StepIs, Ran}
+use Rattle.netbill.proofs.Serving.{ran_none, ran_more, ended, spent, unbegun, nothing_whole, nothing_bad_there}
 use Rattle.netbill.proofs.Stepping.{same_rules}
 use Rattle.netbill.proofs.batch.serve.Goals as goal
 
@@ -45,3 +45,17 @@ pub returns-clause-served : goal.returns-clause-served
 returns-clause-served g c =
     spent (house_rules c.args.house.now.head c.args.house.now.book.cap) (g.S.Source.left c.args.source.now) (g.S.Source.left c.frames.source) (g.K.Sink.sent c.args.sink.now) (g.K.Sink.sent c.frames.sink)
     (g.C.Clock.moments c.args.clock.now) (g.C.Clock.moments c.frames.clock) c.frames.counter c.frames.house.book.entries nothing_whole (omega (arith, c.frames.auto.counter-end)) c.frames.invariant.ran
+
+pub frames-init : goal.frames-init
+frames-init g c = record {
+  ran = subst
+      (λ (entries : List Entry). Ran (house_rules c.args.house.now.head c.args.house.now.book.cap) (g.S.Source.left c.args.source.now) (g.S.Source.left c.args.source.now)
+      (g.K.Sink.sent c.args.sink.now) (g.K.Sink.sent c.args.sink.now) (g.C.Clock.moments c.args.clock.now) (g.C.Clock.moments c.args.clock.now) 0 entries)
+      (sym c.requires)
+      (ran_none (house_rules c.args.house.now.head c.args.house.now.book.cap) (g.S.Source.left c.args.source.now) (g.K.Sink.sent c.args.sink.now) (g.C.Clock.moments c.args.clock.now));
+  head = refl;
+  cap = refl;
+  room = omega (arith, c.in-Ok.ensures.capacity);
+  source = omega arith;
+  sink = omega arith;
+}
