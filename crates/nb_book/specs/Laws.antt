@@ -6,10 +6,15 @@ use Rattle.nb_units.specs.declared.ids.PartyId.{PartyId}
 use Rattle.nb_units.specs.declared.ids.AcctId.{AcctId}
 use Rattle.nb_book.specs.declared.entry.Entry.{Entry}
 use Rattle.nb_book.specs.declared.entry.Entry.TheVariants.{Enrol, Fund}
-use Rattle.nb_book.specs.declared.limits.TheConstants.{MAX_TOTAL}
+use Rattle.nb_book.specs.declared.entry.TheConstants.{CONSUMER, MERCHANT}
+use Rattle.nb_book.specs.declared.limits.TheConstants.{MAX_CAP, MAX_TOTAL}
 use Rattle.nb_book.specs.Searches.{holder_in}
 use Rattle.nb_book.specs.Money.{credit, debit, credits, debits, balance, total, accounts}
 use Rattle.nb_book.specs.Legal.{LegalAfter, Legal}
+
+-- the limits and roles in numbers
+abbrev pub LimitsAre : Type 0
+LimitsAre = (MAX_CAP ≡ 1000000) × (MAX_TOTAL ≡ 1000000000000000000) × (CONSUMER ≡ 1) × (MERCHANT ≡ 2)
 
 -- what was taken from an account is at most what came into it
 abbrev pub NoneOverdrawn : Type 0

@@ -1,6 +1,11 @@
 //! What holds of every Legal list. Each function here does nothing: its contract is the law.
 
-ghost use Rattle.nb_book.specs.Laws.{NoneOverdrawn, BalancesMakeTotal, TotalFits, UnheldIsEmpty, BalanceAfter, StaysLegal, EnrolledOnce, OpenedOnce, FundedOnce};
+ghost use Rattle.nb_book.specs.Laws.{LimitsAre, NoneOverdrawn, BalancesMakeTotal, TotalFits, UnheldIsEmpty, BalanceAfter, StaysLegal, EnrolledOnce, OpenedOnce, FundedOnce};
+
+/// The limits and the roles in numbers.
+pub fn limits()
+    ensures { LimitsAre }
+{}
 
 /// No balance is below zero: what was taken from an account is at most what came into it.
 pub fn none_overdrawn()

@@ -1,5 +1,5 @@
 -- A part of a list of bytes is a list of bytes.
-use Rattle.std.proofs.Common.{◌≡◌, ℕ, zero, suc, ◌+◌, ◌<◌, List, [], ◌∷◌, get_or, take, drop, arith}
+use Rattle.std.proofs.Common.{ℕ, zero, suc, ◌+◌, List, [], ◌∷◌, take, drop, arith}
 use Rattle.std.proofs.lemmas.List.{get_or-drop}
 use Rattle.nb_units.specs.Frames.{AreBytes}
 

@@ -1,6 +1,6 @@
 -- A field is read exactly where its spelling stands.
-use Rattle.std.proofs.Common.{◌≡◌, ℕ, ◌+◌, ◌<◌, ◌≤◌, ◌^◌, Bool, true, false, cond, ltb, List, [], ◌∷◌, ◌++◌, length, get_or, take, drop, Result, Ok, Err, refl, ap, sym, subst, ◌∙◌, arith}
-use Rattle.std.specs.Prelude.{◌↔◌, if◌then◌else◌, nat_lt}
+use Rattle.std.proofs.Common.{◌≡◌, ℕ, ◌+◌, ◌≤◌, Bool, true, false, cond, ltb, List, [], ◌∷◌, length, get_or, take, drop, Result, Ok, Err, refl, ap, sym, subst, ◌∙◌, arith}
+use Rattle.std.specs.Prelude.{◌↔◌}
 use Rattle.std.specs.Int.{w32, w64, from_be_bytes}
 use Rattle.std.proofs.lemmas.Bool.{ltb-false, le-ltb}
 use Rattle.std.proofs.lemmas.List.{length-take, length-take-le, take-take, drop-take}
@@ -8,7 +8,6 @@ use Rattle.std.proofs.Math.Seq.{take-add}
 use Rattle.std.proofs.lemmas.Nat.{from_be_bytes-to_be_bytes_4, from_be_bytes-to_be_bytes_8, be_bytes_4, be_bytes_8}
 use Rattle.nb_units.specs.declared.cut.CutFault.{CutFault}
 use Rattle.nb_units.specs.Fields.{be4, be8, sized, raw_at, u8_at, u32_at, u64_at, bytes_at, text_of, behind_length}
-use Rattle.nb_units.specs.Frames.{AreBytes}
 use Rattle.nb_units.specs.Laws.{StandsAt, RawStands, ByteStands, U32Stands, U64Stands, TextStands}
 use Rattle.nb_units.proofs.ByteLists.{AreBytes-drop, AreBytes-take}
 

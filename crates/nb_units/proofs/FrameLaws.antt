@@ -1,17 +1,16 @@
 -- A whole frame at the front is read as that frame, what is read as a frame is its spelling, and a stream
 -- has one splitting into frames, which is the longest.
-use Rattle.std.proofs.Common.{◌≡◌, ℕ, zero, suc, ◌+◌, ◌^◌, ◌<◌, ◌≤◌, Bool, true, false, cond, ltb, eqb, ◌&&◌, List, [], ◌∷◌, ◌++◌, length, get_or, take, drop, refl, sym, ap, subst, ◌∙◌, append_assoc, arith, inl, inr}
-use Rattle.std.specs.Prelude.{◌⊎◌, if◌then◌else◌, nat_lt, ◌==◌}
-use Rattle.std.specs.Int.{w32, from_be_bytes, to_be_bytes}
+use Rattle.std.proofs.Common.{◌≡◌, ℕ, zero, suc, ◌<◌, ◌≤◌, Bool, true, false, cond, ltb, eqb, ◌&&◌, List, [], ◌∷◌, ◌++◌, length, get_or, take, drop, refl, sym, ap, subst, ◌∙◌, append_assoc, arith, inl, inr}
+use Rattle.std.specs.Prelude.{◌⊎◌, if◌then◌else◌, nat_lt}
+use Rattle.std.specs.Int.{w32, from_be_bytes}
 use Rattle.std.specs.List.{flat_map, AllByRecursion}
 use Rattle.std.proofs.lemmas.Bool.{ltb-true, ltb-false, lt-ltb, le-ltb, eqb-true}
 use Rattle.std.proofs.lemmas.List.{length-append, append-nil, length-take-le, take-append-drop}
 use Rattle.std.proofs.Math.Seq.{take-append_seam, drop-append_seam}
 use Rattle.std.proofs.lemmas.Nat.{from_be_bytes-to_be_bytes_4, be_bytes_4}
-use Rattle.std.proofs.lemmas.List.Concat.{flat_map-cons}
 use Rattle.nb_units.proofs.ByteLists.{AreBytes-drop}
 use Rattle.nb_units.specs.Fields.{be4, sized}
-use Rattle.nb_units.specs.Frames.{Frame, IsFrame, frame, Front, Whole, Empty, Partial, Bad, HeaderFault, BadMagic, BadVersion, BadKind, TooLong, body_of, behind_kind, behind_version, behind_magic, behind_first, front_of, IsWhole, Splits, AreBytes, PartIsPartial, HasReading}
+use Rattle.nb_units.specs.Frames.{Frame, IsFrame, frame, Front, Whole, Empty, Partial, Bad, HeaderFault, body_of, behind_kind, behind_version, behind_magic, behind_first, front_of, IsWhole, Splits, AreBytes, PartIsPartial, HasReading}
 
 -- a test that fails leaves the other branch
 unless : {A : Type 0} (a b : ℕ) (x y : A) → b ≤ a → (if nat_lt a b then x else y) ≡ y

@@ -10,9 +10,13 @@ abbrev pub IsEpoid : Epoid → Type 0
 IsEpoid e = (e.merchant.0 < 2 ^ 32) × (e.moment < 2 ^ 64) × (e.serial < 2 ^ 32)
 
 -- its one spelling
-abbrev pub epoid_bytes : Epoid → List ℕ
+unfoldable pub epoid_bytes : Epoid → List ℕ
 epoid_bytes e = be4 e.merchant.0 ++ be8 e.moment ++ be4 e.serial
 
 -- the identifier that 16 bytes spell
-abbrev pub epoid_of : List ℕ → Epoid
-epoid_of bytes = record { merchant = record { 0 = from_be_bytes w32 (take 4 bytes) }; moment = from_be_bytes w64 (take 8 (drop 4 bytes)); serial = from_be_bytes w32 (drop 8 (drop 4 bytes)) }
+unfoldable pub epoid_of : List ℕ → Epoid
+epoid_of bytes = record {
+  merchant = record { 0 = from_be_bytes w32 (take 4 bytes) };
+  moment = from_be_bytes w64 (take 8 (drop 4 bytes));
+  serial = from_be_bytes w32 (drop 8 (drop 4 bytes));
+}

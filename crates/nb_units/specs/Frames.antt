@@ -90,7 +90,9 @@ AreBytes bytes = (i : ℕ) → slice_index bytes i < 256
 
 -- the layout in numbers: 4E 42 01, the kind from 01 to 10, the length in four bytes, the body of at most 1,048,576
 abbrev pub FrameLayout : Type 0
-FrameLayout = (f : Frame) → (frame f ≡ 0x4E ∷ 0x42 ∷ 0x01 ∷ f.kind ∷ be4 (length f.body) ++ f.body) × (length (frame f) ≡ HEADER + length f.body) × (IsFrame f ↔ ((1 ≤ f.kind) × (f.kind ≤ 0x10) × (length f.body ≤ 1048576)))
+FrameLayout = (f : Frame) → (frame f ≡ 0x4E ∷ 0x42 ∷ 0x01 ∷ f.kind ∷ be4 (length f.body) ++ f.body)
+    × (length (frame f) ≡ HEADER + length f.body)
+    × (IsFrame f ↔ ((1 ≤ f.kind) × (f.kind ≤ 0x10) × (length f.body ≤ 1048576)))
 
 -- a whole frame at the front is read as that frame, whatever follows it
 abbrev pub FrontIsFrame : Type 0
@@ -102,7 +104,8 @@ FrameIsFront = (bytes rest : List ℕ) (f : Frame) → AreBytes bytes → front_
 
 -- a part of a frame, from its front on, is read as a part
 abbrev pub PartIsPartial : Type 0
-PartIsPartial = (bytes more : List ℕ) (f : Frame) → AreBytes bytes → IsFrame f → bytes ++ more ≡ frame f → bytes ≢ [] → more ≢ [] → front_of bytes ≡ Partial
+PartIsPartial = (bytes more : List ℕ) (f : Frame) → AreBytes bytes → IsFrame f → bytes ++ more ≡ frame f → bytes ≢ [] → more ≢ []
+    → front_of bytes ≡ Partial
 
 -- each list of bytes is a list of frames and a rest that begins with none
 abbrev pub HasReading : Type 0

@@ -1,4 +1,4 @@
-ghost use Rattle.std.specs.Prelude.{◌≡◌, drop};
+ghost use Rattle.std.specs.Prelude.{◌≡◌, ◌≤◌, drop, length, IfOk};
 ghost use Rattle.nb_units.specs.Fields.{raw_at, u8_at, u32_at, u64_at, bytes_at, done_at, moved_by, moved_past, seen};
 
 use crate::number::{u32_of, u64_of};
@@ -122,6 +122,7 @@ impl<'a> Cut<'a> {
     /// A text of at most `max` bytes: its length in 4 bytes, big-endian, and then the text.
     pub fn bytes(&mut self, max: u32) -> Result<&'a [u8], CutFault>
         ensures value { seen result ≡ bytes_at max self.old.bytes self.old.place }
+        ensures short { IfOk result (λ text. length text.now ≤ max) }
         ensures moved { self.new ≡ moved_past self.old result }
     {
         let place = self.place;

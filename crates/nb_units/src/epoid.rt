@@ -12,6 +12,7 @@ pub struct Epoid {
     pub serial: u32,
 }
 
+#[tactic(auto, unfolding(crate::specs::Epoid::epoid_of, crate::specs::Epoid::epoid_bytes))]
 impl Epoid {
     ghost use Rattle.std.specs.Prelude.{◌≡◌};
     ghost use Rattle.nb_units.specs.Epoid.{epoid_bytes, epoid_of};

@@ -1,4 +1,4 @@
-ghost use Rattle.std.specs.Prelude.{◌≡◌, ◌≤◌, ◌-◌, IsOk, OnOk, vec_capacity, vec_len};
+ghost use Rattle.std.specs.Prelude.{◌≡◌, ◌≤◌, IsOk, OnOk};
 ghost use Rattle.nb_units.specs.Room.{spare_of};
 
 use std::alloc::{AllocError, AllocFailed};

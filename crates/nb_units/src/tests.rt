@@ -95,7 +95,7 @@ fn reads_texts(rt: HostRuntime) {
 // The places are those of the fields, the cut stays where a field is bad, and bytes left over are told.
 #[test]
 fn tells_places(rt: HostRuntime) {
-    let mut cut = Cut::new(&[7, 0, 0, 0, 1, b'x', 0, 0, 0]);
+    let mut cut = Cut::new(&[7, 0, 0, 0, 1, b'x', 9]);
     assert_eq!(rt; cut.u8(), Ok(7));
     assert_eq!(rt;
         cut.bytes(0),
@@ -105,15 +105,10 @@ fn tells_places(rt: HostRuntime) {
             max: 0
         })
     );
-    assert_eq!(rt; cut.place(), 1);
     assert!(rt; cut.bytes(1).is_ok());
-    assert_eq!(rt; cut.place(), 6);
     assert_eq!(rt; cut.u32(), Err(CutFault::Short { place: 6 }));
     assert_eq!(rt; cut.done(), Err(CutFault::Extra { place: 6 }));
-    assert_eq!(rt; cut.u8(), Ok(0));
-    assert_eq!(rt; cut.u8(), Ok(0));
-    assert_eq!(rt; cut.done(), Err(CutFault::Extra { place: 8 }));
-    assert_eq!(rt; cut.u8(), Ok(0));
+    assert_eq!(rt; cut.u8(), Ok(9));
     assert_eq!(rt; cut.done(), Ok(()));
 }
 

@@ -11,20 +11,20 @@ use Rattle.netbill.specs.declared.head.Head.{Head}
 use Rattle.netbill.specs.Head.{head_of}
 use Rattle.netbill.specs.Stands.{Opens}
 use Rattle.netbill.specs.House.{house_rules}
-use Rattle.netbill.specs.Turns.{Request, Ruling, State, Mark, At, Fault, Worn, NoMemory as Starved, Answered, Turn, Run, replies, decided, AllDecided, IsDecided, IsFree, AllFree, Backed, BackedBy}
+use Rattle.netbill.specs.Turns.{Request, Ruling, State, Mark, At, Fault, Worn, NoMemory as Starved, Answered, Turn, Run, replies, decided, AllDecided, IsDecided, IsFaultless, NoneFaulty, Backed, BackedBy}
 use Rattle.netbill.specs.Batch.{at_rest, status_of, EndsAs, EndsBadly, CountsAs, AnswersAll, Wrote, WroteShort, Served}
 use Rattle.netbill.specs.Run.{Batch}
 use Rattle.netbill.proofs.Serving.{nothing_bad_there}
 
 -- a turn that did not fail needs no count
-passes : (mark : Mark) (from : ℕ) (rest : ℕ → Type 0) → IsFree mark → rest from → BackedBy from mark rest
+passes : (mark : Mark) (from : ℕ) (rest : ℕ → Type 0) → IsFaultless mark → rest from → BackedBy from mark rest
 passes (At place) from rest free is = is
 passes Starved from rest free is = is
 passes (Fault before after) from rest free is = absurd free
 passes Worn from rest free is = absurd free
 
 -- where no turn failed nothing has to be backed
-backed_free : (answered : List Answered) (from to : ℕ) → AllFree answered → from ≤ to → Backed from answered to
+backed_free : (answered : List Answered) (from to : ℕ) → NoneFaulty answered → from ≤ to → Backed from answered to
 backed_free [] from to free le = le
 backed_free (a ∷ more) from to free le = passes a.mark from (λ next. Backed next more to) free.0 (backed_free more from to free.1 le)
 
@@ -162,7 +162,7 @@ batch_of rules end opened content left left' sent sent' moments moments' faults 
       wrote = wrote_all end sent sent' s.answered s.wrote;
       wrote_short = wrote_part end sent sent' s.answered s.wrote;
       backed = backed_free s.answered faults faults' s.free count;
-      free = λ still. s.free;
+      free = s.free;
       alone = replies-decided (house_rules (head_of opens.bytes) opened.cap) [] s.answered (at_rest s.entries) turns;
       clean = ends_clean end s.rest left' s.ends;
       bad = ends_bad end s.rest left' s.ends;

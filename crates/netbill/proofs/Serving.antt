@@ -14,7 +14,7 @@ use Rattle.netbill.specs.declared.batch.BatchEnd.{BatchEnd}
 use Rattle.netbill.specs.declared.batch.BatchEnd.TheVariants.{Clean, ReadFault, WriteFault, BadInput, NoMemory, FrameLimit}
 use Rattle.netbill.specs.declared.batch.Step.TheVariants as step
 use Rattle.netbill.specs.Send.{SentPart}
-use Rattle.netbill.specs.Turns.{Request, Ruling, State, Answered, Turn, Run, replies, AllFree, IsFree}
+use Rattle.netbill.specs.Turns.{Request, Ruling, State, Answered, Turn, Run, replies, NoneFaulty, IsFaultless}
 use Rattle.netbill.specs.Batch.{at_rest, frame_of, moment_of, Gave, Stepped, Stopped, StepIs, EndsAs, CountsAs, Wrote, Ran, Served}
 
 -- ---- one more
@@ -23,7 +23,7 @@ run_more : (rules : List Entry → Request → Ruling) (old mid new : State) (do
 run_more rules old mid new [] a run turn = (new, (let P : State → Type 0 = λ s. Turn rules s a.request a.mark a.reply new in subst P run turn), refl)
 run_more rules old mid new (x ∷ done) a run turn = (run.0, run.1, run_more rules run.0 mid new done a run.2 turn)
 
-free_more : (done : List Answered) (a : Answered) → AllFree done → IsFree a.mark → AllFree (done ++ a ∷ [])
+free_more : (done : List Answered) (a : Answered) → NoneFaulty done → IsFaultless a.mark → NoneFaulty (done ++ a ∷ [])
 free_more [] a all free = (free, tt)
 free_more (x ∷ done) a all free = (all.0, free_more done a all.1 free)
 

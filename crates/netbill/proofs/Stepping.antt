@@ -14,7 +14,7 @@ use Rattle.netbill.specs.declared.house.Answer.{Answer}
 use Rattle.netbill.specs.declared.house.Answer.TheVariants as answers
 use Rattle.netbill.specs.Reader.{HoldsFrame}
 use Rattle.netbill.specs.House.{house_rules, Answers}
-use Rattle.netbill.specs.Turns.{Mark, At, NoMemory, Turn, IsFree, refused}
+use Rattle.netbill.specs.Turns.{Mark, At, NoMemory, Turn, IsFaultless, refused}
 use Rattle.netbill.specs.Batch.{at_rest, Stepped, Stopped, EndsBadly}
 
 -- the frame that is held, by what the reader says of it
@@ -47,7 +47,7 @@ turn_of old new kind moment body out out' (answers.Answered at) none a = (
 turn_of old new kind moment body out out' answers.NoMemory none a =
     (omega arith, a.2 ∙ ap (λ (xs : List ℕ). xs ++ refused 52 0 0) none, ap at_rest a.1)
 
-free_of : (answer : Answer) → IsFree (mark_of answer)
+free_of : (answer : Answer) → IsFaultless (mark_of answer)
 free_of (answers.Answered at) = tt
 free_of answers.NoMemory = tt
 

@@ -14,7 +14,7 @@ use Rattle.netbill.specs.declared.batch.Step.{Step}
 use Rattle.netbill.specs.declared.batch.Step.TheVariants as step
 use Rattle.netbill.specs.declared.ending.TheConstants.{CLEAN, SOURCE_FAILED, SINK_FAILED, BAD_INPUT, OUT_OF_MEMORY, FRAME_LIMIT}
 use Rattle.netbill.specs.Send.{SentPart}
-use Rattle.netbill.specs.Turns.{Request, Ruling, State, Answered, Turn, Run, replies, IsFree, AllFree}
+use Rattle.netbill.specs.Turns.{Request, Ruling, State, Answered, Turn, Run, replies, IsFaultless, NoneFaulty}
 
 abbrev pub status_of : BatchEnd → ℕ
 status_of Clean = CLEAN
@@ -49,7 +49,7 @@ pub record Stepped (rules : List Entry → Request → Ruling) (old new : List E
   pub one : Answered
   pub turn : Turn rules (at_rest old) one.request one.mark one.reply (at_rest new)
   pub legal : Legal new
-  pub free : IsFree one.mark
+  pub free : IsFaultless one.mark
   pub lawful : IsFrame (frame_of one)
   pub took : Consumes left left' (frame (frame_of one))
   pub asked : Gives moments moments' one.request.moment
@@ -88,7 +88,7 @@ pub record Ran (rules : List Entry → Request → Ruling) (left left' sent sent
   pub answered : List Answered
   pub turns : Run rules (at_rest []) answered (at_rest entries)
   pub legal : Legal entries
-  pub free : AllFree answered
+  pub free : NoneFaulty answered
   pub lawful : AllByRecursion IsFrame (map frame_of answered)
   pub took : Consumes left left' (flat_map frame (map frame_of answered))
   pub wrote : Appends sent sent' (replies answered)
@@ -145,7 +145,7 @@ pub record Served (rules : List Entry → Request → Ruling) (end : BatchEnd) (
   pub asked : Gave moments moments' (map moment_of answered)
   pub turns : Run rules (at_rest []) answered (at_rest entries)
   pub legal : Legal entries
-  pub free : AllFree answered
+  pub free : NoneFaulty answered
   pub wrote : Wrote end sent sent' answered
 
 -- which count of faults rose

@@ -1,8 +1,9 @@
 -- What the reader of frames gives, by the bytes that it took from the source.
-use Rattle.std.specs.Prelude.{◌≡◌, ℕ, ◌+◌, ◌<◌, List, [], ◌++◌, Option}
+use Rattle.std.specs.Prelude.{◌≡◌, ℕ, ◌+◌, ◌<◌, ◌≤◌, List, [], length, ◌++◌, Option}
 use Rattle.std.specs.Io.KnownBytes.{Consumes, IsAtEnd}
 use Rattle.nb_port.specs.Faults.{Rose}
 use Rattle.nb_units.specs.Frames.{Front, Frame, Empty, Partial, front_of, IsWhole, IsBad, frame, IsFrame}
+use Rattle.nb_units.specs.declared.frames.TheConstants.{HEADER}
 use Rattle.netbill.specs.declared.frame_reader.Next.{Next}
 use Rattle.netbill.specs.declared.frame_reader.Next.TheVariants as next
 use Rattle.netbill.specs.declared.frame_reader.Filled.{Filled}
@@ -34,7 +35,7 @@ abbrev pub NextIs : ℕ → ℕ → List ℕ → Option (List ℕ) → Next → 
 NextIs before after held left next.Frame = HoldsFrame held
 NextIs before after held left next.End = (held ≡ []) × IsAtEnd left
 NextIs before after held left next.Cut = (front_of held ≡ Partial) × IsAtEnd left
-NextIs before after held left next.Bad = IsBad (front_of held)
+NextIs before after held left next.Bad = IsBad (front_of held) × (length held ≤ HEADER)
 NextIs before after held left next.Failed = Rose before after × (IsWhole (front_of held) → ⊥)
 NextIs before after held left next.NoMemory = (IsWhole (front_of held) → ⊥) × (IsBad (front_of held) → ⊥)
 

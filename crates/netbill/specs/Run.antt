@@ -2,7 +2,6 @@
 use Rattle.std.specs.Prelude.{◌≡◌, ◌≢◌, ℕ, ◌≤◌, ◌<◌, ◌⊎◌, List, [], ◌++◌, Option, Some, length, map, IfSome}
 use Rattle.std.specs.List.{flat_map, AllByRecursion}
 use Rattle.std.specs.Io.KnownBytes.{Consumes, Appends, IsAtEnd}
-use Rattle.nb_port.specs.Faults.{Rose}
 use Rattle.nb_units.specs.Frames.{Frame, frame, IsFrame, front_of, IsBad, Splits}
 use Rattle.nb_book.specs.Legal.{Legal}
 use Rattle.netbill.specs.declared.batch.TheConstants.{MOST_FRAMES}
@@ -12,7 +11,7 @@ use Rattle.netbill.specs.declared.ending.Outcome.TheVariants.{Done}
 use Rattle.netbill.specs.Head.{head_of}
 use Rattle.netbill.specs.Stands.{StandsEmpty}
 use Rattle.netbill.specs.House.{house_rules}
-use Rattle.netbill.specs.Turns.{State, Answered, Run, replies, decided, AllDecided, AllFree, Backed}
+use Rattle.netbill.specs.Turns.{State, Answered, Run, replies, decided, AllDecided, NoneFaulty, Backed}
 use Rattle.netbill.specs.Batch.{at_rest, frame_of, moment_of, Gave, EndsBadly, WroteShort}
 
 abbrev pub done_with : ℕ → Outcome
@@ -39,8 +38,8 @@ pub record Batch (status : ℕ) (content left left' sent sent' moments moments' 
   pub taken : List ℕ
   pub unanswered : List Frame
   pub rest : List ℕ
-  -- the content at entry stands for a journal without entries, unless memory was wanting before the first frame
-  pub stands : (status ≡ OUT_OF_MEMORY → answered ≢ []) → IfSome content (λ image. StandsEmpty image head cap)
+  -- the content at entry stands for a journal without entries, unless memory was wanting before a byte was taken
+  pub stands : (status ≡ OUT_OF_MEMORY → taken ≢ []) → IfSome content (λ image. StandsEmpty image head cap)
   -- the requests that were answered are the first frames of the bytes taken
   pub took : Consumes left left' taken
   pub frames : Splits taken (map frame_of answered ++ unanswered) rest
@@ -58,8 +57,8 @@ pub record Batch (status : ℕ) (content left left' sent sent' moments moments' 
   pub wrote_short : status ≡ SINK_FAILED → WroteShort sent sent' answered
   -- faults of turns lie between the disk's counts
   pub backed : Backed faults answered faults'
-  -- where that count did not rise, each turn decides or is short of memory
-  pub free : (Rose faults faults' → ⊥) → AllFree answered
+  -- no turn touches the disk yet, so none fails: each decides or is short of memory
+  pub free : NoneFaulty answered
   -- where each turn decides, the replies are a function of the head, the cap and the requests alone
   pub alone : AllDecided answered → replies answered ≡ decided (house_rules (head_of head) cap) [] answered
   -- where nothing is left of the source

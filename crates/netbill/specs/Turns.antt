@@ -103,14 +103,14 @@ AllDecided [] = Unit {0}
 AllDecided (a ∷ more) = IsDecided a.mark × AllDecided more
 
 -- a turn decided, or was short of memory
-abbrev pub IsFree : Mark → Type 0
-IsFree (At place) = Unit {0}
-IsFree NoMemory = Unit {0}
-IsFree other = ⊥
+abbrev pub IsFaultless : Mark → Type 0
+IsFaultless (At place) = Unit {0}
+IsFaultless NoMemory = Unit {0}
+IsFaultless other = ⊥
 
-abbrev pub AllFree : List Answered → Type 0
-AllFree [] = Unit {0}
-AllFree (a ∷ more) = IsFree a.mark × AllFree more
+abbrev pub NoneFaulty : List Answered → Type 0
+NoneFaulty [] = Unit {0}
+NoneFaulty (a ∷ more) = IsFaultless a.mark × NoneFaulty more
 
 -- a fault is between two counts of which the second is greater, or both are at the last value
 abbrev pub Rises : ℕ → ℕ → Type 0

@@ -2,6 +2,7 @@ ghost use Rattle.std.specs.Prelude.{◌≡◌, ◌≤◌, [], vec_capacity};
 ghost use Rattle.netbill.specs.declared.reply.TheConstants.{MOST_REPLY};
 ghost use Rattle.netbill.specs.House.{house_rules, SameHouse};
 ghost use Rattle.netbill.specs.Batch.{StepIs, Served, FaultOf, StepFaultOf, status_of};
+ghost use Rattle.netbill.specs.Numbers.{LimitIs};
 
 use crate::ending::{BAD_INPUT, CLEAN, FRAME_LIMIT, OUT_OF_MEMORY, SINK_FAILED, SOURCE_FAILED};
 use crate::frame_reader::{FrameReader, Next};
@@ -114,3 +115,8 @@ fn answer_next<S: Source, K: Sink, C: Clock>(
         Sent::Failed => Step::Ended(BatchEnd::WriteFault),
     }
 }
+
+/// A law: the limit of a batch in numbers.
+pub fn limit()
+    ensures { LimitIs }
+{}

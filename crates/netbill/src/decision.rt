@@ -8,6 +8,7 @@ ghost use Rattle.netbill.specs.Held.{place_in, signed_part, done as done_at};
 ghost use Rattle.netbill.specs.Enrolments.{enrol_entry, numbers_free, enrol_steps};
 ghost use Rattle.netbill.specs.Fundings.{fund_entry, reference_new, account_held, total_within, fund_steps};
 ghost use Rattle.netbill.specs.Verdict.{verdict};
+ghost use Rattle.netbill.specs.Numbers.{LabelsAre};
 
 use crate::head::Head;
 use crate::kind::{ENROL, FUND};
@@ -230,3 +231,8 @@ fn check_room(book: &Book) -> Result<(), Refusal>
         Err(Refusal::of(NOT_TOLD, 0, 0))
     }
 }
+
+/// A law: the labels of tags as texts.
+pub fn labels()
+    ensures { LabelsAre }
+{}

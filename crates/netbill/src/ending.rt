@@ -1,5 +1,7 @@
 //! How a run of the program ends.
 
+ghost use Rattle.netbill.specs.Numbers.{StatusesAre};
+
 /// All was done.
 pub const CLEAN: u8 = 0;
 
@@ -39,3 +41,8 @@ pub struct Ending {
 pub enum Outcome {
     Done(Ending),
 }
+
+/// A law: the statuses in numbers.
+pub fn statuses()
+    ensures { StatusesAre }
+{}

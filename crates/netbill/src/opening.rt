@@ -2,6 +2,7 @@ ghost use Rattle.std.specs.Prelude.{◌≡◌, ◌≤◌, ◌↔◌, ℕ, List, 
 ghost use Rattle.nb_units.specs.Fields.{be4};
 ghost use Rattle.netbill.specs.declared.head.TheConstants.{HEAD};
 ghost use Rattle.netbill.specs.Stands.{StandsEmpty, IsNoJournal, OpensAs, IsHeader};
+ghost use Rattle.netbill.specs.Numbers.{JournalIs};
 
 use crate::head::{HEAD, Head};
 use nb_book::MAX_CAP;
@@ -103,3 +104,8 @@ fn number(word: &[u8]) -> u32
     bytes.copy_from_slice(word);
     u32::from_be_bytes(bytes)
 }
+
+/// A law: the layout of a journal without entries in numbers.
+pub fn layout()
+    ensures { JournalIs }
+{}

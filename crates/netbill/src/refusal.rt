@@ -1,5 +1,6 @@
 ghost use Rattle.std.specs.Prelude.{◌≡◌};
 ghost use Rattle.netbill.specs.Checks.{refusal, zeros};
+ghost use Rattle.netbill.specs.Numbers.{CodesAre};
 
 use crate::request::Malformed;
 
@@ -62,3 +63,8 @@ impl From<Malformed> for Refusal {
         Refusal::of(MALFORMED, malformed.place as u64, 0)
     }
 }
+
+/// A law: the codes in numbers.
+pub fn codes()
+    ensures { CodesAre }
+{}

@@ -1,4 +1,4 @@
-ghost use Rattle.std.specs.Prelude.{◌≡◌, ◌≢◌, ◌≤◌, ◌⊎◌, ℕ, List, map, string_bytes, IfSome};
+ghost use Rattle.std.specs.Prelude.{◌≡◌, ◌≢◌, ◌≤◌, ◌↔◌, ◌⊎◌, ℕ, List, map, string_bytes, IfSome};
 ghost use Rattle.nb_port.specs.Faults.{Rose};
 ghost use Rattle.netbill.specs.declared.ending.TheConstants.{CLEAN, BAD_WORDS, SOURCE_FAILED, SINK_FAILED, BAD_INPUT, OUT_OF_MEMORY, DISK_FAILED, NO_JOURNAL, FRAME_LIMIT};
 ghost use Rattle.netbill.specs.Words.{IsBatch};
@@ -27,13 +27,15 @@ pub fn run<S: Source, K: Sink, D: Disk, C: Clock>(
     ensures place { place result.0 ≡ 0 }
 
     // Status 2: the words, and nothing else.
-    ensures words { status result.0 ≡ BAD_WORDS → IsBatch (map string_bytes words.now) → ⊥ }
-    ensures command { IsBatch (map string_bytes words.now) → status result.0 ≢ BAD_WORDS }
+    ensures words { (status result.0 ≡ BAD_WORDS) ↔ (IsBatch (map string_bytes words.now) → ⊥) }
     ensures untouched { status result.0 ≡ BAD_WORDS → result.1 ≡ disk }
 
     // Nothing is taken, sent or asked for before the journal is open.
     ensures closed { (status result.0 ≡ BAD_WORDS) ⊎ (status result.0 ≡ DISK_FAILED) ⊎ (status result.0 ≡ NO_JOURNAL)
         → (src.new ≡ src.old) × (snk.new ≡ snk.old) × (clock.new ≡ clock.old) }
+
+    // No count of faults falls.
+    ensures counts { (S.faults src.old ≤ S.faults src.new) × (K.faults snk.old ≤ K.faults snk.new) × (D.faults disk ≤ D.faults result.1) }
 
     // Nothing is written to the disk.
     ensures disk { D.content result.1 ≡ D.content disk }

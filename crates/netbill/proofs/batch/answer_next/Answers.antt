@@ -17,7 +17,7 @@ returns-in-Cut-clause-step g c =
 pub returns-in-Bad-clause-step : goal.returns-in-Bad-clause-step
 returns-in-Bad-clause-step g c =
     stop_bad c.args.house.now.book.entries c.next.new.self (g.S.Source.left c.args.source.now) (g.S.Source.left c.next.new.source) (g.K.Sink.sent c.args.sink.now) (g.C.Clock.moments c.args.clock.now)
-    c.in-Bad.ensures.took c.in-Bad.ensures.gives
+    c.in-Bad.ensures.took c.in-Bad.ensures.gives.0
 
 pub returns-in-NoMemory-clause-step : goal.returns-in-NoMemory-clause-step
 returns-in-NoMemory-clause-step g c =

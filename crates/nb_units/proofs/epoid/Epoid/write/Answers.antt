@@ -1,9 +1,10 @@
 use Rattle.std.proofs.Common.{rules, ap, ◌∙◌}
-use Rattle.nb_units.specs.Epoid.{epoid_of}
+use Rattle.nb_units.specs.Epoid.{epoid_bytes, epoid_of}
 use Rattle.nb_units.proofs.EpoidLaws.{reads_back}
 use Rattle.nb_units.proofs.epoid.Epoid.write.Goals as goal
 
 pub returns-clause-spelling : goal.returns-clause-spelling
+unfolding epoid_bytes
 returns-clause-spelling c = search rules
 
 pub returns-clause-back : goal.returns-clause-back
