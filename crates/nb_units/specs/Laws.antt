@@ -4,6 +4,7 @@ use Rattle.nb_units.specs.declared.epoid.Epoid.{Epoid}
 use Rattle.nb_units.specs.Fields.{be4, be8, sized, raw_at, u8_at, u32_at, u64_at, bytes_at}
 use Rattle.nb_units.specs.Frames.{AreBytes}
 use Rattle.nb_units.specs.Epoid.{IsEpoid, epoid_bytes, epoid_of}
+use Rattle.nb_units.specs.declared.small.TheConstants.{MAX_SMALL}
 
 -- this spelling stands at the place of the bytes
 abbrev pub StandsAt : List ℕ → List ℕ → ℕ → Type 0
@@ -40,3 +41,7 @@ EpoidReadsBack = (e : Epoid) → IsEpoid e → epoid_of (epoid_bytes e) ≡ e
 -- what was read of 16 bytes is written as those bytes
 abbrev pub EpoidSpellsBack : Type 0
 EpoidSpellsBack = (bytes : List ℕ) → length bytes ≡ 16 → AreBytes bytes → epoid_bytes (epoid_of bytes) ≡ bytes
+
+-- a small list has at most so many bytes
+abbrev pub SmallLimit : Type 0
+SmallLimit = MAX_SMALL ≡ 280

@@ -1,6 +1,6 @@
 //! What holds of every field and of every identifier. Each function here does nothing: its contract is the law.
 
-ghost use Rattle.nb_units.specs.Laws.{RawStands, ByteStands, U32Stands, U64Stands, TextStands, EpoidReadsBack, EpoidSpellsBack};
+ghost use Rattle.nb_units.specs.Laws.{RawStands, ByteStands, U32Stands, U64Stands, TextStands, EpoidReadsBack, EpoidSpellsBack, SmallLimit};
 
 /// Bytes of a fixed number are read exactly where they stand.
 pub fn raw_stands()
@@ -35,4 +35,9 @@ pub fn epoid_reads_back()
 /// What was read of 16 bytes is written as those bytes.
 pub fn epoid_spells_back()
     ensures { EpoidSpellsBack }
+{}
+
+/// The most bytes of a small list in numbers.
+pub fn small_limit()
+    ensures { SmallLimit }
 {}

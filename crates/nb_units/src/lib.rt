@@ -31,7 +31,7 @@ pub use epoid::Epoid;
 pub use ids::{AcctId, Digest, PartyId, Price, Secret, Tag};
 pub use memory::{NoMemory, room};
 pub use pen::Pen;
-pub use small::Small;
+pub use small::{MAX_SMALL, Small};
 
 #[cfg(test)]
 mod tests;

@@ -1,12 +1,16 @@
 ghost use Rattle.std.specs.Prelude.{◌≡◌, ◌≤◌, ◌↔◌, length, IsSome, IfSome};
 ghost use Rattle.nb_units.specs.Padding.{padded};
+ghost use Rattle.nb_units.specs.declared.small.TheConstants.{MAX_SMALL};
 
 use std::marker::Model;
 
-/// A list of at most 280 bytes that takes no memory.
+/// The most bytes of a [`Small`].
+pub const MAX_SMALL: usize = 280;
+
+/// A list of at most [`MAX_SMALL`] bytes that takes no memory.
 #[derive(Clone, Copy, Debug)]
 pub struct Small {
-    buf: [u8; 280],
+    buf: [u8; MAX_SMALL],
     len: usize,
 }
 
@@ -26,12 +30,12 @@ impl Model for Small {
 }
 
 impl Small {
-    /// The bytes as a small list, or `None` where there are more than 280.
+    /// The bytes as a small list, or `None` where there are more than [`MAX_SMALL`].
     pub fn of(bytes: &[u8]) -> Option<Small>
-        ensures fits { IsSome result ↔ (length bytes.now ≤ 280) }
+        ensures fits { IsSome result ↔ (length bytes.now ≤ MAX_SMALL) }
         ensures value { IfSome result (λ small. small ≡ bytes.now) }
     {
-        if bytes.len() > 280 {
+        if bytes.len() > MAX_SMALL {
             return None;
         }
         Some(Small {
@@ -43,7 +47,7 @@ impl Small {
     /// Its bytes.
     pub fn as_slice(&self) -> &[u8]
         ensures value { result.now ≡ self.now }
-        ensures short { length result.now ≤ 280 }
+        ensures short { length result.now ≤ MAX_SMALL }
     {
         self.buf.split_at(self.len).0
     }
@@ -74,11 +78,11 @@ impl Eq for Small {
 }
 
 // The bytes, with zeros behind them.
-fn filled(bytes: &[u8]) -> [u8; 280]
-    requires { length bytes.now ≤ 280 }
+fn filled(bytes: &[u8]) -> [u8; MAX_SMALL]
+    requires { length bytes.now ≤ MAX_SMALL }
     ensures { result ≡ padded bytes.now }
 {
-    let mut buf = [0u8; 280];
+    let mut buf = [0u8; MAX_SMALL];
     buf[..bytes.len()].copy_from_slice(bytes);
     buf
 }
