@@ -16,6 +16,7 @@ use Rattle.netbill.specs.declared.ending.TheConstants.{CLEAN, SOURCE_FAILED, SIN
 use Rattle.netbill.specs.Send.{SentPart}
 use Rattle.netbill.specs.Turns.{Request, Ruling, State, Answered, Turn, Run, replies, IsFaultless, NoneFaulty}
 
+-- the status that a batch ends with
 abbrev pub status_of : BatchEnd → ℕ
 status_of Clean = CLEAN
 status_of ReadFault = SOURCE_FAILED
@@ -67,6 +68,7 @@ pub record Stopped (old new : List Entry) (left left' sent sent' moments moments
 abbrev pub EndsBadly : List ℕ → Option (List ℕ) → Type 0
 EndsBadly rest left = ((front_of rest ≡ Partial) × IsAtEnd left) ⊎ IsBad (front_of rest)
 
+-- what one step of a batch did, by how it went
 abbrev pub StepIs : (List Entry → Request → Ruling) → List Entry → List Entry → Option (List ℕ) → Option (List ℕ) → Option (List ℕ) → Option (List ℕ) → Option (List ℕ) → Option (List ℕ) → Step → Type 0
 StepIs rules old new left left' sent sent' moments moments' step.Answered =
     (s : Stepped rules old new left left' moments moments') × Appends sent sent' s.one.reply
@@ -104,6 +106,7 @@ pub record WroteShort (sent sent' : Option (List ℕ)) (answered : List Answered
   pub less : count ≤ length last.reply
   pub appends : Appends sent sent' (replies whole ++ take count last.reply)
 
+-- the replies were written, the last one in part after a failed write
 abbrev pub Wrote : BatchEnd → Option (List ℕ) → Option (List ℕ) → List Answered → Type 0
 Wrote WriteFault sent sent' answered = WroteShort sent sent' answered
 Wrote other sent sent' answered = Appends sent sent' (replies answered)
@@ -130,6 +133,7 @@ CountsAs FrameLimit count = count ≡ MOST_FRAMES
 CountsAs WriteFault count = count ≤ MOST_FRAMES
 CountsAs other count = count + 1 ≤ MOST_FRAMES
 
+-- What a batch did over a house without entries, by how it ended
 pub record Served (rules : List Entry → Request → Ruling) (end : BatchEnd) (left left' sent sent' moments moments' : Option (List ℕ)) : Type 0 where
   -- the requests that were answered, frames that were taken and not answered, and what follows them
   pub answered : List Answered
@@ -154,6 +158,7 @@ FaultOf source source' sink sink' ReadFault = Rose source source'
 FaultOf source source' sink sink' WriteFault = Rose sink sink'
 FaultOf source source' sink sink' other = ⊤
 
+-- which count of faults rose in one step
 abbrev pub StepFaultOf : ℕ → ℕ → ℕ → ℕ → Step → Type 0
 StepFaultOf source source' sink sink' step.Answered = ⊤
 StepFaultOf source source' sink sink' (step.Ended end) = FaultOf source source' sink sink' end

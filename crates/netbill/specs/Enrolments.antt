@@ -42,6 +42,7 @@ enrol_held H cap asked None = do
   room ← room_left H cap
   Ok (done asked.acct (length H) (balance (H ++ enrol_entry asked ∷ []) asked.acct) (Some (enrol_entry asked)))
 
+-- the tests of an enrolment, and what it is told and records
 unfoldable pub enrol_steps : List Entry → Head → ℕ → List ℕ → Result Decision Refusal
 enrol_steps H head cap body = do
   asked ← well_formed (enrol_of body)

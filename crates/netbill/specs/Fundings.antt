@@ -32,6 +32,7 @@ abbrev pub unless_funded : Option Funded → Result (Unit {0}) Refusal
 unless_funded None = Ok tt
 unless_funded (Some kept) = Err (refusal REFERENCE_HELD kept.acct.0 kept.amount)
 
+-- no fund among the entries has the reference
 unfoldable pub reference_new : List Entry → List ℕ → Result (Unit {0}) Refusal
 reference_new H reference = unless_funded (funded_in H reference)
 
@@ -53,6 +54,7 @@ fund_held H cap asked None = do
   room ← room_left H cap
   Ok (done asked.acct (length H) (balance (H ++ fund_entry asked ∷ []) asked.acct) (Some (fund_entry asked)))
 
+-- the tests of a funding, and what it is told and records
 unfoldable pub fund_steps : List Entry → Head → ℕ → List ℕ → Result Decision Refusal
 fund_steps H head cap body = do
   asked ← well_formed (fund_of body)

@@ -15,6 +15,7 @@ same_entry (Enrol a b c d e) (Enrol a' b' c' d' e') = (a.0 == a'.0) && (b == b')
 same_entry (Fund a b c) (Fund a' b' c') = (a.0 == a'.0) && (b == b') && bytes_eq c c'
 same_entry e other = false
 
+-- a place, where the entry that is held there is equal to this one
 abbrev pub place_at : Entry → ℕ → Entry → Option ℕ
 place_at e at held = if same_entry held e then Some at else None
 

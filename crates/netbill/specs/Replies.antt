@@ -21,9 +21,11 @@ done_frame acct at balance = record { kind = DONE; body = be4 acct.0 ++ be8 at +
 abbrev pub refusal_frame : Refusal → Frame
 refusal_frame r = record { kind = REFUSED; body = r.code ∷ (be8 r.a ++ be8 r.b ++ r.x) }
 
+-- the one frame of a reply
 abbrev pub reply_frame : Reply → Frame
 reply_frame (Done acct at balance) = done_frame acct at balance
 reply_frame (Refused r) = refusal_frame r
 
+-- its frame's bytes
 abbrev pub reply_bytes : Reply → List ℕ
 reply_bytes reply = frame (reply_frame reply)

@@ -14,12 +14,15 @@ use Rattle.netbill.specs.House.{house_rules}
 use Rattle.netbill.specs.Turns.{State, Answered, Run, replies, decided, AllDecided, NoneFaulty, Backed}
 use Rattle.netbill.specs.Batch.{at_rest, frame_of, moment_of, Gave, EndsBadly, WroteShort}
 
+-- the outcome with this status, at place 0
 abbrev pub done_with : ℕ → Outcome
 done_with status = Done (record { status = status; place = 0 })
 
+-- the status of an outcome
 abbrev pub status : Outcome → ℕ
 status (Done ending) = ending.status
 
+-- the place of an outcome
 abbrev pub place : Outcome → ℕ
 place (Done ending) = ending.place
 

@@ -43,6 +43,7 @@ pub record Answered : Type 0 where
 abbrev pub most_faults : ℕ
 most_faults = 1000
 
+-- the bytes of a refusal that shows two numbers
 abbrev pub refused : ℕ → ℕ → ℕ → List ℕ
 refused code a b = reply_bytes (Refused (refusal code a b))
 
@@ -98,6 +99,7 @@ abbrev pub IsDecided : Mark → Type 0
 IsDecided (At place) = Unit {0}
 IsDecided other = ⊥
 
+-- each turn decided
 abbrev pub AllDecided : List Answered → Type 0
 AllDecided [] = Unit {0}
 AllDecided (a ∷ more) = IsDecided a.mark × AllDecided more
@@ -108,6 +110,7 @@ IsFaultless (At place) = Unit {0}
 IsFaultless NoMemory = Unit {0}
 IsFaultless other = ⊥
 
+-- no turn was faulty
 abbrev pub NoneFaulty : List Answered → Type 0
 NoneFaulty [] = Unit {0}
 NoneFaulty (a ∷ more) = IsFaultless a.mark × NoneFaulty more
