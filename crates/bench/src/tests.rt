@@ -1,0 +1,73 @@
+//! The program's words and lines. Digests are from a Python program over hashlib, hmac and another ChaCha20.
+
+use crate::command::Command;
+use std::alloc::{AllocError, Global};
+use std::test::Fail;
+
+fn words_of(alloc: Global, line: &str) -> Result<Vec<String>, AllocError> {
+    line.split(' ')
+        .map(|word| String::from_str(alloc, word))
+        .try_collect(alloc)
+}
+
+// The words behind the program's name, and the line that is printed.
+#[test]
+fn lines(rt: HostRuntime) -> Result<(), Fail> {
+    let cases = [
+        (
+            "sha 0 1",
+            "e3b0c44298fc1c149afbf4c8996fb92427ae41e4649b934ca495991b7852b855",
+        ),
+        (
+            "sha 20 2",
+            "dc35c1558e763c93c8516cab935c48cf68de48e3d880554ed97c0b260c928f4f",
+        ),
+        (
+            "sha 600 5",
+            "9e908f7bdc1cd2d3aa25f6c50df0f4cc8ef65d5723c718ca540ee12047c623fc",
+        ),
+        (
+            "hmac 64 3",
+            "6f3398dcee139aab865606f09cf313f048074e64283908e9eb9f7efecf01e21e",
+        ),
+        (
+            "hmac 1000 4",
+            "7b5c38609e51e46da2a8ba80ae7fd2a35dddf385d07470180dfc6bbac4f09803",
+        ),
+        (
+            "seal 10 2",
+            "3c738f050671284c24eb56f115d5295beb859f55a00f2cc5048ad138f07f2b5a",
+        ),
+        (
+            "seal 64 3",
+            "0f66c1978d91e9a68c2d691e50f927b423c652acf46282e72620c708000c05b0",
+        ),
+        (
+            "unseal 10 2",
+            "1f825aa2f0020ef7cf91dfa30da4668d791c5d4824fc8e41354b89ec05795ab3",
+        ),
+        (
+            "unseal 64 3",
+            "fdeab9acf3710362bd2658cdc9a29e8f9c757fcf9811603a8c447cd1d9151108",
+        ),
+        (
+            "stream 7 1",
+            "ad01b7ef5e6bd536b904996f96d5454be1c1b75e0618fd2d9c2baa0526958b7f",
+        ),
+        (
+            "stream 1000 3",
+            "30a46ef3f097a353fd0247e26ef43067d73f6ffbfe0df2bcef9649a5c550914d",
+        ),
+    ];
+    for (line, want) in cases {
+        let words = words_of(rt.alloc(), line)?;
+        match Command::read(words.as_slice()) {
+            Some(command) => {
+                let made = command.line(rt.alloc())?;
+                assert_eq!(rt; made.as_str(), want, "at {line}");
+            }
+            None => assert!(rt; false, "at {line}"),
+        }
+    }
+    Ok(())
+}
