@@ -1,5 +1,5 @@
 -- A seal that is opened again and again.
-use Rattle.std.proofs.Common.{◌≡◌, ℕ, List, [], ◌++◌, ◌∙◌, refl, arith}
+use Rattle.std.proofs.Common.{◌≡◌, ℕ, List, [], ◌∙◌, arith}
 use Rattle.std.proofs.lemmas.Grind.{common_steps}
 use Rattle.nb_seal.specs.Seal.{AppendsOpened, Opens}
 use Rattle.nb_seal.proofs.Opening.{opens_once}
