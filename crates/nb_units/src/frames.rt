@@ -1,7 +1,7 @@
 //! What a frame of the protocol is. The definitions stand in `specs/Frames.antt`; here are the header's
-//! constants, and the laws that make the definitions one reading of a stream.
+//! constants, the kinds that have a name, and the laws that make the definitions one reading of a stream.
 
-ghost use Rattle.nb_units.specs.Frames.{FrameLayout, FrontIsFrame, FrameIsFront, PartIsPartial, HasReading, LongestReading, OneReading, BadStays};
+ghost use Rattle.nb_units.specs.Frames.{FrameLayout, FrameKinds, FrontIsFrame, FrameIsFront, PartIsPartial, HasReading, LongestReading, OneReading, BadStays};
 
 /// The first byte of a frame, `N`.
 pub const FIRST_MAGIC: u8 = 0x4E;
@@ -21,9 +21,26 @@ pub const MAX_BODY: u32 = 1_048_576;
 /// The bytes of a frame before its body: two of magic, the version, the kind, and four of length.
 pub const HEADER: usize = 8;
 
+/// The kind of a frame by which the operator enrols a party.
+pub const ENROL: u8 = 0x0D;
+
+/// The kind of a frame by which the operator puts money into an account.
+pub const FUND: u8 = 0x0E;
+
+/// The kind of a reply: the house did what was asked.
+pub const DONE: u8 = 0x0F;
+
+/// The kind of a reply: the house refuses.
+pub const REFUSED: u8 = 0x10;
+
 /// A law: the layout of a frame in numbers.
 pub fn layout()
     ensures { FrameLayout }
+{}
+
+/// A law: the kinds in numbers.
+pub fn kinds()
+    ensures { FrameKinds }
 {}
 
 /// A law: a whole frame at the front of a stream is read as that frame, whatever follows it.

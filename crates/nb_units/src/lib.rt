@@ -30,6 +30,7 @@ pub use cut::{Cut, CutFault};
 pub use epoid::Epoid;
 pub use ids::{AcctId, Digest, PartyId, Price, Secret, Tag};
 pub use memory::{NoMemory, room};
+pub use number::u32_of;
 pub use pen::Pen;
 pub use small::{MAX_SMALL, Small};
 

@@ -3,8 +3,8 @@
 ghost use Rattle.std.specs.Prelude.{◌≡◌, length};
 ghost use Rattle.std.specs.Int.{w32, w64, from_be_bytes};
 
-// The number that 4 bytes spell.
-pub(crate) fn u32_of(bytes: &[u8]) -> u32
+/// The number that 4 bytes spell, the greatest byte first.
+pub fn u32_of(bytes: &[u8]) -> u32
     requires { length bytes.now ≡ 4 }
     ensures { result ≡ from_be_bytes w32 bytes.now }
 {

@@ -10,9 +10,9 @@ use Rattle.nb_units.proofs.FrameLaws.{longest, whole_front, bad_stays}
 use Rattle.nb_book.specs.declared.entry.Entry.{Entry}
 use Rattle.netbill.specs.declared.batch.BatchEnd.{BatchEnd}
 use Rattle.netbill.specs.declared.batch.BatchEnd.TheVariants.{Clean, ReadFault, WriteFault, BadInput, NoMemory, FrameLimit}
-use Rattle.netbill.specs.Turns.{Request, Ruling, Answered}
+use Rattle.nb_vault.specs.Turns.{Request, Ruling, Answered}
 use Rattle.netbill.specs.Batch.{frame_of, EndsBadly, Served, FaultOf, status_of}
-use Rattle.netbill.specs.Stands.{StandsEmpty, IsNoJournal}
+use Rattle.nb_vault.specs.Stands.{StandsEmpty, IsNoJournal}
 use Rattle.netbill.specs.Run.{IsWholeInput, IsJournal}
 use Rattle.netbill.proofs.Serving.{nothing_whole, nothing_bad_there}
 

@@ -1,7 +1,3 @@
-pub mod Reading
-pub mod Holding
-pub mod Writing
-pub mod OpeningLaws
 pub mod Sending
 pub mod Serving
 pub mod Stepping

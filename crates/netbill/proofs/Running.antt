@@ -6,12 +6,12 @@ use Rattle.nb_units.specs.Frames.{front_of, IsBad}
 use Rattle.nb_book.specs.declared.entry.Entry.{Entry}
 use Rattle.netbill.specs.declared.batch.BatchEnd.{BatchEnd}
 use Rattle.netbill.specs.declared.batch.BatchEnd.TheVariants.{Clean, ReadFault, WriteFault, BadInput, NoMemory, FrameLimit}
-use Rattle.netbill.specs.declared.opening.Opened.{Opened}
-use Rattle.netbill.specs.declared.head.Head.{Head}
-use Rattle.netbill.specs.Head.{head_of}
-use Rattle.netbill.specs.Stands.{Opens}
-use Rattle.netbill.specs.House.{house_rules}
-use Rattle.netbill.specs.Turns.{Request, Ruling, State, Mark, At, Fault, Worn, NoMemory as Starved, Answered, Turn, Run, replies, decided, AllDecided, IsDecided, IsFaultless, NoneFaulty, Backed, BackedBy}
+use Rattle.nb_vault.specs.declared.opening.Opened.{Opened}
+use Rattle.nb_escrow.specs.declared.head.Head.{Head}
+use Rattle.nb_escrow.specs.Head.{head_of}
+use Rattle.nb_vault.specs.Stands.{Opens}
+use Rattle.nb_vault.specs.House.{house_rules}
+use Rattle.nb_vault.specs.Turns.{Request, Ruling, State, Mark, At, Fault, Worn, NoMemory as Starved, Answered, Turn, Run, replies, decided, AllDecided, IsDecided, IsFaultless, NoneFaulty, Backed, BackedBy}
 use Rattle.netbill.specs.Batch.{at_rest, status_of, EndsAs, EndsBadly, CountsAs, AnswersAll, Wrote, WroteShort, Served}
 use Rattle.netbill.specs.Run.{Batch}
 use Rattle.netbill.proofs.Serving.{nothing_bad_there}

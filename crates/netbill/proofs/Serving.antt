@@ -14,7 +14,7 @@ use Rattle.netbill.specs.declared.batch.BatchEnd.{BatchEnd}
 use Rattle.netbill.specs.declared.batch.BatchEnd.TheVariants.{Clean, ReadFault, WriteFault, BadInput, NoMemory, FrameLimit}
 use Rattle.netbill.specs.declared.batch.Step.TheVariants as step
 use Rattle.netbill.specs.Send.{SentPart}
-use Rattle.netbill.specs.Turns.{Request, Ruling, State, Answered, Turn, Run, replies, NoneFaulty, IsFaultless}
+use Rattle.nb_vault.specs.Turns.{Request, Ruling, State, Answered, Turn, Run, replies, NoneFaulty, IsFaultless}
 use Rattle.netbill.specs.Batch.{at_rest, frame_of, moment_of, Gave, Stepped, Stopped, StepIs, EndsAs, CountsAs, Wrote, Ran, Served}
 
 -- ---- one more

@@ -4,17 +4,17 @@ use Rattle.std.specs.Prelude.{slice_index}
 use Rattle.std.specs.Io.KnownBytes.{Consumes, IsAtEnd}
 use Rattle.nb_port.specs.Clock.{Gives}
 use Rattle.nb_units.specs.Frames.{Front, Whole, Empty, Partial, Bad, Frame, frame, IsFrame, front_of, IsWhole, IsBad}
-use Rattle.netbill.specs.declared.head.Head.{Head}
-use Rattle.netbill.proofs.Reading.{partial_not_whole}
+use Rattle.nb_escrow.specs.declared.head.Head.{Head}
+use Rattle.nb_frame.proofs.Reading.{partial_not_whole}
 use Rattle.netbill.proofs.Serving.{nothing_whole}
 use Rattle.nb_book.specs.declared.entry.Entry.{Entry}
 use Rattle.nb_book.specs.Legal.{Legal}
-use Rattle.netbill.specs.declared.house.House.{House}
-use Rattle.netbill.specs.declared.house.Answer.{Answer}
-use Rattle.netbill.specs.declared.house.Answer.TheVariants as answers
-use Rattle.netbill.specs.Reader.{HoldsFrame}
-use Rattle.netbill.specs.House.{house_rules, Answers}
-use Rattle.netbill.specs.Turns.{Mark, At, NoMemory, Turn, IsFaultless, refused}
+use Rattle.nb_vault.specs.declared.house.House.{House}
+use Rattle.nb_vault.specs.declared.house.Answer.{Answer}
+use Rattle.nb_vault.specs.declared.house.Answer.TheVariants as answers
+use Rattle.nb_frame.specs.Reader.{HoldsFrame}
+use Rattle.nb_vault.specs.House.{house_rules, Answers}
+use Rattle.nb_vault.specs.Turns.{Mark, At, NoMemory, Turn, IsFaultless, refused}
 use Rattle.netbill.specs.Batch.{at_rest, Stepped, Stopped, EndsBadly}
 
 -- the frame that is held, by what the reader says of it

@@ -14,7 +14,7 @@ use Rattle.netbill.specs.declared.batch.Step.{Step}
 use Rattle.netbill.specs.declared.batch.Step.TheVariants as step
 use Rattle.netbill.specs.declared.ending.TheConstants.{CLEAN, SOURCE_FAILED, SINK_FAILED, BAD_INPUT, OUT_OF_MEMORY, FRAME_LIMIT}
 use Rattle.netbill.specs.Send.{SentPart}
-use Rattle.netbill.specs.Turns.{Request, Ruling, State, Answered, Turn, Run, replies, IsFaultless, NoneFaulty}
+use Rattle.nb_vault.specs.Turns.{Request, Ruling, State, Answered, Turn, Run, replies, IsFaultless, NoneFaulty}
 
 -- the status that a batch ends with
 abbrev pub status_of : BatchEnd → ℕ

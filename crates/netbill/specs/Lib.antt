@@ -1,15 +1,3 @@
-pub mod Reader
-pub mod Head
-pub mod Replies
-pub mod Requests
-pub mod Checks
-pub mod Held
-pub mod Enrolments
-pub mod Fundings
-pub mod Verdict
-pub mod Stands
-pub mod Turns
-pub mod House
 pub mod Send
 pub mod Batch
 pub mod Words

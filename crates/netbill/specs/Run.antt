@@ -8,10 +8,10 @@ use Rattle.netbill.specs.declared.batch.TheConstants.{MOST_FRAMES}
 use Rattle.netbill.specs.declared.ending.TheConstants.{CLEAN, BAD_WORDS, SOURCE_FAILED, SINK_FAILED, BAD_INPUT, OUT_OF_MEMORY, DISK_FAILED, NO_JOURNAL, FRAME_LIMIT}
 use Rattle.netbill.specs.declared.ending.Outcome.{Outcome}
 use Rattle.netbill.specs.declared.ending.Outcome.TheVariants.{Done}
-use Rattle.netbill.specs.Head.{head_of}
-use Rattle.netbill.specs.Stands.{StandsEmpty}
-use Rattle.netbill.specs.House.{house_rules}
-use Rattle.netbill.specs.Turns.{State, Answered, Run, replies, decided, AllDecided, NoneFaulty, Backed}
+use Rattle.nb_escrow.specs.Head.{head_of}
+use Rattle.nb_vault.specs.Stands.{StandsEmpty}
+use Rattle.nb_vault.specs.House.{house_rules}
+use Rattle.nb_vault.specs.Turns.{State, Answered, Run, replies, decided, AllDecided, NoneFaulty, Backed}
 use Rattle.netbill.specs.Batch.{at_rest, frame_of, moment_of, Gave, EndsBadly, WroteShort}
 
 -- the outcome with this status, at place 0

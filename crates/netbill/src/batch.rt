@@ -1,15 +1,15 @@
 ghost use Rattle.std.specs.Prelude.{◌≡◌, ◌≤◌, [], vec_capacity};
-ghost use Rattle.netbill.specs.declared.reply.TheConstants.{MOST_REPLY};
-ghost use Rattle.netbill.specs.House.{house_rules, SameHouse};
+ghost use Rattle.nb_msgs.specs.declared.reply.TheConstants.{MOST_REPLY};
+ghost use Rattle.nb_vault.specs.House.{house_rules, SameHouse};
 ghost use Rattle.netbill.specs.Batch.{StepIs, Served, FaultOf, StepFaultOf, status_of};
 ghost use Rattle.netbill.specs.Numbers.{LimitIs};
 
 use crate::ending::{BAD_INPUT, CLEAN, FRAME_LIMIT, OUT_OF_MEMORY, SINK_FAILED, SOURCE_FAILED};
-use crate::frame_reader::{FrameReader, Next};
-use crate::house::House;
-use crate::reply::MOST_REPLY;
 use crate::send::{Sent, send};
+use nb_frame::{FrameReader, Next};
+use nb_msgs::MOST_REPLY;
 use nb_port::{Clock, Sink, Source};
+use nb_vault::House;
 use std::alloc::Global;
 
 /// The most frames that one batch answers.

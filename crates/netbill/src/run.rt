@@ -2,15 +2,14 @@ ghost use Rattle.std.specs.Prelude.{◌≡◌, ◌≢◌, ◌≤◌, ◌↔◌, 
 ghost use Rattle.nb_port.specs.Faults.{Rose};
 ghost use Rattle.netbill.specs.declared.ending.TheConstants.{CLEAN, BAD_WORDS, SOURCE_FAILED, SINK_FAILED, BAD_INPUT, OUT_OF_MEMORY, DISK_FAILED, NO_JOURNAL, FRAME_LIMIT};
 ghost use Rattle.netbill.specs.Words.{IsBatch};
-ghost use Rattle.netbill.specs.Stands.{IsNoJournal};
+ghost use Rattle.nb_vault.specs.Stands.{IsNoJournal};
 ghost use Rattle.netbill.specs.Run.{Batch, IsJournal, IsWholeInput, IsStatus, done_with, status, place};
 
 use crate::batch::serve;
 use crate::ending::{BAD_WORDS, DISK_FAILED, Ending, NO_JOURNAL, OUT_OF_MEMORY, Outcome};
-use crate::house::House;
-use crate::opening::{Opening, open};
 use crate::words::journal_of;
 use nb_port::{Clock, Disk, Sink, Source};
+use nb_vault::{House, Opening, open};
 use std::alloc::Global;
 
 /// Runs the program on its words, over the input, the output, the journal's disk and the clock. The disk is handed

@@ -1,7 +1,7 @@
 use Rattle.std.proofs.Common.{List, ◌∙◌, subst, arith, refl, sym}
 use Rattle.nb_book.specs.declared.entry.Entry.{Entry}
-use Rattle.netbill.specs.House.{house_rules}
-use Rattle.netbill.specs.Turns.{Request, Ruling}
+use Rattle.nb_vault.specs.House.{house_rules}
+use Rattle.nb_vault.specs.Turns.{Request, Ruling}
 use Rattle.netbill.specs.declared.batch.Step.TheVariants as step
 use Rattle.netbill.specs.Batch.{StepIs, Ran}
 use Rattle.netbill.proofs.Serving.{ran_none, ran_more, ended, spent, unbegun, nothing_whole, nothing_bad_there}

@@ -1,5 +1,5 @@
 use Rattle.std.proofs.Common.{◌≡◌, ◌≤◌, vec_capacity}
-use Rattle.netbill.specs.House.{house_rules}
+use Rattle.nb_vault.specs.House.{house_rules}
 use Rattle.netbill.specs.Batch.{Ran}
 use Rattle.netbill.proofs.batch.serve.Given as goal
 

@@ -1,7 +1,7 @@
 use Rattle.std.proofs.Common.{◌≡◌, ◌⊎◌, ℕ, refl, sym, ap, ◌∙◌, subst}
-use Rattle.netbill.specs.declared.head.Head.{Head}
+use Rattle.nb_escrow.specs.declared.head.Head.{Head}
 use Rattle.netbill.specs.declared.batch.BatchEnd.TheVariants.{NoMemory}
-use Rattle.netbill.specs.House.{house_rules}
+use Rattle.nb_vault.specs.House.{house_rules}
 use Rattle.netbill.specs.Run.{Batch, status}
 use Rattle.netbill.proofs.Serving.{unbegun, nothing_whole, nothing_bad_there}
 use Rattle.netbill.proofs.Completeness.{complete_end, journal_or_none}

@@ -1,0 +1,37 @@
+-- What the operator may ask for: the layout of each body, field by field.
+use Rattle.std.specs.Prelude.{◌≡◌, ℕ, ◌==◌, ◌||◌, ◌&&◌, List, Result, Ok, Err, nat_le}
+use Rattle.nb_units.specs.Fields.{◌>>=◌, u8_at, u32_at, u64_at, raw_at, done_at, or_place, allowed}
+use Rattle.nb_book.specs.declared.entry.TheConstants.{CONSUMER, MERCHANT}
+use Rattle.nb_book.specs.declared.limits.TheConstants.{MAX_TOTAL}
+use Rattle.nb_escrow.specs.declared.request.Malformed.{Malformed}
+use Rattle.nb_escrow.specs.declared.request.Enrolment.{Enrolment}
+use Rattle.nb_escrow.specs.declared.request.Funding.{Funding}
+
+-- what a reader gave is what stands there, or the bad place
+abbrev pub Reads : {A : Type 0} → Result A Malformed → Result A ℕ → Type 0
+Reads (Ok value) read = read ≡ Ok value
+Reads (Err malformed) read = read ≡ Err malformed.place
+
+-- id 4 | role 1, 1 or 2 | account 4 | nonce 8 | key 32 | tag 32
+unfoldable pub enrol_of : List ℕ → Result Enrolment ℕ
+enrol_of body = do
+  id ← or_place (u32_at body 0)
+  role ← or_place (u8_at body 4)
+  known ← allowed (role == CONSUMER || role == MERCHANT) 4
+  acct ← or_place (u32_at body 5)
+  nonce ← or_place (u64_at body 9)
+  key ← or_place (raw_at 32 body 17)
+  tag ← or_place (raw_at 32 body 49)
+  end ← or_place (done_at body 81)
+  Ok (record { id = record { 0 = id }; role = role; acct = record { 0 = acct }; nonce = nonce; key = key; tag = tag })
+
+-- account 4 | amount 8, from 1 to 10^18 | reference 16 | tag 32
+unfoldable pub fund_of : List ℕ → Result Funding ℕ
+fund_of body = do
+  acct ← or_place (u32_at body 0)
+  amount ← or_place (u64_at body 4)
+  known ← allowed (nat_le 1 amount && nat_le amount MAX_TOTAL) 4
+  reference ← or_place (raw_at 16 body 12)
+  tag ← or_place (raw_at 32 body 28)
+  end ← or_place (done_at body 60)
+  Ok (record { acct = record { 0 = acct }; amount = amount; reference = reference; tag = tag })

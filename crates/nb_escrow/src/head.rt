@@ -1,0 +1,34 @@
+ghost use Rattle.std.specs.Prelude.{◌≡◌};
+ghost use Rattle.nb_escrow.specs.Head.{head_of};
+
+use nb_units::Secret;
+
+/// The bytes of a head.
+pub const HEAD: usize = 80;
+
+/// What a house's journal begins with: its own key, the operator's key, and the key of its index.
+#[derive(Clone, Copy, PartialEq, Eq, Debug)]
+pub struct Head {
+    pub house: Secret,
+    pub operator: Secret,
+    pub index: [u8; 16],
+}
+
+impl Head {
+    /// The head that these bytes spell.
+    pub fn read(bytes: &[u8; HEAD]) -> Head
+        ensures { result ≡ head_of bytes.now }
+    {
+        let (house, rest) = bytes.as_slice().split_at(32);
+        let (operator, rest) = rest.split_at(32);
+        let mut head = Head {
+            house: [0; 32],
+            operator: [0; 32],
+            index: [0; 16],
+        };
+        head.house.copy_from_slice(house);
+        head.operator.copy_from_slice(operator);
+        head.index.copy_from_slice(rest);
+        head
+    }
+}

@@ -1,0 +1,3 @@
+pub mod Stands
+pub mod Turns
+pub mod House

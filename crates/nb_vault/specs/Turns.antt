@@ -1,0 +1,130 @@
+-- The house as a machine: a turn takes a request and a state, and gives a reply and a state.
+use Rattle.std.specs.Prelude.{◌≡◌, ◌≢◌, ℕ, ◌+◌, ◌<◌, ◌^◌, ◌-◌, ◌≤◌, ◌⊎◌, List, [], ◌∷◌, ◌++◌, Option, Some, length}
+use Rattle.std.specs.Option.{option_to_list}
+use Rattle.nb_book.specs.declared.entry.Entry.{Entry}
+use Rattle.nb_endorse.specs.declared.refusal.TheConstants.{DISK_FAULT, WORN, NO_MEMORY}
+use Rattle.nb_endorse.specs.declared.reply.Reply.TheVariants.{Refused}
+use Rattle.nb_msgs.specs.ReplyBytes.{reply_bytes}
+use Rattle.nb_endorse.specs.Refusals.{refusal}
+
+-- what is asked, and when
+pub record Request : Type 0 where
+  pub kind : ℕ
+  pub body : List ℕ
+  pub moment : ℕ
+
+-- what a verdict comes to: the bytes of its reply, and what it records
+pub record Ruling : Type 0 where
+  pub reply : List ℕ
+  pub entry : Option Entry
+
+-- the house between two turns: its entries, those of the item in doubt (none where nothing is), and how many
+-- turns ended in a fault
+pub record State : Type 0 where
+  pub entries : List Entry
+  pub doubt : List Entry
+  pub faults : ℕ
+
+-- how a turn went: decided over so many entries, failed between two counts of the disk's faults, refused since
+-- too many turns failed, or short of memory
+pub data Mark : Type 0 where
+  At : ℕ → Mark
+  Fault : ℕ → ℕ → Mark
+  Worn : Mark
+  NoMemory : Mark
+
+-- a request and what came of it
+pub record Answered : Type 0 where
+  pub request : Request
+  pub mark : Mark
+  pub reply : List ℕ
+
+-- after so many faults no more is written
+abbrev pub most_faults : ℕ
+most_faults = 1000
+
+-- the bytes of a refusal that shows two numbers
+abbrev pub refused : ℕ → ℕ → ℕ → List ℕ
+refused code a b = reply_bytes (Refused (refusal code a b))
+
+-- what a verdict is taken over: the entries, with or without those that were in doubt
+abbrev pub Settles : State → List Entry → Type 0
+Settles old entries = (entries ≡ old.entries) ⊎ (entries ≡ old.entries ++ old.doubt)
+
+-- the verdict's reply is given, and its entry is recorded
+pub record Decides (rules : List Entry → Request → Ruling) (old : State) (request : Request) (place : ℕ) (reply : List ℕ) (new : State) : Type 0 where
+  pub over : List Entry
+  pub settled : Settles old over
+  pub at : place ≡ length over
+  pub told : reply ≡ (rules over request).reply
+  pub left : new ≡ record { entries = over ++ option_to_list (rules over request).entry; doubt = []; faults = old.faults }
+
+-- the verdict's entry could not be made durable, and is in doubt
+pub record Doubts (rules : List Entry → Request → Ruling) (old : State) (request : Request) (new : State) : Type 0 where
+  pub over : List Entry
+  pub entry : Entry
+  pub settled : Settles old over
+  pub recorded : (rules over request).entry ≡ Some entry
+  pub left : new ≡ record { entries = over; doubt = entry ∷ []; faults = old.faults + 1 }
+
+-- what was in doubt could not be settled, and stays so
+abbrev pub Unsettled : State → State → Type 0
+Unsettled old new = (old.doubt ≢ []) × (new ≡ record { entries = old.entries; doubt = old.doubt; faults = old.faults + 1 })
+
+-- from old, the house may answer the request so and go on to new
+abbrev pub Turn : (List Entry → Request → Ruling) → State → Request → Mark → List ℕ → State → Type 0
+Turn rules old request Worn reply new = (old.faults ≡ most_faults) × (reply ≡ refused WORN most_faults 0) × (new ≡ old)
+Turn rules old request (At place) reply new = (old.faults < most_faults) × Decides rules old request place reply new
+Turn rules old request (Fault before after) reply new =
+    (old.faults < most_faults) × (reply ≡ refused DISK_FAULT before after) × (Unsettled old new ⊎ Doubts rules old request new)
+Turn rules old request NoMemory reply new = (old.faults < most_faults) × (reply ≡ refused NO_MEMORY 0 0) × (new ≡ old)
+
+-- these requests were answered one turn after another
+abbrev pub Run : (List Entry → Request → Ruling) → State → List Answered → State → Type 0
+Run rules old [] new = new ≡ old
+Run rules old (a ∷ more) new = (mid : State) × Turn rules old a.request a.mark a.reply mid × Run rules mid more new
+
+-- the replies, one after another
+abbrev pub replies : List Answered → List ℕ
+replies [] = []
+replies (a ∷ more) = a.reply ++ replies more
+
+-- the replies to these requests where each turn decides: a function of the rules and the requests alone
+abbrev pub decided : (List Entry → Request → Ruling) → List Entry → List Answered → List ℕ
+decided rules entries [] = []
+decided rules entries (a ∷ more) = (rules entries a.request).reply ++ decided rules (entries ++ option_to_list (rules entries a.request).entry) more
+
+-- a turn decided
+abbrev pub IsDecided : Mark → Type 0
+IsDecided (At place) = Unit {0}
+IsDecided other = ⊥
+
+-- each turn decided
+abbrev pub AllDecided : List Answered → Type 0
+AllDecided [] = Unit {0}
+AllDecided (a ∷ more) = IsDecided a.mark × AllDecided more
+
+-- a turn decided, or was short of memory
+abbrev pub IsFaultless : Mark → Type 0
+IsFaultless (At place) = Unit {0}
+IsFaultless NoMemory = Unit {0}
+IsFaultless other = ⊥
+
+-- no turn was faulty
+abbrev pub NoneFaulty : List Answered → Type 0
+NoneFaulty [] = Unit {0}
+NoneFaulty (a ∷ more) = IsFaultless a.mark × NoneFaulty more
+
+-- a fault is between two counts of which the second is greater, or both are at the last value
+abbrev pub Rises : ℕ → ℕ → Type 0
+Rises before after = (before < after) ⊎ ((before ≡ 2 ^ 64 - 1) × (after ≡ 2 ^ 64 - 1))
+
+-- a fault begins not below a count, and what follows begins where it ended
+abbrev pub BackedBy : ℕ → Mark → (ℕ → Type 0) → Type 0
+BackedBy from (Fault before after) rest = (from ≤ before) × Rises before after × rest after
+BackedBy from other rest = rest from
+
+-- the faults of these turns came one after another between two counts of the disk
+abbrev pub Backed : ℕ → List Answered → ℕ → Type 0
+Backed from [] to = from ≤ to
+Backed from (a ∷ more) to = BackedBy from a.mark (λ next. Backed next more to)

@@ -1,6 +1,0 @@
-use Rattle.std.proofs.Common.{ℕ, ◌+◌, ap, sym, ◌∙◌}
-use Rattle.netbill.proofs.Holding.{fund_adds}
-use Rattle.netbill.proofs.decision.balance_after.Goals as goal
-
-pub returns : goal.returns
-returns c = ap (λ (n : ℕ). n + c.args.asked.now.amount) c.balance_now.ensures.balance ∙ sym (fund_adds c.args.book.now.entries c.args.asked.now)
