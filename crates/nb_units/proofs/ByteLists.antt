@@ -1,5 +1,6 @@
--- A part of a list of bytes is a list of bytes.
-use Rattle.std.proofs.Common.{ℕ, zero, suc, ◌+◌, List, [], ◌∷◌, take, drop, arith}
+-- A part of a list of bytes is a list of bytes, and four bytes spell a number of four bytes.
+use Rattle.std.proofs.Common.{ℕ, zero, suc, ◌+◌, ◌<◌, ◌^◌, List, [], ◌∷◌, take, drop, arith}
+use Rattle.std.specs.Int.{w32, from_be_bytes}
 use Rattle.std.proofs.lemmas.List.{get_or-drop}
 use Rattle.nb_units.specs.Frames.{AreBytes}
 
@@ -11,3 +12,6 @@ AreBytes-take zero bytes fits i = omega arith
 AreBytes-take (suc n) [] fits i = omega arith
 AreBytes-take (suc n) (b ∷ bytes) fits zero = fits 0
 AreBytes-take (suc n) (b ∷ bytes) fits (suc i) = AreBytes-take n bytes (λ k. fits (suc k)) i
+
+pub number_fits_4 : (bytes : List ℕ) → AreBytes bytes → from_be_bytes w32 bytes < 2 ^ 32
+number_fits_4 bytes fits = omega (arith, fits 0, fits 1, fits 2, fits 3)

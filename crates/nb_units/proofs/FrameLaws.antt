@@ -4,7 +4,7 @@ use Rattle.std.proofs.Common.{◌≡◌, ℕ, zero, suc, ◌<◌, ◌≤◌, Boo
 use Rattle.std.specs.Prelude.{◌⊎◌, if◌then◌else◌, nat_lt}
 use Rattle.std.specs.Int.{w32, from_be_bytes}
 use Rattle.std.specs.List.{flat_map, AllByRecursion}
-use Rattle.std.proofs.lemmas.Bool.{ltb-true, ltb-false, lt-ltb, le-ltb, eqb-true}
+use Rattle.std.proofs.lemmas.Bool.{ltb-true, ltb-false, lt-ltb, le-ltb, eqb-true, and_parts}
 use Rattle.std.proofs.lemmas.List.{length-append, append-nil, length-take-le, take-append-drop}
 use Rattle.std.proofs.Math.Seq.{take-append_seam, drop-append_seam}
 use Rattle.std.proofs.lemmas.Nat.{from_be_bytes-to_be_bytes_4, be_bytes_4}
@@ -17,7 +17,7 @@ unless : {A : Type 0} (a b : ℕ) (x y : A) → b ≤ a → (if nat_lt a b then 
 unless a b x y h = rw (le-ltb a b h) refl
 
 -- a test that holds takes the first branch
-when : {A : Type 0} (a b : ℕ) (x y : A) → a < b → (if nat_lt a b then x else y) ≡ x
+pub when : {A : Type 0} (a b : ℕ) (x y : A) → a < b → (if nat_lt a b then x else y) ≡ x
 when a b x y h = rw (lt-ltb a b h) refl
 
 body_whole : (kind : ℕ) (body rest : List ℕ) → length body ≤ 1048576 → body_of kind (length body) (body ++ rest) ≡ Whole (record { kind = kind; body = body }) rest
@@ -27,7 +27,7 @@ body_whole kind body rest fits =
     ∙ rw (take-append_seam body rest, drop-append_seam body rest) refl
 
 -- both bounds of a kind are tested
-kind_allowed : {A : Type 0} (k : ℕ) (x y : A) → 1 ≤ k → k ≤ 16 → cond (ltb 0 k && ltb k 17) x y ≡ x
+pub kind_allowed : {A : Type 0} (k : ℕ) (x y : A) → 1 ≤ k → k ≤ 16 → cond (ltb 0 k && ltb k 17) x y ≡ x
 kind_allowed k x y low high = let a : ltb 0 k ≡ true = lt-ltb 0 k (omega arith) in let b : ltb k 17 ≡ true = lt-ltb k 17 (omega arith) in rw (a, b) refl
 
 pub whole_front : (f : Frame) (rest : List ℕ) → IsFrame f → front_of (frame f ++ rest) ≡ Whole f rest
@@ -103,10 +103,10 @@ stays : (test : Bool) (x y other z : Front) → (x ≡ z → y ≡ z) → cond t
 stays true x y other z goes e = goes e
 stays false x y other z goes e = e
 
-partial_bad : (fault : HeaderFault) → Partial ≡ Bad fault → ⊥
+pub partial_bad : (fault : HeaderFault) → Partial ≡ Bad fault → ⊥
 partial_bad fault e = cc
 
-whole_bad : (f : Frame) (rest : List ℕ) (fault : HeaderFault) → whole f rest ≡ Bad fault → ⊥
+pub whole_bad : (f : Frame) (rest : List ℕ) (fault : HeaderFault) → whole f rest ≡ Bad fault → ⊥
 whole_bad f rest fault e = cc
 
 body_bad : (kind len : ℕ) (rest more : List ℕ) (fault : HeaderFault) → body_of kind len rest ≡ Bad fault → body_of kind len (rest ++ more) ≡ Bad fault
@@ -136,7 +136,7 @@ behind_first_bad : (bytes more : List ℕ) (fault : HeaderFault) → behind_firs
 behind_first_bad [] more fault e = absurd (partial_bad fault e)
 behind_first_bad (m ∷ bytes) more fault e = stays (eqb m 66) _ _ _ _ (behind_magic_bad bytes more fault) e
 
-empty_bad : (fault : HeaderFault) → Empty ≡ Bad fault → ⊥
+pub empty_bad : (fault : HeaderFault) → Empty ≡ Bad fault → ⊥
 empty_bad fault e = cc
 
 pub bad_stays : (bytes more : List ℕ) (fault : HeaderFault) → front_of bytes ≡ Bad fault → front_of (bytes ++ more) ≡ Bad fault
@@ -150,7 +150,7 @@ behind_header header more =
     let len : ℕ = from_be_bytes w32 (drop 4 header) in
     if nat_lt (length more) len then Partial else Whole (record { kind = get_or header 3 0; body = take len more }) (drop len more)
 
-bad_partial : (fault : HeaderFault) → Bad fault ≡ Partial → ⊥
+pub bad_partial : (fault : HeaderFault) → Bad fault ≡ Partial → ⊥
 bad_partial fault e = cc
 
 body_then : (long : Bool) (fault : HeaderFault) (before after : Front) → cond long (Bad fault) before ≡ Partial → cond long (Bad fault) after ≡ after
@@ -256,11 +256,7 @@ body_chosen false true fault g f r rest e = absurd (partial_whole f rest e)
     partial_whole f rest e = cc
 body_chosen false false fault g f r rest e = (refl, refl, same_frame g f r rest e, same_rest g f r rest e)
 
-both_true : (a b : Bool) → (a && b) ≡ true → (a ≡ true) × (b ≡ true)
-both_true true b e = (refl, e)
-both_true false b e = absurd cc
-
-length_spelled : (a b c d len : ℕ) → AreBytes (a ∷ b ∷ c ∷ d ∷ []) → len ≡ from_be_bytes w32 (a ∷ b ∷ c ∷ d ∷ []) → be4 len ≡ a ∷ b ∷ c ∷ d ∷ []
+pub length_spelled : (a b c d len : ℕ) → AreBytes (a ∷ b ∷ c ∷ d ∷ []) → len ≡ from_be_bytes w32 (a ∷ b ∷ c ∷ d ∷ []) → be4 len ≡ a ∷ b ∷ c ∷ d ∷ []
 length_spelled a b c d len fits e = be_bytes_4 (a ∷ b ∷ c ∷ d ∷ []) len refl fits e
 
 text_spelled : (a b c d len : ℕ) (body : List ℕ) → be4 len ≡ a ∷ b ∷ c ∷ d ∷ [] → len ≤ length body → a ∷ b ∷ c ∷ d ∷ body ≡ sized (take len body) ++ drop len body
@@ -272,7 +268,7 @@ text_spelled a b c d len body word le =
     ∙ ap (λ (x : List ℕ). x ++ (text ++ drop len body)) (sym (ap be4 long ∙ word))
     ∙ sym (append_assoc (be4 (length text)) text (drop len body))
 
-header_spelled : (m n v k : ℕ) (tail text : List ℕ) → m ≡ 78 → n ≡ 66 → v ≡ 1 → tail ≡ text → m ∷ n ∷ v ∷ k ∷ tail ≡ 78 ∷ 66 ∷ 1 ∷ k ∷ text
+pub header_spelled : (m n v k : ℕ) (tail text : List ℕ) → m ≡ 78 → n ≡ 66 → v ≡ 1 → tail ≡ text → m ∷ n ∷ v ∷ k ∷ tail ≡ 78 ∷ 66 ∷ 1 ∷ k ∷ text
 header_spelled m n v k tail text p q r e = cc
 
 frame_spelled : (m n v k a b c d len : ℕ) (body : List ℕ) → AreBytes (a ∷ b ∷ c ∷ d ∷ []) → m ≡ 78 → n ≡ 66 → v ≡ 1 → 0 < k → k < 17 → len ≡ from_be_bytes w32 (a ∷ b ∷ c ∷ d ∷ []) → len ≤ 1048576 → len ≤ length body
@@ -282,12 +278,15 @@ frame_spelled m n v k a b c d len body fits p q r low high is small le = (
   header_spelled m n v k (a ∷ b ∷ c ∷ d ∷ body) (sized (take len body) ++ drop len body) p q r (text_spelled a b c d len body (length_spelled a b c d len fits is) le),
 )
 
-word_bytes : (a b c d : ℕ) (body : List ℕ) → AreBytes (a ∷ b ∷ c ∷ d ∷ body) → AreBytes (a ∷ b ∷ c ∷ d ∷ [])
-word_bytes a b c d body fits zero = fits 0
-word_bytes a b c d body fits (suc zero) = fits 1
-word_bytes a b c d body fits (suc (suc zero)) = fits 2
-word_bytes a b c d body fits (suc (suc (suc zero))) = fits 3
-word_bytes a b c d body fits (suc (suc (suc (suc i)))) = omega arith
+pub four_bytes : (a b c d : ℕ) → a < 256 → b < 256 → c < 256 → d < 256 → AreBytes (a ∷ b ∷ c ∷ d ∷ [])
+four_bytes a b c d p q r s zero = p
+four_bytes a b c d p q r s (suc zero) = q
+four_bytes a b c d p q r s (suc (suc zero)) = r
+four_bytes a b c d p q r s (suc (suc (suc zero))) = s
+four_bytes a b c d p q r s (suc (suc (suc (suc i)))) = omega arith
+
+pub word_bytes : (a b c d : ℕ) (body : List ℕ) → AreBytes (a ∷ b ∷ c ∷ d ∷ body) → AreBytes (a ∷ b ∷ c ∷ d ∷ [])
+word_bytes a b c d body fits = four_bytes a b c d (fits 0) (fits 1) (fits 2) (fits 3)
 
 pub frame_is : (bytes rest : List ℕ) (f : Frame) → AreBytes bytes → front_of bytes ≡ Whole f rest → IsFrame f × (bytes ≡ frame f ++ rest)
 unfolding front_of
@@ -298,7 +297,7 @@ frame_is (m ∷ n ∷ v ∷ k ∷ a ∷ b ∷ c ∷ d ∷ body) rest f fits e =
     let r = whole_chosen (eqb v 1) (behind_version (k ∷ a ∷ b ∷ c ∷ d ∷ body)) _ f rest q.1 in
     let s = whole_chosen (ltb 0 k && ltb k 17) (behind_kind k (a ∷ b ∷ c ∷ d ∷ body)) _ f rest r.1 in
     let t = body_chosen (ltb 1048576 len) (ltb (length body) len) _ (record { kind = k; body = take len body }) f (drop len body) rest s.1 in
-    let kinds = both_true (ltb 0 k) (ltb k 17) s.0 in
+    let kinds = and_parts (ltb 0 k) (ltb k 17) s.0 in
     let made = frame_spelled m n v k a b c d len body (word_bytes a b c d body (λ i. fits (suc (suc (suc (suc i)))))) (eqb-true m 78 p.0) (eqb-true n 66 q.0) (eqb-true v 1 r.0) (ltb-true 0 k kinds.0) (ltb-true k 17 kinds.1) refl
     (ltb-false 1048576 len t.0) (ltb-false (length body) len t.1) in
     let P : Frame → List ℕ → Type 0 = λ g tail. IsFrame g × (m ∷ n ∷ v ∷ k ∷ a ∷ b ∷ c ∷ d ∷ body ≡ frame g ++ tail) in
@@ -307,12 +306,12 @@ frame_is few rest f fits e = absurd (short_front few (omega arith) (is_whole (fr
 
 -- ---- a part of a frame
 
+pub cons_nil : (b : ℕ) (bytes : List ℕ) → b ∷ bytes ≡ [] → ⊥
+cons_nil b bytes e = cc
+
 nothing_left : (rest more : List ℕ) → rest ++ more ≡ [] → more ≡ []
 nothing_left [] more e = e
 nothing_left (b ∷ rest) more e = absurd (cons_nil b (rest ++ more) e)
-  where
-    cons_nil : (b : ℕ) (bs : List ℕ) → b ∷ bs ≡ [] → ⊥
-    cons_nil b bs e = cc
 
 pub part_is_partial : PartIsPartial
 part_is_partial bytes more f fits is e some other = cases (front_of bytes) refl

@@ -1,4 +1,6 @@
 pub mod ByteLists
 pub mod FrameLaws
+pub mod HeaderLaws
 pub mod FieldLaws
 pub mod EpoidLaws
+pub mod Rows

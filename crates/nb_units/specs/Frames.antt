@@ -1,6 +1,6 @@
 -- A frame of the protocol: 4E 42, the version 01, the kind from 01 to 10, the length of the body in four
 -- bytes, and the body of at most 1,048,576 bytes. A stream is whole frames and a rest that begins with none.
-use Rattle.std.specs.Prelude.{◌≡◌, ◌≢◌, ◌↔◌, ℕ, ◌+◌, ◌<◌, ◌≤◌, slice_index, List, [], ◌∷◌, ◌++◌, length, take, drop, nat_lt, ◌==◌, ◌&&◌, if◌then◌else◌}
+use Rattle.std.specs.Prelude.{◌≡◌, ◌≢◌, ◌↔◌, ◌⊎◌, ℕ, ◌+◌, ◌^◌, ◌<◌, ◌≤◌, slice_index, List, [], ◌∷◌, ◌++◌, length, take, drop, nat_lt, ◌==◌, ◌&&◌, if◌then◌else◌}
 use Rattle.std.specs.List.{flat_map, AllByRecursion}
 use Rattle.std.specs.Int.{w32, from_be_bytes}
 use Rattle.nb_units.specs.Fields.{be4, sized}
@@ -86,6 +86,27 @@ pub record Splits (stream : List ℕ) (frames : List Frame) (rest : List ℕ) : 
 abbrev pub AreBytes : List ℕ → Type 0
 AreBytes bytes = (i : ℕ) → slice_index bytes i < 256
 
+-- these bytes stand at the front of a list
+abbrev pub Begins : List ℕ → List ℕ → Type 0
+Begins front bytes = (rest : List ℕ) × (bytes ≡ front ++ rest)
+
+-- a header has this fault: all that stands before the place of the fault is allowed, and what stands there is not
+abbrev pub HasFault : List ℕ → HeaderFault → Type 0
+HasFault bytes (BadMagic p m) =
+    ((p ≡ 0) × Begins (m ∷ []) bytes × (m ≢ FIRST_MAGIC))
+    ⊎ ((p ≡ 1) × Begins (FIRST_MAGIC ∷ m ∷ []) bytes × (m ≢ SECOND_MAGIC))
+HasFault bytes (BadVersion p v) = (p ≡ 2) × Begins (FIRST_MAGIC ∷ SECOND_MAGIC ∷ v ∷ []) bytes × (v ≢ VERSION)
+HasFault bytes (BadKind p k) =
+    (p ≡ 3) × Begins (FIRST_MAGIC ∷ SECOND_MAGIC ∷ VERSION ∷ k ∷ []) bytes × ((k ≡ 0) ⊎ (LAST_KIND < k))
+HasFault bytes (TooLong p len) =
+    (p ≡ 4) × (MAX_BODY < len) × (len < 2 ^ 32)
+    × ((kind : ℕ) × (1 ≤ kind) × (kind ≤ LAST_KIND) × Begins (FIRST_MAGIC ∷ SECOND_MAGIC ∷ VERSION ∷ kind ∷ be4 len) bytes)
+
+-- a frame of which the first n bytes are there: its kind is allowed, and its length is too, unless only one, two or
+-- three of the four bytes of the length are there
+abbrev pub IsBegun : ℕ → Frame → Type 0
+IsBegun n f = (1 ≤ f.kind) × (f.kind ≤ LAST_KIND) × (length f.body < 2 ^ 32) × ((n ≤ 4) ⊎ (HEADER ≤ n) → length f.body ≤ MAX_BODY)
+
 -- ---- laws
 
 -- the layout in numbers: 4E 42 01, the kind from 01 to 10, the length in four bytes, the body of at most 1,048,576
@@ -110,6 +131,19 @@ FrameIsFront = (bytes rest : List ℕ) (f : Frame) → AreBytes bytes → front_
 abbrev pub PartIsPartial : Type 0
 PartIsPartial = (bytes more : List ℕ) (f : Frame) → AreBytes bytes → IsFrame f → bytes ++ more ≡ frame f → bytes ≢ [] → more ≢ []
     → front_of bytes ≡ Partial
+
+-- what is read as a part is a part of a frame, from its front on: some bytes are there, and some are not
+abbrev pub PartialIsPart : Type 0
+PartialIsPart = (bytes : List ℕ) → AreBytes bytes → front_of bytes ≡ Partial
+    → (f : Frame) × (more : List ℕ) × IsBegun (length bytes) f × (bytes ++ more ≡ frame f) × (bytes ≢ []) × (more ≢ [])
+
+-- only no bytes are read as nothing
+abbrev pub EmptyIsNothing : Type 0
+EmptyIsNothing = (bytes : List ℕ) → (front_of bytes ≡ Empty) ↔ (bytes ≡ [])
+
+-- a fault is read exactly where the header has it
+abbrev pub BadIsFault : Type 0
+BadIsFault = (bytes : List ℕ) (fault : HeaderFault) → AreBytes bytes → (front_of bytes ≡ Bad fault) ↔ HasFault bytes fault
 
 -- each list of bytes is a list of frames and a rest that begins with none
 abbrev pub HasReading : Type 0

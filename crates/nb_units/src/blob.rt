@@ -19,7 +19,7 @@ impl Model for Blob {
 }
 
 impl Blob {
-    /// A copy of the bytes.
+    /// A copy of the bytes, or [`NoMemory`] where there is none for it.
     pub fn of(alloc: Global, bytes: &[u8]) -> Result<Blob, NoMemory>
         ensures { IfOk result (λ blob. blob ≡ bytes.now) }
     {

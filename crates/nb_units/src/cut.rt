@@ -4,18 +4,20 @@ ghost use Rattle.nb_units.specs.Fields.{raw_at, u8_at, u32_at, u64_at, bytes_at,
 use crate::number::{u32_of, u64_of};
 use std::marker::Model;
 
-/// Why no such field stands at the place of a cut. The place is that of the field's first byte.
+/// Why no such field stands at the place of a cut. Each `place` is that of the field's first byte, in bytes from the front
+/// of the slice.
 #[derive(Clone, Copy, PartialEq, Eq, Debug)]
 pub enum CutFault {
-    /// Fewer bytes are left than the field has: for a text, than its length field has or says.
+    /// Fewer bytes are left than the field has: for a text, than the 4 bytes of its length, or than these say.
     Short { place: usize },
-    /// A text's length field says more than its limit.
+    /// A text's length is `len` bytes, and its limit is `max` bytes. This is told before `Short`.
     Long { place: usize, len: u32, max: u32 },
-    /// Bytes are left over behind the last field.
+    /// Bytes are left over behind the last field: the first of them stands at the place.
     Extra { place: usize },
 }
 
-/// Reads a slice from its front, field by field.
+/// Reads a slice from its front, field by field. A field that was read is passed over; after a fault the cut is where it
+/// was, so that another field can be read there.
 #[derive(Drop)]
 pub struct Cut<'a> {
     bytes: &'a [u8],
@@ -43,14 +45,14 @@ impl<'a> Cut<'a> {
         Cut { bytes, place: 0 }
     }
 
-    /// How many bytes were read.
+    /// How many bytes were read: the place of the next field, in bytes from the front of the slice.
     pub fn place(&self) -> usize
         ensures { result ≡ self.now.place }
     {
         self.place
     }
 
-    /// One byte.
+    /// One byte, or [`CutFault::Short`].
     pub fn u8(&mut self) -> Result<u8, CutFault>
         ensures value { result ≡ u8_at self.old.bytes self.old.place }
         ensures moved { self.new ≡ moved_by self.old 1 result }
@@ -63,7 +65,7 @@ impl<'a> Cut<'a> {
         Ok(rest[0])
     }
 
-    /// A number of 4 bytes, big-endian.
+    /// A number of 4 bytes, big-endian, or [`CutFault::Short`].
     pub fn u32(&mut self) -> Result<u32, CutFault>
         ensures value { result ≡ u32_at self.old.bytes self.old.place }
         ensures moved { self.new ≡ moved_by self.old 4 result }
@@ -76,7 +78,7 @@ impl<'a> Cut<'a> {
         Ok(u32_of(rest.split_at(4).0))
     }
 
-    /// A number of 8 bytes, big-endian.
+    /// A number of 8 bytes, big-endian, or [`CutFault::Short`].
     pub fn u64(&mut self) -> Result<u64, CutFault>
         ensures value { result ≡ u64_at self.old.bytes self.old.place }
         ensures moved { self.new ≡ moved_by self.old 8 result }
@@ -89,7 +91,7 @@ impl<'a> Cut<'a> {
         Ok(u64_of(rest.split_at(8).0))
     }
 
-    /// 16 bytes as they stand.
+    /// 16 bytes as they stand, or [`CutFault::Short`].
     pub fn fixed16(&mut self) -> Result<[u8; 16], CutFault>
         ensures value { result ≡ raw_at 16 self.old.bytes self.old.place }
         ensures moved { self.new ≡ moved_by self.old 16 result }
@@ -104,7 +106,7 @@ impl<'a> Cut<'a> {
         Ok(field)
     }
 
-    /// 32 bytes as they stand.
+    /// 32 bytes as they stand, or [`CutFault::Short`].
     pub fn fixed32(&mut self) -> Result<[u8; 32], CutFault>
         ensures value { result ≡ raw_at 32 self.old.bytes self.old.place }
         ensures moved { self.new ≡ moved_by self.old 32 result }
@@ -119,7 +121,8 @@ impl<'a> Cut<'a> {
         Ok(field)
     }
 
-    /// A text of at most `max` bytes: its length in 4 bytes, big-endian, and then the text.
+    /// A text of at most `max` bytes: its length in 4 bytes, big-endian, and then the text. Answers [`CutFault::Long`]
+    /// where the length is more than `max`, however many bytes are left, and else [`CutFault::Short`].
     pub fn bytes(&mut self, max: u32) -> Result<&'a [u8], CutFault>
         ensures value { seen result ≡ bytes_at max self.old.bytes self.old.place }
         ensures short { IfOk result (λ text. length text.now ≤ max) }
@@ -143,7 +146,7 @@ impl<'a> Cut<'a> {
         Ok(text)
     }
 
-    /// Whether no bytes are left over.
+    /// Answers [`CutFault::Extra`] where bytes are left over.
     pub fn done(&self) -> Result<(), CutFault>
         ensures { result ≡ done_at self.now.bytes self.now.place }
     {

@@ -6,7 +6,7 @@ use crate::number::{u32_of, u64_of};
 pub struct Epoid {
     /// The merchant of the order, 4 bytes wide.
     pub merchant: PartyId,
-    /// When the merchant gave the identifier, in seconds, 8 bytes wide.
+    /// When the merchant gave the identifier, in seconds since 1970-01-01 00:00 UTC, 8 bytes wide.
     pub moment: u64,
     /// The merchant's number for the order, 4 bytes wide.
     pub serial: u32,

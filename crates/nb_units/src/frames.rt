@@ -1,7 +1,7 @@
 //! What a frame of the protocol is. The definitions stand in `specs/Frames.antt`; here are the header's
 //! constants, the kinds that have a name, and the laws that make the definitions one reading of a stream.
 
-ghost use Rattle.nb_units.specs.Frames.{FrameLayout, FrameKinds, FrontIsFrame, FrameIsFront, PartIsPartial, HasReading, LongestReading, OneReading, BadStays};
+ghost use Rattle.nb_units.specs.Frames.{FrameLayout, FrameKinds, FrontIsFrame, FrameIsFront, PartIsPartial, PartialIsPart, EmptyIsNothing, BadIsFault, HasReading, LongestReading, OneReading, BadStays};
 
 /// The first byte of a frame, `N`.
 pub const FIRST_MAGIC: u8 = 0x4E;
@@ -9,13 +9,13 @@ pub const FIRST_MAGIC: u8 = 0x4E;
 /// The second byte of a frame, `B`.
 pub const SECOND_MAGIC: u8 = 0x42;
 
-/// The third byte of a frame: the protocol's version.
+/// The third byte of a frame: the protocol's version, one byte wide.
 pub const VERSION: u8 = 1;
 
-/// The greatest kind of a frame; the least is 1.
+/// The greatest kind of a frame, which is one byte wide; the least is 1.
 pub const LAST_KIND: u8 = 0x10;
 
-/// The most bytes that the body of a frame has.
+/// The most bytes that the body of a frame has. Its length stands in 4 bytes.
 pub const MAX_BODY: u32 = 1_048_576;
 
 /// The bytes of a frame before its body: two of magic, the version, the kind, and four of length.
@@ -57,6 +57,22 @@ pub fn frame_is_front()
 /// A law: a part of a frame, from its front on, is read neither as a frame nor as bad.
 pub fn part_is_partial()
     ensures { PartIsPartial }
+{}
+
+/// A law: what is read as a part of a frame is one, from its front on. Only while one, two or three of the four bytes
+/// of its length are there, the length may still turn out too long.
+pub fn partial_is_part()
+    ensures { PartialIsPart }
+{}
+
+/// A law: only no bytes at all are read as nothing.
+pub fn empty_is_nothing()
+    ensures { EmptyIsNothing }
+{}
+
+/// A law: a fault of a header is read exactly where the header has it, and all that stands before it is allowed.
+pub fn bad_is_fault()
+    ensures { BadIsFault }
 {}
 
 /// A law: each stream is a list of frames and a rest that begins with none.

@@ -10,11 +10,11 @@ pub struct AcctId(pub u32);
 #[derive(Clone, Copy, PartialEq, Eq, PartialOrd, Ord, Debug)]
 pub struct Price(pub u64);
 
-/// A SHA-256 digest (FIPS 180-4).
+/// A SHA-256 digest (FIPS 180-4), 32 bytes wide.
 pub type Digest = [u8; 32];
 
-/// A key that two parties share.
+/// A key that two parties share, 32 bytes wide.
 pub type Secret = [u8; 32];
 
-/// An HMAC-SHA-256 tag (RFC 2104).
+/// An HMAC-SHA-256 tag (RFC 2104), 32 bytes wide.
 pub type Tag = [u8; 32];

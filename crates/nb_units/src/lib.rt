@@ -7,14 +7,15 @@
 //! 16 bytes that are read and written.
 //!
 //! What a field is stands once, in `specs/Fields.antt`; what a frame of the protocol is, in `specs/Frames.antt`. That
-//! a field is read exactly where its spelling stands, and that a stream of bytes has one list of frames, is proved by
-//! the functions of [`laws`] and [`frames`].
+//! a field is read exactly where its spelling stands, when each fault comes, and that a stream of bytes has one list of
+//! frames, is proved by the functions of [`laws`] and [`frames`].
 //!
 //! Left to others: which fields make an order, an entry or a message, which values each may have, and the reading of
 //! frames from a stream that comes in pieces.
 #![tactic(auto)]
 
 mod blob;
+mod buffer;
 mod cut;
 mod epoid;
 pub mod frames;
@@ -26,6 +27,7 @@ mod pen;
 mod small;
 
 pub use blob::Blob;
+pub use buffer::{Buffer, MAX_BUFFER};
 pub use cut::{Cut, CutFault};
 pub use epoid::Epoid;
 pub use ids::{AcctId, Digest, PartyId, Price, Secret, Tag};

@@ -1,4 +1,4 @@
-ghost use Rattle.std.specs.Prelude.{◌≡◌, ◌≤◌, IsOk, OnOk};
+ghost use Rattle.std.specs.Prelude.{◌≡◌, ◌≤◌, IsOk, OnOk, OnErr, vec_capacity};
 ghost use Rattle.nb_units.specs.Room.{spare_of};
 
 use std::alloc::{AllocError, AllocFailed};
@@ -19,12 +19,14 @@ impl<T: Drop> From<AllocFailed<T>> for NoMemory {
     }
 }
 
-/// Makes the room of `out` at least `n` bytes: so many can be appended without taking memory.
+/// Makes the room of `out` at least `n` bytes: so many can be appended without taking memory. The bytes of `out` stay as
+/// they are. Answers [`NoMemory`] where the room was smaller and there was no memory for more: the room is then as before.
 pub fn room(out: &mut Vec<u8>, n: usize) -> Result<(), NoMemory>
     ensures ok { OnOk result (n ≤ spare_of out.new) }
     ensures bytes { out.new.items ≡ out.old.items }
     ensures kept { spare_of out.old ≤ spare_of out.new }
     ensures had { n ≤ spare_of out.old → IsOk result }
+    ensures as_before { OnErr result (vec_capacity out.new ≡ vec_capacity out.old) }
 {
     out.reserve(n)?;
     Ok(())
