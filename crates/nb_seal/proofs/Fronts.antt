@@ -4,7 +4,7 @@ use Rattle.std.proofs.lemmas.List.{drop-replicate, take-replicate}
 use Rattle.std.proofs.lemmas.Grind.{common_steps}
 use Rattle.std.proofs.Math.Seq.{take-append-add}
 use borrow.Rule.Slice.PartMut.{put_mid}
-use Rattle.nb_seal.specs.Seal.{front_of}
+use Rattle.nb_seal.specs.Seal.{iv_shown}
 
 -- where there are so many bytes, the front is they, and the rest follows it
 pub front_and_rest : (m : ℕ) (bytes front : List ℕ) → m ≤ length bytes → front ≡ take m (bytes ++ replicate m 0) → bytes ≡ front ++ take (length bytes - m) (drop m bytes)
@@ -15,7 +15,7 @@ padded_front : (m : ℕ) (bytes : List ℕ) → take (min (length bytes) m) byte
 padded_front m bytes = grind (arith, common_steps, take-append-add bytes (replicate m 0) (m - length bytes), take-replicate, drop-replicate)
 
 -- zeros behind the bytes that were copied
-pub front_padded : (bytes copied : List ℕ) (n : ℕ) → n ≡ min (length bytes) 32 → copied ≡ take n bytes → copied ++ drop n (replicate 32 0) ≡ front_of bytes
+pub front_padded : (bytes copied : List ℕ) (n : ℕ) → n ≡ min (length bytes) 32 → copied ≡ take n bytes → copied ++ drop n (replicate 32 0) ≡ iv_shown bytes
 front_padded bytes copied n e c = rw (c, e) (padded_front 32 bytes)
 
 -- a vector's last part, written over

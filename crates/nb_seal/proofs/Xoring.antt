@@ -1,5 +1,5 @@
 -- Lists xored with the keystream: word by word, in parts, and twice.
-use Rattle.std.proofs.Common.{◌≡◌, ℕ, ◌+◌, ◌*◌, ◌/◌, ◌%◌, ◌<◌, ◌≤◌, List, [], ◌∷◌, ◌++◌, length, get_or, set, take, drop, bit_xor, refl, sym, ap, ◌∙◌, suc, arith, add-zero, append_assoc, append-nil, length-drop, take-append-drop}
+use Rattle.std.proofs.Common.{◌≡◌, ℕ, ◌+◌, ◌*◌, ◌/◌, ◌%◌, ◌<◌, ◌≤◌, List, [], ◌∷◌, ◌++◌, length, get_or, set, take, drop, bit_xor, refl, sym, ap, ◌∙◌, zero, suc, arith, add-zero, append_assoc, append-nil, length-drop, take-append-drop}
 use Rattle.std.proofs.lemmas.List.{length-take-le, drop-drop, take_all, drop_all}
 use Rattle.std.proofs.lemmas.Slice.{take-put_mid, drop-put_mid}
 use borrow.Rule.Slice.PartMut.{put_mid}
@@ -39,6 +39,14 @@ xored-word key word (a ∷ b ∷ c ∷ d ∷ f ∷ more) w h e = absurd (omega (
 pub length-xored : (key : List ℕ) (place : ℕ) (bytes : List ℕ) → length (xored key place bytes) ≡ length bytes
 length-xored key place [] = refl
 length-xored key place (b ∷ bytes) = ap suc (length-xored key (place + 1) bytes)
+
+-- byte i of what was xored
+pub xored-at : (key : List ℕ) (place i : ℕ) (bytes : List ℕ) → i < length bytes → get_or (xored key place bytes) i 0 ≡ bit_xor (get_or bytes i 0) (stream_byte key (place + i))
+xored-at key place i [] h = absurd (omega (arith, h))
+xored-at key place zero (b ∷ bytes) h = rw add-zero refl
+xored-at key place (suc i) (b ∷ bytes) h =
+    let e : place + 1 + i ≡ place + suc i = omega arith in
+    xored-at key (place + 1) i bytes (omega (arith, h)) ∙ ap (λ (n : ℕ). bit_xor (get_or bytes i 0) (stream_byte key n)) e
 
 -- a front and what follows it
 pub xored-append : (key : List ℕ) (place : ℕ) (front rest : List ℕ) → xored key place (front ++ rest) ≡ xored key place front ++ xored key (place + length front) rest

@@ -2,11 +2,12 @@
 use Rattle.std.specs.Prelude.{◌≡◌, ℕ, ◌-◌, List, ◌++◌, length, map, replicate, bit_xor}
 use Rattle.sha2.specs.Sha256.{sha256}
 use Rattle.sha2.specs.Hashers.{Holds256}
+use Rattle.nb_seal.specs.declared.limits.TheConstants.{BLOCK_BYTES}
 use Rattle.nb_seal.specs.declared.mac.Mac.{Mac}
 
 -- the key padded with zeros to a block of 64 bytes, each byte xored with a mark (RFC 2104, section 2, steps 1, 2 and 5)
 unfoldable pub pad_of : List ℕ → ℕ → List ℕ
-pad_of key mark = map (λ b. bit_xor b mark) (key ++ replicate (64 - length key) 0)
+pad_of key mark = map (λ b. bit_xor b mark) (key ++ replicate (BLOCK_BYTES - length key) 0)
 
 -- H(K xor opad, H(K xor ipad, message)), where ipad is 64 times 0x36 and opad 64 times 0x5C (RFC 2104, section 2)
 unfoldable pub hmac_of : List ℕ → List ℕ → List ℕ

@@ -1,5 +1,6 @@
 -- Seals: a text behind the code of its label and itself, hidden by the keystream of a key made from that code.
 use Rattle.std.specs.Prelude.{◌≡◌, ℕ, List, ◌++◌, codes, replicate, take}
+use Rattle.nb_seal.specs.declared.limits.TheConstants.{CODE_BYTES}
 use Rattle.nb_seal.specs.Hmac.{hmac_of}
 use Rattle.nb_seal.specs.Keystream.{xored}
 
@@ -27,6 +28,6 @@ IsNoSeal key label bytes = (plain : List ℕ) → ¬ Opens key label bytes plain
 abbrev pub AppendsOpened : List ℕ → List ℕ → List ℕ → List ℕ → List ℕ → Type 0
 AppendsOpened key label bytes old new = (plain : List ℕ) × Opens key label bytes plain × (new ≡ old ++ plain)
 
--- the first 32 bytes, with zeros where there are fewer
-abbrev pub front_of : List ℕ → List ℕ
-front_of bytes = take 32 (bytes ++ replicate 32 0)
+-- the iv that a bad seal shows: the first 32 bytes, with zeros where there are fewer
+abbrev pub iv_shown : List ℕ → List ℕ
+iv_shown bytes = take CODE_BYTES (bytes ++ replicate CODE_BYTES 0)

@@ -3,21 +3,31 @@
 //! A message is seen as the list of its bytes, in whatever pieces it came. [`sha`] is SHA-256 (FIPS
 //! 180-4). [`hmac`], and [`Mac`] where a message comes piece by piece, are HMAC-SHA-256 (RFC 2104) under
 //! keys of at most 64 bytes. [`same`] compares all 32 bytes of two digests. [`stream_xor`] combines bytes
-//! with the keystream of ChaCha20 (RFC 8439).
+//! with the keystream of ChaCha20 with a block counter of 64 bits and a nonce of 64 bits that is 0. Up to
+//! byte 2^38 that is the keystream of RFC 8439 with a nonce of zeros and the counter from 0 on.
 //!
 //! A seal hides a text under a key and binds it to a label. It is the code of the label followed by the
 //! text, its iv, and behind that the text combined with the keystream of a key made from the iv. Bytes
 //! open to a text exactly where they are its seal, and to one text at most. [`unseal`] and [`unseal_to`]
 //! give that text or say that there is none.
 //!
-//! Each call promises its exact value, as `specs/` defines it. Memory is taken by [`seal`] and [`unseal`]
-//! alone, and then for what they append. What a message means, and which key belongs to whom, is left to
-//! the layers above; so is the secrecy of keys. That these functions are hard to invert or to forge is no
-//! claim of the proofs.
+//! Digests, codes, ivs, and the keys of seals and of keystreams have 32 bytes ([`CODE_BYTES`]), blocks of
+//! the hash 64 ([`BLOCK_BYTES`]), labels 4. A text that is sealed has at most 2^39 bytes ([`MAX_TEXT`]),
+//! and of a keystream the first 2^40 are used ([`MAX_KEYSTREAM`]).
+//!
+//! Each call promises its exact value, as `specs/` defines it. What holds of these values, whatever the
+//! bytes, is proved by the functions of [`laws`]. Only [`seal`] and [`unseal`] make a vector larger, for the
+//! seal or the text that they append: [`seal_spare`] keeps its vector's capacity, by its clause `room`, and
+//! no other call is given a vector or an allocator.
+//!
+//! What a message means, and which key belongs to whom, is left to the layers above; so is the secrecy of
+//! keys. That these functions are hard to invert or to forge is no claim of the proofs.
 #![tactic(auto)]
 
 mod digest;
 mod keystream;
+pub mod laws;
+mod limits;
 mod mac;
 mod memory;
 mod seals;
@@ -26,9 +36,7 @@ mod tests;
 
 pub use digest::{same, sha};
 pub use keystream::stream_xor;
+pub use limits::{BLOCK_BYTES, CODE_BYTES, MAX_KEYSTREAM, MAX_TEXT};
 pub use mac::{Mac, hmac};
 pub use memory::NoMemory;
-pub use seals::{
-    BadSeal, Unsealed, opens_to_one_text, opens_to_what_was_sealed, seal, seal_is_32_bytes_longer,
-    seal_spare, unseal, unseal_to,
-};
+pub use seals::{BadSeal, Unsealed, seal, seal_spare, seal_to, unseal, unseal_to};

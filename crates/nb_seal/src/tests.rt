@@ -103,7 +103,7 @@ fn codes_of_rfc_4231(rt: HostRuntime) -> Result<(), Fail> {
             let mut mac = Mac::new(key);
             mac.push(head);
             mac.push(tail);
-            assert!(rt; same(&mac.finish(), &code), "at {at}");
+            assert!(rt; mac.finish().starts_with(&want), "at {at}");
         }
     }
     Ok(())
@@ -167,8 +167,12 @@ fn codes_of_counting_bytes(rt: HostRuntime) -> Result<(), Fail> {
 // Two digests that differ in one byte, at each place.
 #[test]
 fn digests_that_differ_in_a_byte(rt: HostRuntime) {
-    let digest = sha(b"abc");
-    assert!(rt; same(&digest, &sha(b"abc")));
+    let mut digest = [0; 32];
+    for (i, b) in digest.iter_mut().enumerate() {
+        *b = (i % 251) as u8;
+    }
+    let copy = digest;
+    assert!(rt; same(&digest, &copy));
     for i in 0..32 {
         let mut other = digest;
         other[i] ^= 1;
@@ -177,7 +181,8 @@ fn digests_that_differ_in_a_byte(rt: HostRuntime) {
 }
 
 // Blocks of RFC 8439, appendix A.1, test vectors 1 to 4, each from 64 times its counter on; then other
-// words and other lengths.
+// words and other lengths, by other programs. The last but one goes over byte 2^38, where a counter of 32 bits
+// would begin again.
 #[test]
 fn keystream_bytes(rt: HostRuntime) -> Result<(), Fail> {
     let zeros = [0; 32];
@@ -185,7 +190,7 @@ fn keystream_bytes(rt: HostRuntime) -> Result<(), Fail> {
     last_is_1[31] = 1;
     let mut second_is_255 = zeros;
     second_is_255[1] = 255;
-    let cases: [([u8; 32], u64, &str); 10] = [
+    let cases: [([u8; 32], u64, &str); 11] = [
         (
             zeros,
             0,
@@ -230,6 +235,11 @@ fn keystream_bytes(rt: HostRuntime) -> Result<(), Fail> {
             second_is_255,
             65000,
             "033ffe904c878252dd00d5134b3a1dd12aeaf69efb6b12c29471ca01414f6b7c967feafdd243163ffec0aae8750a50ea72bf36c254f9e7068fe4e8a1f35c7d1a",
+        ),
+        (
+            zeros,
+            274877906912,
+            "92c74f2f626c6a640c0b1284d839ec81f1696281dafc3e684593937023b58b1d3db41d3aa0d329285de6f225e6e24bd59c9a17006943d5c9b680e3873bdc683a",
         ),
         (
             zeros,
@@ -359,6 +369,7 @@ fn byte_too_many(rt: HostRuntime) -> Result<(), Fail> {
     Ok(())
 }
 
+// One bit of a seal is turned. The vector has room for nothing: where it is empty, it has to grow first.
 #[test]
 fn turned_bits(rt: HostRuntime) -> Result<(), Fail> {
     for place in [0, 31, 32, 291] {
@@ -366,12 +377,15 @@ fn turned_bits(rt: HostRuntime) -> Result<(), Fail> {
         turned.truncate(292);
         assert!(rt; turned.len() == 292);
         turned[place] ^= 1;
-        let mut out = Vec::from_slice(rt.alloc(), b"kept")?;
-        match unseal(&ENDORSER, b"endo", &turned, &mut out) {
-            Err(Unsealed::BadSeal { iv }) => assert!(rt; turned.starts_with(&iv)),
-            _ => assert!(rt; false, "at {place}"),
+        let held: [&[u8]; 2] = [b"", b"kept"];
+        for bytes in held {
+            let mut out = Vec::from_slice(rt.alloc(), bytes)?;
+            match unseal(&ENDORSER, b"endo", &turned, &mut out) {
+                Err(Unsealed::BadSeal { iv }) => assert!(rt; turned.starts_with(&iv)),
+                _ => assert!(rt; false, "at {place}"),
+            }
+            assert_eq!(rt; out.as_slice(), bytes);
         }
-        assert_eq!(rt; out.as_slice(), b"kept".as_slice());
     }
     Ok(())
 }

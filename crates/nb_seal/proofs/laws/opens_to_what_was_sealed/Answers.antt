@@ -1,7 +1,7 @@
 use Rattle.std.proofs.Common.{refl, ap, sym}
 use Rattle.nb_seal.specs.Seal.{seal_of}
 use Rattle.nb_seal.proofs.Opening.{opens_once}
-use Rattle.nb_seal.proofs.seals.opens_to_what_was_sealed.Goals as goal
+use Rattle.nb_seal.proofs.laws.opens_to_what_was_sealed.Goals as goal
 
 pub returns : goal.returns
 returns c key label plain text =

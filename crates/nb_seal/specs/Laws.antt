@@ -1,0 +1,37 @@
+-- What holds of every seal and of every keystream.
+use Rattle.std.specs.Prelude.{◌≡◌, ◌↔◌, ℕ, ◌+◌, ◌<◌, ◌^◌, List, ◌++◌, length, bit_xor, slice_index}
+use Rattle.nb_seal.specs.declared.limits.TheConstants.{BLOCK_BYTES, CODE_BYTES, MAX_KEYSTREAM, MAX_TEXT}
+use Rattle.nb_seal.specs.Keystream.{stream_byte, xored}
+use Rattle.nb_seal.specs.Seal.{Opens, seal_of}
+
+-- bytes open to at most one text under a key and a label
+abbrev pub OpensToOneText : Type 0
+OpensToOneText = (key label bytes first second : List ℕ) → Opens key label bytes first
+    → Opens key label bytes second → first ≡ second
+
+-- what was sealed opens to the text that was sealed, and to no other
+abbrev pub OpensToWhatWasSealed : Type 0
+OpensToWhatWasSealed = (key label plain text : List ℕ)
+    → Opens key label (seal_of key label plain) text ↔ (text ≡ plain)
+
+-- a seal has 32 bytes more than its text
+abbrev pub SealIs32BytesLonger : Type 0
+SealIs32BytesLonger = (key label plain : List ℕ) → length (seal_of key label plain) ≡ 32 + length plain
+
+-- byte i of what was xored from a place on is byte i of the bytes, xored with the keystream's at i behind the place
+abbrev pub XoredByteByByte : Type 0
+XoredByteByByte = (key bytes : List ℕ) (place i : ℕ) → i < length bytes
+    → slice_index (xored key place bytes) i ≡ bit_xor (slice_index bytes i) (stream_byte key (place + i))
+
+-- what was xored is as long as the bytes
+abbrev pub XoredIsAsLong : Type 0
+XoredIsAsLong = (key bytes : List ℕ) (place : ℕ) → length (xored key place bytes) ≡ length bytes
+
+-- two pieces xored together are the first xored, and the second xored from where the first ends
+abbrev pub XoredInPieces : Type 0
+XoredInPieces = (key front rest : List ℕ) (place : ℕ)
+    → xored key place (front ++ rest) ≡ xored key place front ++ xored key (place + length front) rest
+
+-- the limits in numbers
+abbrev pub LimitsAre : Type 0
+LimitsAre = (CODE_BYTES ≡ 32) × (BLOCK_BYTES ≡ 64) × (MAX_TEXT ≡ 2 ^ 39) × (MAX_KEYSTREAM ≡ 2 ^ 40)

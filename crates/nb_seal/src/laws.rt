@@ -1,0 +1,34 @@
+//! What holds of every seal and of every keystream. Each function here does nothing: its contract is the law.
+
+ghost use Rattle.nb_seal.specs.Laws.{LimitsAre, OpensToOneText, OpensToWhatWasSealed, SealIs32BytesLonger, XoredByteByByte, XoredInPieces, XoredIsAsLong};
+
+/// Bytes open to at most one text under a key and a label.
+pub fn opens_to_one_text()
+    ensures { OpensToOneText }
+{}
+
+/// What was sealed opens to the text that was sealed, and to no other.
+pub fn opens_to_what_was_sealed()
+    ensures { OpensToWhatWasSealed }
+{}
+
+/// A seal has 32 bytes more than its text.
+pub fn seal_is_32_bytes_longer()
+    ensures { SealIs32BytesLonger }
+{}
+
+/// A list is xored with the keystream byte by byte, and keeps its length.
+pub fn xored_byte_by_byte()
+    ensures bytes { XoredByteByByte }
+    ensures len { XoredIsAsLong }
+{}
+
+/// A list is xored with the keystream piece by piece.
+pub fn xored_in_pieces()
+    ensures { XoredInPieces }
+{}
+
+/// The limits in numbers.
+pub fn limits()
+    ensures { LimitsAre }
+{}
