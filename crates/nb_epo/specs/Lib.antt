@@ -1,0 +1,5 @@
+pub mod Spelling
+pub mod Reading
+pub mod Tags
+pub mod Revealing
+pub mod Laws

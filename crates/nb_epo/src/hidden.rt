@@ -1,0 +1,137 @@
+ghost use Rattle.std.specs.Prelude.{◌≡◌, ◌≤◌, ◌+◌, length, codes, IfOk, Ok};
+ghost use Rattle.nb_seal.specs.Seal.{Opens, seal_of};
+ghost use Rattle.nb_epo.specs.declared.hidden.TheConstants.{MAX_HIDDEN, MAX_MEMO, HIDE_LABEL};
+ghost use Rattle.nb_epo.specs.Spelling.{IsHidden, hidden_bytes};
+ghost use Rattle.nb_epo.specs.Reading.{Reads, hidden_of};
+ghost use Rattle.nb_epo.specs.Revealing.{Reveals};
+ghost use Rattle.nb_epo.specs.Tags.{account_digest_of};
+
+use crate::malformed::Malformed;
+use nb_seal::{BadSeal, seal_to, sha, unseal_to};
+use nb_units::{AcctId, Buffer, Cut, Digest, Secret, Small};
+
+/// The most bytes of a hidden part, sealed.
+pub const MAX_HIDDEN: u32 = 112;
+
+/// The most bytes of a memo.
+pub const MAX_MEMO: u32 = 64;
+
+// A hidden part is sealed under this label.
+const HIDE_LABEL: [u8; 4] = *b"hide";
+
+/// What an order says to the house alone.
+#[derive(Clone, Copy, PartialEq, Eq, Debug)]
+pub struct Hidden {
+    /// The account that pays.
+    pub acct: AcctId,
+    /// The nonce that the account was enrolled with, 8 bytes wide.
+    pub nonce: u64,
+    /// The consumer's own note: at most [`MAX_MEMO`] bytes.
+    pub memo: Small,
+}
+
+/// Why a hidden part was not revealed.
+#[derive(Clone, Copy, PartialEq, Eq, Debug)]
+pub enum RevealFault {
+    /// The bytes are the seal of no text under the key. The iv is the first 32 bytes given, with zeros where there are
+    /// fewer.
+    BadSeal { iv: [u8; 32] },
+    /// The bytes are a seal, and its text is no hidden part. The place is that of the first field that fails, in bytes
+    /// from the front of the text.
+    Malformed { place: usize },
+}
+
+impl From<BadSeal> for RevealFault {
+    ghost use Rattle.std.specs.Prelude.{◌≡◌};
+    ghost use Rattle.nb_epo.specs.declared.hidden.RevealFault.TheVariants as reveal;
+
+    ghost from_gives = { λ bad fault. fault ≡ reveal.BadSeal bad.iv };
+
+    fn from(bad: BadSeal) -> RevealFault {
+        let BadSeal { iv } = bad;
+        RevealFault::BadSeal { iv }
+    }
+}
+
+impl From<Malformed> for RevealFault {
+    ghost use Rattle.std.specs.Prelude.{◌≡◌};
+    ghost use Rattle.nb_epo.specs.declared.hidden.RevealFault.TheVariants as reveal;
+
+    ghost from_gives = { λ malformed fault. fault ≡ reveal.Malformed malformed.place };
+
+    fn from(malformed: Malformed) -> RevealFault {
+        let Malformed { place } = malformed;
+        RevealFault::Malformed { place }
+    }
+}
+
+/// The hidden part sealed under the consumer's key, at most [`MAX_HIDDEN`] bytes.
+pub fn hide(h: &Hidden, key: &Secret) -> Small
+    requires memo { length h.now.memo ≤ MAX_MEMO }
+    ensures { result ≡ seal_of key.now (codes "hide") (hidden_bytes h.now) }
+{
+    let plain = spelled(h);
+    let mut sealed = [0u8; MAX_HIDDEN as usize];
+    let n = seal_to(key, &HIDE_LABEL, plain.as_slice(), &mut sealed);
+    Small::of(sealed.split_at(n).0).unwrap()
+}
+
+/// The hidden part that at most [`MAX_HIDDEN`] bytes are the seal of under the consumer's key.
+pub fn reveal(bytes: &[u8], key: &Secret) -> Result<Hidden, RevealFault>
+    requires short { length bytes.now ≤ MAX_HIDDEN }
+    ensures reveals { Reveals key.now bytes.now result }
+    ensures spelled { IfOk result (λ h. IsHidden h × Opens key.now (codes "hide") bytes.now (hidden_bytes h)) }
+{
+    let mut plain = [0u8; MAX_HIDDEN as usize];
+    let n = unseal_to(key, &HIDE_LABEL, bytes, &mut plain)?;
+    let hidden = read_hidden(plain.split_at(n).0)?;
+    Ok(hidden)
+}
+
+/// The SHA-256 digest (FIPS 180-4) of an account and its nonce, which an order shows to the merchant.
+pub fn account_digest(acct: AcctId, nonce: u64) -> Digest
+    ensures { result ≡ account_digest_of acct nonce }
+{
+    let mut bytes = Buffer::new();
+    bytes.u32(acct.0);
+    bytes.u64(nonce);
+    sha(bytes.as_slice())
+}
+
+// The hidden part's bytes before it is sealed.
+#[tactic(auto, unfolding(crate::specs::Spelling::hidden_bytes))]
+fn spelled(h: &Hidden) -> Buffer
+    requires { length h.now.memo ≤ MAX_MEMO }
+    ensures bytes { result ≡ hidden_bytes h.now }
+    ensures long { length result ≡ 16 + length h.now.memo }
+{
+    let mut bytes = Buffer::new();
+    bytes.u32(h.acct.0);
+    bytes.u64(h.nonce);
+    bytes.bytes(h.memo.as_slice());
+    bytes
+}
+
+// The hidden part that the bytes spell, or the place of the first field that fails.
+fn read_hidden(bytes: &[u8]) -> Result<Hidden, Malformed>
+    ensures reads { Reads result (hidden_of bytes.now) }
+    ensures spelled { IfOk result (λ h. IsHidden h × (bytes.now ≡ hidden_bytes h)) }
+{
+    read_fields(bytes)
+}
+
+#[tactic(auto, unfolding(crate::specs::Reading::hidden_of))]
+fn read_fields(bytes: &[u8]) -> Result<Hidden, Malformed>
+    ensures { Reads result (hidden_of bytes.now) }
+{
+    let mut cut = Cut::new(bytes);
+    let acct = cut.u32()?;
+    let nonce = cut.u64()?;
+    let memo = cut.bytes(MAX_MEMO)?;
+    cut.done()?;
+    Ok(Hidden {
+        acct: AcctId(acct),
+        nonce,
+        memo: Small::of(memo).unwrap(),
+    })
+}

@@ -1,0 +1,22 @@
+use nb_units::CutFault;
+
+/// Bytes are not spelled as they should be. The place is that of the first field that fails, in bytes from the front.
+#[derive(Clone, Copy, PartialEq, Eq, Debug)]
+pub struct Malformed {
+    pub place: usize,
+}
+
+impl From<CutFault> for Malformed {
+    ghost use Rattle.std.specs.Prelude.{◌≡◌};
+    ghost use Rattle.nb_units.specs.Fields.{place_of};
+
+    ghost from_gives = { λ fault m. m.place ≡ place_of fault };
+
+    fn from(fault: CutFault) -> Malformed {
+        match fault {
+            CutFault::Short { place } => Malformed { place },
+            CutFault::Long { place, .. } => Malformed { place },
+            CutFault::Extra { place } => Malformed { place },
+        }
+    }
+}

@@ -1,0 +1,140 @@
+ghost use Rattle.std.specs.Prelude.{◌≡◌, ◌≤◌, ◌↔◌, ◌+◌, ◌++◌, length, vec_capacity, IfOk, IsTrue, Ok};
+ghost use Rattle.nb_units.specs.Room.{spare_of};
+ghost use Rattle.nb_epo.specs.declared.hidden.TheConstants.{MAX_HIDDEN};
+ghost use Rattle.nb_epo.specs.declared.order.TheConstants.{MAX_ORDER};
+ghost use Rattle.nb_epo.specs.Spelling.{IsOrder, signed_bytes, order_bytes};
+ghost use Rattle.nb_epo.specs.Reading.{Reads, order_of};
+ghost use Rattle.nb_epo.specs.Tags.{order_tag, signed};
+
+use crate::hidden::MAX_HIDDEN;
+use crate::malformed::Malformed;
+use nb_seal::{hmac, same};
+use nb_units::{Buffer, Cut, Digest, Epoid, PartyId, Pen, Price, Secret, Small, Tag};
+
+/// The most bytes of an order.
+pub const MAX_ORDER: usize = 280;
+
+// What the tag of an order is over begins with this.
+const ORDER_LABEL: [u8; 4] = *b"ordr";
+
+/// A consumer's promise to pay for one product.
+#[derive(Clone, Copy, PartialEq, Eq, Debug)]
+pub struct Order {
+    /// Who pays.
+    pub consumer: PartyId,
+    /// Who is paid.
+    pub merchant: PartyId,
+    /// The merchant's number for the product, 4 bytes wide.
+    pub product: u32,
+    /// What is paid, in the house's smallest unit of money.
+    pub price: Price,
+    /// The order's identifier. One identifier is paid at most once.
+    pub epoid: Epoid,
+    /// The SHA-256 digest (FIPS 180-4) of the sealed goods.
+    pub checksum: Digest,
+    /// The digest of what was asked for.
+    pub request: Digest,
+    /// The digest of the consumer's account and nonce, for the merchant's files.
+    pub account: Digest,
+    /// The hidden part, sealed: at most [`MAX_HIDDEN`] bytes.
+    pub hidden: Small,
+    /// The consumer's tag over all bytes before it.
+    pub tag: Tag,
+}
+
+/// Appends the order's bytes, at most [`MAX_ORDER`], which needs room for as many.
+pub fn write_order(o: &Order, out: &mut Vec<u8>)
+    requires hidden { length o.now.hidden ≤ MAX_HIDDEN }
+    requires room { MAX_ORDER ≤ spare_of out.old }
+    ensures bytes { out.new.items ≡ out.old.items ++ order_bytes o.now }
+    ensures room { vec_capacity out.new ≡ vec_capacity out.old }
+{
+    let signed = signed_part(o);
+    let mut pen = Pen::over(out);
+    pen.raw(signed.as_slice());
+    pen.raw(&o.tag);
+}
+
+/// The order that the bytes spell, or the place of the first field that fails: a field of which bytes are missing, a
+/// hidden part with a length above [`MAX_HIDDEN`], or the first byte behind the tag.
+pub fn read_order(bytes: &[u8]) -> Result<Order, Malformed>
+    // The fields in their order, and the first that fails.
+    ensures reads { Reads result (order_of bytes.now) }
+
+    // An order that is read is spelled so, and one that is spelled so is read.
+    ensures spelled { IfOk result (λ o. IsOrder o × (bytes.now ≡ order_bytes o)) }
+    ensures found { (o : Order) → IsOrder o → bytes.now ≡ order_bytes o → result ≡ Ok o }
+{
+    read_fields(bytes)
+}
+
+#[tactic(auto, unfolding(crate::specs::Reading::order_of))]
+fn read_fields(bytes: &[u8]) -> Result<Order, Malformed>
+    ensures { Reads result (order_of bytes.now) }
+{
+    let mut cut = Cut::new(bytes);
+    let consumer = cut.u32()?;
+    let merchant = cut.u32()?;
+    let product = cut.u32()?;
+    let price = cut.u64()?;
+    let epoid = cut.fixed16()?;
+    let checksum = cut.fixed32()?;
+    let request = cut.fixed32()?;
+    let account = cut.fixed32()?;
+    let hidden = cut.bytes(MAX_HIDDEN)?;
+    let tag = cut.fixed32()?;
+    cut.done()?;
+    Ok(Order {
+        consumer: PartyId(consumer),
+        merchant: PartyId(merchant),
+        product,
+        price: Price(price),
+        epoid: Epoid::read(&epoid),
+        checksum,
+        request,
+        account,
+        hidden: Small::of(hidden).unwrap(),
+        tag,
+    })
+}
+
+/// Sets the tag to the one that the order has under the consumer's key (HMAC-SHA-256, RFC 2104).
+pub fn sign_order(o: &mut Order, key: &Secret)
+    ensures { o.new ≡ signed key.now o.old }
+{
+    o.tag = tag_of(o, key);
+}
+
+/// Whether the tag is the one that the order has under the consumer's key.
+pub fn order_tag_ok(o: &Order, key: &Secret) -> bool
+    ensures { IsTrue result ↔ (o.now.tag ≡ order_tag key.now o.now) }
+{
+    same(&o.tag, &tag_of(o, key))
+}
+
+// The tag of an order under a key.
+fn tag_of(o: &Order, key: &Secret) -> Tag
+    ensures { result ≡ order_tag key.now o.now }
+{
+    let signed = signed_part(o);
+    hmac(key, &ORDER_LABEL, signed.as_slice())
+}
+
+// The order's bytes before its tag.
+#[tactic(auto, unfolding(crate::specs::Spelling::signed_bytes))]
+fn signed_part(o: &Order) -> Buffer
+    ensures bytes { result ≡ signed_bytes o.now }
+    ensures long { length result ≡ 136 + length o.now.hidden }
+{
+    let mut bytes = Buffer::new();
+    bytes.u32(o.consumer.0);
+    bytes.u32(o.merchant.0);
+    bytes.u32(o.product);
+    bytes.u64(o.price.0);
+    bytes.raw(&o.epoid.write());
+    bytes.raw(&o.checksum);
+    bytes.raw(&o.request);
+    bytes.raw(&o.account);
+    bytes.bytes(o.hidden.as_slice());
+    bytes
+}
