@@ -1,27 +1,13 @@
 -- Orders and hidden parts as rows of fields.
-use Rattle.std.proofs.Common.{◌≡◌, ℕ, List, Result, Ok, Err, refl, sym, ap, subst, ◌∙◌, arith}
+use Rattle.std.proofs.Common.{◌≡◌, ℕ, List, Ok, refl, sym, ap, subst, ◌∙◌, arith}
 use Rattle.nb_units.specs.declared.epoid.Epoid.{Epoid}
-use Rattle.nb_units.proofs.Rows.{Row, IsRow, ◌&◌, and_row, number4, number4_row, number8, number8_row, raw, raw_row, text, text_row, epoid, epoid_row, whole, whole_found, whole_reads}
+use Rattle.nb_units.proofs.Rows.{Row, IsRow, ◌&◌, and_row, number4, number4_row, number8, number8_row, raw, raw_row, text, text_row, epoid, epoid_row, whole, whole_found, whole_reads, ok_is}
 use Rattle.nb_epo.specs.declared.hidden.TheConstants.{MAX_HIDDEN, MAX_MEMO}
 use Rattle.nb_epo.specs.declared.order.Order.{Order}
 use Rattle.nb_epo.specs.declared.hidden.Hidden.{Hidden}
 use Rattle.nb_epo.specs.Spelling.{IsOrder, signed_bytes, order_bytes, IsHidden, hidden_bytes}
-use Rattle.nb_epo.specs.Reading.{Reads, order_of, hidden_of}
-use Rattle.nb_epo.specs.declared.malformed.Malformed.{Malformed}
-use Rattle.std.specs.Prelude.{IfOk}
+use Rattle.nb_epo.specs.Reading.{order_of, hidden_of}
 use Rattle.nb_epo.specs.Laws.{OrderReadsBack, OrderSpellsBack, OneOrder, HiddenReadsBack, HiddenSpellsBack, OneHidden}
-
-ok_is : {A : Type 0} (a b : A) → (let first : Result A ℕ = Ok a in first ≡ Ok b) → a ≡ b
-ok_is a b e = cc
-
--- what a reader gave is what was read
-pub reads_ok : {A : Type 0} (r : Result A Malformed) (read : Result A ℕ) (x : A) → Reads r read → read ≡ Ok x → r ≡ Ok x
-reads_ok (Ok v) read x is e = ap Ok (ok_is v x (sym is ∙ e))
-reads_ok (Err m) read x is e = absurd cc
-
-pub if_read : {A : Type 0} (r : Result A Malformed) (read : Result A ℕ) (P : A → Type 0) → Reads r read → ((x : A) → read ≡ Ok x → P x) → IfOk r P
-if_read (Ok v) read P is each = each v is
-if_read (Err m) read P is each = tt
 
 -- ---- orders
 

@@ -1,16 +1,10 @@
 -- What bytes spell, read field by field at the place of each: the value, or the place of the first field that fails.
-use Rattle.std.specs.Prelude.{◌≡◌, ℕ, ◌+◌, List, length, Result, Ok, Err}
+use Rattle.std.specs.Prelude.{ℕ, ◌+◌, List, length, Result, Ok}
 use Rattle.nb_units.specs.Fields.{◌>>=◌, u32_at, u64_at, raw_at, bytes_at, done_at, or_place}
 use Rattle.nb_units.specs.Epoid.{epoid_of}
 use Rattle.nb_epo.specs.declared.hidden.TheConstants.{MAX_HIDDEN, MAX_MEMO}
-use Rattle.nb_epo.specs.declared.malformed.Malformed.{Malformed}
 use Rattle.nb_epo.specs.declared.order.Order.{Order}
 use Rattle.nb_epo.specs.declared.hidden.Hidden.{Hidden}
-
--- what a reader gave is what stands there, or the bad place
-abbrev pub Reads : {A : Type 0} → Result A Malformed → Result A ℕ → Type 0
-Reads (Ok value) read = read ≡ Ok value
-Reads (Err malformed) read = read ≡ Err malformed.place
 
 -- the order that the bytes spell, or the bad place
 unfoldable pub order_of : List ℕ → Result Order ℕ

@@ -1,14 +1,14 @@
 ghost use Rattle.std.specs.Prelude.{◌≡◌, ◌≤◌, ◌+◌, length, codes, IfOk, Ok};
 ghost use Rattle.nb_seal.specs.Seal.{Opens, seal_of};
 ghost use Rattle.nb_epo.specs.declared.hidden.TheConstants.{MAX_HIDDEN, MAX_MEMO, HIDE_LABEL};
+ghost use Rattle.nb_units.specs.Reads.{Reads};
 ghost use Rattle.nb_epo.specs.Spelling.{IsHidden, hidden_bytes};
-ghost use Rattle.nb_epo.specs.Reading.{Reads, hidden_of};
+ghost use Rattle.nb_epo.specs.Reading.{hidden_of};
 ghost use Rattle.nb_epo.specs.Revealing.{Reveals};
 ghost use Rattle.nb_epo.specs.Tags.{account_digest_of};
 
-use crate::malformed::Malformed;
 use nb_seal::{BadSeal, seal_to, sha, unseal_to};
-use nb_units::{AcctId, Buffer, Cut, Digest, Secret, Small};
+use nb_units::{AcctId, Buffer, Cut, Digest, Malformed, Secret, Small};
 
 /// The most bytes of a hidden part, sealed.
 pub const MAX_HIDDEN: u32 = 112;

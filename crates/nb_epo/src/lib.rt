@@ -13,11 +13,10 @@
 
 mod hidden;
 pub mod laws;
-mod malformed;
 mod order;
 
 pub use hidden::{Hidden, MAX_HIDDEN, MAX_MEMO, RevealFault, account_digest, hide, reveal};
-pub use malformed::Malformed;
+pub use nb_units::Malformed;
 pub use order::{MAX_ORDER, Order, order_tag_ok, read_order, sign_order, write_order};
 
 #[cfg(test)]

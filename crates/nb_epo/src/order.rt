@@ -2,14 +2,14 @@ ghost use Rattle.std.specs.Prelude.{◌≡◌, ◌≤◌, ◌↔◌, ◌+◌, �
 ghost use Rattle.nb_units.specs.Room.{spare_of};
 ghost use Rattle.nb_epo.specs.declared.hidden.TheConstants.{MAX_HIDDEN};
 ghost use Rattle.nb_epo.specs.declared.order.TheConstants.{MAX_ORDER};
+ghost use Rattle.nb_units.specs.Reads.{Reads};
 ghost use Rattle.nb_epo.specs.Spelling.{IsOrder, signed_bytes, order_bytes};
-ghost use Rattle.nb_epo.specs.Reading.{Reads, order_of};
+ghost use Rattle.nb_epo.specs.Reading.{order_of};
 ghost use Rattle.nb_epo.specs.Tags.{order_tag, signed};
 
 use crate::hidden::MAX_HIDDEN;
-use crate::malformed::Malformed;
 use nb_seal::{hmac, same};
-use nb_units::{Buffer, Cut, Digest, Epoid, PartyId, Pen, Price, Secret, Small, Tag};
+use nb_units::{Buffer, Cut, Digest, Epoid, Malformed, PartyId, Pen, Price, Secret, Small, Tag};
 
 /// The most bytes of an order.
 pub const MAX_ORDER: usize = 280;

@@ -8,6 +8,9 @@ use Rattle.std.proofs.Math.Seq.{take-add}
 use Rattle.nb_units.specs.declared.cut.CutFault.{CutFault}
 use Rattle.nb_units.specs.declared.epoid.Epoid.{Epoid}
 use Rattle.nb_units.specs.Epoid.{IsEpoid, epoid_bytes, epoid_of}
+use Rattle.nb_units.specs.declared.malformed.Malformed.{Malformed}
+use Rattle.nb_units.specs.Reads.{Reads}
+use Rattle.std.specs.Prelude.{IfOk}
 use Rattle.nb_units.specs.Fields.{be4, be8, sized, raw_at, u8_at, u32_at, u64_at, bytes_at, done_at, or_place, allowed, ◌>>=◌}
 use Rattle.nb_units.specs.Frames.{AreBytes}
 use Rattle.nb_units.specs.Laws.{StandsAt}
@@ -249,3 +252,17 @@ f & g = f then (λ x. g)
 
 pub and_row : {A B : Type 0} {f : Row A} {g : Row B} → IsRow f → IsRow g → IsRow (f & g)
 and_row {f = f} {g = g} first second = then_row f (λ x. g) first (λ x. second)
+
+-- ---- what a reader gave
+
+pub ok_is : {A : Type 0} (a b : A) → (let first : Result A ℕ = Ok a in first ≡ Ok b) → a ≡ b
+ok_is a b e = cc
+
+-- what a reader gave is what was read
+pub reads_ok : {A : Type 0} (r : Result A Malformed) (read : Result A ℕ) (x : A) → Reads r read → read ≡ Ok x → r ≡ Ok x
+reads_ok (Ok v) read x is e = ap Ok (ok_is v x (sym is ∙ e))
+reads_ok (Err m) read x is e = absurd cc
+
+pub if_read : {A : Type 0} (r : Result A Malformed) (read : Result A ℕ) (P : A → Type 0) → Reads r read → ((x : A) → read ≡ Ok x → P x) → IfOk r P
+if_read (Ok v) read P is each = each v is
+if_read (Err m) read P is each = tt

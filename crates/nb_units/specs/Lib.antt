@@ -1,5 +1,6 @@
 pub mod Reading
 pub mod Fields
+pub mod Reads
 pub mod Room
 pub mod Frames
 pub mod Epoid

@@ -1,7 +1,8 @@
 use Rattle.std.proofs.Common.{◌≡◌, arith}
 use Rattle.nb_epo.specs.Spelling.{IsHidden, hidden_bytes}
 use Rattle.nb_epo.specs.Reading.{hidden_of}
-use Rattle.nb_epo.proofs.Layouts.{if_read, hidden_spells_back}
+use Rattle.nb_units.proofs.Rows.{if_read}
+use Rattle.nb_epo.proofs.Layouts.{hidden_spells_back}
 use Rattle.nb_epo.proofs.hidden.read_hidden.Goals as goal
 
 pub returns-clause-spelled : goal.returns-clause-spelled

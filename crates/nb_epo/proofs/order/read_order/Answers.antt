@@ -1,7 +1,8 @@
 use Rattle.std.proofs.Common.{◌≡◌, ap, ◌∙◌, arith}
 use Rattle.nb_epo.specs.Spelling.{IsOrder, order_bytes}
 use Rattle.nb_epo.specs.Reading.{order_of}
-use Rattle.nb_epo.proofs.Layouts.{reads_ok, if_read, order_spells_back, order_reads_back}
+use Rattle.nb_units.proofs.Rows.{reads_ok, if_read}
+use Rattle.nb_epo.proofs.Layouts.{order_spells_back, order_reads_back}
 use Rattle.nb_epo.proofs.order.read_order.Goals as goal
 
 pub returns-clause-spelled : goal.returns-clause-spelled

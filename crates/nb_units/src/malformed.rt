@@ -1,4 +1,4 @@
-use nb_units::CutFault;
+use crate::CutFault;
 
 /// Bytes are not spelled as they should be. The place is that of the first field that fails, in bytes from the front.
 #[derive(Clone, Copy, PartialEq, Eq, Debug)]
