@@ -3,7 +3,8 @@ use Rattle.std.proofs.Common.{◌≡◌, ℕ, ◌+◌, ◌≤◌, Bool, true, fa
 use Rattle.std.proofs.lemmas.List.Sums.{sum_by-cons}
 use Rattle.std.specs.Prelude.{◌==◌}
 use Rattle.std.specs.List.{count_by}
-use Rattle.std.specs.Option.{option_or, option_map, IsNone}
+use Rattle.std.specs.Option.{option_or, option_map, option_and_then, IsNone}
+use Rattle.std.proofs.Math.Bool.{and-false, and-true}
 use Rattle.nb_units.specs.declared.ids.AcctId.{AcctId}
 use Rattle.nb_units.specs.declared.ids.PartyId.{PartyId}
 use Rattle.nb_book.specs.declared.entry.Entry.{Entry}
@@ -22,19 +23,6 @@ use Rattle.nb_escrow.specs.declared.request.Funding.{Funding}
 use Rattle.nb_escrow.specs.Held.{same_entry, place_at, place_in}
 use Rattle.nb_escrow.specs.Enrolments.{enrol_entry, party_place}
 use Rattle.nb_escrow.specs.Fundings.{fund_entry, funded_place}
-
--- what an answer found by key comes to
-abbrev pub chain : {A B : Type 0} → Option A → (A → Option B) → Option B
-chain None f = None
-chain (Some x) f = f x
-
-and_false : (b : Bool) → (b && false) ≡ false
-and_false true = refl
-and_false false = refl
-
-and_true : (b : Bool) → (b && true) ≡ b
-and_true true = refl
-and_true false = refl
 
 abbrev one_if : Bool → ℕ
 one_if b = cond b 1 0
@@ -67,7 +55,7 @@ none_equal e test answer match_of k at (x ∷ es) none = part (test x) refl (λ 
         rw missed (rest (omega (arith, none, sum_by-cons (λ y. cond (test y) 1 0) x es, ap one_if other)))
 
 pub found_by_key : {A : Type 0} (e : Entry) (test : Entry → Bool) (answer : ℕ → Entry → Option A) (match_of : A → Option ℕ) → Keyed e test answer match_of
-    → (at : ℕ) (es : List Entry) → count_by test es ≤ 1 → chain (first_from answer at es) match_of ≡ first_from (place_at e) at es
+    → (at : ℕ) (es : List Entry) → count_by test es ≤ 1 → option_and_then match_of (first_from answer at es) ≡ first_from (place_at e) at es
 found_by_key e test answer match_of k at [] once = refl
 found_by_key e test answer match_of k at (x ∷ es) once = part (test x) refl (λ left. found_by_key e test answer match_of k (at + 1) es left)
   where
@@ -75,7 +63,7 @@ found_by_key e test answer match_of k at (x ∷ es) once = part (test x) refl (�
     behind None none = sym none
     behind (Some n) none = refl
 
-    part : (b : Bool) → test x ≡ b → (count_by test es ≤ 1 → chain (first_from answer (at + 1) es) match_of ≡ first_from (place_at e) (at + 1) es) → chain (first_from answer at (x ∷ es)) match_of ≡ first_from (place_at e) at (x ∷ es)
+    part : (b : Bool) → test x ≡ b → (count_by test es ≤ 1 → option_and_then match_of (first_from answer (at + 1) es) ≡ first_from (place_at e) (at + 1) es) → option_and_then match_of (first_from answer at (x ∷ es)) ≡ first_from (place_at e) at (x ∷ es)
     part true found behind_it =
         let hit = k.finds at x found in
         let rest : count_by test es ≡ 0 = omega (arith, once, sum_by-cons (λ y. cond (test y) 1 0) x es, ap one_if found) in
@@ -97,7 +85,7 @@ keyed_enrol asked = record { misses = misses; finds = finds }
     finds at (Enrol who role acct nonce key) same = (record { at = at; role = role; acct = acct; nonce = nonce; key = key }, rw same refl, rw same refl)
     finds at (Fund acct amount reference) same = absurd cc
 
-pub enrol_place : (H : List Entry) → Legal H → (asked : Enrolment) → chain (party_in H asked.id) (party_place asked) ≡ place_in H (enrol_entry asked)
+pub enrol_place : (H : List Entry) → Legal H → (asked : Enrolment) → option_and_then (party_place asked) (party_in H asked.id) ≡ place_in H (enrol_entry asked)
 enrol_place H legal asked = found_by_key (enrol_entry asked) (enrols asked.id) (party_at asked.id) (party_place asked) (keyed_enrol asked) 0 H (enrolled_once H legal asked.id)
 
 -- ---- funds
@@ -107,13 +95,13 @@ keyed_fund asked = record { misses = misses; finds = finds }
   where
     misses : (at : ℕ) (x : Entry) → cites asked.reference x ≡ false → (funded_at asked.reference at x ≡ None) × (same_entry x (fund_entry asked) ≡ false)
     misses at (Enrol who role acct nonce key) other = (refl, refl)
-    misses at (Fund acct amount reference) other = (rw other refl, rw (other, and_false ((acct.0 == asked.acct.0) && (amount == asked.amount))) refl)
+    misses at (Fund acct amount reference) other = (rw other refl, rw (other, and-false ((acct.0 == asked.acct.0) && (amount == asked.amount))) refl)
 
     finds : (at : ℕ) (x : Entry) → cites asked.reference x ≡ true → (a : Funded) × (funded_at asked.reference at x ≡ Some a) × (funded_place asked a ≡ place_at (fund_entry asked) at x)
     finds at (Enrol who role acct nonce key) same = absurd cc
-    finds at (Fund acct amount reference) same = (record { at = at; acct = acct; amount = amount }, rw same refl, rw (same, and_true ((acct.0 == asked.acct.0) && (amount == asked.amount))) refl)
+    finds at (Fund acct amount reference) same = (record { at = at; acct = acct; amount = amount }, rw same refl, rw (same, and-true ((acct.0 == asked.acct.0) && (amount == asked.amount))) refl)
 
-pub fund_place : (H : List Entry) → Legal H → (asked : Funding) → chain (funded_in H asked.reference) (funded_place asked) ≡ place_in H (fund_entry asked)
+pub fund_place : (H : List Entry) → Legal H → (asked : Funding) → option_and_then (funded_place asked) (funded_in H asked.reference) ≡ place_in H (fund_entry asked)
 fund_place H legal asked = found_by_key (fund_entry asked) (cites asked.reference) (funded_at asked.reference) (funded_place asked) (keyed_fund asked) 0 H (funded_once H legal asked.reference)
 
 -- ---- balances

@@ -6,3 +6,4 @@ pub mod Held
 pub mod Enrolments
 pub mod Fundings
 pub mod Verdict
+pub mod Laws

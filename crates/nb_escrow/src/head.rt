@@ -6,6 +6,9 @@ use nb_units::Secret;
 /// The bytes of a head.
 pub const HEAD: usize = 80;
 
+// The bytes of the house's key, and of the operator's.
+const KEY: usize = 32;
+
 /// What a house's journal begins with: its own key, the operator's key, and the key of its index.
 #[derive(Clone, Copy, PartialEq, Eq, Debug)]
 pub struct Head {
@@ -19,11 +22,11 @@ impl Head {
     pub fn read(bytes: &[u8; HEAD]) -> Head
         ensures { result ≡ head_of bytes.now }
     {
-        let (house, rest) = bytes.as_slice().split_at(32);
-        let (operator, rest) = rest.split_at(32);
+        let (house, rest) = bytes.as_slice().split_at(KEY);
+        let (operator, rest) = rest.split_at(KEY);
         let mut head = Head {
-            house: [0; 32],
-            operator: [0; 32],
+            house: [0; KEY],
+            operator: [0; KEY],
             index: [0; 16],
         };
         head.house.copy_from_slice(house);

@@ -3,9 +3,9 @@ use Rattle.std.proofs.Common.{◌≡◌, ℕ, ◌<◌, ◌≤◌, List, [], ◌�
 use Rattle.std.specs.Int.{w32, from_be_bytes}
 use Rattle.std.specs.Prelude.{if◌then◌else◌, nat_lt}
 use Rattle.std.proofs.lemmas.Bool.{lt-ltb, le-ltb, cases_lt}
-use Rattle.std.proofs.lemmas.List.{append-nil, length-append, length-drop, nil_from_length, get_or_past}
-use Rattle.std.proofs.Math.Seq.{take-length, drop-length}
+use Rattle.std.proofs.lemmas.List.{append-nil, length-append, length-drop, nil_from_length, get_or_past, take_all, drop_all}
 use Rattle.nb_units.specs.Frames.{Front, Frame, Whole, Empty, Partial, Bad, front_of, frame, IsWhole, IsBad, AreBytes}
+use Rattle.nb_units.specs.declared.frames.TheConstants.{HEADER}
 use Rattle.nb_units.proofs.FrameLaws.{header_then, frame_is, empty_front}
 use Rattle.nb_frame.specs.Reader.{HoldsFrame}
 
@@ -18,11 +18,8 @@ all_bytes xs h i =
     ]
 
 -- the word behind four bytes of a header is all that is left of it
-word_left : (header : List ℕ) → length header ≡ 8 → take 4 (drop 4 header) ≡ drop 4 header
-word_left header is = take_all_of 4 (drop 4 header) (omega (arith, length-drop 4 header))
-  where
-    take_all_of : (n : ℕ) (xs : List ℕ) → length xs ≡ n → take n xs ≡ xs
-    take_all_of n xs e = let P : ℕ → Type 0 = λ m. take m xs ≡ xs in subst P e (take-length xs)
+word_left : (header : List ℕ) → length header ≡ HEADER → take 4 (drop 4 header) ≡ drop 4 header
+word_left header is = take_all 4 (drop 4 header) (omega (arith, length-drop 4 header))
 
 less : {A : Type 0} (a b : ℕ) (x y : A) → a < b → (if nat_lt a b then x else y) ≡ x
 less a b x y h = rw (lt-ltb a b h) refl
@@ -31,7 +28,7 @@ enough : {A : Type 0} (a b : ℕ) (x y : A) → b ≤ a → (if nat_lt a b then 
 enough a b x y h = rw (le-ltb a b h) refl
 
 -- fewer bytes behind it than it says
-pub short_body : (header more held : List ℕ) (len : ℕ) → length header ≡ 8 → front_of header ≡ Partial → len ≡ from_be_bytes w32 (take 4 (drop 4 header)) → held ≡ header ++ more → length more < len → front_of held ≡ Partial
+pub short_body : (header more held : List ℕ) (len : ℕ) → length header ≡ HEADER → front_of header ≡ Partial → len ≡ from_be_bytes w32 (take 4 (drop 4 header)) → held ≡ header ++ more → length more < len → front_of held ≡ Partial
 short_body header more held len is good says made short =
     let word : len ≡ from_be_bytes w32 (drop 4 header) = says ∙ ap (from_be_bytes w32) (word_left header is) in
     ap front_of made ∙ header_then header more is good ∙ less _ _ _ _ (subst (λ (n : ℕ). length more < n) word short)
@@ -43,21 +40,18 @@ exact held f rest fits front none =
     record { one = f; lawful = read.0; is = read.1 ∙ ap (λ (x : List ℕ). frame f ++ x) none ∙ append-nil (frame f) }
 
 -- as many
-pub whole_body : (header more held : List ℕ) (len : ℕ) → AreBytes held → length header ≡ 8 → front_of header ≡ Partial → len ≡ from_be_bytes w32 (take 4 (drop 4 header)) → held ≡ header ++ more → length more ≡ len → HoldsFrame held
+pub whole_body : (header more held : List ℕ) (len : ℕ) → AreBytes held → length header ≡ HEADER → front_of header ≡ Partial → len ≡ from_be_bytes w32 (take 4 (drop 4 header)) → held ≡ header ++ more → length more ≡ len → HoldsFrame held
 whole_body header more held len fits is good says made all =
     let word : length more ≡ from_be_bytes w32 (drop 4 header) = all ∙ says ∙ ap (from_be_bytes w32) (word_left header is) in
     let front = ap front_of made ∙ header_then header more is good ∙ enough (length more) (from_be_bytes w32 (drop 4 header)) _ _ (omega (arith, word)) in
-    exact held _ _ fits front (drop_all more (from_be_bytes w32 (drop 4 header)) word)
-  where
-    drop_all : (xs : List ℕ) (n : ℕ) → length xs ≡ n → drop n xs ≡ []
-    drop_all xs n e = let P : ℕ → Type 0 = λ m. drop m xs ≡ [] in subst P e (drop-length xs)
+    exact held _ _ fits front (drop_all (from_be_bytes w32 (drop 4 header)) more (omega (arith, word)))
 
 -- a partial front is no whole one
 pub partial_not_whole : (front : Front) → front ≡ Partial → IsWhole front → ⊥
 partial_not_whole front e is = subst IsWhole e is
 
 -- a header alone that is a whole frame
-pub whole_header : (held : List ℕ) → AreBytes held → length held ≡ 8 → IsWhole (front_of held) → HoldsFrame held
+pub whole_header : (held : List ℕ) → AreBytes held → length held ≡ HEADER → IsWhole (front_of held) → HoldsFrame held
 whole_header held fits is whole =
     let p = whole_parts (front_of held) whole in
     let read = frame_is held p.1 p.0 fits p.2 in
@@ -69,11 +63,11 @@ whole_header held fits is whole =
     whole_parts Partial is = absurd is
     whole_parts (Bad fault) is = absurd is
 
-    nothing_behind : (f : Frame) (held rest : List ℕ) → length held ≡ 8 → held ≡ frame f ++ rest → rest ≡ []
+    nothing_behind : (f : Frame) (held rest : List ℕ) → length held ≡ HEADER → held ≡ frame f ++ rest → rest ≡ []
     nothing_behind f held rest is e = nil_from_length rest (omega (arith, ap length e, length-append f.body rest))
 
--- at eight bytes nothing is empty
-pub full_not_empty : (held : List ℕ) → length held ≡ 8 → front_of held ≡ Empty → ⊥
+-- as many bytes as a header has are not nothing
+pub full_not_empty : (held : List ℕ) → length held ≡ HEADER → front_of held ≡ Empty → ⊥
 full_not_empty held is e = let none : held ≡ [] = empty_front held e in absurd (omega (arith, is, ap length none))
 
 -- no bytes are nothing bad

@@ -27,7 +27,7 @@ pub enum Next {
     Bad,
     /// The source failed.
     Failed,
-    /// There was no memory for the body.
+    /// There was no memory for the header or the body.
     NoMemory,
 }
 
@@ -119,7 +119,7 @@ impl FrameReader {
     }
 
     /// Reads the next frame. What the reader holds are then the bytes that this call took from the source. After
-    /// any answer but a frame the next call begins behind what was taken, which is no frame's beginning.
+    /// any answer but a frame the next call begins behind what was taken, which may lie within a frame.
     pub fn next<S: Source>(&mut self, source: &mut S) -> Next
         ensures took { Consumes (S.left source.old) (S.left source.new) self.new }
         ensures gives { NextIs (S.faults source.old) (S.faults source.new) self.new (S.left source.new) result }

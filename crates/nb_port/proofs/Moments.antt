@@ -2,7 +2,7 @@
 use Rattle.std.proofs.Common.{◌≡◌, ℕ, ◌+◌, ◌-◌, ◌≤◌, List, [], ◌∷◌, ◌++◌, length, inl, inr, arith, append_assoc, append-nil, refl}
 use Rattle.std.proofs.lemmas.Bool.{cases_lt}
 use Rattle.std.proofs.lemmas.List.{take_all, take_more, get_or_past, replicate-append-replicate}
-use Rattle.nb_port.specs.Calls.{one_more}
+use Rattle.nb_port.specs.Faults.{one_more}
 use Rattle.nb_port.specs.Clock.{Gives}
 use Rattle.nb_port.specs.Memory.{last_of, moment_at, given_of, told_by}
 

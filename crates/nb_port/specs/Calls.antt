@@ -1,5 +1,6 @@
 -- The calls of an object that fails at calls chosen before. They are numbered from 1, all kinds together.
-use Rattle.std.specs.Prelude.{ℕ, ◌+◌, ◌-◌, ◌^◌, List, Contains, min}
+use Rattle.std.specs.Prelude.{ℕ, List, Contains}
+use Rattle.nb_port.specs.Faults.{one_more}
 
 -- the numbers of the calls that are to fail, how many calls were made, and how many failed
 pub record Calls : Type 0 where
@@ -10,10 +11,6 @@ pub record Calls : Type 0 where
 -- no call was made
 abbrev pub no_calls : List ℕ → Calls
 no_calls fails = record { fails = fails; made = 0; faults = 0 }
-
--- one more: a count stays at its last value
-abbrev pub one_more : ℕ → ℕ
-one_more n = min (n + 1) (2 ^ 64 - 1)
 
 -- the next call is one of those that are to fail
 abbrev pub NextFails : Calls → Type 0

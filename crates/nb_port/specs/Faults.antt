@@ -1,6 +1,14 @@
 -- Counts of faults. A count never falls, and has risen wherever a call answers that it failed.
 use Rattle.std.specs.Prelude.{ℕ, ◌≤◌, ◌+◌, ◌-◌, ◌^◌, min}
 
+-- the last value of a count, at which it stays
+abbrev pub last_count : ℕ
+last_count = 2 ^ 64 - 1
+
+-- one more: a count stays at its last value
+abbrev pub one_more : ℕ → ℕ
+one_more n = min (n + 1) last_count
+
 -- a count rose; at its last value it counts as risen
 abbrev pub Rose : ℕ → ℕ → Type 0
-Rose old new = min (old + 1) (2 ^ 64 - 1) ≤ new
+Rose old new = one_more old ≤ new

@@ -1,5 +1,6 @@
 -- The memory forms: what each is seen as, and what a call makes of it.
-use Rattle.std.specs.Prelude.{◌≡◌, ℕ, ◌-◌, ◌^◌, List, [], ◌++◌, Option, Some, None, length, take, drop, replicate, slice_index, slice_index_or, min, nat_lt, if◌then◌else◌}
+use Rattle.std.specs.Prelude.{◌≡◌, ℕ, ◌-◌, List, [], ◌++◌, Option, Some, None, length, take, drop, replicate, slice_index, slice_index_or, min, nat_lt, if◌then◌else◌}
+use Rattle.nb_port.specs.Faults.{last_count}
 use Rattle.nb_port.specs.Calls.{Calls, worked, failed}
 use Rattle.nb_port.specs.declared.source.ReadOut.{ReadOut}
 use Rattle.nb_port.specs.declared.source.ReadOut.TheVariants as reads
@@ -65,4 +66,4 @@ given_of moments n = take n moments ++ replicate (n - length moments) (last_of m
 
 -- they are told until the count of the calls stays
 abbrev pub told_by : ClockState → Option (List ℕ)
-told_by clock = if nat_lt clock.calls (2 ^ 64 - 1) then Some (given_of clock.moments clock.calls) else None
+told_by clock = if nat_lt clock.calls last_count then Some (given_of clock.moments clock.calls) else None

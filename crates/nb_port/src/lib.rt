@@ -3,8 +3,9 @@
 //! The layers above are written over the traits [`Source`], [`Sink`], [`Disk`] and [`Clock`] alone. A
 //! contract sees an object as the count of its failed calls, which never falls, and as its content where it
 //! tells that: the bytes left of a source, the bytes sent to a sink, the bytes of a disk, the moments that a
-//! clock gave. A call answers that it failed only where the count rose in it, and then changed nothing else.
-//! What a call gives, by cases on its answer, stands in `specs/`, in one module for each trait.
+//! clock gave. A call answers that it failed only where the count rose in it, and then took, sent and
+//! changed no content; the buffer of a read that failed may hold any bytes. What a call gives, by cases on
+//! its answer, stands in `specs/`, in one module for each trait.
 //!
 //! [`MemSource`], [`MemSink`], [`MemDisk`] and [`MemClock`] hold all in memory and tell all of it. Calls
 //! chosen when one is made fail, and no others, but for want of memory.

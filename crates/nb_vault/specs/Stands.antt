@@ -4,7 +4,7 @@ use Rattle.nb_units.specs.Fields.{be4}
 use Rattle.nb_book.specs.declared.limits.TheConstants.{MAX_CAP}
 use Rattle.nb_port.specs.Faults.{Rose}
 use Rattle.nb_escrow.specs.declared.head.TheConstants.{HEAD}
-use Rattle.nb_vault.specs.declared.opening.TheConstants.{MAGIC, OPEN_GATE, EMPTY_JOURNAL}
+use Rattle.nb_vault.specs.declared.opening.TheConstants.{MAGIC, OPEN_GATE, ZEROS, EMPTY_JOURNAL}
 use Rattle.nb_vault.specs.declared.opening.Opening.{Opening}
 use Rattle.nb_vault.specs.declared.opening.Opening.TheVariants.{Journal, NoJournal, DiskFault}
 use Rattle.nb_vault.specs.declared.opening.Opened.{Opened}
@@ -12,7 +12,7 @@ use Rattle.nb_escrow.specs.Head.{head_of}
 
 -- what a journal begins with: magic 8 | cap 4 | head 80 | zeros 4
 abbrev pub header_of : List ℕ → ℕ → List ℕ
-header_of head cap = MAGIC ++ (be4 cap ++ (head ++ replicate 4 0))
+header_of head cap = MAGIC ++ (be4 cap ++ (head ++ replicate ZEROS 0))
 
 -- the image is a journal with this head and cap, and its first gate is not open; what follows is free
 pub record StandsEmpty (image head : List ℕ) (cap : ℕ) : Type 0 where

@@ -1,6 +1,8 @@
 -- The house as a machine: a turn takes a request and a state, and gives a reply and a state.
-use Rattle.std.specs.Prelude.{◌≡◌, ◌≢◌, ℕ, ◌+◌, ◌<◌, ◌^◌, ◌-◌, ◌≤◌, ◌⊎◌, List, [], ◌∷◌, ◌++◌, Option, Some, length}
+use Rattle.std.specs.Prelude.{◌≡◌, ◌≢◌, ℕ, ◌+◌, ◌<◌, ◌≤◌, ◌⊎◌, List, [], ◌∷◌, ◌++◌, Option, Some, length}
+use Rattle.std.specs.List.{flat_map, AllByRecursion}
 use Rattle.std.specs.Option.{option_to_list}
+use Rattle.nb_port.specs.Faults.{Rose}
 use Rattle.nb_book.specs.declared.entry.Entry.{Entry}
 use Rattle.nb_endorse.specs.declared.refusal.TheConstants.{DISK_FAULT, WORN, NO_MEMORY}
 use Rattle.nb_endorse.specs.declared.reply.Reply.TheVariants.{Refused}
@@ -86,8 +88,7 @@ Run rules old (a ∷ more) new = (mid : State) × Turn rules old a.request a.mar
 
 -- the replies, one after another
 abbrev pub replies : List Answered → List ℕ
-replies [] = []
-replies (a ∷ more) = a.reply ++ replies more
+replies answered = flat_map (λ (a : Answered). a.reply) answered
 
 -- the replies to these requests where each turn decides: a function of the rules and the requests alone
 abbrev pub decided : (List Entry → Request → Ruling) → List Entry → List Answered → List ℕ
@@ -101,8 +102,7 @@ IsDecided other = ⊥
 
 -- each turn decided
 abbrev pub AllDecided : List Answered → Type 0
-AllDecided [] = Unit {0}
-AllDecided (a ∷ more) = IsDecided a.mark × AllDecided more
+AllDecided answered = AllByRecursion (λ (a : Answered). IsDecided a.mark) answered
 
 -- a turn decided, or was short of memory
 abbrev pub IsFaultless : Mark → Type 0
@@ -112,16 +112,11 @@ IsFaultless other = ⊥
 
 -- no turn was faulty
 abbrev pub NoneFaulty : List Answered → Type 0
-NoneFaulty [] = Unit {0}
-NoneFaulty (a ∷ more) = IsFaultless a.mark × NoneFaulty more
+NoneFaulty answered = AllByRecursion (λ (a : Answered). IsFaultless a.mark) answered
 
--- a fault is between two counts of which the second is greater, or both are at the last value
-abbrev pub Rises : ℕ → ℕ → Type 0
-Rises before after = (before < after) ⊎ ((before ≡ 2 ^ 64 - 1) × (after ≡ 2 ^ 64 - 1))
-
--- a fault begins not below a count, and what follows begins where it ended
+-- a fault begins not below a count, which rose in it, and what follows begins where it ended
 abbrev pub BackedBy : ℕ → Mark → (ℕ → Type 0) → Type 0
-BackedBy from (Fault before after) rest = (from ≤ before) × Rises before after × rest after
+BackedBy from (Fault before after) rest = (from ≤ before) × Rose before after × rest after
 BackedBy from other rest = rest from
 
 -- the faults of these turns came one after another between two counts of the disk

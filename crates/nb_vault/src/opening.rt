@@ -1,6 +1,7 @@
 ghost use Rattle.std.specs.Prelude.{◌≡◌, ◌≤◌, ◌↔◌, ℕ, List, length, IsTrue, IfSome, IfNone};
 ghost use Rattle.nb_units.specs.Fields.{be4};
 ghost use Rattle.nb_escrow.specs.declared.head.TheConstants.{HEAD};
+ghost use Rattle.nb_vault.specs.declared.opening.TheConstants.{CAP};
 ghost use Rattle.nb_vault.specs.Stands.{StandsEmpty, IsNoJournal, OpensAs, IsHeader, JournalIs};
 
 use nb_book::MAX_CAP;
@@ -14,8 +15,14 @@ const MAGIC: [u8; 8] = *b"NBJRNL01";
 // A gate of this byte is open: an item stands behind it.
 const OPEN_GATE: u8 = 0xA5;
 
+// The bytes of a journal's cap.
+const CAP: usize = 4;
+
+// The zeros behind a journal's head.
+const ZEROS: usize = 4;
+
 // The bytes of a journal up to its first gate, and with it: magic, cap, head, zeros, gate.
-const EMPTY_JOURNAL: usize = 97;
+const EMPTY_JOURNAL: usize = MAGIC.len() + CAP + HEAD + ZEROS + 1;
 
 /// What a journal without entries says of its house.
 #[derive(Clone, Copy, PartialEq, Eq, Debug)]
@@ -60,14 +67,14 @@ fn header(image: &[u8; EMPTY_JOURNAL]) -> Option<Opened>
     ensures some { IfSome result (IsHeader image.now) }
     ensures none { IfNone result (IsNoJournal image.now) }
 {
-    let (magic, rest) = image.as_slice().split_at(8);
-    let (word, rest) = rest.split_at(4);
+    let (magic, rest) = image.as_slice().split_at(MAGIC.len());
+    let (word, rest) = rest.split_at(CAP);
     let (bytes, rest) = rest.split_at(HEAD);
-    let (zeros, gate) = rest.split_at(4);
+    let (zeros, gate) = rest.split_at(ZEROS);
     if !same_bytes(magic, &MAGIC) {
         return None;
     }
-    if !same_bytes(zeros, &[0; 4]) {
+    if !same_bytes(zeros, &[0; ZEROS]) {
         return None;
     }
     if gate[0] == OPEN_GATE {
@@ -95,9 +102,9 @@ fn same_bytes(bytes: &[u8], wanted: &[u8]) -> bool
     bytes == wanted
 }
 
-// A number in 4 bytes, big-endian.
+// A number, big-endian.
 fn number(word: &[u8]) -> u32
-    requires { length word.now ≡ 4 }
+    requires { length word.now ≡ CAP }
     ensures { be4 result ≡ word.now }
 {
     u32_of(word)

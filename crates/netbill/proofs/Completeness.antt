@@ -1,20 +1,23 @@
 -- An input of whole frames alone ends a batch well, unless something failed or memory was wanting.
-use Rattle.std.proofs.Common.{◌≡◌, ℕ, suc, ◌⊎◌, List, [], ◌∷◌, ◌++◌, length, Option, None, Some, refl, sym, ap, subst, ◌∙◌, append_assoc, append-nil, arith, inl, inr}
+use Rattle.std.proofs.Common.{◌≡◌, ℕ, ◌⊎◌, List, [], ◌∷◌, ◌++◌, length, Option, None, Some, refl, sym, ap, subst, ◌∙◌, append_assoc, append-nil, arith, inl, inr}
 use Rattle.std.specs.Prelude.{map, IfSome}
 use Rattle.std.specs.List.{flat_map, AllByRecursion}
 use Rattle.std.specs.Io.KnownBytes.{Consumes}
-use Rattle.std.proofs.lemmas.List.{length-append}
+use Rattle.std.proofs.lemmas.List.{length-append, length-map}
+use Rattle.std.proofs.lemmas.Option.{same_Some, none-some}
 use Rattle.nb_port.specs.Faults.{Rose}
 use Rattle.nb_units.specs.Frames.{Front, Whole, Empty, Partial, Bad, HeaderFault, Frame, frame, IsFrame, front_of, IsBad, Splits}
 use Rattle.nb_units.proofs.FrameLaws.{longest, whole_front, bad_stays}
 use Rattle.nb_book.specs.declared.entry.Entry.{Entry}
+use Rattle.nb_frame.proofs.Reading.{nothing_bad}
+use Rattle.netbill.specs.declared.ending.TheConstants.{CLEAN, OUT_OF_MEMORY}
 use Rattle.netbill.specs.declared.batch.BatchEnd.{BatchEnd}
 use Rattle.netbill.specs.declared.batch.BatchEnd.TheVariants.{Clean, ReadFault, WriteFault, BadInput, NoMemory, FrameLimit}
-use Rattle.nb_vault.specs.Turns.{Request, Ruling, Answered}
-use Rattle.netbill.specs.Batch.{frame_of, EndsBadly, Served, FaultOf, status_of}
+use Rattle.nb_vault.specs.Turns.{Request, Ruling}
+use Rattle.netbill.specs.Batch.{frame_of, Outside, EndsBadly, Served, FaultOf, status_of}
 use Rattle.nb_vault.specs.Stands.{StandsEmpty, IsNoJournal}
 use Rattle.netbill.specs.Run.{IsWholeInput, IsJournal}
-use Rattle.netbill.proofs.Serving.{nothing_whole, nothing_bad_there}
+use Rattle.netbill.proofs.Serving.{nothing_whole}
 
 nothing_partial : front_of [] ≡ Partial → ⊥
 unfolding front_of
@@ -41,7 +44,7 @@ no_bad_rest rest left [] lawful is bad =
     let none : rest ≡ [] = nothing rest left is in
     elim bad [
       | inl p ↦ nothing_partial (ap front_of (sym none) ∙ p.0)
-      | inr b ↦ nothing_bad_there (subst (λ (xs : List ℕ). IsBad (front_of xs)) none b)
+      | inr b ↦ nothing_bad rest (ap length none) b
     ]
   where
     nothing : (a b : List ℕ) → a ++ b ≡ [] → a ≡ []
@@ -62,22 +65,12 @@ pub record Parts (left' : Option (List ℕ)) (frames gs : List Frame) (rest : Li
   pub all : frames ≡ gs ++ more
   pub after : rest ++ left ≡ flat_map frame more ++ []
 
-abbrev given : List ℕ → Option (List ℕ)
-given xs = Some xs
-
-some_same : (a b : List ℕ) → given a ≡ given b → a ≡ b
-some_same a b e = cc
-
-length_frames : (answered : List Answered) → length (map frame_of answered) ≡ length answered
-length_frames [] = refl
-length_frames (a ∷ more) = ap suc (length_frames more)
-
 parts : (frames gs : List Frame) (rest taken : List ℕ) (left left' : Option (List ℕ)) → left ≡ Some (flat_map frame frames) → AllByRecursion IsFrame frames → Consumes left left' taken → Splits taken gs rest
     → Parts left' frames gs rest
 parts frames gs rest taken None left' is lawful took s = absurd cc
 parts frames gs rest taken (Some bytes) None is lawful took s = absurd took
 parts frames gs rest taken (Some bytes) (Some left) is lawful took s =
-    let bytes_are : bytes ≡ flat_map frame frames = some_same bytes (flat_map frame frames) is in
+    let bytes_are : bytes ≡ flat_map frame frames = same_Some bytes (flat_map frame frames) is in
     let whole : flat_map frame frames ++ [] ≡ flat_map frame gs ++ (rest ++ left) =
     append-nil (flat_map frame frames) ∙ sym bytes_are ∙ took ∙ ap (λ (xs : List ℕ). xs ++ left) s.bytes ∙ append_assoc (flat_map frame gs) rest left in
     let l = longest frames gs [] (rest ++ left) whole lawful s.lawful nothing_whole in
@@ -87,29 +80,26 @@ lawful_rest : (gs more : List Frame) → AllByRecursion IsFrame (gs ++ more) →
 lawful_rest [] more all = all
 lawful_rest (g ∷ gs) more all = lawful_rest gs more all.1
 
-pub complete_end : (rules : List Entry → Request → Ruling) (end : BatchEnd) (left left' sent sent' moments moments' : Option (List ℕ)) (source source' sink sink' : ℕ)
-    → Served rules end left left' sent sent' moments moments' → FaultOf source source' sink sink' end → IsWholeInput left → (Rose source source' → ⊥) → (Rose sink sink' → ⊥)
-    → (status_of end ≡ 0) ⊎ (status_of end ≡ 6)
-complete_end rules Clean left left' sent sent' moments moments' source source' sink sink' s fault input no_source no_sink = inl refl
-complete_end rules NoMemory left left' sent sent' moments moments' source source' sink sink' s fault input no_source no_sink = inr refl
-complete_end rules ReadFault left left' sent sent' moments moments' source source' sink sink' s fault input no_source no_sink = absurd (no_source fault)
-complete_end rules WriteFault left left' sent sent' moments moments' source source' sink sink' s fault input no_source no_sink = absurd (no_sink fault)
-complete_end rules BadInput left left' sent sent' moments moments' source source' sink sink' s fault input no_source no_sink =
-    let gs : List Frame = map frame_of s.answered ++ s.unread in
-    let p = parts input.frames gs s.rest s.taken left left' input.is input.lawful s.took s.frames in
+pub complete_end : (rules : List Entry → Request → Ruling) (end : BatchEnd) (before after : Outside) (source source' sink sink' : ℕ)
+    → Served rules end before after → FaultOf source source' sink sink' end → IsWholeInput before.left → (Rose source source' → ⊥) → (Rose sink sink' → ⊥)
+    → (status_of end ≡ CLEAN) ⊎ (status_of end ≡ OUT_OF_MEMORY)
+complete_end rules Clean before after source source' sink sink' s fault input no_source no_sink = inl refl
+complete_end rules NoMemory before after source source' sink sink' s fault input no_source no_sink = inr refl
+complete_end rules ReadFault before after source source' sink sink' s fault input no_source no_sink = absurd (no_source fault)
+complete_end rules WriteFault before after source source' sink sink' s fault input no_source no_sink = absurd (no_sink fault)
+complete_end rules BadInput before after source source' sink sink' s fault input no_source no_sink =
+    let gs : List Frame = map frame_of s.answered ++ s.unanswered in
+    let p = parts input.frames gs s.rest s.taken before.left after.left input.is input.lawful s.took s.frames in
     let P : List Frame → Type 0 = λ fs. AllByRecursion IsFrame fs in
     let Q : Option (List ℕ) → Type 0 = λ o. EndsBadly s.rest o in
     absurd (no_bad_rest s.rest p.left p.more (lawful_rest gs p.more (subst P p.all input.lawful)) p.after (subst Q p.known s.ends))
-complete_end rules FrameLimit left left' sent sent' moments moments' source source' sink sink' s fault input no_source no_sink =
-    let gs : List Frame = map frame_of s.answered ++ s.unread in
-    let p = parts input.frames gs s.rest s.taken left left' input.is input.lawful s.took s.frames in
-    absurd (omega (arith, input.few, s.counted, ap length p.all, length-append gs p.more, length-append (map frame_of s.answered) s.unread, length_frames s.answered))
+complete_end rules FrameLimit before after source source' sink sink' s fault input no_source no_sink =
+    let gs : List Frame = map frame_of s.answered ++ s.unanswered in
+    let p = parts input.frames gs s.rest s.taken before.left after.left input.is input.lawful s.took s.frames in
+    absurd (omega (arith, input.few, s.counted, ap length p.all, length-append gs p.more, length-append (map frame_of s.answered) s.unanswered, length-map s.answered frame_of))
 
 -- a content cannot both be a journal and none
 pub journal_or_none : (content : Option (List ℕ)) → IfSome content IsNoJournal → IsJournal content → ⊥
-journal_or_none None none j = absurd (none_some j.image j.is)
-  where
-    none_some : (image : List ℕ) → None ≡ given image → ⊥
-    none_some image e = cc
+journal_or_none None none j = absurd (none-some j.image j.is)
 journal_or_none (Some bytes) none j =
-    none j.head j.cap (subst (λ (xs : List ℕ). StandsEmpty xs j.head j.cap) (sym (some_same bytes j.image j.is)) j.stands)
+    none j.head j.cap (subst (λ (xs : List ℕ). StandsEmpty xs j.head j.cap) (sym (same_Some bytes j.image j.is)) j.stands)

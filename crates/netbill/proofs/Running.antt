@@ -4,6 +4,8 @@ use Rattle.std.specs.Option.{option_to_list}
 use Rattle.std.specs.Io.KnownBytes.{Appends, IsAtEnd}
 use Rattle.nb_units.specs.Frames.{front_of, IsBad}
 use Rattle.nb_book.specs.declared.entry.Entry.{Entry}
+use Rattle.netbill.specs.declared.ending.TheConstants.{CLEAN, SOURCE_FAILED, SINK_FAILED, BAD_INPUT, OUT_OF_MEMORY, FRAME_LIMIT}
+use Rattle.netbill.specs.declared.batch.TheConstants.{MOST_FRAMES}
 use Rattle.netbill.specs.declared.batch.BatchEnd.{BatchEnd}
 use Rattle.netbill.specs.declared.batch.BatchEnd.TheVariants.{Clean, ReadFault, WriteFault, BadInput, NoMemory, FrameLimit}
 use Rattle.nb_vault.specs.declared.opening.Opened.{Opened}
@@ -12,9 +14,9 @@ use Rattle.nb_escrow.specs.Head.{head_of}
 use Rattle.nb_vault.specs.Stands.{Opens}
 use Rattle.nb_vault.specs.House.{house_rules}
 use Rattle.nb_vault.specs.Turns.{Request, Ruling, State, Mark, At, Fault, Worn, NoMemory as Starved, Answered, Turn, Run, replies, decided, AllDecided, IsDecided, IsFaultless, NoneFaulty, Backed, BackedBy}
-use Rattle.netbill.specs.Batch.{at_rest, status_of, EndsAs, EndsBadly, CountsAs, AnswersAll, Wrote, WroteShort, Served}
+use Rattle.netbill.specs.Batch.{at_rest, status_of, Outside, EndsAs, EndsBadly, CountsAs, AnswersAll, Wrote, WroteShort, Served}
 use Rattle.netbill.specs.Run.{Batch}
-use Rattle.netbill.proofs.Serving.{nothing_bad_there}
+use Rattle.nb_frame.proofs.Reading.{nothing_bad}
 
 -- a turn that did not fail needs no count
 passes : (mark : Mark) (from : ℕ) (rest : ℕ → Type 0) → IsFaultless mark → rest from → BackedBy from mark rest
@@ -54,7 +56,7 @@ replies-decided rules entries (a ∷ more) last run all =
 
 -- ---- by how the batch ended
 
-answers_all : (end : BatchEnd) → (status_of end ≡ 0) ⊎ (status_of end ≡ 5) ⊎ (status_of end ≡ 3) → AnswersAll end
+answers_all : (end : BatchEnd) → (status_of end ≡ CLEAN) ⊎ (status_of end ≡ BAD_INPUT) ⊎ (status_of end ≡ SOURCE_FAILED) → AnswersAll end
 answers_all Clean is = tt
 answers_all BadInput is = tt
 answers_all ReadFault is = tt
@@ -62,23 +64,23 @@ answers_all WriteFault is = elim is [ inl e ↦ absurd (omega arith) | inr o ↦
 answers_all NoMemory is = elim is [ inl e ↦ absurd (omega arith) | inr o ↦ elim o [ inl e ↦ absurd (omega arith) | inr e ↦ absurd (omega arith) ] ]
 answers_all FrameLimit is = elim is [ inl e ↦ absurd (omega arith) | inr o ↦ elim o [ inl e ↦ absurd (omega arith) | inr e ↦ absurd (omega arith) ] ]
 
-wrote_all : (end : BatchEnd) (sent sent' : Option (List ℕ)) (answered : List Answered) → Wrote end sent sent' answered → status_of end ≢ 4 → Appends sent sent' (replies answered)
-wrote_all Clean sent sent' answered wrote other = wrote
-wrote_all BadInput sent sent' answered wrote other = wrote
-wrote_all ReadFault sent sent' answered wrote other = wrote
-wrote_all WriteFault sent sent' answered wrote other = absurd (other refl)
-wrote_all NoMemory sent sent' answered wrote other = wrote
-wrote_all FrameLimit sent sent' answered wrote other = wrote
+wrote_all : (end : BatchEnd) (before after : Outside) (answered : List Answered) → Wrote end before after answered → status_of end ≢ SINK_FAILED → Appends before.sent after.sent (replies answered)
+wrote_all Clean before after answered wrote other = wrote
+wrote_all BadInput before after answered wrote other = wrote
+wrote_all ReadFault before after answered wrote other = wrote
+wrote_all WriteFault before after answered wrote other = absurd (other refl)
+wrote_all NoMemory before after answered wrote other = wrote
+wrote_all FrameLimit before after answered wrote other = wrote
 
-wrote_part : (end : BatchEnd) (sent sent' : Option (List ℕ)) (answered : List Answered) → Wrote end sent sent' answered → status_of end ≡ 4 → WroteShort sent sent' answered
-wrote_part Clean sent sent' answered wrote is = absurd (omega arith)
-wrote_part BadInput sent sent' answered wrote is = absurd (omega arith)
-wrote_part ReadFault sent sent' answered wrote is = absurd (omega arith)
-wrote_part WriteFault sent sent' answered wrote is = wrote
-wrote_part NoMemory sent sent' answered wrote is = absurd (omega arith)
-wrote_part FrameLimit sent sent' answered wrote is = absurd (omega arith)
+wrote_part : (end : BatchEnd) (before after : Outside) (answered : List Answered) → Wrote end before after answered → status_of end ≡ SINK_FAILED → WroteShort before after answered
+wrote_part Clean before after answered wrote is = absurd (omega arith)
+wrote_part BadInput before after answered wrote is = absurd (omega arith)
+wrote_part ReadFault before after answered wrote is = absurd (omega arith)
+wrote_part WriteFault before after answered wrote is = wrote
+wrote_part NoMemory before after answered wrote is = absurd (omega arith)
+wrote_part FrameLimit before after answered wrote is = absurd (omega arith)
 
-ends_clean : (end : BatchEnd) (rest : List ℕ) (left : Option (List ℕ)) → EndsAs end rest left → status_of end ≡ 0 → (rest ≡ []) × IsAtEnd left
+ends_clean : (end : BatchEnd) (rest : List ℕ) (left : Option (List ℕ)) → EndsAs end rest left → status_of end ≡ CLEAN → (rest ≡ []) × IsAtEnd left
 ends_clean Clean rest left ends is = ends
 ends_clean BadInput rest left ends is = absurd (omega arith)
 ends_clean ReadFault rest left ends is = absurd (omega arith)
@@ -86,7 +88,7 @@ ends_clean WriteFault rest left ends is = absurd (omega arith)
 ends_clean NoMemory rest left ends is = absurd (omega arith)
 ends_clean FrameLimit rest left ends is = absurd (omega arith)
 
-ends_bad : (end : BatchEnd) (rest : List ℕ) (left : Option (List ℕ)) → EndsAs end rest left → status_of end ≡ 5 → EndsBadly rest left
+ends_bad : (end : BatchEnd) (rest : List ℕ) (left : Option (List ℕ)) → EndsAs end rest left → status_of end ≡ BAD_INPUT → EndsBadly rest left
 ends_bad Clean rest left ends is = absurd (omega arith)
 ends_bad BadInput rest left ends is = ends
 ends_bad ReadFault rest left ends is = absurd (omega arith)
@@ -94,18 +96,15 @@ ends_bad WriteFault rest left ends is = absurd (omega arith)
 ends_bad NoMemory rest left ends is = absurd (omega arith)
 ends_bad FrameLimit rest left ends is = absurd (omega arith)
 
-nothing_is_bad : (rest : List ℕ) → rest ≡ [] → IsBad (front_of rest) → ⊥
-nothing_is_bad rest none bad = nothing_bad_there (subst (λ (xs : List ℕ). IsBad (front_of xs)) none bad)
-
-bad_ends : (end : BatchEnd) (rest : List ℕ) (left : Option (List ℕ)) → EndsAs end rest left → IsBad (front_of rest) → (status_of end ≡ 5) ⊎ (status_of end ≡ 3)
-bad_ends Clean rest left ends bad = absurd (nothing_is_bad rest ends.0 bad)
+bad_ends : (end : BatchEnd) (rest : List ℕ) (left : Option (List ℕ)) → EndsAs end rest left → IsBad (front_of rest) → (status_of end ≡ BAD_INPUT) ⊎ (status_of end ≡ SOURCE_FAILED)
+bad_ends Clean rest left ends bad = absurd (nothing_bad rest (ap length ends.0) bad)
 bad_ends BadInput rest left ends bad = inl refl
 bad_ends ReadFault rest left ends bad = inr refl
-bad_ends WriteFault rest left ends bad = absurd (nothing_is_bad rest ends bad)
+bad_ends WriteFault rest left ends bad = absurd (nothing_bad rest (ap length ends) bad)
 bad_ends NoMemory rest left ends bad = absurd (ends bad)
-bad_ends FrameLimit rest left ends bad = absurd (nothing_is_bad rest ends bad)
+bad_ends FrameLimit rest left ends bad = absurd (nothing_bad rest (ap length ends) bad)
 
-cut_ends : (end : BatchEnd) (rest : List ℕ) (left : Option (List ℕ)) → EndsAs end rest left → rest ≢ [] → (status_of end ≡ 5) ⊎ (status_of end ≡ 3) ⊎ (status_of end ≡ 6)
+cut_ends : (end : BatchEnd) (rest : List ℕ) (left : Option (List ℕ)) → EndsAs end rest left → rest ≢ [] → (status_of end ≡ BAD_INPUT) ⊎ (status_of end ≡ SOURCE_FAILED) ⊎ (status_of end ≡ OUT_OF_MEMORY)
 cut_ends Clean rest left ends some = absurd (some ends.0)
 cut_ends BadInput rest left ends some = inl refl
 cut_ends ReadFault rest left ends some = inr (inl refl)
@@ -113,7 +112,7 @@ cut_ends WriteFault rest left ends some = absurd (some ends)
 cut_ends NoMemory rest left ends some = inr (inr refl)
 cut_ends FrameLimit rest left ends some = absurd (some ends)
 
-counts_few : (end : BatchEnd) (count : ℕ) → CountsAs end count → count ≤ 10000000
+counts_few : (end : BatchEnd) (count : ℕ) → CountsAs end count → count ≤ MOST_FRAMES
 counts_few Clean count is = omega arith
 counts_few BadInput count is = omega arith
 counts_few ReadFault count is = omega arith
@@ -121,7 +120,7 @@ counts_few WriteFault count is = is
 counts_few NoMemory count is = omega arith
 counts_few FrameLimit count is = omega arith
 
-counts_spent : (end : BatchEnd) (count : ℕ) → CountsAs end count → status_of end ≡ 11 → count ≡ 10000000
+counts_spent : (end : BatchEnd) (count : ℕ) → CountsAs end count → status_of end ≡ FRAME_LIMIT → count ≡ MOST_FRAMES
 counts_spent Clean count is e = absurd (omega arith)
 counts_spent BadInput count is e = absurd (omega arith)
 counts_spent ReadFault count is e = absurd (omega arith)
@@ -129,7 +128,7 @@ counts_spent WriteFault count is e = absurd (omega arith)
 counts_spent NoMemory count is e = absurd (omega arith)
 counts_spent FrameLimit count is e = is
 
-counts_most : (end : BatchEnd) (count : ℕ) → CountsAs end count → count ≡ 10000000 → (status_of end ≡ 11) ⊎ (status_of end ≡ 4)
+counts_most : (end : BatchEnd) (count : ℕ) → CountsAs end count → count ≡ MOST_FRAMES → (status_of end ≡ FRAME_LIMIT) ⊎ (status_of end ≡ SINK_FAILED)
 counts_most Clean count is e = absurd (omega arith)
 counts_most BadInput count is e = absurd (omega arith)
 counts_most ReadFault count is e = absurd (omega arith)
@@ -137,10 +136,10 @@ counts_most WriteFault count is e = inr refl
 counts_most NoMemory count is e = absurd (omega arith)
 counts_most FrameLimit count is e = inl refl
 
-pub batch_of : (rules : List Entry → Request → Ruling) (end : BatchEnd) (opened : Opened) (content left left' sent sent' moments moments' : Option (List ℕ)) (faults faults' : ℕ)
-    → rules ≡ house_rules opened.head opened.cap → Opens content opened → faults ≤ faults' → Served rules end left left' sent sent' moments moments'
-    → Batch (status_of end) content left left' sent sent' moments moments' faults faults'
-batch_of rules end opened content left left' sent sent' moments moments' faults faults' same opens count s =
+pub batch_of : (rules : List Entry → Request → Ruling) (end : BatchEnd) (opened : Opened) (content : Option (List ℕ)) (before after : Outside) (faults faults' : ℕ)
+    → rules ≡ house_rules opened.head opened.cap → Opens content opened → faults ≤ faults' → Served rules end before after
+    → Batch (status_of end) content before after faults faults'
+batch_of rules end opened content before after faults faults' same opens count s =
     let rules_are : rules ≡ house_rules (head_of opens.bytes) opened.cap = same ∙ ap (λ (h : Head). house_rules h opened.cap) opens.head in
     let P : (List Entry → Request → Ruling) → Type 0 = λ r. Run r (at_rest []) s.answered (at_rest s.entries) in
     let turns = subst P rules_are s.turns in
@@ -150,24 +149,24 @@ batch_of rules end opened content left left' sent sent' moments moments' faults 
       answered = s.answered;
       last = at_rest s.entries;
       taken = s.taken;
-      unanswered = s.unread;
+      unanswered = s.unanswered;
       rest = s.rest;
-      stands = λ some. opens.stands;
+      stands = opens.stands;
       took = s.took;
       frames = s.frames;
       all = λ is. s.all (answers_all end is);
       asked = s.asked;
       turns = turns;
       legal = s.legal;
-      wrote = wrote_all end sent sent' s.answered s.wrote;
-      wrote_short = wrote_part end sent sent' s.answered s.wrote;
+      wrote = wrote_all end before after s.answered s.wrote;
+      wrote_short = wrote_part end before after s.answered s.wrote;
       backed = backed_free s.answered faults faults' s.free count;
       free = s.free;
       alone = replies-decided (house_rules (head_of opens.bytes) opened.cap) [] s.answered (at_rest s.entries) turns;
-      clean = ends_clean end s.rest left' s.ends;
-      bad = ends_bad end s.rest left' s.ends;
-      bad_frame = bad_ends end s.rest left' s.ends;
-      cut_frame = cut_ends end s.rest left' s.ends;
+      clean = ends_clean end s.rest after.left s.ends;
+      bad = ends_bad end s.rest after.left s.ends;
+      bad_frame = bad_ends end s.rest after.left s.ends;
+      cut_frame = cut_ends end s.rest after.left s.ends;
       few = counts_few end (length s.answered) s.counted;
       spent = counts_spent end (length s.answered) s.counted;
       most = counts_most end (length s.answered) s.counted;

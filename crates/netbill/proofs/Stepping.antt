@@ -4,6 +4,8 @@ use Rattle.std.specs.Prelude.{slice_index}
 use Rattle.std.specs.Io.KnownBytes.{Consumes, IsAtEnd}
 use Rattle.nb_port.specs.Clock.{Gives}
 use Rattle.nb_units.specs.Frames.{Front, Whole, Empty, Partial, Bad, Frame, frame, IsFrame, front_of, IsWhole, IsBad}
+use Rattle.nb_units.specs.declared.frames.TheConstants.{HEADER}
+use Rattle.nb_endorse.specs.declared.refusal.TheConstants.{NO_MEMORY}
 use Rattle.nb_escrow.specs.declared.head.Head.{Head}
 use Rattle.nb_frame.proofs.Reading.{partial_not_whole}
 use Rattle.netbill.proofs.Serving.{nothing_whole}
@@ -14,15 +16,16 @@ use Rattle.nb_vault.specs.declared.house.Answer.{Answer}
 use Rattle.nb_vault.specs.declared.house.Answer.TheVariants as answers
 use Rattle.nb_frame.specs.Reader.{HoldsFrame}
 use Rattle.nb_vault.specs.House.{house_rules, Answers}
-use Rattle.nb_vault.specs.Turns.{Mark, At, NoMemory, Turn, IsFaultless, refused}
-use Rattle.netbill.specs.Batch.{at_rest, Stepped, Stopped, EndsBadly}
+use Rattle.nb_vault.specs.Turns.{Request, Ruling, Mark, At, NoMemory, Turn, IsFaultless, refused}
+use Rattle.netbill.specs.declared.batch.Step.{Step}
+use Rattle.netbill.specs.Batch.{at_rest, Outside, Stepped, Stopped, StepIs, EndsBadly}
 
 -- the frame that is held, by what the reader says of it
-pub holds_frame : (held body : List ℕ) (kind : ℕ) → HoldsFrame held → kind ≡ slice_index held 3 → body ≡ drop 8 held
+pub holds_frame : (held body : List ℕ) (kind : ℕ) → HoldsFrame held → kind ≡ slice_index held 3 → body ≡ drop HEADER held
     → let f : Frame = record { kind = kind; body = body } in IsFrame f × (held ≡ frame f)
 holds_frame held body kind h k b =
     let first : kind ≡ h.one.kind = k ∙ ap (λ (xs : List ℕ). slice_index xs 3) h.is in
-    let second : body ≡ h.one.body = b ∙ ap (drop 8) h.is in
+    let second : body ≡ h.one.body = b ∙ ap (drop HEADER) h.is in
     let P : Frame → Type 0 = λ f. IsFrame f × (held ≡ frame f) in
     let same : h.one ≡ record { kind = kind; body = body } = sym (ap (λ (n : ℕ). let f : Frame = record { kind = n; body = body } in f) first ∙ ap (λ (xs : List ℕ). let f : Frame = record { kind = h.one.kind; body = xs } in f) second) in
     subst P same (h.lawful, h.is)
@@ -45,19 +48,18 @@ turn_of old new kind moment body out out' (answers.Answered at) none a = (
   },
 )
 turn_of old new kind moment body out out' answers.NoMemory none a =
-    (omega arith, a.2 ∙ ap (λ (xs : List ℕ). xs ++ refused 52 0 0) none, ap at_rest a.1)
+    (omega arith, a.2 ∙ ap (λ (xs : List ℕ). xs ++ refused NO_MEMORY 0 0) none, ap at_rest a.1)
 
 free_of : (answer : Answer) → IsFaultless (mark_of answer)
 free_of (answers.Answered at) = tt
 free_of answers.NoMemory = tt
 
-pub stepped_with : (old new : House) (kind moment : ℕ) (held body out out' : List ℕ) (answer : Answer) (left left' moments moments' : Option (List ℕ))
-    → HoldsFrame held → kind ≡ slice_index held 3 → body ≡ drop 8 held → Consumes left left' held → Gives moments moments' moment → out ≡ [] → Answers old new kind body moment out out' answer → Legal new.book.entries
-    → (done : List ℕ → Type 0) → done out'
-    → (s : Stepped (house_rules old.head old.book.cap) old.book.entries new.book.entries left left' moments moments') × done s.one.reply
-stepped_with old new kind moment held body out out' answer left left' moments moments' h k b took now none a legal done sent =
+pub stepped_with : (old new : House) (kind moment : ℕ) (held body out out' : List ℕ) (answer : Answer) (before after : Outside)
+    → HoldsFrame held → kind ≡ slice_index held 3 → body ≡ drop HEADER held → Consumes before.left after.left held → Gives before.moments after.moments moment → out ≡ [] → Answers old new kind body moment out out' answer
+    → Legal new.book.entries → (done : List ℕ → Type 0) → done out' → (s : Stepped (house_rules old.head old.book.cap) old.book.entries new.book.entries before after) × done s.one.reply
+stepped_with old new kind moment held body out out' answer before after h k b took now none a legal done sent =
     let f = holds_frame held body kind h k b in
-    let P : List ℕ → Type 0 = λ bytes. Consumes left left' bytes in (
+    let P : List ℕ → Type 0 = λ bytes. Consumes before.left after.left bytes in (
       record {
         one = record { request = record { kind = kind; body = body; moment = moment }; mark = mark_of answer; reply = out' };
         turn = turn_of old new kind moment body out out' answer none a;
@@ -71,23 +73,21 @@ stepped_with old new kind moment held body out out' answer left left' moments mo
     )
 
 -- nothing was done but taking bytes that are no frame
-abbrev stop : (entries : List Entry) (held : List ℕ) (left left' sent moments : Option (List ℕ)) → Consumes left left' held → (IsWhole (front_of held) → ⊥) → Stopped entries entries left left' sent sent moments moments
-stop entries held left left' sent moments took none = record { rest = held; took = took; none = none; entries = refl; unsent = refl; unasked = refl }
+abbrev stop : (entries : List Entry) (held : List ℕ) (before : Outside) (left : Option (List ℕ)) → Consumes before.left left held → (IsWhole (front_of held) → ⊥) → Stopped entries entries before (record before { left = left })
+stop entries held before left took none = record { rest = held; took = took; none = none; entries = refl; unsent = refl; unasked = refl }
 
-pub stop_end : (entries : List Entry) (held : List ℕ) (left left' sent moments : Option (List ℕ)) → Consumes left left' held → (held ≡ []) → IsAtEnd left'
-    → (s : Stopped entries entries left left' sent sent moments moments) × (s.rest ≡ []) × IsAtEnd left'
-stop_end entries held left left' sent moments took is end =
-    (stop entries held left left' sent moments took (λ whole. nothing_whole (subst (λ (xs : List ℕ). IsWhole (front_of xs)) is whole)), is, end)
+pub stop_end : (entries : List Entry) (held : List ℕ) (before : Outside) (left : Option (List ℕ)) → Consumes before.left left held → (held ≡ []) → IsAtEnd left
+    → (s : Stopped entries entries before (record before { left = left })) × (s.rest ≡ []) × IsAtEnd left
+stop_end entries held before left took is end =
+    (stop entries held before left took (λ whole. nothing_whole (subst (λ (xs : List ℕ). IsWhole (front_of xs)) is whole)), is, end)
 
-pub stop_cut : (entries : List Entry) (held : List ℕ) (left left' sent moments : Option (List ℕ)) → Consumes left left' held → front_of held ≡ Partial → IsAtEnd left'
-    → (s : Stopped entries entries left left' sent sent moments moments) × EndsBadly s.rest left'
-stop_cut entries held left left' sent moments took is end =
-    (stop entries held left left' sent moments took (partial_not_whole (front_of held) is), inl (is, end))
+pub stop_cut : (entries : List Entry) (held : List ℕ) (before : Outside) (left : Option (List ℕ)) → Consumes before.left left held → front_of held ≡ Partial → IsAtEnd left
+    → (s : Stopped entries entries before (record before { left = left })) × EndsBadly s.rest left
+stop_cut entries held before left took is end = (stop entries held before left took (partial_not_whole (front_of held) is), inl (is, end))
 
-pub stop_bad : (entries : List Entry) (held : List ℕ) (left left' sent moments : Option (List ℕ)) → Consumes left left' held → IsBad (front_of held)
-    → (s : Stopped entries entries left left' sent sent moments moments) × EndsBadly s.rest left'
-stop_bad entries held left left' sent moments took bad =
-    (stop entries held left left' sent moments took (λ whole. bad_not_whole (front_of held) bad whole), inr bad)
+pub stop_bad : (entries : List Entry) (held : List ℕ) (before : Outside) (left : Option (List ℕ)) → Consumes before.left left held → IsBad (front_of held)
+    → (s : Stopped entries entries before (record before { left = left })) × EndsBadly s.rest left
+stop_bad entries held before left took bad = (stop entries held before left took (λ whole. bad_not_whole (front_of held) bad whole), inr bad)
   where
     bad_not_whole : (front : Front) → IsBad front → IsWhole front → ⊥
     bad_not_whole (Whole f rest) bad whole = bad
@@ -95,10 +95,13 @@ stop_bad entries held left left' sent moments took bad =
     bad_not_whole Partial bad whole = bad
     bad_not_whole (Bad fault) bad whole = whole
 
-pub stop_memory : (entries : List Entry) (held : List ℕ) (left left' sent moments : Option (List ℕ)) → Consumes left left' held → (IsWhole (front_of held) → ⊥) → (IsBad (front_of held) → ⊥)
-    → (s : Stopped entries entries left left' sent sent moments moments) × (IsBad (front_of s.rest) → ⊥)
-stop_memory entries held left left' sent moments took none good = (stop entries held left left' sent moments took none, good)
+pub stop_memory : (entries : List Entry) (held : List ℕ) (before : Outside) (left : Option (List ℕ)) → Consumes before.left left held → (IsWhole (front_of held) → ⊥) → (IsBad (front_of held) → ⊥)
+    → (s : Stopped entries entries before (record before { left = left })) × (IsBad (front_of s.rest) → ⊥)
+stop_memory entries held before left took none good = (stop entries held before left took none, good)
 
--- the rules of a house that kept its head and cap
-pub same_rules : (old new : House) → new.head ≡ old.head → new.book.cap ≡ old.book.cap → house_rules new.head new.book.cap ≡ house_rules old.head old.book.cap
-same_rules old new head cap = ap (λ (h : Head). house_rules h new.book.cap) head ∙ ap (λ (n : ℕ). house_rules old.head n) cap
+-- a step of a house that kept its head and cap goes by its first rules
+pub same_step : (first now : House) (old new : List Entry) (before after : Outside) (way : Step) → now.head ≡ first.head → now.book.cap ≡ first.book.cap
+    → StepIs (house_rules now.head now.book.cap) old new before after way → StepIs (house_rules first.head first.book.cap) old new before after way
+same_step first now old new before after way head cap is =
+    let P : (List Entry → Request → Ruling) → Type 0 = λ rules. StepIs rules old new before after way in
+    subst P (ap (λ (h : Head). house_rules h now.book.cap) head ∙ ap (λ (n : ℕ). house_rules first.head n) cap) is

@@ -1,6 +1,5 @@
 -- What a batch does: the frames of the input are answered in order, one turn after another.
-use Rattle.std.specs.Prelude.{◌≡◌, ℕ, ◌+◌, ◌≤◌, ◌⊎◌, List, [], ◌∷◌, ◌++◌, Option, None, Some, ⊤, length, map, take}
-use Rattle.std.specs.List.{flat_map, AllByRecursion}
+use Rattle.std.specs.Prelude.{◌≡◌, ℕ, ◌<◌, ◌≤◌, ◌⊎◌, List, [], ◌∷◌, ◌++◌, Option, None, Some, ⊤, length, map, take}
 use Rattle.std.specs.Io.KnownBytes.{Consumes, Appends, IsAtEnd}
 use Rattle.nb_port.specs.Faults.{Rose}
 use Rattle.nb_port.specs.Clock.{Gives}
@@ -37,6 +36,12 @@ frame_of a = record { kind = a.request.kind; body = a.request.body }
 abbrev pub moment_of : Answered → ℕ
 moment_of a = a.request.moment
 
+-- what the source, the sink and the clock tell: the bytes left, the bytes sent, the moments given
+pub record Outside : Type 0 where
+  pub left : Option (List ℕ)
+  pub sent : Option (List ℕ)
+  pub moments : Option (List ℕ)
+
 -- a clock gave these moments
 abbrev pub Gave : Option (List ℕ) → Option (List ℕ) → List ℕ → Type 0
 Gave old None moments = ⊤
@@ -46,70 +51,58 @@ Gave (Some before) (Some given) moments = given ≡ before ++ moments
 -- ---- one step
 
 -- a frame was taken, the clock was asked, and a turn answered it
-pub record Stepped (rules : List Entry → Request → Ruling) (old new : List Entry) (left left' moments moments' : Option (List ℕ)) : Type 0 where
+pub record Stepped (rules : List Entry → Request → Ruling) (old new : List Entry) (before after : Outside) : Type 0 where
   pub one : Answered
   pub turn : Turn rules (at_rest old) one.request one.mark one.reply (at_rest new)
   pub legal : Legal new
   pub free : IsFaultless one.mark
   pub lawful : IsFrame (frame_of one)
-  pub took : Consumes left left' (frame (frame_of one))
-  pub asked : Gives moments moments' one.request.moment
+  pub took : Consumes before.left after.left (frame (frame_of one))
+  pub asked : Gives before.moments after.moments one.request.moment
 
 -- bytes were taken that are no frame, and nothing else was done
-pub record Stopped (old new : List Entry) (left left' sent sent' moments moments' : Option (List ℕ)) : Type 0 where
+pub record Stopped (old new : List Entry) (before after : Outside) : Type 0 where
   pub rest : List ℕ
-  pub took : Consumes left left' rest
+  pub took : Consumes before.left after.left rest
   pub none : IsWhole (front_of rest) → ⊥
   pub entries : new ≡ old
-  pub unsent : sent' ≡ sent
-  pub unasked : moments' ≡ moments
+  pub unsent : after.sent ≡ before.sent
+  pub unasked : after.moments ≡ before.moments
 
 -- the input ended within a frame, or no frame begins so
 abbrev pub EndsBadly : List ℕ → Option (List ℕ) → Type 0
 EndsBadly rest left = ((front_of rest ≡ Partial) × IsAtEnd left) ⊎ IsBad (front_of rest)
 
 -- what one step of a batch did, by how it went
-abbrev pub StepIs : (List Entry → Request → Ruling) → List Entry → List Entry → Option (List ℕ) → Option (List ℕ) → Option (List ℕ) → Option (List ℕ) → Option (List ℕ) → Option (List ℕ) → Step → Type 0
-StepIs rules old new left left' sent sent' moments moments' step.Answered =
-    (s : Stepped rules old new left left' moments moments') × Appends sent sent' s.one.reply
-StepIs rules old new left left' sent sent' moments moments' (step.Ended WriteFault) =
-    (s : Stepped rules old new left left' moments moments') × SentPart sent sent' s.one.reply
-StepIs rules old new left left' sent sent' moments moments' (step.Ended Clean) =
-    (s : Stopped old new left left' sent sent' moments moments') × (s.rest ≡ []) × IsAtEnd left'
-StepIs rules old new left left' sent sent' moments moments' (step.Ended BadInput) =
-    (s : Stopped old new left left' sent sent' moments moments') × EndsBadly s.rest left'
-StepIs rules old new left left' sent sent' moments moments' (step.Ended ReadFault) = Stopped old new left left' sent sent' moments moments'
-StepIs rules old new left left' sent sent' moments moments' (step.Ended NoMemory) =
-    (s : Stopped old new left left' sent sent' moments moments') × (IsBad (front_of s.rest) → ⊥)
-StepIs rules old new left left' sent sent' moments moments' (step.Ended FrameLimit) = ⊥
+abbrev pub StepIs : (List Entry → Request → Ruling) → List Entry → List Entry → Outside → Outside → Step → Type 0
+StepIs rules old new before after step.Answered =
+    (s : Stepped rules old new before after) × Appends before.sent after.sent s.one.reply
+StepIs rules old new before after (step.Ended WriteFault) =
+    (s : Stepped rules old new before after) × SentPart before.sent after.sent s.one.reply
+StepIs rules old new before after (step.Ended Clean) =
+    (s : Stopped old new before after) × (s.rest ≡ []) × IsAtEnd after.left
+StepIs rules old new before after (step.Ended BadInput) =
+    (s : Stopped old new before after) × EndsBadly s.rest after.left
+StepIs rules old new before after (step.Ended ReadFault) = Stopped old new before after
+StepIs rules old new before after (step.Ended NoMemory) =
+    (s : Stopped old new before after) × (IsBad (front_of s.rest) → ⊥)
+StepIs rules old new before after (step.Ended FrameLimit) = ⊥
 
 -- ---- the whole batch
 
--- the replies so far were sent, and there are so many
-pub record Ran (rules : List Entry → Request → Ruling) (left left' sent sent' moments moments' : Option (List ℕ)) (count : ℕ) (entries : List Entry) : Type 0 where
-  pub answered : List Answered
-  pub turns : Run rules (at_rest []) answered (at_rest entries)
-  pub legal : Legal entries
-  pub free : NoneFaulty answered
-  pub lawful : AllByRecursion IsFrame (map frame_of answered)
-  pub took : Consumes left left' (flat_map frame (map frame_of answered))
-  pub wrote : Appends sent sent' (replies answered)
-  pub asked : Gave moments moments' (map moment_of answered)
-  pub counted : length answered ≡ count
-
 -- all replies were sent, or, where the sink failed, all before the last and a part of the last
-pub record WroteShort (sent sent' : Option (List ℕ)) (answered : List Answered) : Type 0 where
+pub record WroteShort (before after : Outside) (answered : List Answered) : Type 0 where
   pub whole : List Answered
   pub last : Answered
   pub split : answered ≡ whole ++ last ∷ []
   pub count : ℕ
   pub less : count ≤ length last.reply
-  pub appends : Appends sent sent' (replies whole ++ take count last.reply)
+  pub appends : Appends before.sent after.sent (replies whole ++ take count last.reply)
 
 -- the replies were written, the last one in part after a failed write
-abbrev pub Wrote : BatchEnd → Option (List ℕ) → Option (List ℕ) → List Answered → Type 0
-Wrote WriteFault sent sent' answered = WroteShort sent sent' answered
-Wrote other sent sent' answered = Appends sent sent' (replies answered)
+abbrev pub Wrote : BatchEnd → Outside → Outside → List Answered → Type 0
+Wrote WriteFault before after answered = WroteShort before after answered
+Wrote other before after answered = Appends before.sent after.sent (replies answered)
 
 -- the frames of all bytes that were taken are answered
 abbrev pub AnswersAll : BatchEnd → Type 0
@@ -131,26 +124,26 @@ EndsAs FrameLimit rest left = rest ≡ []
 abbrev pub CountsAs : BatchEnd → ℕ → Type 0
 CountsAs FrameLimit count = count ≡ MOST_FRAMES
 CountsAs WriteFault count = count ≤ MOST_FRAMES
-CountsAs other count = count + 1 ≤ MOST_FRAMES
+CountsAs other count = count < MOST_FRAMES
 
 -- What a batch did over a house without entries, by how it ended
-pub record Served (rules : List Entry → Request → Ruling) (end : BatchEnd) (left left' sent sent' moments moments' : Option (List ℕ)) : Type 0 where
+pub record Served (rules : List Entry → Request → Ruling) (end : BatchEnd) (before after : Outside) : Type 0 where
   -- the requests that were answered, frames that were taken and not answered, and what follows them
   pub answered : List Answered
-  pub unread : List Frame
+  pub unanswered : List Frame
   pub rest : List ℕ
   pub taken : List ℕ
   pub entries : List Entry
-  pub took : Consumes left left' taken
-  pub frames : Splits taken (map frame_of answered ++ unread) rest
-  pub all : AnswersAll end → unread ≡ []
-  pub ends : EndsAs end rest left'
+  pub took : Consumes before.left after.left taken
+  pub frames : Splits taken (map frame_of answered ++ unanswered) rest
+  pub all : AnswersAll end → unanswered ≡ []
+  pub ends : EndsAs end rest after.left
   pub counted : CountsAs end (length answered)
-  pub asked : Gave moments moments' (map moment_of answered)
+  pub asked : Gave before.moments after.moments (map moment_of answered)
   pub turns : Run rules (at_rest []) answered (at_rest entries)
   pub legal : Legal entries
   pub free : NoneFaulty answered
-  pub wrote : Wrote end sent sent' answered
+  pub wrote : Wrote end before after answered
 
 -- which count of faults rose
 abbrev pub FaultOf : ℕ → ℕ → ℕ → ℕ → BatchEnd → Type 0

@@ -12,7 +12,7 @@ use Rattle.nb_escrow.specs.Head.{head_of}
 use Rattle.nb_vault.specs.Stands.{StandsEmpty}
 use Rattle.nb_vault.specs.House.{house_rules}
 use Rattle.nb_vault.specs.Turns.{State, Answered, Run, replies, decided, AllDecided, NoneFaulty, Backed}
-use Rattle.netbill.specs.Batch.{at_rest, frame_of, moment_of, Gave, EndsBadly, WroteShort}
+use Rattle.netbill.specs.Batch.{at_rest, frame_of, moment_of, Outside, Gave, EndsBadly, WroteShort}
 
 -- the outcome with this status, at place 0
 abbrev pub done_with : ℕ → Outcome
@@ -31,7 +31,7 @@ abbrev pub IsStatus : ℕ → Type 0
 IsStatus n = (n ≡ CLEAN) ⊎ (n ≡ BAD_WORDS) ⊎ (n ≡ SOURCE_FAILED) ⊎ (n ≡ SINK_FAILED) ⊎ (n ≡ BAD_INPUT) ⊎ (n ≡ OUT_OF_MEMORY) ⊎ (n ≡ DISK_FAILED) ⊎ (n ≡ NO_JOURNAL) ⊎ (n ≡ FRAME_LIMIT)
 
 -- What a batch that opened its journal did, by the status that it ended with.
-pub record Batch (status : ℕ) (content left left' sent sent' moments moments' : Option (List ℕ)) (faults faults' : ℕ) : Type 0 where
+pub record Batch (status : ℕ) (content : Option (List ℕ)) (before after : Outside) (faults faults' : ℕ) : Type 0 where
   -- the journal's head and cap, the requests that were answered, the house after them; the bytes taken from the
   -- source are the frames of these requests, further frames, and a rest that begins with none
   pub head : List ℕ
@@ -41,33 +41,33 @@ pub record Batch (status : ℕ) (content left left' sent sent' moments moments' 
   pub taken : List ℕ
   pub unanswered : List Frame
   pub rest : List ℕ
-  -- the content at entry stands for a journal without entries, unless memory was wanting before a byte was taken
-  pub stands : (status ≡ OUT_OF_MEMORY → taken ≢ []) → IfSome content (λ image. StandsEmpty image head cap)
+  -- the content at entry stands for a journal without entries, with this head and cap
+  pub stands : IfSome content (λ image. StandsEmpty image head cap)
   -- the requests that were answered are the first frames of the bytes taken
-  pub took : Consumes left left' taken
+  pub took : Consumes before.left after.left taken
   pub frames : Splits taken (map frame_of answered ++ unanswered) rest
   -- they are all of them where the input ended, held what is no frame, or failed
   pub all : (status ≡ CLEAN) ⊎ (status ≡ BAD_INPUT) ⊎ (status ≡ SOURCE_FAILED) → unanswered ≡ []
   -- one answer of the clock for each
-  pub asked : Gave moments moments' (map moment_of answered)
+  pub asked : Gave before.moments after.moments (map moment_of answered)
   -- there is a run of turns over them, from a house without entries
   pub turns : Run (house_rules (head_of head) cap) (at_rest []) answered last
   -- what was recorded is legal: each entry was so after those before it
   pub legal : Legal last.entries
   -- their replies are what was written
-  pub wrote : status ≢ SINK_FAILED → Appends sent sent' (replies answered)
+  pub wrote : status ≢ SINK_FAILED → Appends before.sent after.sent (replies answered)
   -- after a failed write: all replies before the last one, and a part of that
-  pub wrote_short : status ≡ SINK_FAILED → WroteShort sent sent' answered
+  pub wrote_short : status ≡ SINK_FAILED → WroteShort before after answered
   -- faults of turns lie between the disk's counts
   pub backed : Backed faults answered faults'
   -- no turn touches the disk yet, so none fails: each decides or is short of memory
   pub free : NoneFaulty answered
   -- where each turn decides, the replies are a function of the head, the cap and the requests alone
   pub alone : AllDecided answered → replies answered ≡ decided (house_rules (head_of head) cap) [] answered
-  -- where nothing is left of the source
-  pub clean : status ≡ CLEAN → (rest ≡ []) × IsAtEnd left'
-  -- a frame that is cut or none, exactly
-  pub bad : status ≡ BAD_INPUT → EndsBadly rest left'
+  -- after status 0 no byte is over and nothing is left of the source
+  pub clean : status ≡ CLEAN → (rest ≡ []) × IsAtEnd after.left
+  -- after status 5 the rest is a cut frame and nothing is left, or no frame begins so
+  pub bad : status ≡ BAD_INPUT → EndsBadly rest after.left
   pub bad_frame : IsBad (front_of rest) → (status ≡ BAD_INPUT) ⊎ (status ≡ SOURCE_FAILED)
   pub cut_frame : rest ≢ [] → (status ≡ BAD_INPUT) ⊎ (status ≡ SOURCE_FAILED) ⊎ (status ≡ OUT_OF_MEMORY)
   -- at most so many frames are answered

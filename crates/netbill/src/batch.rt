@@ -64,7 +64,9 @@ pub fn serve<S: Source, K: Sink, C: Clock>(
     clock: &mut C,
 ) -> BatchEnd
     requires { house.old.book.entries ≡ [] }
-    ensures served { Served (house_rules house.old.head house.old.book.cap) result (S.left source.old) (S.left source.new) (K.sent sink.old) (K.sent sink.new) (C.moments clock.old) (C.moments clock.new) }
+    ensures served { Served (house_rules house.old.head house.old.book.cap) result
+        (record { left = S.left source.old; sent = K.sent sink.old; moments = C.moments clock.old })
+        (record { left = S.left source.new; sent = K.sent sink.new; moments = C.moments clock.new }) }
     ensures source { S.faults source.old ≤ S.faults source.new }
     ensures sink { K.faults sink.old ≤ K.faults sink.new }
     ensures fault { FaultOf (S.faults source.old) (S.faults source.new) (K.faults sink.old) (K.faults sink.new) result }
@@ -92,7 +94,9 @@ fn answer_next<S: Source, K: Sink, C: Clock>(
     clock: &mut C,
 ) -> Step
     requires { MOST_REPLY ≤ vec_capacity reply.old }
-    ensures step { StepIs (house_rules house.old.head house.old.book.cap) house.old.book.entries house.new.book.entries (S.left source.old) (S.left source.new) (K.sent sink.old) (K.sent sink.new) (C.moments clock.old) (C.moments clock.new) result }
+    ensures step { StepIs (house_rules house.old.head house.old.book.cap) house.old.book.entries house.new.book.entries
+        (record { left = S.left source.old; sent = K.sent sink.old; moments = C.moments clock.old })
+        (record { left = S.left source.new; sent = K.sent sink.new; moments = C.moments clock.new }) result }
     ensures house { SameHouse house.old house.new }
     ensures room { vec_capacity reply.old ≤ vec_capacity reply.new }
     ensures source { S.faults source.old ≤ S.faults source.new }

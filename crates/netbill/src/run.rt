@@ -17,8 +17,8 @@ use std::alloc::Global;
 pub fn run<S: Source, K: Sink, D: Disk, C: Clock>(
     alloc: Global,
     words: &[String],
-    src: &mut S,
-    snk: &mut K,
+    source: &mut S,
+    sink: &mut K,
     disk: D,
     clock: &mut C,
 ) -> (Outcome, D)
@@ -31,17 +31,17 @@ pub fn run<S: Source, K: Sink, D: Disk, C: Clock>(
 
     // Nothing is taken, sent or asked for before the journal is open.
     ensures closed { (status result.0 ≡ BAD_WORDS) ⊎ (status result.0 ≡ DISK_FAILED) ⊎ (status result.0 ≡ NO_JOURNAL)
-        → (src.new ≡ src.old) × (snk.new ≡ snk.old) × (clock.new ≡ clock.old) }
+        → (source.new ≡ source.old) × (sink.new ≡ sink.old) × (clock.new ≡ clock.old) }
 
     // No count of faults falls.
-    ensures counts { (S.faults src.old ≤ S.faults src.new) × (K.faults snk.old ≤ K.faults snk.new) × (D.faults disk ≤ D.faults result.1) }
+    ensures counts { (S.faults source.old ≤ S.faults source.new) × (K.faults sink.old ≤ K.faults sink.new) × (D.faults disk ≤ D.faults result.1) }
 
     // Nothing is written to the disk.
     ensures disk { D.content result.1 ≡ D.content disk }
 
     // A fault is answered only where the count of that object rose.
-    ensures source { status result.0 ≡ SOURCE_FAILED → Rose (S.faults src.old) (S.faults src.new) }
-    ensures sink { status result.0 ≡ SINK_FAILED → Rose (K.faults snk.old) (K.faults snk.new) }
+    ensures source { status result.0 ≡ SOURCE_FAILED → Rose (S.faults source.old) (S.faults source.new) }
+    ensures sink { status result.0 ≡ SINK_FAILED → Rose (K.faults sink.old) (K.faults sink.new) }
     ensures fault { status result.0 ≡ DISK_FAILED → Rose (D.faults disk) (D.faults result.1) }
 
     // Status 8: what the disk holds.
@@ -49,11 +49,14 @@ pub fn run<S: Source, K: Sink, D: Disk, C: Clock>(
 
     // What a batch does, where the journal was opened.
     ensures batch { IsBatch (map string_bytes words.now) → status result.0 ≢ DISK_FAILED → status result.0 ≢ NO_JOURNAL
-        → Batch (status result.0) (D.content disk) (S.left src.old) (S.left src.new) (K.sent snk.old) (K.sent snk.new) (C.moments clock.old) (C.moments clock.new) (D.faults disk) (D.faults result.1) }
+        → Batch (status result.0) (D.content disk)
+        (record { left = S.left source.old; sent = K.sent sink.old; moments = C.moments clock.old })
+        (record { left = S.left source.new; sent = K.sent sink.new; moments = C.moments clock.new })
+        (D.faults disk) (D.faults result.1) }
 
     // Whole frames alone over a journal, and nothing that fails: all is done, unless memory is wanting.
-    ensures complete { IsBatch (map string_bytes words.now) → IsJournal (D.content disk) → IsWholeInput (S.left src.old)
-        → (Rose (S.faults src.old) (S.faults src.new) → ⊥) → (Rose (K.faults snk.old) (K.faults snk.new) → ⊥) → (Rose (D.faults disk) (D.faults result.1) → ⊥)
+    ensures complete { IsBatch (map string_bytes words.now) → IsJournal (D.content disk) → IsWholeInput (S.left source.old)
+        → (Rose (S.faults source.old) (S.faults source.new) → ⊥) → (Rose (K.faults sink.old) (K.faults sink.new) → ⊥) → (Rose (D.faults disk) (D.faults result.1) → ⊥)
         → (status result.0 ≡ CLEAN) ⊎ (status result.0 ≡ OUT_OF_MEMORY) }
 {
     let mut disk = disk;
@@ -68,7 +71,7 @@ pub fn run<S: Source, K: Sink, D: Disk, C: Clock>(
     let Ok(mut house) = House::new(alloc, &opened) else {
         return (done(OUT_OF_MEMORY), disk);
     };
-    let end = serve(alloc, &mut house, src, snk, clock);
+    let end = serve(alloc, &mut house, source, sink, clock);
     (done(end.status()), disk)
 }
 

@@ -399,7 +399,7 @@ static INPUTS: [Case<'static>; 9] = [
         output: &[],
     },
     Case {
-        name: "the same, a byte in each read",
+        name: "three whole frames, a byte in each read",
         words: &["batch", "house.journal"],
         journal: Piece::Journal,
         input: &[Piece::Enrol1, Piece::Enrol2, Piece::Fund500],

@@ -1,5 +1,5 @@
 ghost use Rattle.std.specs.Prelude.{◌≡◌, IfOk};
-ghost use Rattle.nb_port.specs.Calls.{one_more};
+ghost use Rattle.nb_port.specs.Faults.{one_more};
 ghost use Rattle.nb_port.specs.Clock.{Gives};
 ghost use Rattle.nb_port.specs.Memory.{moment_at, told_by};
 

@@ -1,5 +1,6 @@
 ghost use Rattle.std.specs.Prelude.{◌≡◌, ◌↔◌, ◌≤◌, IfOk, IsTrue, if◌then◌else◌};
-ghost use Rattle.nb_port.specs.Calls.{Calls, no_calls, NextFails, worked, failed, one_more};
+ghost use Rattle.nb_port.specs.Calls.{Calls, no_calls, NextFails, worked, failed};
+ghost use Rattle.nb_port.specs.Faults.{one_more};
 
 use nb_units::NoMemory;
 use std::alloc::Global;

@@ -49,10 +49,15 @@ mod tests {
     // 2020-01-01 00:00 UTC
     const YEAR_2020: u64 = 1_577_836_800;
 
+    // 2200-01-01 00:00 UTC
+    const YEAR_2200: u64 = 7_258_118_400;
+
     #[test]
-    fn gives_a_moment_past_2020(rt: HostRuntime) -> Result<(), Fail> {
+    fn gives_seconds_between_2020_and_2200(rt: HostRuntime) -> Result<(), Fail> {
         let mut clock = SystemClock::over(rt.clone()?);
-        assert!(rt; clock.now() > YEAR_2020);
+        let now = clock.now();
+        assert!(rt; YEAR_2020 < now);
+        assert!(rt; now < YEAR_2200);
         Ok(())
     }
 }

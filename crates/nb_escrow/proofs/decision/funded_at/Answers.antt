@@ -1,13 +1,14 @@
 use Rattle.std.proofs.Common.{Option, ap, ◌∙◌}
+use Rattle.std.specs.Option.{option_and_then}
 use Rattle.nb_book.specs.declared.funded.Funded.{Funded}
 use Rattle.nb_escrow.specs.Fundings.{funded_place}
-use Rattle.nb_escrow.proofs.Holding.{chain, fund_place}
+use Rattle.nb_escrow.proofs.Holding.{fund_place}
 use Rattle.nb_escrow.proofs.decision.funded_at.Goals as goal
 
 pub returns-in-Some : goal.returns-in-Some
 returns-in-Some c =
-    c.place_of.ensures ∙ ap (λ (o : Option Funded). chain o (funded_place c.args.asked.now)) c.in-Some.ensures.found ∙ fund_place _ c.in-Some.ensures.legal c.args.asked.now
+    c.place_of.ensures ∙ ap (λ (o : Option Funded). option_and_then (funded_place c.args.asked.now) o) c.in-Some.ensures.found ∙ fund_place _ c.in-Some.ensures.legal c.args.asked.now
 
 pub returns-in-None : goal.returns-in-None
 returns-in-None c =
-    ap (λ (o : Option Funded). chain o (funded_place c.args.asked.now)) c.in-None.ensures.found ∙ fund_place _ c.in-None.ensures.legal c.args.asked.now
+    ap (λ (o : Option Funded). option_and_then (funded_place c.args.asked.now) o) c.in-None.ensures.found ∙ fund_place _ c.in-None.ensures.legal c.args.asked.now
