@@ -2,6 +2,8 @@ ghost use Rattle.std.specs.Prelude.{◌≡◌};
 ghost use Rattle.nb_endorse.specs.declared.refusal.TheConstants.{SHOWN};
 ghost use Rattle.nb_endorse.specs.Refusals.{refusal, refusal_with, CodesAre};
 
+use nb_units::Malformed;
+
 /// The body is not spelled as its kind is. `a` is the place of the first field that fails.
 pub const MALFORMED: u8 = 10;
 
@@ -62,6 +64,18 @@ impl Refusal {
             b: 0,
             x: *x,
         }
+    }
+}
+
+impl From<Malformed> for Refusal {
+    ghost use Rattle.std.specs.Prelude.{◌≡◌};
+    ghost use Rattle.nb_endorse.specs.declared.refusal.TheConstants.{MALFORMED};
+    ghost use Rattle.nb_endorse.specs.Refusals.{refusal};
+
+    ghost from_gives = { λ malformed r. r ≡ refusal MALFORMED malformed.place 0 };
+
+    fn from(malformed: Malformed) -> Refusal {
+        Refusal::of(MALFORMED, malformed.place as u64, 0)
     }
 }
 

@@ -1,16 +1,10 @@
 -- What the operator may ask for: the layout of each body, field by field.
-use Rattle.std.specs.Prelude.{◌≡◌, ℕ, ◌==◌, ◌||◌, ◌&&◌, List, Result, Ok, Err, nat_le}
+use Rattle.std.specs.Prelude.{ℕ, ◌==◌, ◌||◌, ◌&&◌, List, Result, Ok, nat_le}
 use Rattle.nb_units.specs.Fields.{◌>>=◌, u8_at, u32_at, u64_at, raw_at, done_at, or_place, allowed}
 use Rattle.nb_book.specs.declared.entry.TheConstants.{CONSUMER, MERCHANT}
 use Rattle.nb_book.specs.declared.limits.TheConstants.{MAX_TOTAL}
-use Rattle.nb_escrow.specs.declared.request.Malformed.{Malformed}
 use Rattle.nb_escrow.specs.declared.request.Enrolment.{Enrolment}
 use Rattle.nb_escrow.specs.declared.request.Funding.{Funding}
-
--- what a reader gave is what stands there, or the bad place
-abbrev pub Reads : {A : Type 0} → Result A Malformed → Result A ℕ → Type 0
-Reads (Ok value) read = read ≡ Ok value
-Reads (Err malformed) read = read ≡ Err malformed.place
 
 -- id 4 | role 1, 1 or 2 | account 4 | nonce 8 | key 32 | tag 32
 unfoldable pub enrol_of : List ℕ → Result Enrolment ℕ

@@ -17,4 +17,4 @@ mod request;
 
 pub use decision::{Decision, decide, labels};
 pub use head::{HEAD, Head};
-pub use request::{Enrolment, Funding, Malformed};
+pub use request::{Enrolment, Funding};

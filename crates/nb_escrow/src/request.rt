@@ -2,47 +2,13 @@ ghost use Rattle.std.specs.Prelude.{◌≡◌, ◌≤◌, ◌⊎◌, IfOk, OnOk,
 ghost use Rattle.nb_book.specs.declared.entry.TheConstants.{CONSUMER, MERCHANT};
 ghost use Rattle.nb_book.specs.declared.limits.TheConstants.{MAX_TOTAL};
 ghost use Rattle.nb_units.specs.Fields.{allowed};
-ghost use Rattle.nb_escrow.specs.Requests.{enrol_of, fund_of, Reads};
+ghost use Rattle.nb_escrow.specs.Requests.{enrol_of, fund_of};
+ghost use Rattle.nb_units.specs.Reads.{Reads};
 ghost use Rattle.nb_escrow.specs.Enrolments.{enrol_entry, party_place};
 ghost use Rattle.nb_escrow.specs.Fundings.{fund_entry, funded_place};
 
 use nb_book::{CONSUMER, Entry, Funded, MAX_TOTAL, MERCHANT, Party};
-use nb_endorse::Refusal;
-use nb_endorse::refusal::MALFORMED;
-use nb_units::{AcctId, Cut, CutFault, PartyId, Secret, Tag};
-
-/// A body is not spelled as its kind is. The place is that of the first field that fails.
-#[derive(Clone, Copy, PartialEq, Eq, Debug)]
-pub struct Malformed {
-    pub place: usize,
-}
-
-impl From<CutFault> for Malformed {
-    ghost use Rattle.std.specs.Prelude.{◌≡◌};
-    ghost use Rattle.nb_units.specs.Fields.{place_of};
-
-    ghost from_gives = { λ fault m. m.place ≡ place_of fault };
-
-    fn from(fault: CutFault) -> Malformed {
-        match fault {
-            CutFault::Short { place } => Malformed { place },
-            CutFault::Long { place, .. } => Malformed { place },
-            CutFault::Extra { place } => Malformed { place },
-        }
-    }
-}
-
-impl From<Malformed> for Refusal {
-    ghost use Rattle.std.specs.Prelude.{◌≡◌};
-    ghost use Rattle.nb_endorse.specs.declared.refusal.TheConstants.{MALFORMED};
-    ghost use Rattle.nb_endorse.specs.Refusals.{refusal};
-
-    ghost from_gives = { λ malformed r. r ≡ refusal MALFORMED malformed.place 0 };
-
-    fn from(malformed: Malformed) -> Refusal {
-        Refusal::of(MALFORMED, malformed.place as u64, 0)
-    }
-}
+use nb_units::{AcctId, Cut, Malformed, PartyId, Secret, Tag};
 
 /// The operator asks to enrol a party.
 #[derive(Clone, Copy, PartialEq, Eq, Debug)]

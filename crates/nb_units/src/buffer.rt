@@ -5,8 +5,9 @@ ghost use Rattle.nb_units.specs.declared.buffer.TheConstants.{MAX_BUFFER};
 use arrayvec::ArrayVec;
 use std::marker::Model;
 
-/// The most bytes of a [`Buffer`]: those of the longest text that is sealed, with its seal.
-pub const MAX_BUFFER: usize = 420;
+/// The most bytes of a [`Buffer`]: as many as the longest text that is spelled in one can have, an endorsement whose order
+/// and memo are as long as a [`Small`](crate::Small) can be.
+pub const MAX_BUFFER: usize = 604;
 
 /// Fields one behind the other, at most [`MAX_BUFFER`] bytes in all, in a place of their own that takes no memory.
 /// Numbers are big-endian. What is spelled in a buffer is then appended, sealed or hashed as a whole.
