@@ -342,6 +342,8 @@ fn seals_that_take_no_memory(rt: HostRuntime) -> Result<(), Fail> {
         assert_eq!(rt; sealed.as_slice(), want.as_slice());
         assert!(rt; want.len() <= 34);
         let mut buf = [0; 34];
+        assert_eq!(rt; seal_to(&key, b"good", plain, &mut buf), want.len());
+        assert!(rt; buf.starts_with(&want));
         assert_eq!(rt; unseal_to(&key, b"good", &want, &mut buf), Ok(plain.len()));
         assert!(rt; buf.starts_with(plain));
     }

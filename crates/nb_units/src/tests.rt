@@ -112,7 +112,7 @@ fn tells_places(rt: HostRuntime) {
     assert_eq!(rt; cut.done(), Ok(()));
 }
 
-// A kind, a merchant, an amount, an identifier and a text, written one behind the other.
+// A kind, a merchant, an amount, an identifier and a text, written one behind the other, by a pen and in a buffer.
 #[test]
 fn writes_fields(rt: HostRuntime) -> Result<(), Fail> {
     let mut out = Vec::new(rt.alloc());
@@ -123,11 +123,18 @@ fn writes_fields(rt: HostRuntime) -> Result<(), Fail> {
     pen.u64(500);
     pen.raw(&SPELLED);
     pen.bytes(b"hi");
+    let mut buffer = Buffer::new();
+    buffer.u8(0x0E);
+    buffer.u32(0x0102_0304);
+    buffer.u64(500);
+    buffer.raw(&SPELLED);
+    buffer.bytes(b"hi");
     let want: [u8; 35] = [
         0x0E, 1, 2, 3, 4, 0, 0, 0, 0, 0, 0, 0x01, 0xF4, 0, 0, 0, 2, 0, 0, 0, 0, 0, 0, 0x03, 0xE8,
         0, 0, 0, 1, 0, 0, 0, 2, b'h', b'i',
     ];
     assert_eq!(rt; out.as_slice(), want.as_slice());
+    assert_eq!(rt; buffer.as_slice(), want.as_slice());
     Ok(())
 }
 
