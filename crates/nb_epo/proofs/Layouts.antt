@@ -1,5 +1,5 @@
 -- Orders and hidden parts as rows of fields.
-use Rattle.std.proofs.Common.{◌≡◌, ℕ, List, Ok, refl, sym, ap, subst, ◌∙◌, arith}
+use Rattle.std.proofs.Common.{◌≡◌, ℕ, ◌+◌, List, Ok, refl, sym, ap, subst, ◌∙◌, arith, length, Result, Err}
 use Rattle.nb_units.specs.declared.epoid.Epoid.{Epoid}
 use Rattle.nb_units.proofs.Rows.{Row, IsRow, ◌&◌, and_row, number4, number4_row, number8, number8_row, raw, raw_row, text, text_row, epoid, epoid_row, whole, whole_found, whole_reads, ok_is}
 use Rattle.nb_epo.specs.declared.hidden.TheConstants.{MAX_HIDDEN, MAX_MEMO}
@@ -7,7 +7,13 @@ use Rattle.nb_epo.specs.declared.order.Order.{Order}
 use Rattle.nb_epo.specs.declared.hidden.Hidden.{Hidden}
 use Rattle.nb_epo.specs.Spelling.{IsOrder, signed_bytes, order_bytes, IsHidden, hidden_bytes}
 use Rattle.nb_epo.specs.Reading.{order_of, hidden_of}
-use Rattle.nb_epo.specs.Laws.{OrderReadsBack, OrderSpellsBack, OneOrder, HiddenReadsBack, HiddenSpellsBack, OneHidden}
+use Rattle.std.specs.Prelude.{codes}
+use Rattle.nb_seal.specs.Seal.{Opens}
+use Rattle.nb_seal.proofs.Opening.{opens_once}
+use Rattle.nb_epo.specs.declared.hidden.RevealFault.{RevealFault}
+use Rattle.nb_epo.specs.declared.hidden.RevealFault.TheVariants.{BadSeal, Malformed}
+use Rattle.nb_epo.specs.Revealing.{Reveals}
+use Rattle.nb_epo.specs.Laws.{OrderReadsBack, OrderSpellsBack, OneOrder, HiddenReadsBack, HiddenSpellsBack, OneHidden, LengthsAre}
 
 -- ---- orders
 
@@ -105,3 +111,27 @@ hidden_reads_back h is =
 
 pub one_hidden : OneHidden
 one_hidden a b first second same = ok_is a b (sym (hidden_reads_back a first) ∙ ap hidden_of same ∙ hidden_reads_back b second)
+
+-- ---- lengths, and what is revealed
+
+pub lengths : LengthsAre
+lengths = (order, hidden)
+  where
+    order : (o : Order) → IsOrder o → length (order_bytes o) ≡ 168 + length o.hidden
+    order o is =
+        let p : Parts = (((((((((o.consumer.0, o.merchant.0), o.product), o.price.0), o.epoid), o.checksum), o.request), o.account), o.hidden), o.tag) in
+        omega (arith, is_row.long 0 p (((((((((is.consumer, is.merchant), is.product), is.price), is.epoid), is.checksum), is.request), is.account), is.hidden), is.tag), ap length (spelled_so p))
+
+    hidden : (h : Hidden) → IsHidden h → length (hidden_bytes h) ≡ 16 + length h.memo
+    hidden h is =
+        let p : HiddenParts = ((h.acct.0, h.nonce), h.memo) in
+        omega (arith, is_hidden_row.long 0 p ((is.acct, is.nonce), is.memo), ap length (hidden_spelled_so p))
+
+-- what is the seal of a hidden part is revealed as that hidden part
+pub revealed : (key bytes : List ℕ) (h : Hidden) (r : Result Hidden RevealFault) → IsHidden h → Opens key (codes "hide") bytes (hidden_bytes h) → Reveals key bytes r → r ≡ Ok h
+revealed key bytes h (Ok g) is opens (plain, o, e) =
+    ap Ok (ok_is g h (sym e ∙ ap hidden_of (opens_once key (codes "hide") bytes plain (hidden_bytes h) o opens) ∙ hidden_reads_back h is))
+revealed key bytes h (Err (BadSeal iv)) is opens r = absurd (r.0 (hidden_bytes h) opens)
+revealed key bytes h (Err (Malformed place)) is opens (plain, o, e) =
+    let x : hidden_of plain ≡ Ok h = ap hidden_of (opens_once key (codes "hide") bytes plain (hidden_bytes h) o opens) ∙ hidden_reads_back h is in
+    absurd (cc (e, x))

@@ -1,5 +1,5 @@
 -- Spelling and reading are the two sides of one thing.
-use Rattle.std.specs.Prelude.{◌≡◌, ℕ, List, [], ◌∷◌, codes, Ok}
+use Rattle.std.specs.Prelude.{◌≡◌, ℕ, ◌+◌, List, length, codes, Ok}
 use Rattle.nb_units.specs.Frames.{AreBytes}
 use Rattle.nb_epo.specs.declared.hidden.TheConstants.{MAX_HIDDEN, MAX_MEMO, HIDE_LABEL}
 use Rattle.nb_epo.specs.declared.order.TheConstants.{MAX_ORDER, ORDER_LABEL}
@@ -7,6 +7,7 @@ use Rattle.nb_epo.specs.declared.order.Order.{Order}
 use Rattle.nb_epo.specs.declared.hidden.Hidden.{Hidden}
 use Rattle.nb_epo.specs.Spelling.{IsOrder, order_bytes, IsHidden, hidden_bytes}
 use Rattle.nb_epo.specs.Reading.{order_of, hidden_of}
+use Rattle.nb_epo.specs.Tags.{order_tag, signed}
 
 -- what was spelled of an order is read as that order
 abbrev pub OrderReadsBack : Type 0
@@ -32,6 +33,15 @@ HiddenSpellsBack = (bytes : List ℕ) (h : Hidden) → AreBytes bytes → hidden
 abbrev pub OneHidden : Type 0
 OneHidden = (a b : Hidden) → IsHidden a → IsHidden b → hidden_bytes a ≡ hidden_bytes b → a ≡ b
 
+-- an order and a hidden part are as long as this: an order has at most 280 bytes, a hidden part at most 80
+abbrev pub LengthsAre : Type 0
+LengthsAre = ((o : Order) → IsOrder o → length (order_bytes o) ≡ 168 + length o.hidden)
+    × ((h : Hidden) → IsHidden h → length (hidden_bytes h) ≡ 16 + length h.memo)
+
+-- an order that was signed has the tag that it is tested against
+abbrev pub SignedIsRight : Type 0
+SignedIsRight = (key : List ℕ) (o : Order) → (signed key o).tag ≡ order_tag key (signed key o)
+
 -- the limits and the labels
 abbrev pub LimitsAre : Type 0
-LimitsAre = (MAX_HIDDEN ∷ MAX_MEMO ∷ MAX_ORDER ∷ [] ≡ 112 ∷ 64 ∷ 280 ∷ []) × (HIDE_LABEL ≡ codes "hide") × (ORDER_LABEL ≡ codes "ordr")
+LimitsAre = (MAX_HIDDEN ≡ 112) × (MAX_MEMO ≡ 64) × (MAX_ORDER ≡ 280) × (HIDE_LABEL ≡ codes "hide") × (ORDER_LABEL ≡ codes "ordr")

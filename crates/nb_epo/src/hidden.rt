@@ -22,7 +22,7 @@ const HIDE_LABEL: [u8; 4] = *b"hide";
 /// What an order says to the house alone.
 #[derive(Clone, Copy, PartialEq, Eq, Debug)]
 pub struct Hidden {
-    /// The account that pays.
+    /// The account that pays, 4 bytes wide.
     pub acct: AcctId,
     /// The nonce that the account was enrolled with, 8 bytes wide.
     pub nonce: u64,
@@ -65,10 +65,12 @@ impl From<Malformed> for RevealFault {
     }
 }
 
-/// The hidden part sealed under the consumer's key, at most [`MAX_HIDDEN`] bytes.
+/// The hidden part sealed under the consumer's key and the label "hide": 48 bytes more than its memo has, of which there
+/// are at most [`MAX_MEMO`]. What is sealed is account 4, nonce 8, and the memo behind its length.
 pub fn hide(h: &Hidden, key: &Secret) -> Small
     requires memo { length h.now.memo ≤ MAX_MEMO }
-    ensures { result ≡ seal_of key.now (codes "hide") (hidden_bytes h.now) }
+    ensures sealed { result ≡ seal_of key.now (codes "hide") (hidden_bytes h.now) }
+    ensures long { length result ≡ 48 + length h.now.memo }
 {
     let plain = spelled(h);
     let mut sealed = [0u8; MAX_HIDDEN as usize];
@@ -76,9 +78,21 @@ pub fn hide(h: &Hidden, key: &Secret) -> Small
     Small::of(sealed.split_at(n).0).unwrap()
 }
 
-/// The hidden part that at most [`MAX_HIDDEN`] bytes are the seal of under the consumer's key.
+/// The hidden part that at most [`MAX_HIDDEN`] bytes are the seal of under the consumer's key and the label "hide". It
+/// answers [`RevealFault::BadSeal`] where they are the seal of no text, and [`RevealFault::Malformed`] where the text is
+/// no hidden part.
 pub fn reveal(bytes: &[u8], key: &Secret) -> Result<Hidden, RevealFault>
     requires short { length bytes.now ≤ MAX_HIDDEN }
+    ensures reveals { Reveals key.now bytes.now result }
+    ensures spelled { IfOk result (λ h. IsHidden h × Opens key.now (codes "hide") bytes.now (hidden_bytes h)) }
+    ensures found { (h : Hidden) → IsHidden h → Opens key.now (codes "hide") bytes.now (hidden_bytes h) → result ≡ Ok h }
+{
+    opened(bytes, key)
+}
+
+// The hidden part that the bytes are the seal of.
+fn opened(bytes: &[u8], key: &Secret) -> Result<Hidden, RevealFault>
+    requires { length bytes.now ≤ MAX_HIDDEN }
     ensures reveals { Reveals key.now bytes.now result }
     ensures spelled { IfOk result (λ h. IsHidden h × Opens key.now (codes "hide") bytes.now (hidden_bytes h)) }
 {
@@ -88,7 +102,8 @@ pub fn reveal(bytes: &[u8], key: &Secret) -> Result<Hidden, RevealFault>
     Ok(hidden)
 }
 
-/// The SHA-256 digest (FIPS 180-4) of an account and its nonce, which an order shows to the merchant.
+/// The SHA-256 digest (FIPS 180-4) of an account, 4 bytes, and its nonce, 8 bytes, both big-endian. An order shows it to
+/// the merchant.
 pub fn account_digest(acct: AcctId, nonce: u64) -> Digest
     ensures { result ≡ account_digest_of acct nonce }
 {

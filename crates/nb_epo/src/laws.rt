@@ -1,6 +1,6 @@
 //! What holds of every order and every hidden part. Each function here does nothing: its contract is the law.
 
-ghost use Rattle.nb_epo.specs.Laws.{OrderReadsBack, OrderSpellsBack, OneOrder, HiddenReadsBack, HiddenSpellsBack, OneHidden, LimitsAre};
+ghost use Rattle.nb_epo.specs.Laws.{OrderReadsBack, OrderSpellsBack, OneOrder, HiddenReadsBack, HiddenSpellsBack, OneHidden, LengthsAre, SignedIsRight, LimitsAre};
 
 /// A law: what was spelled of an order is read as that order.
 pub fn order_reads_back()
@@ -30,6 +30,17 @@ pub fn hidden_spells_back()
 /// A law: two hidden parts with one spelling are one.
 pub fn one_hidden()
     ensures { OneHidden }
+{}
+
+/// A law: an order has 168 bytes more than its hidden part, and a hidden part 16 more than its memo.
+pub fn lengths()
+    ensures { LengthsAre }
+{}
+
+/// A law: an order that was signed has the tag that it is tested against.
+#[tactic(auto, unfolding(crate::specs::Spelling::signed_bytes))]
+pub fn signed_is_right()
+    ensures { SignedIsRight }
 {}
 
 /// A law: the limits and the labels in numbers and texts.

@@ -20,29 +20,30 @@ const ORDER_LABEL: [u8; 4] = *b"ordr";
 /// A consumer's promise to pay for one product.
 #[derive(Clone, Copy, PartialEq, Eq, Debug)]
 pub struct Order {
-    /// Who pays.
+    /// Who pays, 4 bytes wide.
     pub consumer: PartyId,
-    /// Who is paid.
+    /// Who is paid, 4 bytes wide.
     pub merchant: PartyId,
     /// The merchant's number for the product, 4 bytes wide.
     pub product: u32,
-    /// What is paid, in the house's smallest unit of money.
+    /// What is paid, in the house's smallest unit of money, 8 bytes wide. Any price can be spelled.
     pub price: Price,
-    /// The order's identifier. One identifier is paid at most once.
+    /// The order's identifier, 16 bytes wide.
     pub epoid: Epoid,
     /// The SHA-256 digest (FIPS 180-4) of the sealed goods.
     pub checksum: Digest,
-    /// The digest of what was asked for.
+    /// The SHA-256 digest of what the consumer asked the merchant for.
     pub request: Digest,
-    /// The digest of the consumer's account and nonce, for the merchant's files.
+    /// The digest of the consumer's account and nonce ([`account_digest`](crate::account_digest)), for the merchant's files.
     pub account: Digest,
     /// The hidden part, sealed: at most [`MAX_HIDDEN`] bytes.
     pub hidden: Small,
-    /// The consumer's tag over all bytes before it.
+    /// The HMAC-SHA-256 (RFC 2104) of "ordr" and all bytes before the tag, under the consumer's key.
     pub tag: Tag,
 }
 
-/// Appends the order's bytes, at most [`MAX_ORDER`], which needs room for as many.
+/// Appends the order's bytes. It needs room for [`MAX_ORDER`] bytes, also for a shorter order, and a hidden part of at most
+/// [`MAX_HIDDEN`] bytes. It takes no memory.
 pub fn write_order(o: &Order, out: &mut Vec<u8>)
     requires hidden { length o.now.hidden ≤ MAX_HIDDEN }
     requires room { MAX_ORDER ≤ spare_of out.old }
@@ -56,7 +57,8 @@ pub fn write_order(o: &Order, out: &mut Vec<u8>)
 }
 
 /// The order that the bytes spell, or the place of the first field that fails: a field of which bytes are missing, a
-/// hidden part with a length above [`MAX_HIDDEN`], or the first byte behind the tag.
+/// hidden part with a length above [`MAX_HIDDEN`], or the first byte behind the tag. Places are in bytes from the front; a bad
+/// hidden part is told at the place of its length, 132.
 pub fn read_order(bytes: &[u8]) -> Result<Order, Malformed>
     // The fields in their order, and the first that fails.
     ensures reads { Reads result (order_of bytes.now) }
@@ -98,14 +100,15 @@ fn read_fields(bytes: &[u8]) -> Result<Order, Malformed>
     })
 }
 
-/// Sets the tag to the one that the order has under the consumer's key (HMAC-SHA-256, RFC 2104).
+/// Sets the tag to the one that the order has under the consumer's key: the HMAC-SHA-256 (RFC 2104) of "ordr" and the
+/// order's bytes before the tag.
 pub fn sign_order(o: &mut Order, key: &Secret)
     ensures { o.new ≡ signed key.now o.old }
 {
     o.tag = tag_of(o, key);
 }
 
-/// Whether the tag is the one that the order has under the consumer's key.
+/// Whether the tag is the one that the order has under the consumer's key. All 32 bytes are compared.
 pub fn order_tag_ok(o: &Order, key: &Secret) -> bool
     ensures { IsTrue result ↔ (o.now.tag ≡ order_tag key.now o.now) }
 {
