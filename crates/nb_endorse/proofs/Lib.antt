@@ -1,0 +1,4 @@
+pub mod Sealing
+pub mod Layouts
+pub mod Optional
+pub mod Receipts

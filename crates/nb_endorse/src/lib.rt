@@ -1,14 +1,41 @@
-//! What the house tells: its refusals and its replies, as values.
+//! What merchant and house say of an order: the endorsement that asks for the payment, the receipts that answer it, and the
+//! house's refusals and replies.
 //!
-//! A [`Refusal`] is a code and what the code shows: two numbers and 32 bytes, of which zeros are what it does not
-//! show. A [`Reply`] is what one request is answered. What a refusal that shows numbers or bytes is stands in
-//! `specs/Refusals.antt`, and the codes in numbers are a law.
+//! An [`Endorsement`] is an order's bytes with the merchant's account, a memo and the key of the goods. It goes to the house
+//! sealed under the merchant's key, and is held by its digest. A [`Receipt`] is what the house says of the order to one of
+//! its parties: [`Signed`] with the house's tag, and sealed under the party's key. A [`Refusal`] is a code and what the code
+//! shows: two numbers and 32 bytes, of which zeros are what it does not show. A [`Reply`] is what one request is answered,
+//! and [`ReplyKeys`] are the keys that it is made with.
 //!
-//! Left to others: which refusal a request gets, and how a reply is spelled in bytes.
+//! The layouts stand in `specs/Spelling.antt`, each as a function of the value, and in `specs/Reading.antt`, field by field
+//! with the place of each. That they are the two sides of one thing is proved by the functions of [`laws`]: what was
+//! spelled is read as that value, and what was read is spelled as those bytes. Writers append the seal of exactly that
+//! spelling and keep the room that they find. Readers give what is sealed, or tell that the bytes are the seal of nothing,
+//! or the place of the first field that fails: `specs/Sealed.antt`. What a refusal that shows numbers or bytes is stands in
+//! `specs/Refusals.antt`, and all limits, labels and codes in numbers are laws.
+//!
+//! Left to others: what the order's bytes say and whether it is paid, which code a refused order gets and what its receipt
+//! shows to whom, whose keys these are, which refusal a request gets, and how a reply is spelled in bytes. No memory is
+//! taken.
 #![tactic(auto)]
 
+mod endorsement;
+pub mod laws;
+mod receipt;
 pub mod refusal;
 mod reply;
+mod sealed;
 
+pub use endorsement::{
+    Endorsement, MAX_ENDORSED, MAX_MEMO, MAX_SEALED, digest_of, read_sealed, write_sealed,
+};
+pub use receipt::{
+    FIRST_REFUSED, LAST_REFUSED, PAID, RECEIPT_BYTES, Receipt, Signed, read_receipt,
+    receipt_tag_ok, seal_receipt, sign_receipt, write_receipt,
+};
 pub use refusal::Refusal;
-pub use reply::Reply;
+pub use reply::{Reply, ReplyKeys};
+pub use sealed::SealedFault;
+
+#[cfg(test)]
+mod tests;

@@ -1,0 +1,123 @@
+ghost use Rattle.std.specs.Prelude.{◌≡◌, ◌≤◌, ◌+◌, ◌++◌, length, codes, vec_capacity, IfOk, Ok};
+ghost use Rattle.nb_seal.specs.Seal.{Opens, seal_of};
+ghost use Rattle.nb_units.specs.Room.{spare_of};
+ghost use Rattle.nb_units.specs.Reads.{Reads};
+ghost use Rattle.nb_endorse.specs.declared.endorsement.TheConstants.{MAX_SEALED, MAX_MEMO};
+ghost use Rattle.nb_endorse.specs.Spelling.{IsEndorsement, endorsement_bytes};
+ghost use Rattle.nb_endorse.specs.Reading.{endorsement_of};
+ghost use Rattle.nb_endorse.specs.Sealed.{ReadsSealed};
+ghost use Rattle.nb_endorse.specs.Tags.{endorsement_digest};
+
+use crate::sealed::SealedFault;
+use nb_seal::{seal_spare, sha, unseal_to};
+use nb_units::{AcctId, Buffer, Cut, Digest, Malformed, Secret, Small};
+
+/// The most bytes of an endorsement, sealed.
+pub const MAX_SEALED: usize = 420;
+
+/// The most bytes of an order that is endorsed.
+pub const MAX_ENDORSED: u32 = 280;
+
+/// The most bytes of the merchant's memo.
+pub const MAX_MEMO: u32 = 64;
+
+// An endorsement is sealed under this label.
+const ENDORSE_LABEL: [u8; 4] = *b"endo";
+
+/// A merchant's endorsement of an order: it asks the house for the payment, and hands it the goods' key.
+#[derive(Clone, Copy, PartialEq, Eq, Debug)]
+pub struct Endorsement {
+    /// The order's bytes: at most [`MAX_ENDORSED`].
+    pub order: Small,
+    /// The merchant's account, which is paid.
+    pub macct: AcctId,
+    /// The merchant's own note: at most [`MAX_MEMO`] bytes.
+    pub memo: Small,
+    /// The key that opens the goods.
+    pub key: Secret,
+}
+
+/// Appends the endorsement sealed under the merchant's key, at most [`MAX_SEALED`] bytes, which needs room for as many.
+pub fn write_sealed(e: &Endorsement, key: &Secret, out: &mut Vec<u8>)
+    requires memo { length e.now.memo ≤ MAX_MEMO }
+    requires room { MAX_SEALED ≤ spare_of out.old }
+    ensures bytes { out.new.items ≡ out.old.items ++ seal_of key.now (codes "endo") (endorsement_bytes e.now) }
+    ensures spare { spare_of out.old ≤ spare_of out.new + MAX_SEALED }
+    ensures room { vec_capacity out.new ≡ vec_capacity out.old }
+{
+    let plain = spelled(e);
+    seal_spare(key, &ENDORSE_LABEL, plain.as_slice(), out);
+}
+
+/// The endorsement that at most [`MAX_SEALED`] bytes are the seal of under the merchant's key.
+pub fn read_sealed(bytes: &[u8], key: &Secret) -> Result<Endorsement, SealedFault>
+    requires short { length bytes.now ≤ MAX_SEALED }
+    // What the seal hides, field by field, and the first that fails; or that the bytes are the seal of nothing.
+    ensures reads { ReadsSealed endorsement_of key.now (codes "endo") bytes.now result }
+
+    // An endorsement that is read was sealed so, and one that was sealed so is read.
+    ensures spelled { IfOk result (λ e. IsEndorsement e × Opens key.now (codes "endo") bytes.now (endorsement_bytes e)) }
+    ensures found { (e : Endorsement) → IsEndorsement e → Opens key.now (codes "endo") bytes.now (endorsement_bytes e) → result ≡ Ok e }
+{
+    opened(bytes, key)
+}
+
+// The endorsement that the bytes are the seal of.
+fn opened(bytes: &[u8], key: &Secret) -> Result<Endorsement, SealedFault>
+    requires { length bytes.now ≤ MAX_SEALED }
+    ensures reads { ReadsSealed endorsement_of key.now (codes "endo") bytes.now result }
+    ensures spelled { IfOk result (λ e. IsEndorsement e × Opens key.now (codes "endo") bytes.now (endorsement_bytes e)) }
+{
+    let mut plain = [0u8; MAX_SEALED];
+    let n = unseal_to(key, &ENDORSE_LABEL, bytes, &mut plain)?;
+    let endorsement = read_endorsement(plain.split_at(n).0)?;
+    Ok(endorsement)
+}
+
+/// The SHA-256 digest (FIPS 180-4) of the endorsement's bytes before they are sealed.
+pub fn digest_of(e: &Endorsement) -> Digest
+    ensures { result ≡ endorsement_digest e.now }
+{
+    let plain = spelled(e);
+    sha(plain.as_slice())
+}
+
+// The endorsement's bytes before they are sealed.
+#[tactic(auto, unfolding(crate::specs::Spelling::endorsement_bytes))]
+fn spelled(e: &Endorsement) -> Buffer
+    ensures bytes { result ≡ endorsement_bytes e.now }
+    ensures short { length result ≤ 324 + length e.now.memo }
+{
+    let mut bytes = Buffer::new();
+    bytes.bytes(e.order.as_slice());
+    bytes.u32(e.macct.0);
+    bytes.bytes(e.memo.as_slice());
+    bytes.raw(&e.key);
+    bytes
+}
+
+// The endorsement that the bytes spell, or the place of the first field that fails.
+fn read_endorsement(bytes: &[u8]) -> Result<Endorsement, Malformed>
+    ensures reads { Reads result (endorsement_of bytes.now) }
+    ensures spelled { IfOk result (λ e. IsEndorsement e × (bytes.now ≡ endorsement_bytes e)) }
+{
+    read_fields(bytes)
+}
+
+#[tactic(auto, unfolding(crate::specs::Reading::endorsement_of))]
+fn read_fields(bytes: &[u8]) -> Result<Endorsement, Malformed>
+    ensures { Reads result (endorsement_of bytes.now) }
+{
+    let mut cut = Cut::new(bytes);
+    let order = cut.bytes(MAX_ENDORSED)?;
+    let macct = cut.u32()?;
+    let memo = cut.bytes(MAX_MEMO)?;
+    let key = cut.fixed32()?;
+    cut.done()?;
+    Ok(Endorsement {
+        order: Small::of(order).unwrap(),
+        macct: AcctId(macct),
+        memo: Small::of(memo).unwrap(),
+        key,
+    })
+}

@@ -1,0 +1,331 @@
+ghost use Rattle.std.specs.Prelude.{◌≡◌, ◌≤◌, ◌↔◌, ◌+◌, ◌++◌, length, codes, vec_capacity, vec_len, IfOk, IsTrue, Ok};
+ghost use Rattle.nb_seal.specs.Seal.{Opens, seal_of};
+ghost use Rattle.nb_units.specs.Fields.{allowed};
+ghost use Rattle.nb_units.specs.Room.{spare_of};
+ghost use Rattle.nb_units.specs.Reads.{Reads};
+ghost use Rattle.nb_units.specs.declared.buffer.TheConstants.{MAX_BUFFER};
+ghost use Rattle.nb_endorse.specs.declared.receipt.TheConstants.{RECEIPT_BYTES};
+ghost use Rattle.nb_endorse.specs.Spelling.{IsSigned, key_bytes, shown_bytes, receipt_bytes, signed_bytes};
+ghost use Rattle.nb_endorse.specs.Reading.{is_code, key_flag, may_show, may_hold, signed_of, behind_moment, behind_key};
+ghost use Rattle.nb_endorse.specs.Sealed.{ReadsSealed};
+ghost use Rattle.nb_endorse.specs.Tags.{receipt_tag, signed};
+
+use crate::sealed::SealedFault;
+use nb_seal::{hmac, same, seal_to, unseal_to};
+use nb_units::{Buffer, Cut, Epoid, Malformed, PartyId, Pen, Price, Secret, Tag};
+
+/// The code of an order that was paid.
+pub const PAID: u8 = 0;
+
+/// The first code of an order that was refused.
+pub const FIRST_REFUSED: u8 = 31;
+
+/// The last code of an order that was refused.
+pub const LAST_REFUSED: u8 = 37;
+
+/// The bytes of a receipt, sealed.
+pub const RECEIPT_BYTES: usize = 167;
+
+// A receipt is sealed under this label, and what its tag is over begins with it.
+const RECEIPT_LABEL: [u8; 4] = *b"rcpt";
+
+// Before a field that is not there, and before one that is.
+const ABSENT: u8 = 0;
+
+const PRESENT: u8 = 1;
+
+// What stands in place of a key that is not there.
+const NO_KEY: Secret = [0; 32];
+
+/// What the house says of an order to one of its parties.
+#[derive(Clone, Copy, PartialEq, Eq, Debug)]
+pub struct Receipt {
+    /// [`PAID`], or why the order was refused: from [`FIRST_REFUSED`] to [`LAST_REFUSED`].
+    pub code: u8,
+    /// Who pays.
+    pub consumer: PartyId,
+    /// Who is paid.
+    pub merchant: PartyId,
+    /// The merchant's number for the product, 4 bytes wide.
+    pub product: u32,
+    /// What is paid, in the house's smallest unit of money.
+    pub price: Price,
+    /// The order's identifier.
+    pub epoid: Epoid,
+    /// The number of entries before the order's entry.
+    pub at: u64,
+    /// When the order was decided, in seconds since 1970-01-01 00:00 UTC.
+    pub moment: u64,
+    /// The key that opens the goods, where the order was paid.
+    pub key: Option<Secret>,
+    /// Two numbers that say more of a refusal, where the party may see them.
+    pub shown: Option<(u64, u64)>,
+}
+
+/// A receipt and the house's tag over it.
+#[derive(Clone, Copy, PartialEq, Eq, Debug)]
+pub struct Signed {
+    pub receipt: Receipt,
+    pub tag: Tag,
+}
+
+impl Signed {
+    /// The receipt's bytes and its tag, before they are sealed: 135 bytes.
+    pub fn spelled(&self) -> Buffer
+        ensures bytes { result ≡ signed_bytes self.now }
+        ensures long { length result ≡ 135 }
+    {
+        let mut bytes = spelled(&self.receipt);
+        bytes.raw(&self.tag);
+        bytes
+    }
+}
+
+/// The receipt with its tag under the house's key (HMAC-SHA-256, RFC 2104).
+pub fn sign_receipt(r: &Receipt, house: &Secret) -> Signed
+    ensures { result ≡ signed house.now r.now }
+{
+    Signed {
+        receipt: *r,
+        tag: tag_of(r, house),
+    }
+}
+
+/// Whether the tag is the one that the receipt has under the house's key.
+pub fn receipt_tag_ok(s: &Signed, house: &Secret) -> bool
+    ensures { IsTrue result ↔ (s.now.tag ≡ receipt_tag house.now s.now.receipt) }
+{
+    same(&s.tag, &tag_of(&s.receipt, house))
+}
+
+/// The receipt and its tag sealed under a party's key.
+pub fn seal_receipt(s: &Signed, key: &Secret) -> [u8; RECEIPT_BYTES]
+    ensures { result ≡ seal_of key.now (codes "rcpt") (signed_bytes s.now) }
+{
+    let mut sealed = [0u8; RECEIPT_BYTES];
+    let _all = seal_to(key, &RECEIPT_LABEL, s.spelled().as_slice(), &mut sealed);
+    sealed
+}
+
+/// Appends the receipt and its tag sealed under a party's key, [`RECEIPT_BYTES`] bytes, which needs room for as many.
+pub fn write_receipt(s: &Signed, key: &Secret, out: &mut Vec<u8>)
+    requires room { RECEIPT_BYTES ≤ spare_of out.old }
+    ensures bytes { out.new.items ≡ out.old.items ++ seal_of key.now (codes "rcpt") (signed_bytes s.now) }
+    ensures long { vec_len out.new ≡ vec_len out.old + RECEIPT_BYTES }
+    ensures room { vec_capacity out.new ≡ vec_capacity out.old }
+{
+    let sealed = seal_receipt(s, key);
+    let mut pen = Pen::over(out);
+    pen.raw(&sealed);
+}
+
+/// The receipt and its tag that at most [`RECEIPT_BYTES`] bytes are the seal of under a party's key.
+pub fn read_receipt(bytes: &[u8], key: &Secret) -> Result<Signed, SealedFault>
+    requires short { length bytes.now ≤ RECEIPT_BYTES }
+    // What the seal hides, field by field, and the first that fails; or that the bytes are the seal of nothing.
+    ensures reads { ReadsSealed signed_of key.now (codes "rcpt") bytes.now result }
+
+    // A receipt that is read was sealed so, and one that was sealed so is read.
+    ensures spelled { IfOk result (λ s. IsSigned s × Opens key.now (codes "rcpt") bytes.now (signed_bytes s)) }
+    ensures found { (s : Signed) → IsSigned s → Opens key.now (codes "rcpt") bytes.now (signed_bytes s) → result ≡ Ok s }
+{
+    opened(bytes, key)
+}
+
+// The receipt and its tag that the bytes are the seal of.
+fn opened(bytes: &[u8], key: &Secret) -> Result<Signed, SealedFault>
+    requires { length bytes.now ≤ RECEIPT_BYTES }
+    ensures reads { ReadsSealed signed_of key.now (codes "rcpt") bytes.now result }
+    ensures spelled { IfOk result (λ s. IsSigned s × Opens key.now (codes "rcpt") bytes.now (signed_bytes s)) }
+{
+    let mut plain = [0u8; RECEIPT_BYTES];
+    let n = unseal_to(key, &RECEIPT_LABEL, bytes, &mut plain)?;
+    let signed = read_signed(plain.split_at(n).0)?;
+    Ok(signed)
+}
+
+// The tag of a receipt under a key.
+fn tag_of(r: &Receipt, house: &Secret) -> Tag
+    ensures { result ≡ receipt_tag house.now r.now }
+{
+    let plain = spelled(r);
+    hmac(house, &RECEIPT_LABEL, plain.as_slice())
+}
+
+// The receipt's bytes before its tag.
+#[tactic(auto, unfolding(crate::specs::Spelling::receipt_bytes))]
+fn spelled(r: &Receipt) -> Buffer
+    ensures bytes { result ≡ receipt_bytes r.now }
+    ensures long { length result ≡ 103 }
+{
+    let mut bytes = Buffer::new();
+    bytes.u8(r.code);
+    bytes.u32(r.consumer.0);
+    bytes.u32(r.merchant.0);
+    bytes.u32(r.product);
+    bytes.u64(r.price.0);
+    bytes.raw(&r.epoid.write());
+    bytes.u64(r.at);
+    bytes.u64(r.moment);
+    write_key(&r.key, &mut bytes);
+    write_shown(r.shown, &mut bytes);
+    bytes
+}
+
+// A key behind a byte that says whether there is one.
+fn write_key(key: &Option<Secret>, bytes: &mut Buffer)
+    requires { length bytes.old + 33 ≤ MAX_BUFFER }
+    ensures value { bytes.new ≡ bytes.old ++ key_bytes key.now }
+    ensures long { length bytes.new ≡ length bytes.old + 33 }
+{
+    match key {
+        Some(key) => {
+            bytes.u8(PRESENT);
+            bytes.raw(key);
+        }
+        None => {
+            bytes.u8(ABSENT);
+            bytes.raw(&NO_KEY);
+        }
+    }
+}
+
+// The numbers that are shown, behind a byte that says whether they are.
+fn write_shown(shown: Option<(u64, u64)>, bytes: &mut Buffer)
+    requires { length bytes.old + 17 ≤ MAX_BUFFER }
+    ensures value { bytes.new ≡ bytes.old ++ shown_bytes shown }
+    ensures long { length bytes.new ≡ length bytes.old + 17 }
+{
+    match shown {
+        Some((a, b)) => {
+            bytes.u8(PRESENT);
+            bytes.u64(a);
+            bytes.u64(b);
+        }
+        None => {
+            bytes.u8(ABSENT);
+            bytes.u64(0);
+            bytes.u64(0);
+        }
+    }
+}
+
+// The receipt and its tag that the bytes spell, or the place of the first field that fails.
+fn read_signed(bytes: &[u8]) -> Result<Signed, Malformed>
+    ensures reads { Reads result (signed_of bytes.now) }
+    ensures spelled { IfOk result (λ s. IsSigned s × (bytes.now ≡ signed_bytes s)) }
+{
+    read_fields(bytes)
+}
+
+#[tactic(auto, unfolding(crate::specs::Reading::signed_of))]
+fn read_fields(bytes: &[u8]) -> Result<Signed, Malformed>
+    ensures { Reads result (signed_of bytes.now) }
+{
+    let mut cut = Cut::new(bytes);
+    let place = cut.place();
+    let code = cut.u8()?;
+    allow(is_code(code), place)?;
+    let consumer = cut.u32()?;
+    let merchant = cut.u32()?;
+    let product = cut.u32()?;
+    let price = cut.u64()?;
+    let epoid = cut.fixed16()?;
+    let at = cut.u64()?;
+    let moment = cut.u64()?;
+    let front = Receipt {
+        code,
+        consumer: PartyId(consumer),
+        merchant: PartyId(merchant),
+        product,
+        price: Price(price),
+        epoid: Epoid::read(&epoid),
+        at,
+        moment,
+        key: None,
+        shown: None,
+    };
+    let signed = read_key(front, cut)?;
+    Ok(signed)
+}
+
+// Behind the moment: the key, and what follows it.
+#[tactic(auto, unfolding(crate::specs::Reading::behind_moment))]
+fn read_key(front: Receipt, mut cut: Cut) -> Result<Signed, Malformed>
+    requires { cut.place ≡ 53 }
+    ensures { Reads result (behind_moment front cut.entry.bytes) }
+{
+    let place = cut.place();
+    let has_key = cut.u8()?;
+    allow(has_key == key_flag(front.code), place)?;
+    let place = cut.place();
+    let key = cut.fixed32()?;
+    allow(may_hold(has_key, key == NO_KEY), place)?;
+    let keyed = Receipt {
+        key: (has_key == PRESENT).then_some(key),
+        ..front
+    };
+    let signed = read_shown(keyed, cut)?;
+    Ok(signed)
+}
+
+// Behind the key: the numbers that are shown, and the tag.
+#[tactic(auto, unfolding(crate::specs::Reading::behind_key))]
+fn read_shown(front: Receipt, mut cut: Cut) -> Result<Signed, Malformed>
+    requires { cut.place ≡ 86 }
+    ensures { Reads result (behind_key front cut.entry.bytes) }
+{
+    let place = cut.place();
+    let has_shown = cut.u8()?;
+    allow(may_show(front.code, has_shown), place)?;
+    let place = cut.place();
+    let a = cut.u64()?;
+    allow(may_hold(has_shown, a == 0), place)?;
+    let place = cut.place();
+    let b = cut.u64()?;
+    allow(may_hold(has_shown, b == 0), place)?;
+    let tag = cut.fixed32()?;
+    cut.done()?;
+    let receipt = Receipt {
+        shown: (has_shown == PRESENT).then_some((a, b)),
+        ..front
+    };
+    Ok(Signed { receipt, tag })
+}
+
+// Whether a receipt may have this code.
+fn is_code(code: u8) -> bool
+    ensures { result ≡ is_code code }
+{
+    code == PAID || (FIRST_REFUSED <= code && code <= LAST_REFUSED)
+}
+
+// The byte before the key of a receipt with this code.
+fn key_flag(code: u8) -> u8
+    ensures { result ≡ key_flag code }
+{
+    if code == PAID { PRESENT } else { ABSENT }
+}
+
+// Whether this byte may stand before the numbers that a receipt with this code shows.
+#[tactic(auto, unfolding(crate::specs::Reading::may_show))]
+fn may_show(code: u8, has_shown: u8) -> bool
+    ensures { result ≡ may_show code has_shown }
+{
+    has_shown == ABSENT || (has_shown == PRESENT && code != PAID)
+}
+
+// Whether a field behind this byte may hold what it holds: anything where the field is there, and else zeros.
+#[tactic(auto, unfolding(crate::specs::Reading::may_hold))]
+fn may_hold(has: u8, is_zero: bool) -> bool
+    ensures { result ≡ may_hold has is_zero }
+{
+    has == PRESENT || is_zero
+}
+
+// Whether the value of the field at this place is allowed.
+fn allow(is: bool, place: usize) -> Result<(), Malformed>
+    ensures { Reads result (allowed is place) }
+{
+    if is { Ok(()) } else { Err(Malformed { place }) }
+}
