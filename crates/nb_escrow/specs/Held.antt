@@ -7,6 +7,7 @@ use Rattle.nb_book.specs.declared.entry.Entry.TheVariants.{Enrol, Fund}
 use Rattle.nb_book.specs.Searches.{first_from}
 use Rattle.nb_escrow.specs.declared.decision.Decision.{Decision}
 use Rattle.nb_endorse.specs.declared.reply.Reply.TheVariants.{Done}
+use Rattle.nb_endorse.specs.Keys.{no_keys}
 
 -- a held entry is equal to another, field by field
 abbrev pub same_entry : Entry → Entry → Bool
@@ -24,4 +25,4 @@ place_in H e = first_from (place_at e) 0 H
 
 -- what was asked for stands at this place
 abbrev pub done : AcctId → ℕ → ℕ → Option Entry → Decision
-done acct at balance entry = record { reply = Done acct at balance; entry = entry }
+done acct at balance entry = record { reply = Done acct at balance; keys = no_keys; entry = entry }

@@ -6,6 +6,7 @@ use Rattle.nb_escrow.specs.declared.head.Head.{Head}
 use Rattle.nb_endorse.specs.declared.refusal.Refusal.{Refusal}
 use Rattle.nb_endorse.specs.declared.refusal.TheConstants.{NOT_SERVED}
 use Rattle.nb_endorse.specs.declared.reply.Reply.TheVariants.{Refused}
+use Rattle.nb_endorse.specs.Keys.{no_keys}
 use Rattle.nb_escrow.specs.declared.decision.Decision.{Decision}
 use Rattle.nb_endorse.specs.Refusals.{refusal}
 use Rattle.nb_escrow.specs.Enrolments.{enrol_steps}
@@ -21,7 +22,7 @@ steps H head cap kind body =
 -- a refusal records nothing
 abbrev pub told : Result Decision Refusal → Decision
 told (Ok decision) = decision
-told (Err r) = record { reply = Refused r; entry = None }
+told (Err r) = record { reply = Refused r; keys = no_keys; entry = None }
 
 -- over the entries H, under a head and a cap, on a frame of a kind with a body that came at a moment; no test of
 -- these kinds asks for the moment

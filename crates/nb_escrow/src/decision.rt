@@ -14,7 +14,7 @@ use crate::head::Head;
 use crate::request::{Enrolment, Funding};
 use nb_book::{Book, Entry, MAX_TOTAL};
 use nb_endorse::refusal::{NOT_SERVED, NOT_TOLD, REFERENCE_HELD, WRONG_TAG};
-use nb_endorse::{Refusal, Reply};
+use nb_endorse::{Refusal, Reply, ReplyKeys};
 use nb_seal::{hmac, same};
 use nb_units::frames::{ENROL, FUND};
 use nb_units::{AcctId, PartyId, Tag};
@@ -32,6 +32,8 @@ const TAG: usize = 32;
 #[derive(Clone, Copy, PartialEq, Eq, Debug)]
 pub struct Decision {
     pub reply: Reply,
+    /// What the reply is signed and sealed under. No reply of the kinds that are served today needs a key.
+    pub keys: ReplyKeys,
     pub entry: Option<Entry>,
 }
 
@@ -52,6 +54,7 @@ pub fn decide(book: &Book, head: &Head, kind: u8, body: &[u8], moment: u64) -> D
         Ok(decision) => decision,
         Err(refusal) => Decision {
             reply: Reply::Refused(refusal),
+            keys: ReplyKeys::none(),
             entry: None,
         },
     }
@@ -113,6 +116,7 @@ fn done(acct: AcctId, at: u64, balance: u64, entry: Option<Entry>) -> Decision
 {
     Decision {
         reply: Reply::Done { acct, at, balance },
+        keys: ReplyKeys::none(),
         entry,
     }
 }

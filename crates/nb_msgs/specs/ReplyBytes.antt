@@ -1,17 +1,42 @@
--- The bytes of a reply: its one frame.
-use Rattle.std.specs.Prelude.{ℕ, List, ◌∷◌, ◌++◌}
-use Rattle.nb_units.specs.Fields.{be4, be8}
+-- The bytes of a reply: its one frame. What is for one party alone is sealed under that party's key.
+use Rattle.std.specs.Prelude.{ℕ, List, [], ◌∷◌, ◌++◌, codes, Option, Some, None}
+use Rattle.nb_units.specs.Fields.{be4, be8, sized}
+use Rattle.nb_units.specs.Epoid.{epoid_bytes}
 use Rattle.nb_units.specs.Frames.{Frame, frame}
-use Rattle.nb_units.specs.declared.frames.TheConstants.{FIRST_MAGIC, SECOND_MAGIC, VERSION}
-use Rattle.nb_units.specs.declared.frames.TheConstants.{DONE, REFUSED}
+use Rattle.nb_units.specs.declared.frames.TheConstants.{RESULT, STATUS, DONE, REFUSED}
 use Rattle.nb_units.specs.declared.ids.AcctId.{AcctId}
+use Rattle.nb_units.specs.declared.epoid.Epoid.{Epoid}
+use Rattle.nb_seal.specs.Seal.{seal_of}
+use Rattle.nb_endorse.specs.declared.receipt.Receipt.{Receipt}
 use Rattle.nb_endorse.specs.declared.refusal.Refusal.{Refusal}
 use Rattle.nb_endorse.specs.declared.reply.Reply.{Reply}
-use Rattle.nb_endorse.specs.declared.reply.Reply.TheVariants.{Done, Refused}
+use Rattle.nb_endorse.specs.declared.reply.Reply.TheVariants.{Result, Status, Done, Refused}
+use Rattle.nb_endorse.specs.declared.reply.ReplyKeys.{ReplyKeys}
+use Rattle.nb_endorse.specs.Spelling.{signed_bytes}
+use Rattle.nb_endorse.specs.Tags.{signed}
+use Rattle.nb_msgs.specs.declared.reply.TheConstants.{ABSENT, PRESENT}
 
--- what stands before a body
-abbrev pub header_bytes : ℕ → ℕ → List ℕ
-header_bytes kind len = FIRST_MAGIC ∷ SECOND_MAGIC ∷ VERSION ∷ kind ∷ be4 len
+-- a receipt, signed by the house and sealed for a party
+abbrev pub sealed_receipt : List ℕ → List ℕ → Receipt → List ℕ
+sealed_receipt house key r = seal_of key (codes "rcpt") (signed_bytes (signed house r))
+
+-- the merchant's receipt 167, behind its length | the consumer's 167, behind its length
+abbrev pub result_frame : ReplyKeys → Receipt → Receipt → Frame
+result_frame keys merchant consumer =
+    record { kind = RESULT; body = sized (sealed_receipt keys.house keys.first merchant) ++ sized (sealed_receipt keys.house keys.second consumer) }
+
+-- a receipt behind the byte that says whether there is one, signed by the house: has 1, 0 or 1 | receipt and tag 135, where there is one
+abbrev pub receipt_text : List ℕ → Option Receipt → List ℕ
+receipt_text house None = ABSENT ∷ []
+receipt_text house (Some r) = PRESENT ∷ signed_bytes (signed house r)
+
+-- a status before it is sealed: place 8 | identifier 16 | the receipt, where there is one
+abbrev pub status_bytes : List ℕ → ℕ → Epoid → Option Receipt → List ℕ
+status_bytes house place epoid receipt = be8 place ++ epoid_bytes epoid ++ receipt_text house receipt
+
+-- the whole body is a seal
+abbrev pub status_frame : ReplyKeys → ℕ → Epoid → Option Receipt → Frame
+status_frame keys place epoid receipt = record { kind = STATUS; body = seal_of keys.first (codes "stat") (status_bytes keys.house place epoid receipt) }
 
 -- account 4 | place 8 | balance 8
 abbrev pub done_frame : AcctId → ℕ → ℕ → Frame
@@ -19,13 +44,15 @@ done_frame acct at balance = record { kind = DONE; body = be4 acct.0 ++ be8 at +
 
 -- code 1 | two numbers of 8 | 32 bytes
 abbrev pub refusal_frame : Refusal → Frame
-refusal_frame r = record { kind = REFUSED; body = r.code ∷ (be8 r.a ++ be8 r.b ++ r.x) }
+refusal_frame r = record { kind = REFUSED; body = (r.code ∷ []) ++ be8 r.a ++ be8 r.b ++ r.x }
 
 -- the one frame of a reply
-abbrev pub reply_frame : Reply → Frame
-reply_frame (Done acct at balance) = done_frame acct at balance
-reply_frame (Refused r) = refusal_frame r
+abbrev pub reply_frame : ReplyKeys → Reply → Frame
+reply_frame keys (Result merchant consumer) = result_frame keys merchant consumer
+reply_frame keys (Status place epoid receipt) = status_frame keys place epoid receipt
+reply_frame keys (Done acct at balance) = done_frame acct at balance
+reply_frame keys (Refused r) = refusal_frame r
 
 -- its frame's bytes
-abbrev pub reply_bytes : Reply → List ℕ
-reply_bytes reply = frame (reply_frame reply)
+abbrev pub reply_bytes : ReplyKeys → Reply → List ℕ
+reply_bytes keys reply = frame (reply_frame keys reply)

@@ -1,8 +1,8 @@
 //! The bodies of the protocol's frames, as bytes.
 //!
 //! [`write_reply`] appends the one frame of a reply. Which bytes these are stands in `specs/ReplyBytes.antt`, as a
-//! function of the reply; no reply has more than [`MOST_REPLY`] bytes, and where the room is there before, no memory
-//! is taken.
+//! function of the reply and of the keys that it is signed and sealed under; no reply has more than [`MOST_REPLY`]
+//! bytes. No memory is taken.
 //!
 //! Left to others: what is replied, and the reading of frames.
 #![tactic(auto)]
@@ -10,3 +10,6 @@
 mod reply;
 
 pub use reply::{MOST_REPLY, write_reply};
+
+#[cfg(test)]
+mod tests;

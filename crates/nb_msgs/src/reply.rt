@@ -1,86 +1,128 @@
-ghost use Rattle.std.specs.Prelude.{◌≡◌, ◌≤◌, ◌+◌, ◌++◌, length, vec_capacity};
-ghost use Rattle.nb_units.specs.Frames.{frame};
-ghost use Rattle.nb_units.specs.declared.frames.TheConstants.{HEADER};
+ghost use Rattle.std.specs.Prelude.{◌≡◌, ◌≤◌, ◌++◌, codes, length, vec_capacity};
+ghost use Rattle.nb_seal.specs.Seal.{seal_of};
 ghost use Rattle.nb_units.specs.Room.{spare_of};
-ghost use Rattle.nb_msgs.specs.ReplyBytes.{reply_bytes, header_bytes, done_frame, refusal_frame};
-ghost use Rattle.nb_msgs.specs.declared.reply.TheConstants.{MOST_REPLY, REFUSED_BODY};
+ghost use Rattle.nb_msgs.specs.ReplyBytes.{reply_bytes, result_frame, status_bytes, status_frame, done_frame, refusal_frame};
+ghost use Rattle.nb_msgs.specs.declared.reply.TheConstants.{MOST_BODY, MOST_REPLY, MOST_STATUS};
 
-use nb_endorse::{Refusal, Reply};
-use nb_units::frames::{DONE, FIRST_MAGIC, HEADER, REFUSED, SECOND_MAGIC, VERSION};
-use nb_units::{AcctId, Pen};
+use nb_endorse::{Receipt, Refusal, Reply, ReplyKeys, seal_receipt, sign_receipt};
+use nb_frame::write_frame;
+use nb_seal::seal_to;
+use nb_units::frames::{DONE, REFUSED, RESULT, STATUS};
+use nb_units::{AcctId, Buffer, Epoid, Secret};
 
 /// The room that a reply's frame needs at most.
 pub const MOST_REPLY: usize = 512;
 
-// The bytes of a body that says what was done: an account and two numbers.
-const DONE_BODY: u32 = 20;
+// The most bytes of a reply's body: those of a result, two sealed receipts, each behind its length.
+const MOST_BODY: usize = 342;
 
-// The bytes of a body that refuses: a code, two numbers, and 32 bytes.
-const REFUSED_BODY: u32 = 49;
+// The most bytes of a status, sealed.
+const MOST_STATUS: usize = 192;
 
-/// Appends the frame of a reply.
-pub fn write_reply(reply: &Reply, out: &mut Vec<u8>)
+// The status of an order is sealed under this label.
+const STATUS_LABEL: [u8; 4] = *b"stat";
+
+// Before a receipt that is not there, and before one that is.
+const ABSENT: u8 = 0;
+
+const PRESENT: u8 = 1;
+
+/// Appends the frame of a reply, which needs room for [`MOST_REPLY`] bytes and takes no memory. A result and a status
+/// are signed and sealed under the keys.
+pub fn write_reply(reply: &Reply, keys: &ReplyKeys, out: &mut Vec<u8>)
     requires { MOST_REPLY ≤ spare_of out.old }
-    ensures bytes { out.new.items ≡ out.old.items ++ reply_bytes reply.now }
-    ensures room { vec_capacity out.old ≤ vec_capacity out.new }
+    ensures bytes { out.new.items ≡ out.old.items ++ reply_bytes keys.now reply.now }
+    ensures room { vec_capacity out.new ≡ vec_capacity out.old }
 {
-    match *reply {
-        Reply::Done { acct, at, balance } => write_done(acct, at, balance, out),
-        Reply::Refused(refusal) => write_refusal(refusal, out),
+    match reply {
+        Reply::Result { merchant, consumer } => {
+            write_frame(
+                RESULT,
+                result_body(merchant, consumer, keys).as_slice(),
+                out,
+            );
+        }
+        Reply::Status {
+            place,
+            epoid,
+            receipt,
+        } => {
+            write_frame(
+                STATUS,
+                status_body(*place, epoid, receipt, keys).as_slice(),
+                out,
+            );
+        }
+        Reply::Done { acct, at, balance } => {
+            write_frame(DONE, done_body(*acct, *at, *balance).as_slice(), out);
+        }
+        Reply::Refused(refusal) => write_frame(REFUSED, refusal_body(refusal).as_slice(), out),
     }
 }
 
-// Appends the frame that says what was done.
-fn write_done(acct: AcctId, at: u64, balance: u64, out: &mut Vec<u8>)
-    requires { MOST_REPLY ≤ spare_of out.old }
-    ensures bytes { out.new.items ≡ out.old.items ++ frame (done_frame acct at balance) }
-    ensures room { vec_capacity out.old ≤ vec_capacity out.new }
+// The body that gives each party its receipt, signed by the house and sealed.
+fn result_body(merchant: &Receipt, consumer: &Receipt, keys: &ReplyKeys) -> Buffer
+    ensures bytes { result ≡ (result_frame keys.now merchant.now consumer.now).body }
+    ensures short { length result ≤ MOST_BODY }
 {
-    let mut pen = Pen::over(out);
-    write_header(DONE, DONE_BODY, &mut pen);
-    pen.u32(acct.0);
-    pen.u64(at);
-    pen.u64(balance);
+    let mut body = Buffer::new();
+    body.bytes(&seal_receipt(&sign_receipt(merchant, &keys.house), &keys.first));
+    body.bytes(&seal_receipt(&sign_receipt(consumer, &keys.house), &keys.second));
+    body
 }
 
-// Appends the frame that refuses.
-#[tactic(auto, using(crate::proofs::Writing::refusal_spelled))]
-fn write_refusal(refusal: Refusal, out: &mut Vec<u8>)
-    requires { MOST_REPLY ≤ spare_of out.old }
-    ensures bytes { out.new.items ≡ out.old.items ++ frame (refusal_frame refusal) }
-    ensures room { vec_capacity out.old ≤ vec_capacity out.new }
+// The body that gives the status of an order, sealed for who asked.
+fn status_body(place: u64, epoid: &Epoid, receipt: &Option<Receipt>, keys: &ReplyKeys) -> Buffer
+    ensures bytes { result ≡ (status_frame keys.now place epoid.now receipt.now).body }
+    ensures short { length result ≤ MOST_BODY }
 {
-    let mut pen = Pen::over(out);
-    write_header(REFUSED, REFUSED_BODY, &mut pen);
-    write_shown(refusal, &mut pen);
+    let plain = status_text(place, epoid, receipt, &keys.house);
+    let mut sealed = [0u8; MOST_STATUS];
+    let n = seal_to(&keys.first, &STATUS_LABEL, plain.as_slice(), &mut sealed);
+    let mut body = Buffer::new();
+    body.raw(sealed.split_at(n).0);
+    body
 }
 
-// Appends the body that refuses.
-fn write_shown(refusal: Refusal, pen: &mut Pen<'_>)
-    requires { REFUSED_BODY ≤ spare_of pen.old.out.now }
-    ensures same { pen.new.out.ghost_name ≡ pen.old.out.ghost_name }
-    ensures value { pen.new.out.now.items ≡ pen.old.out.now.items ++ (refusal_frame refusal).body }
-    ensures long { length refusal.x ≡ 32 }
-    ensures spare { spare_of pen.old.out.now ≤ spare_of pen.new.out.now + REFUSED_BODY }
-    ensures room { vec_capacity pen.old.out.now ≤ vec_capacity pen.new.out.now }
+// The bytes of a status before they are sealed.
+fn status_text(place: u64, epoid: &Epoid, receipt: &Option<Receipt>, house: &Secret) -> Buffer
+    ensures bytes { result ≡ status_bytes house.now place epoid.now receipt.now }
+    ensures short { length result ≤ 160 }
 {
-    let x = refusal.x.as_slice();
-    pen.u8(refusal.code);
-    pen.u64(refusal.a);
-    pen.u64(refusal.b);
-    pen.raw(x);
+    let mut text = Buffer::new();
+    text.u64(place);
+    text.raw(&epoid.write());
+    match receipt {
+        None => text.u8(ABSENT),
+        Some(receipt) => {
+            text.u8(PRESENT);
+            text.raw(sign_receipt(receipt, house).spelled().as_slice());
+        }
+    }
+    text
 }
 
-// Appends what stands before a body.
-fn write_header(kind: u8, len: u32, pen: &mut Pen<'_>)
-    requires { HEADER ≤ spare_of pen.old.out.now }
-    ensures same { pen.new.out.ghost_name ≡ pen.old.out.ghost_name }
-    ensures value { pen.new.out.now.items ≡ pen.old.out.now.items ++ header_bytes kind len }
-    ensures spare { spare_of pen.old.out.now ≤ spare_of pen.new.out.now + HEADER }
+// The body that says what was done.
+fn done_body(acct: AcctId, at: u64, balance: u64) -> Buffer
+    ensures bytes { result ≡ (done_frame acct at balance).body }
+    ensures short { length result ≤ MOST_BODY }
 {
-    pen.u8(FIRST_MAGIC);
-    pen.u8(SECOND_MAGIC);
-    pen.u8(VERSION);
-    pen.u8(kind);
-    pen.u32(len);
+    let mut body = Buffer::new();
+    body.u32(acct.0);
+    body.u64(at);
+    body.u64(balance);
+    body
+}
+
+// The body that refuses.
+fn refusal_body(refusal: &Refusal) -> Buffer
+    ensures bytes { result ≡ (refusal_frame refusal.now).body }
+    ensures short { length result ≤ MOST_BODY }
+{
+    let mut body = Buffer::new();
+    body.u8(refusal.code);
+    body.u64(refusal.a);
+    body.u64(refusal.b);
+    body.raw(&refusal.x);
+    body
 }

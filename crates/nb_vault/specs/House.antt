@@ -15,7 +15,7 @@ use Rattle.nb_vault.specs.Turns.{Request, Ruling, refused}
 abbrev pub house_rules : Head → ℕ → List Entry → Request → Ruling
 house_rules head cap entries request =
     record {
-      reply = reply_bytes (verdict entries head cap request.kind request.body request.moment).reply;
+      reply = reply_bytes (verdict entries head cap request.kind request.body request.moment).keys (verdict entries head cap request.kind request.body request.moment).reply;
       entry = (verdict entries head cap request.kind request.body request.moment).entry;
     }
 

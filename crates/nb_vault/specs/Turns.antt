@@ -8,6 +8,7 @@ use Rattle.nb_endorse.specs.declared.refusal.TheConstants.{DISK_FAULT, WORN, NO_
 use Rattle.nb_endorse.specs.declared.reply.Reply.TheVariants.{Refused}
 use Rattle.nb_msgs.specs.ReplyBytes.{reply_bytes}
 use Rattle.nb_endorse.specs.Refusals.{refusal}
+use Rattle.nb_endorse.specs.Keys.{no_keys}
 
 -- what is asked, and when
 pub record Request : Type 0 where
@@ -47,7 +48,7 @@ most_faults = 1000
 
 -- the bytes of a refusal that shows two numbers
 abbrev pub refused : ℕ → ℕ → ℕ → List ℕ
-refused code a b = reply_bytes (Refused (refusal code a b))
+refused code a b = reply_bytes no_keys (Refused (refusal code a b))
 
 -- what a verdict is taken over: the entries, with or without those that were in doubt
 abbrev pub Settles : State → List Entry → Type 0

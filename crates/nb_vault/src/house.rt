@@ -1,14 +1,15 @@
-ghost use Rattle.std.specs.Prelude.{◌≡◌, ◌≤◌, [], IfOk, vec_capacity};
+ghost use Rattle.std.specs.Prelude.{◌≡◌, ◌<◌, ◌≤◌, ◌++◌, [], length, IfOk, IfSome, IsSome, vec_capacity};
+ghost use Rattle.std.specs.Option.{option_to_list};
 ghost use Rattle.nb_book.specs.declared.limits.TheConstants.{MAX_CAP};
 ghost use Rattle.nb_units.specs.Room.{spare_of};
 ghost use Rattle.nb_msgs.specs.declared.reply.TheConstants.{MOST_REPLY};
-ghost use Rattle.nb_book.specs.Legal.{Legal};
-ghost use Rattle.nb_vault.specs.House.{Answers};
+ghost use Rattle.nb_book.specs.Legal.{Legal, LegalAfter};
+ghost use Rattle.nb_vault.specs.House.{Answers, SameHouse};
 
 use crate::opening::Opened;
-use nb_book::Book;
+use nb_book::{Book, Entry};
 use nb_endorse::refusal::NO_MEMORY;
-use nb_endorse::{Refusal, Reply};
+use nb_endorse::{Refusal, Reply, ReplyKeys};
 use nb_escrow::{Head, decide};
 use nb_msgs::write_reply;
 use nb_units::NoMemory;
@@ -54,14 +55,28 @@ impl House {
     {
         let at = u64::from(self.book.len());
         if self.book.reserve(1).is_err() {
-            write_reply(&Reply::Refused(Refusal::of(NO_MEMORY, 0, 0)), out);
+            let refusal = Refusal::of(NO_MEMORY, 0, 0);
+            write_reply(&Reply::Refused(refusal), &ReplyKeys::none(), out);
             return Answer::NoMemory;
         }
         let decision = decide(&self.book, &self.head, kind, body, moment);
-        if let Some(entry) = decision.entry {
-            self.book.apply(&entry);
-        }
-        write_reply(&decision.reply, out);
+        self.record(&decision.entry);
+        write_reply(&decision.reply, &decision.keys, out);
         Answer::Answered { at }
+    }
+
+    // Records the entry, where there is one.
+    fn record(&mut self, entry: &Option<Entry>)
+        requires held { Legal self.old.book.entries }
+        requires legal { IfSome entry.now (LegalAfter self.old.book.entries) }
+        requires room { IsSome entry.now → length self.old.book.entries < self.old.book.cap }
+        requires spare { 1 ≤ self.old.book.spare }
+        ensures same { SameHouse self.old self.new }
+        ensures entries { self.new.book.entries ≡ self.old.book.entries ++ option_to_list entry.now }
+        ensures legal { Legal self.new.book.entries }
+    {
+        if let Some(entry) = entry {
+            self.book.apply(entry);
+        }
     }
 }
