@@ -1,30 +1,79 @@
 -- Single balances over a Legal list.
-use Rattle.std.proofs.Common.{◌≡◌, ℕ, ◌+◌, ◌≤◌, List, [], ◌∷◌, ◌++◌, arith, refl}
-use Rattle.std.specs.List.{count_by}
+use Rattle.std.proofs.Common.{◌≡◌, ℕ, zero, suc, ◌+◌, ◌<◌, ◌≤◌, ◌^◌, Bool, true, false, cond, List, [], ◌∷◌, take, get_or, length, arith, refl, ap, subst}
+use Rattle.std.proofs.lemmas.Bool.{eqb-true}
+use Rattle.std.proofs.lemmas.List.{take_more}
+use Rattle.std.proofs.lemmas.List.Sums.{sum_by-cons}
+use Rattle.std.specs.Prelude.{◌==◌}
+use Rattle.std.specs.List.{sum_by, count_by}
 use Rattle.std.specs.Option.{IsNone}
-use Rattle.std.proofs.lemmas.List.Sums.{sum_by_push, sum_by-le-sum_by}
 use Rattle.nb_units.specs.declared.ids.AcctId.{AcctId}
 use Rattle.nb_book.specs.declared.entry.Entry.{Entry}
-use Rattle.nb_book.specs.declared.entry.Entry.TheVariants.{Enrol, Fund}
+use Rattle.nb_book.specs.declared.entry.Entry.TheVariants.{Enrol, Fund, Paid, Refused}
+use Rattle.nb_book.specs.declared.limits.TheConstants.{MAX_TOTAL}
 use Rattle.nb_book.specs.Searches.{holder_at, holder_in}
-use Rattle.nb_book.specs.Money.{credit, debit, fund, balance, total}
+use Rattle.nb_book.specs.Money.{credit, debit, balance, total, accounts}
 use Rattle.nb_book.specs.Legal.{LegalAfter, Legal}
 use Rattle.nb_book.specs.Laws.{opens}
+use Rattle.nb_book.proofs.Growing.{front_legal}
 use Rattle.nb_book.proofs.Counting.{count_by-none, tests_holder}
-use Rattle.nb_book.proofs.Summing.{no_debits, balance-push, credits-none, credit-le-fund}
-
--- no account has more than the house took in
-pub balance_le_total : (H : List Entry) (a : AcctId) → balance H a ≤ total H
-balance_le_total H a = omega (arith, sum_by-le-sum_by (credit a) fund H (credit-le-fund a))
+use Rattle.nb_book.proofs.Summing.{balance_after, balances_make_total, credits-none, debit-le-balance, total_fits}
 
 -- an account that nobody holds has nothing
 pub balance-none : (H : List Entry) → Legal H → (a : AcctId) → IsNone (holder_in H a) → balance H a ≡ 0
 balance-none H legal a none = omega (arith, credits-none H legal a (count_by-none (opens a) (holder_at a) (tests_holder a) H none))
 
--- one more entry adds what it brings and takes what it takes
-pub balance_after : (H : List Entry) (e : Entry) → Legal H → LegalAfter H e → (a : AcctId) → balance (H ++ e ∷ []) a + debit a e ≡ balance H a + credit a e
-balance_after H e legal next a = omega (arith, balance-push H e a, no_debit e)
-  where
-    no_debit : (e : Entry) → debit a e ≡ 0
-    no_debit (Enrol who role acct nonce key) = refl
-    no_debit (Fund acct amount reference) = refl
+abbrev one_if : Bool → ℕ
+one_if b = cond b 1 0
+
+-- what is counted for an opened account is part of the sum over all
+part_of_sum : (f : AcctId → ℕ) (a : AcctId) (H : List Entry) → 1 ≤ count_by (opens a) H → f a ≤ sum_by f (accounts H)
+part_of_sum f a [] some = absurd (omega arith)
+part_of_sum f a (Enrol who role acct nonce key ∷ es) some = rw (sum_by-cons f acct (accounts es)) (here (acct.0 == a.0) refl (λ some. part_of_sum f a es some)) where
+  here : (b : Bool) → (acct.0 == a.0) ≡ b → (1 ≤ count_by (opens a) es → f a ≤ sum_by f (accounts es)) → f a ≤ f acct + sum_by f (accounts es)
+  here true same rest = subst (λ (n : ℕ). f (record { 0 = n }) ≤ f acct + sum_by f (accounts es)) (eqb-true acct.0 a.0 same) (omega arith)
+  here false other rest =
+      let behind : 1 ≤ count_by (opens a) es = omega (arith, some, sum_by-cons (λ x. cond (opens a x) 1 0) (Enrol who role acct nonce key) es, ap one_if other) in
+      omega (arith, rest behind)
+part_of_sum f a (Fund acct amount reference ∷ es) some =
+    part_of_sum f a es (omega (arith, sum_by-cons (λ x. cond (opens a x) 1 0) (Fund acct amount reference) es))
+part_of_sum f a (Paid digest epoid consumer merchant product price cacct macct moment key ∷ es) some =
+    part_of_sum f a es (omega (arith, sum_by-cons (λ x. cond (opens a x) 1 0) (Paid digest epoid consumer merchant product price cacct macct moment key) es))
+part_of_sum f a (Refused digest epoid consumer merchant product price code x y moment ∷ es) some =
+    part_of_sum f a es (omega (arith, sum_by-cons (λ z. cond (opens a z) 1 0) (Refused digest epoid consumer merchant product price code x y moment) es))
+
+-- no account has more than the house took in
+pub balance_le_total : (H : List Entry) → Legal H → (a : AcctId) → balance H a ≤ total H
+balance_le_total H legal a = held (count_by (opens a) H) refl where
+  held : (n : ℕ) → count_by (opens a) H ≡ n → balance H a ≤ total H
+  held zero none = omega (arith, credits-none H legal a none)
+  held (suc n) some = omega (arith, part_of_sum (balance H) a H (omega arith), balances_make_total H legal)
+
+-- a legal entry brings an account at most the most that the house takes in, or the highest price
+credit-fits : (H : List Entry) (e : Entry) → LegalAfter H e → (a : AcctId) → credit a e ≤ MAX_TOTAL
+credit-fits H (Fund acct amount reference) next a = part (acct.0 == a.0) where
+  part : (b : Bool) → cond b amount 0 ≤ MAX_TOTAL
+  part true = omega (arith, next.2)
+  part false = omega arith
+credit-fits H (Paid digest epoid consumer merchant product price cacct macct moment key) next a = part (macct.0 == a.0) where
+  part : (b : Bool) → cond b price.0 0 ≤ MAX_TOTAL
+  part true = omega (arith, next.3.1)
+  part false = omega arith
+credit-fits H other next a = omega arith
+
+-- ---- a balance entry by entry
+
+-- what an entry brings still fits 8 bytes
+pub brought_fits : (H : List Entry) → Legal H → (i : ℕ) (d : Entry) (a : AcctId) (brought : ℕ) → i < length H → brought ≡ credit a (get_or H i d) → balance (take i H) a + brought < 2 ^ 64
+brought_fits H legal i d a brought inside is =
+    let before : Legal (take i H) = front_legal H i legal in
+    omega (arith, credit-fits (take i H) (get_or H i d) (legal.each i inside d) a, balance_le_total (take i H) before a, total_fits (take i H) before)
+
+-- what it takes is there
+pub taken-le-balance : (H : List Entry) → Legal H → (i : ℕ) (d : Entry) (a : AcctId) (taken : ℕ) → i < length H → taken ≡ debit a (get_or H i d) → taken ≤ balance (take i H) a
+taken-le-balance H legal i d a taken inside is = omega (arith, debit-le-balance (take i H) (get_or H i d) (legal.each i inside d) a)
+
+-- and this is left
+pub balance-more : (H : List Entry) → Legal H → (i : ℕ) (d : Entry) (a : AcctId) (brought taken : ℕ) → i < length H → brought ≡ credit a (get_or H i d) → taken ≡ debit a (get_or H i d)
+    → balance (take i H) a + brought ≡ balance (take (i + 1) H) a + taken
+balance-more H legal i d a brought taken inside brings takes =
+    rw (take_more H i d inside) (omega (arith, balance_after (take i H) (get_or H i d) (front_legal H i legal) (legal.each i inside d) a))

@@ -1,18 +1,20 @@
 -- How many entries answer a look-up.
-use Rattle.std.proofs.Common.{◌≡◌, ℕ, ◌+◌, ◌≤◌, Bool, true, false, cond, ltb, ◌||◌, List, [], ◌∷◌, ◌++◌, Option, Some, None, arith, refl, sym, ◌∙◌, subst}
+use Rattle.std.proofs.Common.{◌≡◌, ℕ, ◌+◌, ◌≤◌, Bool, true, false, cond, ltb, ◌||◌, List, [], ◌∷◌, ◌++◌, Option, Some, None, arith, refl, ap, sym, ◌∙◌, subst, eq-eqb, ◌&&◌}
 use Rattle.std.proofs.lemmas.List.Sums.{sum_by-cons, sum_by_push}
-use Rattle.std.proofs.lemmas.Bool.{eqb-true, ltb-true, ltb-false}
+use Rattle.std.proofs.lemmas.Bool.{eqb-true, ltb-true, ltb-false, and_parts}
 use Rattle.std.proofs.lemmas.Bool.Decides.{nat_tests}
+use Rattle.std.proofs.lemmas.Option.{same_Some}
 use Rattle.std.proofs.lemmas.Slice.Eq.{bytes_eq-Decides}
 use Rattle.std.specs.Prelude.{◌==◌}
 use Rattle.std.specs.List.{count_by}
-use Rattle.std.specs.Option.{is_some, option_or, IsSome, IsNone}
+use Rattle.std.specs.Option.{is_some, option_or, option_map, IsSome, IsNone}
 use Rattle.std.specs.Str.{bytes_eq}
 use Rattle.nb_units.specs.declared.ids.PartyId.{PartyId}
 use Rattle.nb_units.specs.declared.ids.AcctId.{AcctId}
+use Rattle.nb_units.specs.declared.epoid.Epoid.{Epoid}
 use Rattle.nb_book.specs.declared.entry.Entry.{Entry}
-use Rattle.nb_book.specs.declared.entry.Entry.TheVariants.{Enrol, Fund}
-use Rattle.nb_book.specs.Searches.{first_from, party_at, party_in, holder_at, holder_in, funded_at, funded_in}
+use Rattle.nb_book.specs.declared.entry.Entry.TheVariants.{Enrol, Fund, Paid, Refused}
+use Rattle.nb_book.specs.Searches.{first_from, party_at, party_in, holder_at, holder_in, funded_at, funded_in, same_epoid, settles, order_at, order_in, account_of}
 use Rattle.nb_book.specs.Legal.{LegalAfter, Legal}
 use Rattle.nb_book.specs.Laws.{enrols, opens, cites}
 use Rattle.nb_book.proofs.Growing.{along}
@@ -65,15 +67,31 @@ tested false x = refl
 
 pub tests_party : (id : PartyId) → Tests (enrols id) (party_at id)
 tests_party id at (Enrol who role acct nonce key) = tested (who.0 == id.0) _
-tests_party id at (Fund acct amount reference) = refl
+tests_party id at other = refl
 
 pub tests_holder : (a : AcctId) → Tests (opens a) (holder_at a)
 tests_holder a at (Enrol who role acct nonce key) = tested (acct.0 == a.0) _
-tests_holder a at (Fund acct amount reference) = refl
+tests_holder a at other = refl
 
 pub tests_funded : (r : List ℕ) → Tests (cites r) (funded_at r)
-tests_funded r at (Enrol who role acct nonce key) = refl
 tests_funded r at (Fund acct amount reference) = tested (bytes_eq reference r) _
+tests_funded r at other = refl
+
+pub tests_order : (p : Epoid) → Tests (settles p) (order_at p)
+tests_order p at e = tested (settles p e) _
+
+-- the identifier of these parts
+abbrev made : ℕ → ℕ → ℕ → Epoid
+made merchant moment serial = record { merchant = record { 0 = merchant }; moment = moment; serial = serial }
+
+-- identifiers that are the same part by part are one
+same_epoid-true : (p q : Epoid) → same_epoid p q ≡ true → p ≡ q
+same_epoid-true p q same =
+    let parts = and_parts (p.merchant.0 == q.merchant.0 && p.moment == q.moment) (p.serial == q.serial) same in
+    let front = and_parts (p.merchant.0 == q.merchant.0) (p.moment == q.moment) parts.0 in
+    ap (λ (m : ℕ). made m p.moment p.serial) (eqb-true p.merchant.0 q.merchant.0 front.0)
+    ∙ ap (λ (t : ℕ). made q.merchant.0 t p.serial) (eqb-true p.moment q.moment front.1)
+    ∙ ap (λ (n : ℕ). made q.merchant.0 q.moment n) (eqb-true p.serial q.serial parts.1)
 
 pub enrolled_once : (H : List Entry) → Legal H → (id : PartyId) → count_by (enrols id) H ≤ 1
 enrolled_once = along (λ H. (id : PartyId) → count_by (enrols id) H ≤ 1) (λ id. omega arith) more where
@@ -82,7 +100,7 @@ enrolled_once = along (λ H. (id : PartyId) → count_by (enrols id) H ≤ 1) (�
     new : (e : Entry) → LegalAfter H e → enrols id e ≡ true → IsNone (party_in H id)
     new (Enrol who role acct nonce key) next names =
         subst (λ (n : ℕ). IsNone (party_in H (record { 0 = n }))) (eqb-true who.0 id.0 names) next.3
-    new (Fund acct amount reference) next names = cc
+    new other next names = cc
 
 pub opened_once : (H : List Entry) → Legal H → (a : AcctId) → count_by (opens a) H ≤ 1
 opened_once = along (λ H. (a : AcctId) → count_by (opens a) H ≤ 1) (λ a. omega arith) more where
@@ -91,13 +109,46 @@ opened_once = along (λ H. (a : AcctId) → count_by (opens a) H ≤ 1) (λ a. o
     new : (e : Entry) → LegalAfter H e → opens a e ≡ true → IsNone (holder_in H a)
     new (Enrol who role acct nonce key) next names =
         subst (λ (n : ℕ). IsNone (holder_in H (record { 0 = n }))) (eqb-true acct.0 a.0 names) next.4
-    new (Fund acct amount reference) next names = cc
+    new other next names = cc
 
 pub funded_once : (H : List Entry) → Legal H → (r : List ℕ) → count_by (cites r) H ≤ 1
 funded_once = along (λ H. (r : List ℕ) → count_by (cites r) H ≤ 1) (λ r. omega arith) more where
   more : (H : List Entry) (e : Entry) → Legal H → LegalAfter H e → ((r : List ℕ) → count_by (cites r) H ≤ 1) → (r : List ℕ) → count_by (cites r) (H ++ e ∷ []) ≤ 1
   more H e legal next once r = once_more (cites r) (funded_at r) (tests_funded r) H e (new e next) (once r) where
     new : (e : Entry) → LegalAfter H e → cites r e ≡ true → IsNone (funded_in H r)
-    new (Enrol who role acct nonce key) next names = cc
     new (Fund acct amount reference) next names =
         subst (λ (q : List ℕ). IsNone (funded_in H q)) ((bytes_eq-Decides reference r).0 names) next.3
+    new other next names = cc
+
+pub settled_once : (H : List Entry) → Legal H → (p : Epoid) → count_by (settles p) H ≤ 1
+settled_once = along (λ H. (p : Epoid) → count_by (settles p) H ≤ 1) (λ p. omega arith) more where
+  more : (H : List Entry) (e : Entry) → Legal H → LegalAfter H e → ((p : Epoid) → count_by (settles p) H ≤ 1) → (p : Epoid) → count_by (settles p) (H ++ e ∷ []) ≤ 1
+  more H e legal next once p = once_more (settles p) (order_at p) (tests_order p) H e (new e next) (once p) where
+    new : (e : Entry) → LegalAfter H e → settles p e ≡ true → IsNone (order_in H p)
+    new (Paid digest epoid consumer merchant product price cacct macct moment key) next names =
+        subst (λ (q : Epoid). IsNone (order_in H q)) (same_epoid-true epoid p names) next.0.0
+    new (Refused digest epoid consumer merchant product price code a b moment) next names =
+        subst (λ (q : Epoid). IsNone (order_in H q)) (same_epoid-true epoid p names) next.0.0
+    new other next names = cc
+
+-- the account of a party that is enrolled was opened
+pub opened-account_of : (H : List Entry) (id : PartyId) (a : AcctId) → account_of H id ≡ Some a → 1 ≤ count_by (opens a) H
+opened-account_of H id a = from 0 H where
+  from : (at : ℕ) (es : List Entry) → option_map (λ party. party.acct) (first_from (party_at id) at es) ≡ Some a → 1 ≤ count_by (opens a) es
+  from at [] is = absurd cc
+  from at (Enrol who role acct nonce key ∷ es) is =
+      rw (sum_by-cons (λ x. cond (opens a x) 1 0) (Enrol who role acct nonce key) es) (part (who.0 == id.0) (λ is. from (at + 1) es is) is)
+    where
+      part : (b : Bool) → (option_map (λ party. party.acct) (first_from (party_at id) (at + 1) es) ≡ Some a → 1 ≤ count_by (opens a) es)
+          → option_map (λ party. party.acct) (option_or (cond b (Some (record { at = at; role = role; acct = acct; nonce = nonce; key = key })) None) (first_from (party_at id) (at + 1) es)) ≡ Some a
+          → 1 ≤ cond (acct.0 == a.0) 1 0 + count_by (opens a) es
+      part true rest is =
+          let same : acct ≡ a = same_Some acct a is in
+          let opens_it : (acct.0 == a.0) ≡ true = eq-eqb acct.0 a.0 (ap (λ (x : AcctId). x.0) same) in
+          rw opens_it (omega arith)
+      part false rest is = omega (arith, rest is)
+  from at (Fund acct amount reference ∷ es) is = omega (arith, sum_by-cons (λ x. cond (opens a x) 1 0) (Fund acct amount reference) es, from (at + 1) es is)
+  from at (Paid digest epoid consumer merchant product price cacct macct moment key ∷ es) is =
+      omega (arith, sum_by-cons (λ x. cond (opens a x) 1 0) (Paid digest epoid consumer merchant product price cacct macct moment key) es, from (at + 1) es is)
+  from at (Refused digest epoid consumer merchant product price code x y moment ∷ es) is =
+      omega (arith, sum_by-cons (λ z. cond (opens a z) 1 0) (Refused digest epoid consumer merchant product price code x y moment) es, from (at + 1) es is)

@@ -4,17 +4,27 @@ use Rattle.std.specs.List.{sum_by, count_by}
 use Rattle.std.specs.Str.{bytes_eq}
 use Rattle.nb_units.specs.declared.ids.PartyId.{PartyId}
 use Rattle.nb_units.specs.declared.ids.AcctId.{AcctId}
+use Rattle.nb_units.specs.declared.epoid.Epoid.{Epoid}
 use Rattle.nb_book.specs.declared.entry.Entry.{Entry}
 use Rattle.nb_book.specs.declared.entry.Entry.TheVariants.{Enrol, Fund}
 use Rattle.nb_book.specs.declared.entry.TheConstants.{CONSUMER, MERCHANT}
-use Rattle.nb_book.specs.declared.limits.TheConstants.{MAX_CAP, MAX_TOTAL}
-use Rattle.nb_book.specs.Searches.{holder_in}
+use Rattle.nb_book.specs.declared.limits.TheConstants.{MAX_CAP, MAX_TOTAL, MAX_PRICE, MAX_AGE, MAX_AHEAD}
+use Rattle.nb_book.specs.declared.reason.TheConstants.{CONSUMER_ACCOUNT, MERCHANT_ACCOUNT, PRICE_RANGE, TOO_OLD, TOO_EARLY, BALANCE_LOW, CONSUMER_NONCE}
+use Rattle.nb_book.specs.Searches.{holder_in, settles}
 use Rattle.nb_book.specs.Money.{credit, debit, credits, debits, balance, total, accounts}
 use Rattle.nb_book.specs.Legal.{LegalAfter, Legal}
 
 -- the limits and roles in numbers
 abbrev pub LimitsAre : Type 0
-LimitsAre = (MAX_CAP ≡ 1000000) × (MAX_TOTAL ≡ 1000000000000000000) × (CONSUMER ≡ 1) × (MERCHANT ≡ 2)
+LimitsAre =
+    (MAX_CAP ≡ 1000000) × (MAX_TOTAL ≡ 1000000000000000000) × (MAX_PRICE ≡ 1000000000) × (MAX_AGE ≡ 900) × (MAX_AHEAD ≡ 300)
+    × (CONSUMER ≡ 1) × (MERCHANT ≡ 2)
+
+-- the codes of refused orders in numbers
+abbrev pub ReasonsAre : Type 0
+ReasonsAre =
+    (CONSUMER_ACCOUNT ≡ 31) × (MERCHANT_ACCOUNT ≡ 32) × (PRICE_RANGE ≡ 33) × (TOO_OLD ≡ 34) × (TOO_EARLY ≡ 35) × (BALANCE_LOW ≡ 36)
+    × (CONSUMER_NONCE ≡ 37)
 
 -- what was taken from an account is at most what came into it
 abbrev pub NoneOverdrawn : Type 0
@@ -23,6 +33,10 @@ NoneOverdrawn = (H : List Entry) → Legal H → (a : AcctId) → debits H a ≤
 -- the balances of all accounts that were opened sum to the total
 abbrev pub BalancesMakeTotal : Type 0
 BalancesMakeTotal = (H : List Entry) → Legal H → sum_by (balance H) (accounts H) ≡ total H
+
+-- no account has more than the house took in
+abbrev pub BalancesFit : Type 0
+BalancesFit = (H : List Entry) → Legal H → (a : AcctId) → balance H a ≤ total H
 
 -- the total is at most 10^18
 abbrev pub TotalFits : Type 0
@@ -44,17 +58,17 @@ StaysLegal = (H : List Entry) (e : Entry) → Legal H → LegalAfter H e → Leg
 -- the entry enrols this party
 abbrev pub enrols : PartyId → Entry → Bool
 enrols id (Enrol who role acct nonce key) = who.0 == id.0
-enrols id (Fund acct amount reference) = false
+enrols id other = false
 
 -- the entry opens this account
 abbrev pub opens : AcctId → Entry → Bool
 opens a (Enrol who role acct nonce key) = acct.0 == a.0
-opens a (Fund acct amount reference) = false
+opens a other = false
 
 -- the entry is a fund under this reference
 abbrev pub cites : List ℕ → Entry → Bool
-cites r (Enrol who role acct nonce key) = false
 cites r (Fund acct amount reference) = bytes_eq reference r
+cites r other = false
 
 -- at most one entry enrols a party
 abbrev pub EnrolledOnce : Type 0
@@ -67,3 +81,7 @@ OpenedOnce = (H : List Entry) → Legal H → (a : AcctId) → count_by (opens a
 -- at most one fund has a reference
 abbrev pub FundedOnce : Type 0
 FundedOnce = (H : List Entry) → Legal H → (r : List ℕ) → count_by (cites r) H ≤ 1
+
+-- at most one entry pays or refuses the order of an identifier
+abbrev pub SettledOnce : Type 0
+SettledOnce = (H : List Entry) → Legal H → (p : Epoid) → count_by (settles p) H ≤ 1

@@ -1,4 +1,5 @@
--- What a `Book` is seen as: its entries, how many it may hold, and how many can be applied without taking memory.
+-- What a `Book` is seen as: its entries, how many it may hold, how many can be applied without taking memory, and how
+-- many the memory that it took has places for.
 use Rattle.std.specs.Prelude.{ℕ, List}
 use Rattle.nb_book.specs.declared.entry.Entry.{Entry}
 
@@ -6,3 +7,4 @@ pub record Ledger : Type 0 where
   pub entries : List Entry
   pub cap : ℕ
   pub spare : ℕ
+  pub places : ℕ

@@ -2,26 +2,28 @@
 use Rattle.std.specs.Prelude.{ℕ, ◌-◌, ◌==◌, List, Option, Some, None, if◌then◌else◌}
 use Rattle.std.specs.List.{sum_by, filter_map}
 use Rattle.std.specs.Option.{option_map}
+use Rattle.nb_units.specs.declared.ids.PartyId.{PartyId}
 use Rattle.nb_units.specs.declared.ids.AcctId.{AcctId}
 use Rattle.nb_book.specs.declared.entry.Entry.{Entry}
-use Rattle.nb_book.specs.declared.entry.Entry.TheVariants.{Enrol, Fund}
+use Rattle.nb_book.specs.declared.entry.Entry.TheVariants.{Enrol, Fund, Paid}
 use Rattle.nb_book.specs.declared.account.Account.{Account}
-use Rattle.nb_book.specs.Searches.{holder_in}
+use Rattle.nb_book.specs.Searches.{holder_in, account_of}
 
--- what an entry brings into this account
+-- what an entry brings into this account: a fund its amount, a payment its price to the merchant's account
 abbrev pub credit : AcctId → Entry → ℕ
-credit a (Enrol who role acct nonce key) = 0
 credit a (Fund acct amount reference) = if acct.0 == a.0 then amount else 0
+credit a (Paid digest epoid consumer merchant product price cacct macct moment key) = if macct.0 == a.0 then price.0 else 0
+credit a other = 0
 
--- what an entry takes from this account
+-- what an entry takes from this account: a payment its price from the consumer's account
 abbrev pub debit : AcctId → Entry → ℕ
-debit a (Enrol who role acct nonce key) = 0
-debit a (Fund acct amount reference) = 0
+debit a (Paid digest epoid consumer merchant product price cacct macct moment key) = if cacct.0 == a.0 then price.0 else 0
+debit a other = 0
 
--- what an entry brings into the house
+-- what an entry brings into the house: a fund alone brings something
 abbrev pub fund : Entry → ℕ
-fund (Enrol who role acct nonce key) = 0
 fund (Fund acct amount reference) = amount
+fund other = 0
 
 -- all that came into this account
 abbrev pub credits : List Entry → AcctId → ℕ
@@ -31,9 +33,13 @@ credits H a = sum_by (credit a) H
 abbrev pub debits : List Entry → AcctId → ℕ
 debits H a = sum_by (debit a) H
 
--- what is in this account
+-- what is in this account. In a Legal list no more was taken than came in, so the difference is never cut off at 0
 abbrev pub balance : List Entry → AcctId → ℕ
 balance H a = credits H a - debits H a
+
+-- what is in the account of this party, if it is enrolled
+abbrev pub balance_of : List Entry → PartyId → Option ℕ
+balance_of H id = option_map (balance H) (account_of H id)
 
 -- all that came into the house
 abbrev pub total : List Entry → ℕ
@@ -46,7 +52,7 @@ account_in H a = option_map (λ who. record { party = who; balance = balance H a
 -- the account that an entry opens
 abbrev pub opened : Entry → Option AcctId
 opened (Enrol who role acct nonce key) = Some acct
-opened (Fund acct amount reference) = None
+opened other = None
 
 -- the accounts that the entries open
 abbrev pub accounts : List Entry → List AcctId

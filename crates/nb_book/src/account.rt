@@ -1,6 +1,7 @@
-ghost use Rattle.std.specs.Prelude.{◌≡◌, ◌<◌, ◌≤◌, ◌^◌, IfSome};
+ghost use Rattle.std.specs.Prelude.{◌≡◌, ◌≤◌, IfSome};
 ghost use Rattle.nb_book.specs.Searches.{holder_in};
-ghost use Rattle.nb_book.specs.Money.{credits, balance, total, account_in};
+ghost use Rattle.nb_book.specs.Money.{balance, total, account_in};
+ghost use Rattle.nb_book.specs.Legal.{Legal};
 
 use crate::entry::Entry;
 use nb_units::{AcctId, PartyId};
@@ -15,7 +16,7 @@ pub struct Account {
 impl Account {
     // The account of this number with its balance, if a party holds it.
     pub(crate) fn first_in(entries: &[Entry], id: AcctId) -> Option<Account>
-        requires { credits entries.now id < 2 ^ 64 }
+        requires { Legal entries.now }
         ensures found { result ≡ account_in entries.now id }
         ensures within { IfSome result (λ account. account.balance ≤ total entries.now) }
     {
@@ -41,17 +42,13 @@ impl Account {
     }
 
     // What is in the account of this number.
-    fn balance_in(entries: &[Entry], id: AcctId) -> u64
-        requires { credits entries.now id < 2 ^ 64 }
+    pub(crate) fn balance_in(entries: &[Entry], id: AcctId) -> u64
+        requires { Legal entries.now }
         ensures { result ≡ balance entries.now id }
     {
         let mut sum = 0;
         for entry in entries {
-            if let Entry::Fund { acct, amount, .. } = *entry
-                && acct == id
-            {
-                sum += amount;
-            }
+            sum = sum + entry.credit(id) - entry.debit(id);
         }
         sum
     }

@@ -1,15 +1,16 @@
 ghost use Rattle.std.specs.Prelude.{◌≡◌, ◌≤◌, ◌<◌, ◌+◌, ◌↔◌, [], ◌∷◌, ◌++◌, length, IsTrue, IsOk, IfOk, IfSome, OnOk, OnErr};
 ghost use Rattle.nb_book.specs.declared.limits.TheConstants.{MAX_CAP, MAX_TOTAL};
-ghost use Rattle.nb_book.specs.Searches.{party_in, funded_in};
+ghost use Rattle.nb_book.specs.Searches.{party_in, funded_in, order_in};
 ghost use Rattle.nb_book.specs.Money.{account_in, total};
 ghost use Rattle.nb_book.specs.Legal.{LegalAfter, Legal};
 
 use crate::account::Account;
 use crate::entry::Entry;
 use crate::funded::Funded;
+use crate::kept::Kept;
 use crate::limits::{MAX_CAP, MAX_TOTAL};
 use crate::party::Party;
-use nb_units::{AcctId, NoMemory, PartyId};
+use nb_units::{AcctId, Epoid, NoMemory, PartyId};
 use std::alloc::Global;
 use std::marker::Model;
 
@@ -30,7 +31,7 @@ impl Model for Book {
 
     ghost Value = { Ledger };
 
-    ghost view = { λ b. record { entries = b.entries.items; cap = b.cap; spare = b.spare } };
+    ghost view = { λ b. record { entries = b.entries.items; cap = b.cap; spare = b.spare; places = vec_capacity b.entries } };
 
     ghost invariant = { λ b. record {
       within : vec_len b.entries ≤ b.cap;
@@ -44,7 +45,8 @@ impl Model for Book {
 
 #[tactic(auto, using(crate::proofs::Summing::total_fits))]
 impl Book {
-    /// An empty book for at most `cap` entries. The key is for the index of a book that keeps one, against
+    /// An empty book for at most `cap` entries, from 1 to [`MAX_CAP`], with spare 0. Answers [`NoMemory`] where there is none
+    /// for it. The key is for the index of a book that keeps one, against
     /// chosen identifiers; this book keeps none and does not use it.
     pub fn new(alloc: Global, cap: u32, _key: &[u8; 16]) -> Result<Book, NoMemory>
         requires some { 1 ≤ cap }
@@ -85,6 +87,14 @@ impl Book {
         Funded::first_in(self.entries.as_slice(), r)
     }
 
+    /// The payment or refusal of the order of this identifier, if there is one.
+    pub fn order(&self, epoid: &Epoid) -> Option<Kept>
+        ensures found { result ≡ order_in self.now.entries epoid.now }
+        ensures legal { Legal self.now.entries }
+    {
+        Kept::first_in(self.entries.as_slice(), epoid)
+    }
+
     /// How many entries are held.
     pub fn len(&self) -> u32
         ensures len { result ≡ length self.now.entries }
@@ -112,7 +122,7 @@ impl Book {
         Entry::total_of(self.entries.as_slice())
     }
 
-    /// Whether the entry may come next.
+    /// Whether the entry may come next, by what the entries say: whether the cap is reached is not tested.
     pub fn legal(&self, e: &Entry) -> bool
         ensures { IsTrue result ↔ LegalAfter self.now.entries e.now }
     {
@@ -144,123 +154,9 @@ impl Book {
         ensures entries { self.new.entries ≡ self.old.entries ++ e.now ∷ [] }
         ensures cap { self.new.cap ≡ self.old.cap }
         ensures spare { self.new.spare + 1 ≡ self.old.spare }
+        ensures places { self.new.places ≡ self.old.places }
     {
-        self.entries.push(*e).unwrap();
+        self.entries.push_reserved(*e);
         self.spare -= 1;
-    }
-}
-
-#[cfg(test)]
-mod tests {
-    use super::*;
-    use crate::entry::{CONSUMER, MERCHANT};
-    use std::process::Abort;
-    use std::test::Fail;
-
-    fn enrol(id: u32, role: u8, acct: u32) -> Entry {
-        Entry::Enrol {
-            id: PartyId(id),
-            role,
-            acct: AcctId(acct),
-            nonce: 7,
-            key: [9; 32],
-        }
-    }
-
-    fn fund(acct: u32, amount: u64, reference: u8) -> Entry {
-        Entry::Fund {
-            acct: AcctId(acct),
-            amount,
-            reference: [reference; 16],
-        }
-    }
-
-    // A book with these entries, each of them legal where it stands.
-    fn book_of(rt: &impl Abort, alloc: Global, entries: &[Entry]) -> Result<Book, NoMemory> {
-        let mut book = Book::new(alloc, 10, &[0; 16])?;
-        for e in entries {
-            assert!(rt; book.legal(e), "{e:?}");
-            assert!(rt; book.len() < book.cap());
-            book.reserve(1)?;
-            book.apply(e);
-        }
-        Ok(book)
-    }
-
-    #[test]
-    fn finds_what_was_applied(rt: HostRuntime) -> Result<(), Fail> {
-        let book = book_of(
-            &rt,
-            rt.alloc(),
-            &[
-                enrol(1, CONSUMER, 11),
-                enrol(2, MERCHANT, 12),
-                fund(11, 500, 0),
-            ],
-        )?;
-        let merchant = Party {
-            at: 1,
-            role: 2,
-            acct: AcctId(12),
-            nonce: 7,
-            key: [9; 32],
-        };
-        assert_eq!(rt; book.party(PartyId(2)), Some(merchant));
-        assert_eq!(rt; book.party(PartyId(11)), None);
-        for (acct, want) in [
-            (
-                11,
-                Some(Account {
-                    party: PartyId(1),
-                    balance: 500,
-                }),
-            ),
-            (
-                12,
-                Some(Account {
-                    party: PartyId(2),
-                    balance: 0,
-                }),
-            ),
-            (1, None),
-        ] {
-            assert_eq!(rt; book.account(AcctId(acct)), want, "account {acct}");
-        }
-        assert_eq!(rt;
-            book.reference(&[0; 16]),
-            Some(Funded {
-                at: 2,
-                acct: AcctId(11),
-                amount: 500
-            })
-        );
-        assert_eq!(rt; book.reference(&[1; 16]), None);
-        assert_eq!(rt; (book.len(), book.cap(), book.total()), (3, 10, 500));
-        Ok(())
-    }
-
-    #[test]
-    fn says_what_may_come_next(rt: HostRuntime) -> Result<(), Fail> {
-        let most = 1_000_000_000_000_000_000;
-        let book = book_of(&rt, rt.alloc(), &[enrol(1, CONSUMER, 1), fund(1, 500, 0)])?;
-        for (e, want) in [
-            (enrol(5, MERCHANT, 5), true),
-            (enrol(1, CONSUMER, 5), false),
-            (enrol(5, CONSUMER, 1), false),
-            (enrol(5, 3, 5), false),
-            (enrol(5, 0, 5), false),
-            (enrol(0, CONSUMER, 5), false),
-            (enrol(5, CONSUMER, 0), false),
-            (fund(1, most - 500, 1), true),
-            (fund(1, most - 499, 1), false),
-            (fund(1, 0, 1), false),
-            (fund(1, 1, 0), false),
-            (fund(5, 1, 1), false),
-        ] {
-            assert_eq!(rt; book.legal(&e), want, "{e:?}");
-        }
-        let full = book_of(&rt, rt.alloc(), &[enrol(1, CONSUMER, 1), fund(1, most, 0)])?;
-        assert!(rt; !full.legal(&fund(1, 1, 1)));
-        Ok(())
     }
 }

@@ -1,12 +1,8 @@
-ghost use Rattle.std.specs.Prelude.{◌≡◌, ◌<◌, ◌^◌, ◌↔◌, IsTrue};
-ghost use Rattle.nb_book.specs.Money.{total};
-ghost use Rattle.nb_book.specs.Legal.{LegalAfter};
+ghost use Rattle.std.specs.Prelude.{◌≡◌, ◌<◌, ◌^◌};
+ghost use Rattle.nb_book.specs.Searches.{settles};
+ghost use Rattle.nb_book.specs.Money.{credit, debit, total};
 
-use crate::account::Account;
-use crate::funded::Funded;
-use crate::limits::MAX_TOTAL;
-use crate::party::Party;
-use nb_units::{AcctId, PartyId, Secret};
+use nb_units::{AcctId, Digest, Epoid, PartyId, Price, Secret};
 
 /// The role of a party that buys.
 pub const CONSUMER: u8 = 1;
@@ -33,6 +29,35 @@ pub enum Entry {
         amount: u64,
         reference: [u8; 16],
     },
+    /// An order is paid: the price, in the house's smallest unit of money, moves from the consumer's account to the
+    /// merchant's. The digest is the SHA-256 (FIPS 180-4) of the merchant's endorsement before it is sealed. The moment is
+    /// when the order was decided, in seconds since 1970-01-01 00:00 UTC. The key opens the goods.
+    Paid {
+        digest: Digest,
+        epoid: Epoid,
+        consumer: PartyId,
+        merchant: PartyId,
+        product: u32,
+        price: Price,
+        cacct: AcctId,
+        macct: AcctId,
+        moment: u64,
+        key: Secret,
+    },
+    /// An order is refused, and its identifier used up. Digest, price and moment are as those of a payment. The code is one
+    /// of [`reason`](crate::reason), which says what `a` and `b` are, each 8 bytes wide.
+    Refused {
+        digest: Digest,
+        epoid: Epoid,
+        consumer: PartyId,
+        merchant: PartyId,
+        product: u32,
+        price: Price,
+        code: u8,
+        a: u64,
+        b: u64,
+        moment: u64,
+    },
 }
 
 impl Entry {
@@ -50,30 +75,34 @@ impl Entry {
         sum
     }
 
-    // Whether this entry may come after these.
-    pub(crate) fn is_legal_after(&self, entries: &[Entry]) -> bool
-        requires { total entries.now < 2 ^ 64 }
-        ensures { IsTrue result ↔ LegalAfter entries.now self.now }
+    // What this entry brings into the account.
+    pub(crate) fn credit(&self, id: AcctId) -> u64
+        ensures { result ≡ credit id self.now }
     {
         match *self {
-            Entry::Enrol { id, role, acct, .. } => {
-                id.0 != 0
-                    && acct.0 != 0
-                    && (role == CONSUMER || role == MERCHANT)
-                    && Party::first_in(entries, id).is_none()
-                    && Account::holder_in(entries, acct).is_none()
-            }
-            Entry::Fund {
-                acct,
-                amount,
-                ref reference,
-            } => {
-                Account::holder_in(entries, acct).is_some()
-                    && 1 <= amount
-                    && amount <= MAX_TOTAL
-                    && Funded::first_in(entries, reference).is_none()
-                    && Entry::total_of(entries) <= MAX_TOTAL - amount
-            }
+            Entry::Fund { acct, amount, .. } if acct == id => amount,
+            Entry::Paid { macct, price, .. } if macct == id => price.0,
+            _ => 0,
+        }
+    }
+
+    // What this entry takes from the account.
+    pub(crate) fn debit(&self, id: AcctId) -> u64
+        ensures { result ≡ debit id self.now }
+    {
+        match *self {
+            Entry::Paid { cacct, price, .. } if cacct == id => price.0,
+            _ => 0,
+        }
+    }
+
+    // Whether this entry pays or refuses the order of this identifier.
+    pub(crate) fn settles(&self, order: &Epoid) -> bool
+        ensures { result ≡ settles order.now self.now }
+    {
+        match *self {
+            Entry::Paid { epoid, .. } | Entry::Refused { epoid, .. } => epoid == *order,
+            _ => false,
         }
     }
 }

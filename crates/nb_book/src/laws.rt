@@ -1,10 +1,15 @@
 //! What holds of every Legal list. Each function here does nothing: its contract is the law.
 
-ghost use Rattle.nb_book.specs.Laws.{LimitsAre, NoneOverdrawn, BalancesMakeTotal, TotalFits, UnheldIsEmpty, BalanceAfter, StaysLegal, EnrolledOnce, OpenedOnce, FundedOnce};
+ghost use Rattle.nb_book.specs.Laws.{LimitsAre, ReasonsAre, NoneOverdrawn, BalancesMakeTotal, BalancesFit, TotalFits, UnheldIsEmpty, BalanceAfter, StaysLegal, EnrolledOnce, OpenedOnce, FundedOnce, SettledOnce};
 
 /// The limits and the roles in numbers.
 pub fn limits()
     ensures { LimitsAre }
+{}
+
+/// The codes of refused orders in numbers.
+pub fn reasons()
+    ensures { ReasonsAre }
 {}
 
 /// No balance is below zero: what was taken from an account is at most what came into it.
@@ -17,7 +22,12 @@ pub fn balances_make_total()
     ensures { BalancesMakeTotal }
 {}
 
-/// The total of the funds is at most [`MAX_TOTAL`](crate::MAX_TOTAL), so that every balance fits 8 bytes.
+/// No account has more than the house took in.
+pub fn balances_fit()
+    ensures { BalancesFit }
+{}
+
+/// The total of the funds is at most [`MAX_TOTAL`](crate::MAX_TOTAL), so that it and every balance fit 8 bytes.
 pub fn total_fits()
     ensures { TotalFits }
 {}
@@ -50,4 +60,9 @@ pub fn opened_once()
 /// A reference stands in at most one fund.
 pub fn funded_once()
     ensures { FundedOnce }
+{}
+
+/// An order is paid or refused at most once: an identifier stands in at most one of these entries.
+pub fn settled_once()
+    ensures { SettledOnce }
 {}

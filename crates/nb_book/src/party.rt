@@ -1,5 +1,5 @@
-ghost use Rattle.std.specs.Prelude.{◌≡◌};
-ghost use Rattle.nb_book.specs.Searches.{party_in};
+ghost use Rattle.std.specs.Prelude.{◌≡◌, ◌↔◌, IsTrue, Some};
+ghost use Rattle.nb_book.specs.Searches.{party_in, role_of, account_of, nonce_of};
 
 use crate::entry::Entry;
 use nb_units::{AcctId, PartyId, Secret};
@@ -39,5 +39,35 @@ impl Party {
             }
         }
         None
+    }
+
+    // Whether the party of this number is enrolled in this role.
+    pub(crate) fn has_role(entries: &[Entry], id: PartyId, role: u8) -> bool
+        ensures { IsTrue result ↔ (role_of entries.now id ≡ Some role) }
+    {
+        match Party::first_in(entries, id) {
+            Some(party) => party.role == role,
+            None => false,
+        }
+    }
+
+    // Whether the party of this number has the account of that number, which a refusal shows in 8 bytes.
+    pub(crate) fn has_account(entries: &[Entry], id: PartyId, acct: u64) -> bool
+        ensures { IsTrue result ↔ (account_of entries.now id ≡ Some (record { 0 = acct })) }
+    {
+        match Party::first_in(entries, id) {
+            Some(party) => u64::from(party.acct.0) == acct,
+            None => false,
+        }
+    }
+
+    // Whether the party of this number has this nonce.
+    pub(crate) fn has_nonce(entries: &[Entry], id: PartyId, nonce: u64) -> bool
+        ensures { IsTrue result ↔ (nonce_of entries.now id ≡ Some nonce) }
+    {
+        match Party::first_in(entries, id) {
+            Some(party) => party.nonce == nonce,
+            None => false,
+        }
     }
 }

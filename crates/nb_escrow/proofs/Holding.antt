@@ -1,6 +1,6 @@
 -- An equal entry is held exactly where the entry that the book finds under its key says the same.
 use Rattle.std.proofs.Common.{◌≡◌, ℕ, ◌+◌, ◌≤◌, Bool, true, false, cond, eqb, ◌&&◌, List, [], ◌∷◌, ◌++◌, Option, None, Some, arith, refl, sym, ap, ◌∙◌, eq-eqb}
-use Rattle.std.proofs.lemmas.List.Sums.{sum_by-cons}
+use Rattle.std.proofs.lemmas.List.Sums.{sum_by-cons, sum_by_push}
 use Rattle.std.specs.Prelude.{◌==◌}
 use Rattle.std.specs.List.{count_by}
 use Rattle.std.specs.Option.{option_or, option_map, option_and_then, IsNone}
@@ -12,11 +12,11 @@ use Rattle.nb_book.specs.declared.entry.Entry.TheVariants.{Enrol, Fund}
 use Rattle.nb_book.specs.declared.party.Party.{Party}
 use Rattle.nb_book.specs.declared.funded.Funded.{Funded}
 use Rattle.nb_book.specs.declared.account.Account.{Account}
-use Rattle.nb_book.specs.Money.{balance, account_in}
+use Rattle.nb_book.specs.Money.{credit, debit, balance, account_in}
 use Rattle.nb_book.specs.Searches.{first_from, party_at, party_in, holder_in, funded_at, funded_in}
 use Rattle.nb_book.specs.Legal.{Legal}
 use Rattle.nb_book.specs.Laws.{enrols, cites}
-use Rattle.nb_book.proofs.Summing.{balance-push}
+use Rattle.nb_book.proofs.Summing.{none_overdrawn}
 use Rattle.nb_book.proofs.Counting.{enrolled_once, funded_once}
 use Rattle.nb_escrow.specs.declared.request.Enrolment.{Enrolment}
 use Rattle.nb_escrow.specs.declared.request.Funding.{Funding}
@@ -79,11 +79,11 @@ keyed_enrol asked = record { misses = misses; finds = finds }
   where
     misses : (at : ℕ) (x : Entry) → enrols asked.id x ≡ false → (party_at asked.id at x ≡ None) × (same_entry x (enrol_entry asked) ≡ false)
     misses at (Enrol who role acct nonce key) other = (rw other refl, rw other refl)
-    misses at (Fund acct amount reference) other = (refl, refl)
+    misses at x other = (refl, refl)
 
     finds : (at : ℕ) (x : Entry) → enrols asked.id x ≡ true → (a : Party) × (party_at asked.id at x ≡ Some a) × (party_place asked a ≡ place_at (enrol_entry asked) at x)
     finds at (Enrol who role acct nonce key) same = (record { at = at; role = role; acct = acct; nonce = nonce; key = key }, rw same refl, rw same refl)
-    finds at (Fund acct amount reference) same = absurd cc
+    finds at x same = absurd cc
 
 pub enrol_place : (H : List Entry) → Legal H → (asked : Enrolment) → option_and_then (party_place asked) (party_in H asked.id) ≡ place_in H (enrol_entry asked)
 enrol_place H legal asked = found_by_key (enrol_entry asked) (enrols asked.id) (party_at asked.id) (party_place asked) (keyed_enrol asked) 0 H (enrolled_once H legal asked.id)
@@ -94,12 +94,12 @@ keyed_fund : (asked : Funding) → Keyed (fund_entry asked) (cites asked.referen
 keyed_fund asked = record { misses = misses; finds = finds }
   where
     misses : (at : ℕ) (x : Entry) → cites asked.reference x ≡ false → (funded_at asked.reference at x ≡ None) × (same_entry x (fund_entry asked) ≡ false)
-    misses at (Enrol who role acct nonce key) other = (refl, refl)
     misses at (Fund acct amount reference) other = (rw other refl, rw (other, and-false ((acct.0 == asked.acct.0) && (amount == asked.amount))) refl)
+    misses at x other = (refl, refl)
 
     finds : (at : ℕ) (x : Entry) → cites asked.reference x ≡ true → (a : Funded) × (funded_at asked.reference at x ≡ Some a) × (funded_place asked a ≡ place_at (fund_entry asked) at x)
-    finds at (Enrol who role acct nonce key) same = absurd cc
     finds at (Fund acct amount reference) same = (record { at = at; acct = acct; amount = amount }, rw same refl, rw (same, and-true ((acct.0 == asked.acct.0) && (amount == asked.amount))) refl)
+    finds at x same = absurd cc
 
 pub fund_place : (H : List Entry) → Legal H → (asked : Funding) → option_and_then (funded_place asked) (funded_in H asked.reference) ≡ place_in H (fund_entry asked)
 fund_place H legal asked = found_by_key (fund_entry asked) (cites asked.reference) (funded_at asked.reference) (funded_place asked) (keyed_fund asked) 0 H (funded_once H legal asked.reference)
@@ -110,5 +110,7 @@ same_number : {A : Type 0} (n : ℕ) (x y : A) → cond (eqb n n) x y ≡ x
 same_number n x y = rw (eq-eqb n n refl) refl
 
 -- a fund adds its amount to its account
-pub fund_adds : (H : List Entry) (asked : Funding) → balance (H ++ fund_entry asked ∷ []) asked.acct ≡ balance H asked.acct + asked.amount
-fund_adds H asked = balance-push H (fund_entry asked) asked.acct ∙ ap (λ (n : ℕ). balance H asked.acct + n) (same_number asked.acct.0 asked.amount 0)
+pub fund_adds : (H : List Entry) → Legal H → (asked : Funding) → balance (H ++ fund_entry asked ∷ []) asked.acct ≡ balance H asked.acct + asked.amount
+fund_adds H legal asked =
+    rw (sum_by_push (credit asked.acct) H (fund_entry asked), sum_by_push (debit asked.acct) H (fund_entry asked))
+    (omega (arith, none_overdrawn H legal asked.acct, same_number asked.acct.0 asked.amount 0))

@@ -4,13 +4,15 @@ use Rattle.std.proofs.lemmas.Option.{same_Some, none-some}
 use Rattle.std.proofs.lemmas.Slice.Eq.{bytes_eq-Decides}
 use Rattle.std.specs.Prelude.{◌==◌, if◌then◌else◌}
 use Rattle.std.specs.Option.{option_or}
+use Rattle.std.specs.Str.{bytes_eq}
 use Rattle.nb_units.specs.declared.frames.TheConstants.{ENROL, FUND}
 use Rattle.nb_units.specs.declared.ids.AcctId.{AcctId}
+use Rattle.nb_units.specs.declared.epoid.Epoid.{Epoid}
 use Rattle.nb_units.specs.Fields.{◌>>=◌}
 use Rattle.nb_book.specs.declared.entry.Entry.{Entry}
-use Rattle.nb_book.specs.declared.entry.Entry.TheVariants.{Enrol, Fund}
+use Rattle.nb_book.specs.declared.entry.Entry.TheVariants.{Enrol, Fund, Paid, Refused}
 use Rattle.nb_book.specs.Money.{balance}
-use Rattle.nb_book.specs.Searches.{first_from}
+use Rattle.nb_book.specs.Searches.{first_from, same_epoid}
 use Rattle.nb_endorse.specs.declared.refusal.Refusal.{Refusal}
 use Rattle.nb_endorse.specs.declared.refusal.TheConstants.{NOT_SERVED}
 use Rattle.nb_endorse.specs.declared.reply.Reply.{Reply}
@@ -33,10 +35,26 @@ use Rattle.nb_escrow.specs.Verdict.{steps, told}
 
 -- ---- the place of an entry that is held
 
+-- each part is equal to itself
+same_number : (n : ℕ) → (n == n) ≡ true
+same_number n = eq-eqb n n refl
+
+same_bytes : (xs : List ℕ) → bytes_eq xs xs ≡ true
+same_bytes xs = (bytes_eq-Decides xs xs).1 refl
+
+same_identifier : (p : Epoid) → same_epoid p p ≡ true
+same_identifier p = rw (same_number p.merchant.0, same_number p.moment) (same_number p.serial)
+
 same_self : (e : Entry) → same_entry e e ≡ true
 same_self (Enrol id role acct nonce key) =
-    rw (eq-eqb id.0 id.0 refl, eq-eqb role role refl, eq-eqb acct.0 acct.0 refl, eq-eqb nonce nonce refl) ((bytes_eq-Decides key key).1 refl)
-same_self (Fund acct amount reference) = rw (eq-eqb acct.0 acct.0 refl, eq-eqb amount amount refl) ((bytes_eq-Decides reference reference).1 refl)
+    rw (same_number id.0, same_number role, same_number acct.0, same_number nonce) (same_bytes key)
+same_self (Fund acct amount reference) = rw (same_number acct.0, same_number amount) (same_bytes reference)
+same_self (Paid digest epoid consumer merchant product price cacct macct moment key) =
+    rw (same_bytes digest, same_identifier epoid, same_number consumer.0, same_number merchant.0, same_number product)
+    (rw (same_number price.0, same_number cacct.0, same_number macct.0, same_number moment) (same_bytes key))
+same_self (Refused digest epoid consumer merchant product price code a b moment) =
+    rw (same_bytes digest, same_identifier epoid, same_number consumer.0, same_number merchant.0, same_number product)
+    (rw (same_number price.0, same_number code, same_number a, same_number b) (same_number moment))
 
 neither : (a b : Option ℕ) → option_or a b ≡ None → (a ≡ None) × (b ≡ None)
 neither None b none = (refl, none)

@@ -3,8 +3,8 @@ use Rattle.std.specs.Prelude.{ℕ, ◌==◌, ◌&&◌, Bool, false, List, Option
 use Rattle.std.specs.Str.{bytes_eq}
 use Rattle.nb_units.specs.declared.ids.AcctId.{AcctId}
 use Rattle.nb_book.specs.declared.entry.Entry.{Entry}
-use Rattle.nb_book.specs.declared.entry.Entry.TheVariants.{Enrol, Fund}
-use Rattle.nb_book.specs.Searches.{first_from}
+use Rattle.nb_book.specs.declared.entry.Entry.TheVariants.{Enrol, Fund, Paid, Refused}
+use Rattle.nb_book.specs.Searches.{first_from, same_epoid}
 use Rattle.nb_escrow.specs.declared.decision.Decision.{Decision}
 use Rattle.nb_endorse.specs.declared.reply.Reply.TheVariants.{Done}
 use Rattle.nb_endorse.specs.Keys.{no_keys}
@@ -13,6 +13,10 @@ use Rattle.nb_endorse.specs.Keys.{no_keys}
 abbrev pub same_entry : Entry → Entry → Bool
 same_entry (Enrol a b c d e) (Enrol a' b' c' d' e') = (a.0 == a'.0) && (b == b') && (c.0 == c'.0) && (d == d') && bytes_eq e e'
 same_entry (Fund a b c) (Fund a' b' c') = (a.0 == a'.0) && (b == b') && bytes_eq c c'
+same_entry (Paid a b c d e f g h i j) (Paid a' b' c' d' e' f' g' h' i' j') =
+    bytes_eq a a' && same_epoid b b' && (c.0 == c'.0) && (d.0 == d'.0) && (e == e') && (f.0 == f'.0) && (g.0 == g'.0) && (h.0 == h'.0) && (i == i') && bytes_eq j j'
+same_entry (Refused a b c d e f g h i j) (Refused a' b' c' d' e' f' g' h' i' j') =
+    bytes_eq a a' && same_epoid b b' && (c.0 == c'.0) && (d.0 == d'.0) && (e == e') && (f.0 == f'.0) && (g == g') && (h == h') && (i == i') && (j == j')
 same_entry e other = false
 
 -- a place, where the entry that is held there is equal to this one

@@ -1,7 +1,7 @@
 ghost use Rattle.std.specs.Prelude.{◌≡◌, ◌≢◌, ◌≤◌, ◌+◌, ◌++◌, ◌∷◌, [], ◌<◌, length, OnOk, IfOk, IfSome, IsSome, IsNone};
 ghost use Rattle.nb_book.specs.declared.limits.TheConstants.{MAX_TOTAL};
 ghost use Rattle.nb_book.specs.Searches.{party_in, holder_in, funded_in};
-ghost use Rattle.nb_book.specs.Legal.{LegalAfter};
+ghost use Rattle.nb_book.specs.Legal.{LegalAfter, Legal};
 ghost use Rattle.nb_book.specs.Money.{balance, total};
 ghost use Rattle.nb_escrow.specs.Checks.{right_tag, room_left};
 ghost use Rattle.nb_escrow.specs.Held.{place_in, done as done_at};
@@ -125,6 +125,7 @@ fn done(acct: AcctId, at: u64, balance: u64, entry: Option<Entry>) -> Decision
 fn balance_now(book: &Book, acct: AcctId) -> u64
     ensures balance { result ≡ balance book.now.entries acct }
     ensures most { result ≤ total book.now.entries }
+    ensures legal { Legal book.now.entries }
 {
     match book.account(acct) {
         Some(account) => account.balance,

@@ -1,1 +1,2 @@
 pub mod ReplyBytes
+pub mod Limits

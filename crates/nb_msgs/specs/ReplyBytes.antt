@@ -14,7 +14,6 @@ use Rattle.nb_endorse.specs.declared.reply.Reply.TheVariants.{Result, Status, Do
 use Rattle.nb_endorse.specs.declared.reply.ReplyKeys.{ReplyKeys}
 use Rattle.nb_endorse.specs.Spelling.{signed_bytes}
 use Rattle.nb_endorse.specs.Tags.{signed}
-use Rattle.nb_msgs.specs.declared.reply.TheConstants.{ABSENT, PRESENT}
 
 -- a receipt, signed by the house and sealed for a party
 abbrev pub sealed_receipt : List ℕ → List ℕ → Receipt → List ℕ
@@ -27,14 +26,14 @@ result_frame keys merchant consumer =
 
 -- a receipt behind the byte that says whether there is one, signed by the house: has 1, 0 or 1 | receipt and tag 135, where there is one
 abbrev pub receipt_text : List ℕ → Option Receipt → List ℕ
-receipt_text house None = ABSENT ∷ []
-receipt_text house (Some r) = PRESENT ∷ signed_bytes (signed house r)
+receipt_text house None = 0 ∷ []
+receipt_text house (Some r) = 1 ∷ signed_bytes (signed house r)
 
 -- a status before it is sealed: place 8 | identifier 16 | the receipt, where there is one
 abbrev pub status_bytes : List ℕ → ℕ → Epoid → Option Receipt → List ℕ
 status_bytes house place epoid receipt = be8 place ++ epoid_bytes epoid ++ receipt_text house receipt
 
--- the whole body is a seal
+-- the whole body is the seal of that under the key of who asks and the label "stat"
 abbrev pub status_frame : ReplyKeys → ℕ → Epoid → Option Receipt → Frame
 status_frame keys place epoid receipt = record { kind = STATUS; body = seal_of keys.first (codes "stat") (status_bytes keys.house place epoid receipt) }
 

@@ -1,7 +1,7 @@
-//! The bodies of the protocol's frames, as bytes.
+//! The house's replies, as bytes.
 //!
 //! [`write_reply`] appends the one frame of a reply. Which bytes these are stands in `specs/ReplyBytes.antt`, as a
-//! function of the reply and of the keys that it is signed and sealed under; no reply has more than [`MOST_REPLY`]
+//! function of the reply and of the keys that it is signed and sealed under; no reply has more than [`LONGEST_REPLY`]
 //! bytes. No memory is taken.
 //!
 //! Left to others: what is replied, and the reading of frames.
@@ -9,7 +9,7 @@
 
 mod reply;
 
-pub use reply::{MOST_REPLY, write_reply};
+pub use reply::{LONGEST_REPLY, MOST_REPLY, limits, write_reply};
 
 #[cfg(test)]
 mod tests;

@@ -1,8 +1,9 @@
 ghost use Rattle.std.specs.Prelude.{◌≡◌, ◌≤◌, ◌++◌, codes, length, vec_capacity};
 ghost use Rattle.nb_seal.specs.Seal.{seal_of};
 ghost use Rattle.nb_units.specs.Room.{spare_of};
+ghost use Rattle.nb_msgs.specs.Limits.{LimitsAre};
 ghost use Rattle.nb_msgs.specs.ReplyBytes.{reply_bytes, result_frame, status_bytes, status_frame, done_frame, refusal_frame};
-ghost use Rattle.nb_msgs.specs.declared.reply.TheConstants.{MOST_BODY, MOST_REPLY, MOST_STATUS};
+ghost use Rattle.nb_msgs.specs.declared.reply.TheConstants.{MOST_BODY, MOST_REPLY, LONGEST_REPLY, MOST_STATUS};
 
 use nb_endorse::{Receipt, Refusal, Reply, ReplyKeys, seal_receipt, sign_receipt};
 use nb_frame::write_frame;
@@ -10,8 +11,11 @@ use nb_seal::seal_to;
 use nb_units::frames::{DONE, REFUSED, RESULT, STATUS};
 use nb_units::{AcctId, Buffer, Epoid, Secret};
 
-/// The room that a reply's frame needs at most.
+/// The room that is asked for a reply's frame.
 pub const MOST_REPLY: usize = 512;
+
+/// The most bytes that a reply's frame has.
+pub const LONGEST_REPLY: usize = 350;
 
 // The most bytes of a reply's body: those of a result, two sealed receipts, each behind its length.
 const MOST_BODY: usize = 342;
@@ -32,6 +36,7 @@ const PRESENT: u8 = 1;
 pub fn write_reply(reply: &Reply, keys: &ReplyKeys, out: &mut Vec<u8>)
     requires { MOST_REPLY ≤ spare_of out.old }
     ensures bytes { out.new.items ≡ out.old.items ++ reply_bytes keys.now reply.now }
+    ensures short { length (reply_bytes keys.now reply.now) ≤ LONGEST_REPLY }
     ensures room { vec_capacity out.new ≡ vec_capacity out.old }
 {
     match reply {
@@ -74,7 +79,7 @@ fn result_body(merchant: &Receipt, consumer: &Receipt, keys: &ReplyKeys) -> Buff
 // The body that gives the status of an order, sealed for who asked.
 fn status_body(place: u64, epoid: &Epoid, receipt: &Option<Receipt>, keys: &ReplyKeys) -> Buffer
     ensures bytes { result ≡ (status_frame keys.now place epoid.now receipt.now).body }
-    ensures short { length result ≤ MOST_BODY }
+    ensures short { length result ≤ MOST_STATUS }
 {
     let plain = status_text(place, epoid, receipt, &keys.house);
     let mut sealed = [0u8; MOST_STATUS];
@@ -126,3 +131,8 @@ fn refusal_body(refusal: &Refusal) -> Buffer
     body.raw(&refusal.x);
     body
 }
+
+/// A law: the limits of replies in numbers.
+pub fn limits()
+    ensures { LimitsAre }
+{}

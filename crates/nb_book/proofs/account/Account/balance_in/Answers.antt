@@ -1,7 +1,12 @@
 use Rattle.std.proofs.Common.{arith}
-use Rattle.std.proofs.lemmas.Grind.{common_steps}
-use Rattle.nb_book.proofs.Summing.{no_debits}
+use Rattle.nb_book.proofs.Balances.{brought_fits, taken-le-balance, balance-more}
 use Rattle.nb_book.proofs.account.Account.balance_in.Goals as goal
 
-pub returns : goal.returns
-returns c = grind (arith, common_steps, no_debits c.args.entries.now c.args.id)
+pub overflow_add-sum : goal.overflow_add-sum
+overflow_add-sum c = omega (arith, brought_fits _ c.requires _ _ _ _ c.loop-entry-test.true c.credit.ensures)
+
+pub overflow_sub-sum : goal.overflow_sub-sum
+overflow_sub-sum c = omega (arith, taken-le-balance _ c.requires _ _ _ _ c.loop-entry-test.true c.debit.ensures)
+
+pub loop-entry-preserved : goal.loop-entry-preserved
+loop-entry-preserved c = omega (arith, balance-more _ c.requires _ _ _ _ _ c.loop-entry-test.true c.credit.ensures c.debit.ensures)
