@@ -1,4 +1,4 @@
--- The keys of a reply that is for everybody.
+-- The keys of a reply that is neither signed nor sealed.
 use Rattle.std.specs.Prelude.{ℕ, List, replicate}
 use Rattle.nb_seal.specs.declared.limits.TheConstants.{CODE_BYTES}
 use Rattle.nb_endorse.specs.declared.reply.ReplyKeys.{ReplyKeys}

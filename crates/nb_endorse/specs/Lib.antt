@@ -1,6 +1,7 @@
 pub mod Refusals
 pub mod Keys
 pub mod Spelling
+pub mod Replies
 pub mod Reading
 pub mod Tags
 pub mod Sealed

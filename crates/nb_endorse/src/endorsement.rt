@@ -29,15 +29,16 @@ const ENDORSE_LABEL: [u8; 4] = *b"endo";
 pub struct Endorsement {
     /// The order's bytes: at most [`MAX_ENDORSED`].
     pub order: Small,
-    /// The merchant's account, which is paid.
+    /// The merchant's account, which is paid, 4 bytes wide.
     pub macct: AcctId,
     /// The merchant's own note: at most [`MAX_MEMO`] bytes.
     pub memo: Small,
-    /// The key that opens the goods.
+    /// The key that opens the goods, 32 bytes wide.
     pub key: Secret,
 }
 
-/// Appends the endorsement sealed under the merchant's key, at most [`MAX_SEALED`] bytes, which needs room for as many.
+/// Appends the endorsement, sealed under the merchant's key and the label "endo". It needs room for [`MAX_SEALED`] bytes,
+/// also for a shorter endorsement, and a memo of at most [`MAX_MEMO`] bytes. It takes no memory.
 pub fn write_sealed(e: &Endorsement, key: &Secret, out: &mut Vec<u8>)
     requires memo { length e.now.memo ≤ MAX_MEMO }
     requires room { MAX_SEALED ≤ spare_of out.old }
@@ -49,7 +50,12 @@ pub fn write_sealed(e: &Endorsement, key: &Secret, out: &mut Vec<u8>)
     seal_spare(key, &ENDORSE_LABEL, plain.as_slice(), out);
 }
 
-/// The endorsement that at most [`MAX_SEALED`] bytes are the seal of under the merchant's key.
+/// The endorsement that at most [`MAX_SEALED`] bytes are the seal of under the merchant's key and the label "endo".
+///
+/// It answers [`SealedFault::BadSeal`] where the bytes are the seal of no text under that key, and
+/// [`SealedFault::Malformed`] where they are the seal of a text that is no endorsement. Its place is that of the first
+/// field that fails, in bytes from the front of the text: a field of which bytes are missing, an order or a memo with a
+/// length above its limit, told at the place of that length, or the first byte behind the key.
 pub fn read_sealed(bytes: &[u8], key: &Secret) -> Result<Endorsement, SealedFault>
     requires short { length bytes.now ≤ MAX_SEALED }
     // What the seal hides, field by field, and the first that fails; or that the bytes are the seal of nothing.

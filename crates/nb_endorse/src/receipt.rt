@@ -40,29 +40,29 @@ const NO_KEY: Secret = [0; 32];
 /// What the house says of an order to one of its parties.
 #[derive(Clone, Copy, PartialEq, Eq, Debug)]
 pub struct Receipt {
-    /// [`PAID`], or why the order was refused: from [`FIRST_REFUSED`] to [`LAST_REFUSED`].
+    /// [`PAID`], or why the order was refused: from [`FIRST_REFUSED`] to [`LAST_REFUSED`]. One byte wide.
     pub code: u8,
-    /// Who pays.
+    /// Who pays, 4 bytes wide.
     pub consumer: PartyId,
-    /// Who is paid.
+    /// Who is paid, 4 bytes wide.
     pub merchant: PartyId,
     /// The merchant's number for the product, 4 bytes wide.
     pub product: u32,
-    /// What is paid, in the house's smallest unit of money.
+    /// What is paid, in the house's smallest unit of money, 8 bytes wide.
     pub price: Price,
-    /// The order's identifier.
+    /// The order's identifier, 16 bytes wide.
     pub epoid: Epoid,
-    /// The number of entries before the order's entry.
+    /// The number of entries before the order's entry, 8 bytes wide.
     pub at: u64,
-    /// When the order was decided, in seconds since 1970-01-01 00:00 UTC.
+    /// When the order was decided, in seconds since 1970-01-01 00:00 UTC, 8 bytes wide.
     pub moment: u64,
-    /// The key that opens the goods, where the order was paid.
+    /// The key that the merchant gave for the goods, where the order was paid, 32 bytes wide.
     pub key: Option<Secret>,
-    /// Two numbers that say more of a refusal, where the party may see them.
+    /// Two numbers that say more of a refusal, where the party may see them, each 8 bytes wide.
     pub shown: Option<(u64, u64)>,
 }
 
-/// A receipt and the house's tag over it.
+/// A receipt, and the house's tag over it: the HMAC-SHA-256 (RFC 2104) of "rcpt" and the receipt's bytes.
 #[derive(Clone, Copy, PartialEq, Eq, Debug)]
 pub struct Signed {
     pub receipt: Receipt,
@@ -70,7 +70,7 @@ pub struct Signed {
 }
 
 impl Signed {
-    /// The receipt's bytes and its tag, before they are sealed: 135 bytes.
+    /// The bytes of the receipt, 103, and of its tag, 32, before they are sealed.
     pub fn spelled(&self) -> Buffer
         ensures bytes { result ≡ signed_bytes self.now }
         ensures long { length result ≡ 135 }
@@ -81,7 +81,7 @@ impl Signed {
     }
 }
 
-/// The receipt with its tag under the house's key (HMAC-SHA-256, RFC 2104).
+/// The receipt with its tag: the HMAC-SHA-256 (RFC 2104) of "rcpt" and the receipt's bytes, under the house's key.
 pub fn sign_receipt(r: &Receipt, house: &Secret) -> Signed
     ensures { result ≡ signed house.now r.now }
 {
@@ -91,14 +91,14 @@ pub fn sign_receipt(r: &Receipt, house: &Secret) -> Signed
     }
 }
 
-/// Whether the tag is the one that the receipt has under the house's key.
+/// Whether the tag is the HMAC-SHA-256 (RFC 2104) of "rcpt" and the receipt's bytes, under the house's key.
 pub fn receipt_tag_ok(s: &Signed, house: &Secret) -> bool
     ensures { IsTrue result ↔ (s.now.tag ≡ receipt_tag house.now s.now.receipt) }
 {
     same(&s.tag, &tag_of(&s.receipt, house))
 }
 
-/// The receipt and its tag sealed under a party's key.
+/// The receipt and its tag, sealed under a party's key and the label "rcpt".
 pub fn seal_receipt(s: &Signed, key: &Secret) -> [u8; RECEIPT_BYTES]
     ensures { result ≡ seal_of key.now (codes "rcpt") (signed_bytes s.now) }
 {
@@ -107,7 +107,8 @@ pub fn seal_receipt(s: &Signed, key: &Secret) -> [u8; RECEIPT_BYTES]
     sealed
 }
 
-/// Appends the receipt and its tag sealed under a party's key, [`RECEIPT_BYTES`] bytes, which needs room for as many.
+/// Appends the receipt and its tag, sealed under a party's key and the label "rcpt": [`RECEIPT_BYTES`] bytes, which needs
+/// room for as many. It takes no memory.
 pub fn write_receipt(s: &Signed, key: &Secret, out: &mut Vec<u8>)
     requires room { RECEIPT_BYTES ≤ spare_of out.old }
     ensures bytes { out.new.items ≡ out.old.items ++ seal_of key.now (codes "rcpt") (signed_bytes s.now) }
@@ -119,7 +120,14 @@ pub fn write_receipt(s: &Signed, key: &Secret, out: &mut Vec<u8>)
     pen.raw(&sealed);
 }
 
-/// The receipt and its tag that at most [`RECEIPT_BYTES`] bytes are the seal of under a party's key.
+/// The receipt and its tag that at most [`RECEIPT_BYTES`] bytes are the seal of under a party's key and the label "rcpt".
+/// Any tag is read: [`receipt_tag_ok`] tests it.
+///
+/// It answers [`SealedFault::BadSeal`] where the bytes are the seal of no text under that key, and
+/// [`SealedFault::Malformed`] where they are the seal of a text that is no receipt and tag. Its place is that of the
+/// first field that fails, in bytes from the front of the text: a field of which bytes are missing, a code that no receipt
+/// has, a byte before the key or the numbers shown that the code does not allow, what should be zeros and is not, or the
+/// first byte behind the tag.
 pub fn read_receipt(bytes: &[u8], key: &Secret) -> Result<Signed, SealedFault>
     requires short { length bytes.now ≤ RECEIPT_BYTES }
     // What the seal hides, field by field, and the first that fails; or that the bytes are the seal of nothing.

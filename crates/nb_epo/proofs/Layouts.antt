@@ -5,7 +5,7 @@ use Rattle.nb_units.proofs.Rows.{Row, IsRow, ◌&◌, and_row, number4, number4_
 use Rattle.nb_epo.specs.declared.hidden.TheConstants.{MAX_HIDDEN, MAX_MEMO}
 use Rattle.nb_epo.specs.declared.order.Order.{Order}
 use Rattle.nb_epo.specs.declared.hidden.Hidden.{Hidden}
-use Rattle.nb_epo.specs.Spelling.{IsOrder, signed_bytes, order_bytes, IsHidden, hidden_bytes}
+use Rattle.nb_epo.specs.Spelling.{IsOrder, untagged_bytes, order_bytes, IsHidden, hidden_bytes}
 use Rattle.nb_epo.specs.Reading.{order_of, hidden_of}
 use Rattle.std.specs.Prelude.{codes}
 use Rattle.nb_seal.specs.Seal.{Opens}
@@ -46,7 +46,7 @@ unfolding order_of
 read_so bytes = refl
 
 spelled_so : (p : Parts) → order_row.spelled p ≡ order_bytes (made p)
-unfolding signed_bytes
+unfolding untagged_bytes
 spelled_so p = refl
 
 fits_so : (p : Parts) → order_row.fits p → IsOrder (made p)

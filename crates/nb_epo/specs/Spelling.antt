@@ -10,12 +10,12 @@ use Rattle.nb_epo.specs.declared.hidden.Hidden.{Hidden}
 -- an order before its tag:
 -- consumer 4 | merchant 4 | product 4 | price 8 | identifier 16 | checksum 32 | request digest 32 | account digest 32
 -- | hidden part: its length 4, at most 112 bytes
-unfoldable pub signed_bytes : Order → List ℕ
-signed_bytes o = be4 o.consumer.0 ++ be4 o.merchant.0 ++ be4 o.product ++ be8 o.price.0 ++ epoid_bytes o.epoid ++ o.checksum ++ o.request ++ o.account ++ sized o.hidden
+unfoldable pub untagged_bytes : Order → List ℕ
+untagged_bytes o = be4 o.consumer.0 ++ be4 o.merchant.0 ++ be4 o.product ++ be8 o.price.0 ++ epoid_bytes o.epoid ++ o.checksum ++ o.request ++ o.account ++ sized o.hidden
 
 -- an order: what is signed, and the tag 32
 abbrev pub order_bytes : Order → List ℕ
-order_bytes o = signed_bytes o ++ o.tag
+order_bytes o = untagged_bytes o ++ o.tag
 
 -- each field of an order is within its limits
 pub record IsOrder (o : Order) : Type 0 where

@@ -5,11 +5,11 @@ use Rattle.nb_seal.specs.Hmac.{hmac_of}
 use Rattle.nb_units.specs.Fields.{be4, be8}
 use Rattle.nb_units.specs.declared.ids.AcctId.{AcctId}
 use Rattle.nb_epo.specs.declared.order.Order.{Order}
-use Rattle.nb_epo.specs.Spelling.{signed_bytes}
+use Rattle.nb_epo.specs.Spelling.{untagged_bytes}
 
 -- the tag of an order under the consumer's key: over "ordr" and the order's bytes before the tag
 abbrev pub order_tag : List ℕ → Order → List ℕ
-order_tag key o = hmac_of key (codes "ordr" ++ signed_bytes o)
+order_tag key o = hmac_of key (codes "ordr" ++ untagged_bytes o)
 
 -- the order with that tag
 abbrev pub signed : List ℕ → Order → Order

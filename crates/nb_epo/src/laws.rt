@@ -38,7 +38,7 @@ pub fn lengths()
 {}
 
 /// A law: an order that was signed has the tag that it is tested against.
-#[tactic(auto, unfolding(crate::specs::Spelling::signed_bytes))]
+#[tactic(auto, unfolding(crate::specs::Spelling::untagged_bytes))]
 pub fn signed_is_right()
     ensures { SignedIsRight }
 {}

@@ -3,7 +3,7 @@ ghost use Rattle.nb_units.specs.Room.{spare_of};
 ghost use Rattle.nb_epo.specs.declared.hidden.TheConstants.{MAX_HIDDEN};
 ghost use Rattle.nb_epo.specs.declared.order.TheConstants.{MAX_ORDER};
 ghost use Rattle.nb_units.specs.Reads.{Reads};
-ghost use Rattle.nb_epo.specs.Spelling.{IsOrder, signed_bytes, order_bytes};
+ghost use Rattle.nb_epo.specs.Spelling.{IsOrder, untagged_bytes, order_bytes};
 ghost use Rattle.nb_epo.specs.Reading.{order_of};
 ghost use Rattle.nb_epo.specs.Tags.{order_tag, signed};
 
@@ -124,9 +124,9 @@ fn tag_of(o: &Order, key: &Secret) -> Tag
 }
 
 // The order's bytes before its tag.
-#[tactic(auto, unfolding(crate::specs::Spelling::signed_bytes))]
+#[tactic(auto, unfolding(crate::specs::Spelling::untagged_bytes))]
 fn signed_part(o: &Order) -> Buffer
-    ensures bytes { result ≡ signed_bytes o.now }
+    ensures bytes { result ≡ untagged_bytes o.now }
     ensures long { length result ≡ 136 + length o.now.hidden }
 {
     let mut bytes = Buffer::new();

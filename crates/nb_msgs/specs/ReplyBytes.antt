@@ -3,14 +3,15 @@ use Rattle.std.specs.Prelude.{ℕ, List, [], ◌∷◌, ◌++◌, codes, Option,
 use Rattle.nb_units.specs.Fields.{be4, be8, sized}
 use Rattle.nb_units.specs.Epoid.{epoid_bytes}
 use Rattle.nb_units.specs.Frames.{Frame, frame}
-use Rattle.nb_units.specs.declared.frames.TheConstants.{RESULT, STATUS, DONE, REFUSED}
+use Rattle.nb_units.specs.declared.frames.TheConstants.{RESULT, STATUS, GRANT, DONE, REFUSED}
 use Rattle.nb_units.specs.declared.ids.AcctId.{AcctId}
+use Rattle.nb_units.specs.declared.ids.PartyId.{PartyId}
 use Rattle.nb_units.specs.declared.epoid.Epoid.{Epoid}
 use Rattle.nb_seal.specs.Seal.{seal_of}
 use Rattle.nb_endorse.specs.declared.receipt.Receipt.{Receipt}
 use Rattle.nb_endorse.specs.declared.refusal.Refusal.{Refusal}
 use Rattle.nb_endorse.specs.declared.reply.Reply.{Reply}
-use Rattle.nb_endorse.specs.declared.reply.Reply.TheVariants.{Result, Status, Done, Refused}
+use Rattle.nb_endorse.specs.declared.reply.Reply.TheVariants.{Result, Status, Grant, Done, Refused}
 use Rattle.nb_endorse.specs.declared.reply.ReplyKeys.{ReplyKeys}
 use Rattle.nb_endorse.specs.Spelling.{signed_bytes}
 use Rattle.nb_endorse.specs.Tags.{signed}
@@ -37,6 +38,25 @@ status_bytes house place epoid receipt = be8 place ++ epoid_bytes epoid ++ recei
 abbrev pub status_frame : ReplyKeys → ℕ → Epoid → Option Receipt → Frame
 status_frame keys place epoid receipt = record { kind = STATUS; body = seal_of keys.first (codes "stat") (status_bytes keys.house place epoid receipt) }
 
+-- a ticket before it is sealed: consumer 4 | merchant 4 | until 8 | session key 32
+unfoldable pub ticket_bytes : PartyId → PartyId → ℕ → List ℕ → List ℕ
+ticket_bytes consumer merchant until session = be4 consumer.0 ++ be4 merchant.0 ++ be8 until ++ session
+
+-- a ticket, sealed under the merchant's key and the label "tick"
+abbrev pub sealed_ticket : List ℕ → PartyId → PartyId → ℕ → List ℕ → List ℕ
+sealed_ticket key consumer merchant until session = seal_of key (codes "tick") (ticket_bytes consumer merchant until session)
+
+-- a grant before it is sealed: merchant 4 | nonce 8 | until 8 | session key 32 | the sealed ticket 80, behind its length
+unfoldable pub grant_bytes : PartyId → ℕ → ℕ → List ℕ → List ℕ → List ℕ
+grant_bytes merchant nonce until session ticket = be4 merchant.0 ++ be8 nonce ++ be8 until ++ session ++ sized ticket
+
+-- the whole body is the seal of that under the consumer's key and the label "gran"
+abbrev pub grant_frame : ReplyKeys → PartyId → PartyId → ℕ → ℕ → List ℕ → Frame
+grant_frame keys consumer merchant nonce until session = record {
+  kind = GRANT;
+  body = seal_of keys.first (codes "gran") (grant_bytes merchant nonce until session (sealed_ticket keys.second consumer merchant until session));
+}
+
 -- account 4 | place 8 | balance 8
 abbrev pub done_frame : AcctId → ℕ → ℕ → Frame
 done_frame acct at balance = record { kind = DONE; body = be4 acct.0 ++ be8 at ++ be8 balance }
@@ -49,6 +69,7 @@ refusal_frame r = record { kind = REFUSED; body = (r.code ∷ []) ++ be8 r.a ++ 
 abbrev pub reply_frame : ReplyKeys → Reply → Frame
 reply_frame keys (Result merchant consumer) = result_frame keys merchant consumer
 reply_frame keys (Status place epoid receipt) = status_frame keys place epoid receipt
+reply_frame keys (Grant consumer merchant nonce until session) = grant_frame keys consumer merchant nonce until session
 reply_frame keys (Done acct at balance) = done_frame acct at balance
 reply_frame keys (Refused r) = refusal_frame r
 

@@ -7,9 +7,10 @@
 //! Left to others: what is replied, and the reading of frames.
 #![tactic(auto)]
 
+mod grant;
 mod reply;
 
-pub use reply::{LONGEST_REPLY, MOST_REPLY, limits, write_reply};
+pub use reply::{LONGEST_REPLY, REPLY_ROOM, limits, write_reply};
 
 #[cfg(test)]
 mod tests;

@@ -3,16 +3,17 @@ ghost use Rattle.nb_seal.specs.Seal.{seal_of};
 ghost use Rattle.nb_units.specs.Room.{spare_of};
 ghost use Rattle.nb_msgs.specs.Limits.{LimitsAre};
 ghost use Rattle.nb_msgs.specs.ReplyBytes.{reply_bytes, result_frame, status_bytes, status_frame, done_frame, refusal_frame};
-ghost use Rattle.nb_msgs.specs.declared.reply.TheConstants.{MOST_BODY, MOST_REPLY, LONGEST_REPLY, MOST_STATUS};
+ghost use Rattle.nb_msgs.specs.declared.reply.TheConstants.{MOST_BODY, REPLY_ROOM, LONGEST_REPLY, MOST_STATUS};
 
+use crate::grant::grant_body;
 use nb_endorse::{Receipt, Refusal, Reply, ReplyKeys, seal_receipt, sign_receipt};
 use nb_frame::write_frame;
 use nb_seal::seal_to;
-use nb_units::frames::{DONE, REFUSED, RESULT, STATUS};
+use nb_units::frames::{DONE, GRANT, REFUSED, RESULT, STATUS};
 use nb_units::{AcctId, Buffer, Epoid, Secret};
 
 /// The room that is asked for a reply's frame.
-pub const MOST_REPLY: usize = 512;
+pub const REPLY_ROOM: usize = 512;
 
 /// The most bytes that a reply's frame has.
 pub const LONGEST_REPLY: usize = 350;
@@ -31,10 +32,10 @@ const ABSENT: u8 = 0;
 
 const PRESENT: u8 = 1;
 
-/// Appends the frame of a reply, which needs room for [`MOST_REPLY`] bytes and takes no memory. A result and a status
-/// are signed and sealed under the keys.
+/// Appends the frame of a reply, which needs room for [`REPLY_ROOM`] bytes and takes no memory. A result, a status and a
+/// grant are sealed under the keys, and the receipts in them are signed.
 pub fn write_reply(reply: &Reply, keys: &ReplyKeys, out: &mut Vec<u8>)
-    requires { MOST_REPLY ≤ spare_of out.old }
+    requires { REPLY_ROOM ≤ spare_of out.old }
     ensures bytes { out.new.items ≡ out.old.items ++ reply_bytes keys.now reply.now }
     ensures short { length (reply_bytes keys.now reply.now) ≤ LONGEST_REPLY }
     ensures room { vec_capacity out.new ≡ vec_capacity out.old }
@@ -55,6 +56,19 @@ pub fn write_reply(reply: &Reply, keys: &ReplyKeys, out: &mut Vec<u8>)
             write_frame(
                 STATUS,
                 status_body(*place, epoid, receipt, keys).as_slice(),
+                out,
+            );
+        }
+        Reply::Grant {
+            consumer,
+            merchant,
+            nonce,
+            until,
+            session,
+        } => {
+            write_frame(
+                GRANT,
+                &grant_body(*consumer, *merchant, *nonce, *until, session, keys),
                 out,
             );
         }

@@ -36,6 +36,12 @@ const PAID: Receipt = Receipt {
     shown: None,
 };
 
+// The key that a consumer and a merchant share.
+const SESSION: [u8; 32] = [
+    0xA5, 0x6A, 0x84, 0xDF, 0x73, 0x08, 0xE8, 0xFA, 0x34, 0x40, 0x7F, 0x65, 0xF0, 0x45, 0xB0, 0xC5,
+    0xC5, 0x42, 0xF4, 0x52, 0x39, 0x7B, 0xBB, 0x12, 0x22, 0x9F, 0xB4, 0x9A, 0x56, 0x16, 0x2E, 0xCA,
+];
+
 // A status over five entries.
 fn status(receipt: Option<Receipt>) -> Reply {
     Reply::Status {
@@ -47,7 +53,7 @@ fn status(receipt: Option<Receipt>) -> Reply {
 
 #[test]
 fn replies_are_written(rt: HostRuntime) -> Result<(), Fail> {
-    let cases: [(Reply, [u8; 32], [u8; 32], &str); 6] = [
+    let cases: [(Reply, [u8; 32], [u8; 32], &str); 7] = [
         (
             Reply::Result {
                 merchant: PAID,
@@ -76,6 +82,18 @@ fn replies_are_written(rt: HostRuntime) -> Result<(), Fail> {
             "4e42010a00000039c3c5e3c24c670bf9259afdde2948f1bd4cb7ad97c6f48c8d240b2b14b47962555cfc832a0c922de68e7d50c9e6c0c38b8e67b0f7b7caed39f6",
         ),
         (
+            Reply::Grant {
+                consumer: PartyId(1),
+                merchant: PartyId(2),
+                nonce: 9,
+                until: 4600,
+                session: SESSION,
+            },
+            CONSUMER,
+            MERCHANT,
+            "4e42010c000000a86b466073bd2414a7dadcfd0596715106035d1b89f8baebb62ca08193d822cdc1956b30ae87b8c421d2f3ae246994bd2fb95307b44bdc3b97884a1c6beb006a49c76420f7f7918fb94d79943b3a638868867b15840bbada1a3bf459363aebe7cfa630685df83805ec97c2331d1180bb0890957938a5dfc3a6dae8688164d957ff2aec7e7a2386ab3a7daf474c4597f5d83b895f5105f3ff7be6beabcb40b5bb3df5919e0cd6e82c56",
+        ),
+        (
             Reply::Done {
                 acct: AcctId(1),
                 at: 0,
@@ -98,7 +116,7 @@ fn replies_are_written(rt: HostRuntime) -> Result<(), Fail> {
             first: *first,
             second: *second,
         };
-        let mut out = Vec::with_capacity(rt.alloc(), MOST_REPLY)?;
+        let mut out = Vec::with_capacity(rt.alloc(), REPLY_ROOM)?;
         write_reply(reply, &keys, &mut out);
         let want = hex::decode(rt.alloc(), *want)?;
         assert_eq!(rt; out.as_slice(), want.as_slice());

@@ -1,10 +1,15 @@
 -- Which text sealed bytes open to: the one behind their iv, and only where the iv is its.
 use Rattle.std.proofs.Common.{◌≡◌, ℕ, ◌+◌, ◌<◌, List, ◌++◌, length, take, drop, refl, sym, ap, ◌∙◌, arith, length-append}
+use Rattle.std.specs.Prelude.{◌↔◌, Some, None}
+use Rattle.std.specs.Str.{bytes_eq}
+use Rattle.std.proofs.lemmas.Bool.{cond-true, cond-false, false_from_ne_true}
 use Rattle.std.proofs.lemmas.List.{take_at, drop_at}
+use Rattle.std.proofs.lemmas.Option.{cond_some, none-some}
+use Rattle.std.proofs.lemmas.Slice.Eq.{bytes_eq-Decides}
 use Rattle.sha2.proofs.Facts256.{length-sha256}
 use Rattle.nb_seal.specs.Hmac.{hmac_of}
 use Rattle.nb_seal.specs.Keystream.{xored}
-use Rattle.nb_seal.specs.Seal.{iv_of, stream_key_of, seal_of, Opens, IsNoSeal}
+use Rattle.nb_seal.specs.Seal.{iv_of, stream_key_of, seal_of, Opens, IsNoSeal, text_behind, text_in}
 use Rattle.nb_seal.proofs.Xoring.{xored-xored, length-xored}
 
 -- a code has 32 bytes
@@ -61,3 +66,36 @@ opens_once key label bytes first second a b =
     let text : List ℕ = xored (stream_key_of key iv) 0 first in
     let long : length iv ≡ 32 = length-hmac_of key _ in
     sym (xored-xored (stream_key_of key iv) 0 first) ∙ opened_text key label iv text second long (sym a ∙ b)
+
+-- the text behind the iv of a seal is the text that was sealed
+pub text_behind_opened : (key label bytes plain : List ℕ) → Opens key label bytes plain → text_behind key bytes ≡ plain
+unfolding seal_of text_behind
+text_behind_opened key label bytes plain opens =
+    let iv : List ℕ = iv_of key label plain in
+    let text : List ℕ = xored (stream_key_of key iv) 0 plain in
+    let long : length iv ≡ 32 = length-hmac_of key _ in
+    let front : take 32 bytes ≡ iv = ap (take 32) opens ∙ take_at iv text 32 long in
+    let behind : drop 32 bytes ≡ text = ap (drop 32) opens ∙ drop_at iv text 32 long in
+    rw (front, behind) (xored-xored (stream_key_of key iv) 0 plain)
+
+-- the text in the bytes is the one that they open to
+pub text_in_opens : (key label bytes plain : List ℕ) → (text_in key label bytes ≡ Some plain) ↔ Opens key label bytes plain
+text_in_opens key label bytes plain =
+    let decides = bytes_eq-Decides bytes (seal_of key label (text_behind key bytes)) in (
+      λ found.
+          let parts = cond_some (bytes_eq bytes (seal_of key label (text_behind key bytes))) (text_behind key bytes) plain found in
+          decides.0 parts.0 ∙ ap (seal_of key label) parts.1,
+      λ opens.
+          let behind = text_behind_opened key label bytes plain opens in
+          let same : bytes ≡ seal_of key label (text_behind key bytes) = opens ∙ ap (seal_of key label) (sym behind) in
+          cond-true (bytes_eq bytes (seal_of key label (text_behind key bytes))) (Some (text_behind key bytes)) None (decides.1 same) ∙ ap Some behind,
+    )
+
+-- there is none where they are the seal of no text, and only there
+pub text_in_no_seal : (key label bytes : List ℕ) → (text_in key label bytes ≡ None) ↔ IsNoSeal key label bytes
+text_in_no_seal key label bytes = (
+  λ none plain opens. none-some plain (sym none ∙ (text_in_opens key label bytes plain).1 opens),
+  λ bad.
+      cond-false (bytes_eq bytes (seal_of key label (text_behind key bytes))) (Some (text_behind key bytes)) None
+      (false_from_ne_true (bytes_eq bytes (seal_of key label (text_behind key bytes))) (λ is. bad (text_behind key bytes) ((bytes_eq-Decides bytes (seal_of key label (text_behind key bytes))).0 is))),
+)

@@ -1,8 +1,8 @@
 -- What holds of every seal and of every keystream.
-use Rattle.std.specs.Prelude.{◌≡◌, ◌↔◌, ℕ, ◌+◌, ◌<◌, ◌^◌, List, ◌++◌, length, bit_xor, slice_index}
+use Rattle.std.specs.Prelude.{◌≡◌, ◌↔◌, ℕ, ◌+◌, ◌<◌, ◌^◌, List, ◌++◌, length, bit_xor, slice_index, Some, None}
 use Rattle.nb_seal.specs.declared.limits.TheConstants.{BLOCK_BYTES, CODE_BYTES, MAX_KEYSTREAM, MAX_TEXT}
 use Rattle.nb_seal.specs.Keystream.{stream_byte, xored}
-use Rattle.nb_seal.specs.Seal.{Opens, seal_of}
+use Rattle.nb_seal.specs.Seal.{Opens, IsNoSeal, seal_of, text_in}
 
 -- bytes open to at most one text under a key and a label
 abbrev pub OpensToOneText : Type 0
@@ -13,6 +13,14 @@ OpensToOneText = (key label bytes first second : List ℕ) → Opens key label b
 abbrev pub OpensToWhatWasSealed : Type 0
 OpensToWhatWasSealed = (key label plain text : List ℕ)
     → Opens key label (seal_of key label plain) text ↔ (text ≡ plain)
+
+-- the text in bytes is the one that they open to
+abbrev pub TextInIsOpened : Type 0
+TextInIsOpened = (key label bytes plain : List ℕ) → (text_in key label bytes ≡ Some plain) ↔ Opens key label bytes plain
+
+-- there is no text in bytes exactly where they are the seal of none
+abbrev pub NoTextInNoSeal : Type 0
+NoTextInNoSeal = (key label bytes : List ℕ) → (text_in key label bytes ≡ None) ↔ IsNoSeal key label bytes
 
 -- a seal has 32 bytes more than its text
 abbrev pub SealIs32BytesLonger : Type 0

@@ -1,5 +1,6 @@
 -- Seals: a text behind the code of its label and itself, hidden by the keystream of a key made from that code.
-use Rattle.std.specs.Prelude.{◌≡◌, ℕ, List, ◌++◌, codes, replicate, take}
+use Rattle.std.specs.Prelude.{◌≡◌, ℕ, List, ◌++◌, codes, replicate, take, drop, Option, Some, None, if◌then◌else◌}
+use Rattle.std.specs.Str.{bytes_eq}
 use Rattle.nb_seal.specs.declared.limits.TheConstants.{CODE_BYTES}
 use Rattle.nb_seal.specs.Hmac.{hmac_of}
 use Rattle.nb_seal.specs.Keystream.{xored}
@@ -23,6 +24,14 @@ Opens key label bytes plain = bytes ≡ seal_of key label plain
 -- the bytes are the seal of no text
 abbrev pub IsNoSeal : List ℕ → List ℕ → List ℕ → Type 0
 IsNoSeal key label bytes = (plain : List ℕ) → ¬ Opens key label bytes plain
+
+-- what stands behind the iv of sealed bytes, xored with the keystream behind that iv
+unfoldable pub text_behind : List ℕ → List ℕ → List ℕ
+text_behind key bytes = xored (stream_key_of key (take CODE_BYTES bytes)) 0 (drop CODE_BYTES bytes)
+
+-- the text that the bytes are the seal of, if they are the seal of one
+abbrev pub text_in : List ℕ → List ℕ → List ℕ → Option (List ℕ)
+text_in key label bytes = if bytes_eq bytes (seal_of key label (text_behind key bytes)) then Some (text_behind key bytes) else None
 
 -- the new bytes are the old ones and a text that the sealed bytes open to
 abbrev pub AppendsOpened : List ℕ → List ℕ → List ℕ → List ℕ → List ℕ → Type 0

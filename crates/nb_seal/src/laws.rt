@@ -1,6 +1,6 @@
 //! What holds of every seal and of every keystream. Each function here does nothing: its contract is the law.
 
-ghost use Rattle.nb_seal.specs.Laws.{LimitsAre, OpensToOneText, OpensToWhatWasSealed, SealIs32BytesLonger, XoredByteByByte, XoredInPieces, XoredIsAsLong};
+ghost use Rattle.nb_seal.specs.Laws.{LimitsAre, NoTextInNoSeal, OpensToOneText, OpensToWhatWasSealed, SealIs32BytesLonger, TextInIsOpened, XoredByteByByte, XoredInPieces, XoredIsAsLong};
 
 /// Bytes open to at most one text under a key and a label.
 pub fn opens_to_one_text()
@@ -10,6 +10,13 @@ pub fn opens_to_one_text()
 /// What was sealed opens to the text that was sealed, and to no other.
 pub fn opens_to_what_was_sealed()
     ensures { OpensToWhatWasSealed }
+{}
+
+/// The text in bytes, as a function of them, is the one that they open to; there is none exactly where they are the seal
+/// of no text.
+pub fn text_in_bytes()
+    ensures opened { TextInIsOpened }
+    ensures none { NoTextInNoSeal }
 {}
 
 /// A seal has 32 bytes more than its text.

@@ -21,11 +21,20 @@ pub const MAX_BODY: u32 = 1_048_576;
 /// The bytes of a frame before its body: two of magic, the version, the kind, and four of length.
 pub const HEADER: usize = 8;
 
+/// The kind of a frame by which a merchant hands in an order that it endorsed.
+pub const ENDORSED_ORDER: u8 = 0x06;
+
 /// The kind of a reply: the result of an order.
 pub const RESULT: u8 = 0x07;
 
+/// The kind of a frame by which a party asks for the status of an order.
+pub const STATUS_QUERY: u8 = 0x09;
+
 /// The kind of a reply: the status of an order.
 pub const STATUS: u8 = 0x0A;
+
+/// The kind of a reply: a ticket is granted.
+pub const GRANT: u8 = 0x0C;
 
 /// The kind of a frame by which the operator enrols a party.
 pub const ENROL: u8 = 0x0D;
