@@ -85,7 +85,7 @@ abbrev made : ℕ → ℕ → ℕ → Epoid
 made merchant moment serial = record { merchant = record { 0 = merchant }; moment = moment; serial = serial }
 
 -- identifiers that are the same part by part are one
-same_epoid-true : (p q : Epoid) → same_epoid p q ≡ true → p ≡ q
+pub same_epoid-true : (p q : Epoid) → same_epoid p q ≡ true → p ≡ q
 same_epoid-true p q same =
     let parts = and_parts (p.merchant.0 == q.merchant.0 && p.moment == q.moment) (p.serial == q.serial) same in
     let front = and_parts (p.merchant.0 == q.merchant.0) (p.moment == q.moment) parts.0 in

@@ -1,6 +1,7 @@
 -- An equal entry is held exactly where the entry that the book finds under its key says the same.
 use Rattle.std.proofs.Common.{◌≡◌, ℕ, ◌+◌, ◌≤◌, Bool, true, false, cond, eqb, ◌&&◌, List, [], ◌∷◌, ◌++◌, Option, None, Some, arith, refl, sym, ap, ◌∙◌, eq-eqb}
 use Rattle.std.proofs.lemmas.List.Sums.{sum_by-cons, sum_by_push}
+use Rattle.std.proofs.lemmas.Option.{same_Some}
 use Rattle.std.specs.Prelude.{◌==◌}
 use Rattle.std.specs.List.{count_by}
 use Rattle.std.specs.Option.{option_or, option_map, option_and_then, IsNone}
@@ -18,8 +19,8 @@ use Rattle.nb_book.specs.Legal.{Legal}
 use Rattle.nb_book.specs.Laws.{enrols, cites}
 use Rattle.nb_book.proofs.Summing.{none_overdrawn}
 use Rattle.nb_book.proofs.Counting.{enrolled_once, funded_once}
-use Rattle.nb_escrow.specs.declared.request.Enrolment.{Enrolment}
-use Rattle.nb_escrow.specs.declared.request.Funding.{Funding}
+use Rattle.nb_escrow.specs.declared.enrolment.Enrolment.{Enrolment}
+use Rattle.nb_escrow.specs.declared.funding.Funding.{Funding}
 use Rattle.nb_escrow.specs.Held.{same_entry, place_at, place_in}
 use Rattle.nb_escrow.specs.Enrolments.{enrol_entry, party_place}
 use Rattle.nb_escrow.specs.Fundings.{fund_entry, funded_place}
@@ -34,6 +35,14 @@ unheld H a none = part (holder_in H a) none
     part : (o : Option PartyId) → None ≡ option_map (λ (who : PartyId). let account : Account = record { party = who; balance = balance H a } in account) o → IsNone o
     part None e = refl
     part (Some who) e = absurd cc
+
+-- an account that is found has its holder
+pub holder_of : (H : List Entry) (a : AcctId) (account : Account) → Some account ≡ account_in H a → holder_in H a ≡ Some account.party
+holder_of H a account found = part (holder_in H a) found
+  where
+    part : (o : Option PartyId) → Some account ≡ option_map (λ (who : PartyId). let account : Account = record { party = who; balance = balance H a } in account) o → o ≡ Some account.party
+    part None e = absurd cc
+    part (Some who) e = ap (λ (x : Account). let o : Option PartyId = Some x.party in o) (sym (same_Some account (record { party = who; balance = balance H a }) e))
 
 -- ---- entries in general
 

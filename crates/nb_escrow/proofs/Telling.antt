@@ -1,37 +1,50 @@
 -- A request whose entry was recorded finds its own entry when it comes again.
-use Rattle.std.proofs.Common.{◌≡◌, ℕ, ◌+◌, Bool, true, false, List, [], ◌∷◌, ◌++◌, length, Option, None, Some, Result, Ok, Err, arith, refl, ap, subst, ◌∙◌, eq-eqb}
+use Rattle.std.proofs.Common.{codes, ◌≡◌, ℕ, ◌+◌, Bool, true, false, List, [], ◌∷◌, ◌++◌, length, Option, None, Some, Result, Ok, Err, arith, refl, sym, ap, ◌∙◌, eq-eqb}
 use Rattle.std.proofs.lemmas.Option.{same_Some, none-some}
 use Rattle.std.proofs.lemmas.Slice.Eq.{bytes_eq-Decides}
 use Rattle.std.specs.Prelude.{◌==◌, if◌then◌else◌}
-use Rattle.std.specs.Option.{option_or}
+use Rattle.std.specs.Option.{option_or, option_and_then}
 use Rattle.std.specs.Str.{bytes_eq}
-use Rattle.nb_units.specs.declared.frames.TheConstants.{ENROL, FUND}
+use Rattle.nb_units.specs.declared.frames.TheConstants.{ENDORSED_ORDER, STATUS_QUERY, ENROL, FUND}
 use Rattle.nb_units.specs.declared.ids.AcctId.{AcctId}
+use Rattle.nb_units.specs.declared.ids.PartyId.{PartyId}
 use Rattle.nb_units.specs.declared.epoid.Epoid.{Epoid}
 use Rattle.nb_units.specs.Fields.{◌>>=◌}
 use Rattle.nb_book.specs.declared.entry.Entry.{Entry}
 use Rattle.nb_book.specs.declared.entry.Entry.TheVariants.{Enrol, Fund, Paid, Refused}
 use Rattle.nb_book.specs.Money.{balance}
-use Rattle.nb_book.specs.Searches.{first_from, same_epoid}
+use Rattle.nb_book.specs.declared.entry.TheConstants.{CONSUMER, MERCHANT}
+use Rattle.nb_book.specs.declared.kept.Kept.{Kept}
+use Rattle.nb_book.specs.declared.party.Party.{Party}
+use Rattle.nb_book.specs.Searches.{first_from, same_epoid, settles, party_at, party_in, order_at, order_in}
+use Rattle.nb_epo.specs.Reading.{order_of}
+use Rattle.nb_epo.specs.Tags.{order_tag}
 use Rattle.nb_endorse.specs.declared.refusal.Refusal.{Refusal}
-use Rattle.nb_endorse.specs.declared.refusal.TheConstants.{NOT_SERVED}
+use Rattle.nb_endorse.specs.declared.refusal.TheConstants.{IN_BODY, IN_ORDER, NOT_ENROLLED, NOT_SERVED}
 use Rattle.nb_endorse.specs.declared.reply.Reply.{Reply}
-use Rattle.nb_endorse.specs.declared.reply.Reply.TheVariants.{Done}
+use Rattle.nb_endorse.specs.declared.reply.ReplyKeys.{ReplyKeys}
+use Rattle.nb_endorse.specs.Tags.{endorsement_digest}
 use Rattle.nb_endorse.specs.Refusals.{refusal}
 use Rattle.nb_escrow.specs.declared.head.Head.{Head}
 use Rattle.nb_escrow.specs.declared.decision.Decision.{Decision}
-use Rattle.nb_escrow.specs.declared.decision.TheConstants.{ENROL_LABEL, FUND_LABEL}
-use Rattle.nb_escrow.specs.declared.request.Enrolment.{Enrolment}
-use Rattle.nb_escrow.specs.declared.request.Funding.{Funding}
-use Rattle.nb_escrow.specs.Checks.{well_formed, right_tag, room_left}
-use Rattle.nb_escrow.specs.Requests.{enrol_of, fund_of}
-use Rattle.nb_escrow.specs.Tags.{signed_part}
+use Rattle.nb_escrow.specs.declared.order.Presented.{Presented}
+use Rattle.nb_escrow.specs.declared.settlement.Settlement.{Settlement}
+use Rattle.nb_escrow.specs.declared.settlement.PaymentOutcome.{PaymentOutcome}
+use Rattle.nb_escrow.specs.declared.settlement.PaymentOutcome.TheVariants as outcome
+use Rattle.nb_escrow.specs.declared.enrolment.Enrolment.{Enrolment}
+use Rattle.nb_escrow.specs.declared.funding.Funding.{Funding}
+use Rattle.nb_escrow.specs.Checks.{well_formed, signed_part, unless, if_found, enrolled, enrolled_as, right_tag, room_left}
+use Rattle.nb_escrow.specs.Requests.{endorsed_of, query_of, enrol_of, fund_of}
 use Rattle.nb_seal.specs.Hmac.{hmac_of}
 use Rattle.nb_escrow.specs.Held.{same_entry, place_at, place_in, done}
-use Rattle.nb_escrow.specs.Enrolments.{enrol_entry, numbers_free, enrol_held, enrol_steps}
-use Rattle.nb_escrow.specs.Fundings.{fund_entry, reference_new, account_held, total_within, fund_held, fund_steps}
-use Rattle.nb_escrow.specs.Laws.{ToldAgain}
+use Rattle.nb_escrow.specs.Enrolments.{enrol_entry, numbers_free, again_or_enrol, enrol_steps}
+use Rattle.nb_escrow.specs.Fundings.{fund_entry, reference_new, account_held, total_within, again_or_fund, fund_steps}
+use Rattle.nb_escrow.specs.Settlements.{settlement_at, settlement_of, settlement_in, entry_with, entry_of}
+use Rattle.nb_escrow.specs.Orders.{endorsement_in, hidden_in, same_merchant, same_digest, settled, result, again_or_settle, order_steps}
+use Rattle.nb_escrow.specs.Statuses.{enough_entries, status, status_steps}
+use Rattle.nb_escrow.specs.Laws.{given_again, ToldAgain}
 use Rattle.nb_escrow.specs.Verdict.{steps, told}
+use Rattle.nb_escrow.proofs.Settling.{settlement_some, settles_found}
 
 -- ---- the place of an entry that is held
 
@@ -56,102 +69,224 @@ same_self (Refused digest epoid consumer merchant product price code a b moment)
     rw (same_bytes digest, same_identifier epoid, same_number consumer.0, same_number merchant.0, same_number product)
     (rw (same_number price.0, same_number code, same_number a, same_number b) (same_number moment))
 
-neither : (a b : Option ℕ) → option_or a b ≡ None → (a ≡ None) × (b ≡ None)
+-- ---- searches in a list that grows
+
+neither : {A : Type 0} (a b : Option A) → option_or a b ≡ None → (a ≡ None) × (b ≡ None)
 neither None b none = (refl, none)
 neither (Some n) b none = absurd cc
 
-found_behind : (e : Entry) (more : List Entry) (at : ℕ) (es : List Entry) → first_from (place_at e) at es ≡ None → first_from (place_at e) at (es ++ e ∷ more) ≡ Some (at + length es)
-found_behind e more at [] none = rw (same_self e) (ap (λ (n : ℕ). let o : Option ℕ = Some n in o) (omega arith))
-found_behind e more at (x ∷ es) none =
-    let n = neither (place_at e at x) (first_from (place_at e) (at + 1) es) none in
-    rw n.0 (found_behind e more (at + 1) es n.1 ∙ ap (λ (n : ℕ). let o : Option ℕ = Some n in o) (omega arith))
+-- what was found stays found
+found_stays : {A : Type 0} (answer : ℕ → Entry → Option A) (at : ℕ) (es more : List Entry) (a : A) → first_from answer at es ≡ Some a → first_from answer at (es ++ more) ≡ Some a
+found_stays {A = A} answer at [] more a found = absurd cc
+found_stays {A = A} answer at (x ∷ es) more a found = part (answer at x) found (λ rest. found_stays answer (at + 1) es more a rest)
+  where
+    part : (o : Option A) → option_or o (first_from answer (at + 1) es) ≡ Some a → (first_from answer (at + 1) es ≡ Some a → first_from answer (at + 1) (es ++ more) ≡ Some a)
+        → option_or o (first_from answer (at + 1) (es ++ more)) ≡ Some a
+    part None found rest = rest found
+    part (Some b) found rest = found
+
+-- what was not found is what comes next, where that answers
+found_next : {A : Type 0} (answer : ℕ → Entry → Option A) (e : Entry) (more : List Entry) (a : A) (at : ℕ) (es : List Entry) → first_from answer at es ≡ None
+    → ((n : ℕ) → n ≡ at + length es → answer n e ≡ Some a) → first_from answer at (es ++ e ∷ more) ≡ Some a
+found_next answer e more a at [] none next = rw (next at (omega arith)) refl
+found_next answer e more a at (x ∷ es) none next =
+    let n = neither (answer at x) (first_from answer (at + 1) es) none in
+    rw n.0 (found_next answer e more a (at + 1) es n.1 (λ n is. next n (omega (arith, is))))
 
 -- ---- two answers
 
--- where the first records an entry, the one that follows on it tells the same again and records nothing
-abbrev Again : (Entry → List Entry) → Result Decision Refusal → (Entry → Result Decision Refusal) → Type 0
-Again held first second = (e : Entry) (acct : AcctId) (at amount : ℕ) → first ≡ Ok (done acct at amount (Some e)) → second e ≡ Ok (done acct at (balance (held e) acct) None)
+abbrev Answer : Type 0
+Answer = Result Decision Refusal
 
-behind : {A : Type 0} (held : Entry → List Entry) (r : Result A Refusal) (f : A → Result Decision Refusal) (g : Entry → A → Result Decision Refusal)
+abbrev decided : Reply → ReplyKeys → Option Entry → Decision
+decided reply keys entry = record { reply = reply; keys = keys; entry = entry }
+
+-- where the first records an entry, the one that follows on it gives the same reply again and records nothing
+abbrev Again : (Entry → List Entry) → Answer → (Entry → Answer) → Type 0
+Again held first second =
+    (e : Entry) (reply : Reply) (keys : ReplyKeys) → first ≡ Ok (decided reply keys (Some e)) → second e ≡ Ok (decided (given_again (held e) reply) keys None)
+
+-- a test that goes before, and still holds
+behind : {A : Type 0} (held : Entry → List Entry) (r : Result A Refusal) (r' : Entry → Result A Refusal) (f : A → Answer) (g : Entry → A → Answer)
+    → ((x : A) (e : Entry) → r ≡ Ok x → r' e ≡ Ok x) → ((x : A) → Again held (f x) (λ e. g e x)) → Again held (r >>= f) (λ e. r' e >>= g e)
+behind held (Ok x) r' f g keeps again e reply keys is = rw (keeps x e refl) (again x e reply keys is)
+behind held (Err fault) r' f g keeps again e reply keys is = absurd cc
+
+-- a test that goes before, and does not ask for the entries
+before : {A : Type 0} (held : Entry → List Entry) (r : Result A Refusal) (f : A → Answer) (g : Entry → A → Answer)
     → ((x : A) → Again held (f x) (λ e. g e x)) → Again held (r >>= f) (λ e. r >>= g e)
-behind held (Ok x) f g again e acct at amount is = again x e acct at amount is
-behind held (Err fault) f g again e acct at amount is = absurd cc
+before held r f g again = behind held r (λ e. r) f g (λ x e is. is) again
 
 -- a test that goes before
-passed : (r : Result (Unit {0}) Refusal) (next : Result Decision Refusal) (d : Decision) → (r >>= (λ u. next)) ≡ Ok d → next ≡ Ok d
+passed : (r : Result (Unit {0}) Refusal) (next : Answer) (d : Decision) → (r >>= (λ u. next)) ≡ Ok d → next ≡ Ok d
 passed (Ok u) next d is = is
 passed (Err fault) next d is = absurd cc
 
-same_decision : (d d' : Decision) → (let r : Result Decision Refusal = Ok d in r) ≡ Ok d' → d ≡ d'
+same_decision : (d d' : Decision) → (let r : Answer = Ok d in r) ≡ Ok d' → d ≡ d'
 same_decision d d' is = cc
 
-same_done : (who acct : AcctId) (n at now amount : ℕ) → (let r : Reply = Done who n now in r) ≡ Done acct at amount → (who ≡ acct) × (n ≡ at)
-same_done who acct n at now amount is = (cc, cc)
+-- a decision that records nothing records no entry
+none_recorded : (d : Decision) (e : Entry) (reply : Reply) (keys : ReplyKeys) → d.entry ≡ None → (let r : Answer = Ok d in r) ≡ Ok (decided reply keys (Some e)) → ⊥
+none_recorded d e reply keys none is = none-some e (sym none ∙ ap (λ (x : Decision). x.entry) (same_decision d (decided reply keys (Some e)) is))
+
+-- ---- enrolments and funds
 
 -- what is told where the entry is held
-recorded : (H more : List Entry) (mine e : Entry) (who acct : AcctId) (at now amount : ℕ) (answer : Entry → Option ℕ → Result Decision Refusal)
+recorded : (H more : List Entry) (mine e : Entry) (who : AcctId) (now : ℕ) (reply : Reply) (keys : ReplyKeys) (answer : Entry → Option ℕ → Answer)
     → place_in H mine ≡ None → ((x : Entry) (n : ℕ) → answer x (Some n) ≡ Ok (done who n (balance (H ++ x ∷ more) who) None))
-    → (let r : Result Decision Refusal = Ok (done who (length H) now (Some mine)) in r) ≡ Ok (done acct at amount (Some e))
-    → answer e (place_in (H ++ e ∷ more) mine) ≡ Ok (done acct at (balance (H ++ e ∷ more) acct) None)
-recorded H more mine e who acct at now amount answer none tells is =
-    let decided = same_decision (done who (length H) now (Some mine)) (done acct at amount (Some e)) is in
-    let same : mine ≡ e = same_Some mine e (ap (λ (d : Decision). d.entry) decided) in
-    let parts = same_done who acct (length H) at now amount (ap (λ (d : Decision). d.reply) decided) in
-    let place : place_in (H ++ mine ∷ more) mine ≡ Some (length H) = found_behind mine more 0 H none ∙ ap (λ (n : ℕ). let o : Option ℕ = Some n in o) (omega arith) in
-    let moved : place_in (H ++ e ∷ more) mine ≡ Some (length H) = subst (λ (x : Entry). place_in (H ++ x ∷ more) mine ≡ Some (length H)) same place in
-    ap (answer e) moved ∙ tells e (length H) ∙ (rw (parts.0, parts.1) refl)
+    → (let r : Answer = Ok (done who (length H) now (Some mine)) in r) ≡ Ok (decided reply keys (Some e))
+    → answer e (place_in (H ++ e ∷ more) mine) ≡ Ok (decided (given_again (H ++ e ∷ more) reply) keys None)
+recorded H more mine e who now reply keys answer none tells is =
+    let same = same_decision (done who (length H) now (Some mine)) (decided reply keys (Some e)) is in
+    let entry_is : mine ≡ e = same_Some mine e (ap (λ (d : Decision). d.entry) same) in
+    let place : place_in (H ++ mine ∷ more) mine ≡ Some (length H) = found_next (place_at mine) mine more (length H) 0 H none (λ n is. rw (same_self mine) (ap (λ (k : ℕ). let o : Option ℕ = Some k in o) (omega (arith, is)))) in
+    rw (sym entry_is, sym (ap (λ (d : Decision). d.reply) same), sym (ap (λ (d : Decision). d.keys) same)) (ap (answer mine) place ∙ tells mine (length H))
 
--- ---- the kinds
-
-enrol_again : (H more : List Entry) (cap : ℕ) (asked : Enrolment) → Again (λ e. H ++ e ∷ more) (enrol_held H cap asked (place_in H (enrol_entry asked))) (λ e. enrol_held (H ++ e ∷ more) cap asked (place_in (H ++ e ∷ more) (enrol_entry asked)))
-enrol_again H more cap asked e acct at amount is = part (place_in H (enrol_entry asked)) refl is
+enrol_again : (H more : List Entry) (cap : ℕ) (asked : Enrolment) → Again (λ e. H ++ e ∷ more) (again_or_enrol H cap asked (place_in H (enrol_entry asked))) (λ e. again_or_enrol (H ++ e ∷ more) cap asked (place_in (H ++ e ∷ more) (enrol_entry asked)))
+enrol_again H more cap asked e reply keys is = part (place_in H (enrol_entry asked)) refl is
   where
-    part : (o : Option ℕ) → place_in H (enrol_entry asked) ≡ o → enrol_held H cap asked o ≡ Ok (done acct at amount (Some e))
-        → enrol_held (H ++ e ∷ more) cap asked (place_in (H ++ e ∷ more) (enrol_entry asked)) ≡ Ok (done acct at (balance (H ++ e ∷ more) acct) None)
-    part (Some n) held is = absurd (none-some e (ap (λ (d : Decision). d.entry) (same_decision (done asked.acct n (balance H asked.acct) None) (done acct at amount (Some e)) is)))
+    part : (o : Option ℕ) → place_in H (enrol_entry asked) ≡ o → again_or_enrol H cap asked o ≡ Ok (decided reply keys (Some e))
+        → again_or_enrol (H ++ e ∷ more) cap asked (place_in (H ++ e ∷ more) (enrol_entry asked)) ≡ Ok (decided (given_again (H ++ e ∷ more) reply) keys None)
+    part (Some n) held is = absurd (none_recorded (done asked.acct n (balance H asked.acct) None) e reply keys refl is)
     part None none is =
         let told = passed (room_left H cap) _ _ (passed (numbers_free H asked.id asked.acct) _ _ is) in
-        recorded H more (enrol_entry asked) e asked.acct acct at (balance (H ++ enrol_entry asked ∷ []) asked.acct) amount (λ x. enrol_held (H ++ x ∷ more) cap asked) none (λ x n. refl) told
+        recorded H more (enrol_entry asked) e asked.acct (balance (H ++ enrol_entry asked ∷ []) asked.acct) reply keys (λ x. again_or_enrol (H ++ x ∷ more) cap asked) none (λ x n. refl) told
 
-fund_again : (H more : List Entry) (cap : ℕ) (asked : Funding) → Again (λ e. H ++ e ∷ more) (fund_held H cap asked (place_in H (fund_entry asked))) (λ e. fund_held (H ++ e ∷ more) cap asked (place_in (H ++ e ∷ more) (fund_entry asked)))
-fund_again H more cap asked e acct at amount is = part (place_in H (fund_entry asked)) refl is
+fund_again : (H more : List Entry) (cap : ℕ) (asked : Funding) → Again (λ e. H ++ e ∷ more) (again_or_fund H cap asked (place_in H (fund_entry asked))) (λ e. again_or_fund (H ++ e ∷ more) cap asked (place_in (H ++ e ∷ more) (fund_entry asked)))
+fund_again H more cap asked e reply keys is = part (place_in H (fund_entry asked)) refl is
   where
-    part : (o : Option ℕ) → place_in H (fund_entry asked) ≡ o → fund_held H cap asked o ≡ Ok (done acct at amount (Some e))
-        → fund_held (H ++ e ∷ more) cap asked (place_in (H ++ e ∷ more) (fund_entry asked)) ≡ Ok (done acct at (balance (H ++ e ∷ more) acct) None)
-    part (Some n) held is = absurd (none-some e (ap (λ (d : Decision). d.entry) (same_decision (done asked.acct n (balance H asked.acct) None) (done acct at amount (Some e)) is)))
+    part : (o : Option ℕ) → place_in H (fund_entry asked) ≡ o → again_or_fund H cap asked o ≡ Ok (decided reply keys (Some e))
+        → again_or_fund (H ++ e ∷ more) cap asked (place_in (H ++ e ∷ more) (fund_entry asked)) ≡ Ok (decided (given_again (H ++ e ∷ more) reply) keys None)
+    part (Some n) held is = absurd (none_recorded (done asked.acct n (balance H asked.acct) None) e reply keys refl is)
     part None none is =
         let told = passed (room_left H cap) _ _ (passed (total_within H asked.amount) _ _ (passed (account_held H asked.acct) _ _ (passed (reference_new H asked.reference) _ _ is))) in
-        recorded H more (fund_entry asked) e asked.acct acct at (balance (H ++ fund_entry asked ∷ []) asked.acct) amount (λ x. fund_held (H ++ x ∷ more) cap asked) none (λ x n. refl) told
+        recorded H more (fund_entry asked) e asked.acct (balance (H ++ fund_entry asked ∷ []) asked.acct) reply keys (λ x. again_or_fund (H ++ x ∷ more) cap asked) none (λ x n. refl) told
 
 enrol_steps_again : (H more : List Entry) (head : Head) (cap : ℕ) (body : List ℕ) → Again (λ e. H ++ e ∷ more) (enrol_steps H head cap body) (λ e. enrol_steps (H ++ e ∷ more) head cap body)
 unfolding enrol_steps
 enrol_steps_again H more head cap body =
-    behind (λ e. H ++ e ∷ more) (well_formed (enrol_of body)) _ _
-    (λ asked. behind (λ e. H ++ e ∷ more) (right_tag asked.tag (hmac_of head.operator (ENROL_LABEL ++ signed_part body))) _ _ (λ u. enrol_again H more cap asked))
+    before (λ e. H ++ e ∷ more) (well_formed IN_BODY (enrol_of body)) _ _
+    (λ asked. before (λ e. H ++ e ∷ more) (right_tag asked.tag (hmac_of head.operator (codes "enro" ++ signed_part body))) _ _ (λ u. enrol_again H more cap asked))
 
 fund_steps_again : (H more : List Entry) (head : Head) (cap : ℕ) (body : List ℕ) → Again (λ e. H ++ e ∷ more) (fund_steps H head cap body) (λ e. fund_steps (H ++ e ∷ more) head cap body)
 unfolding fund_steps
 fund_steps_again H more head cap body =
-    behind (λ e. H ++ e ∷ more) (well_formed (fund_of body)) _ _
-    (λ asked. behind (λ e. H ++ e ∷ more) (right_tag asked.tag (hmac_of head.operator (FUND_LABEL ++ signed_part body))) _ _ (λ u. fund_again H more cap asked))
+    before (λ e. H ++ e ∷ more) (well_formed IN_BODY (fund_of body)) _ _
+    (λ asked. before (λ e. H ++ e ∷ more) (right_tag asked.tag (hmac_of head.operator (codes "fund" ++ signed_part body))) _ _ (λ u. fund_again H more cap asked))
 
-chosen : (b : Bool) (held : Entry → List Entry) (f g : Result Decision Refusal) (f' g' : Entry → Result Decision Refusal) → Again held f f' → Again held g g' → Again held (if b then f else g) (λ e. if b then f' e else g' e)
+-- ---- orders
+
+-- a party that is enrolled stays so
+stays_enrolled : (H more : List Entry) (role : ℕ) (id : PartyId) (party : Party) → enrolled_as H role id ≡ Ok party → enrolled_as (H ++ more) role id ≡ Ok party
+unfolding enrolled_as enrolled
+stays_enrolled H more role id party is = part (party_in H id) refl is
+  where
+    in_role : Party → Result Party Refusal
+    in_role q = unless (q.role == role) (refusal NOT_ENROLLED id.0 0) >>= (λ u. Ok q)
+
+    part : (o : Option Party) → party_in H id ≡ o → (if_found id o >>= in_role) ≡ Ok party → (if_found id (party_in (H ++ more) id) >>= in_role) ≡ Ok party
+    part None none is = absurd cc
+    part (Some q) found is = rw (found_stays (party_at id) 0 H more q found) is
+
+-- the entry of a settlement settles its order, and is read as that settlement
+settles_entry : (s : Settlement) (o : PaymentOutcome) → settles s.epoid (entry_with s o) ≡ true
+settles_entry s (outcome.Paid cacct macct key) = same_identifier s.epoid
+settles_entry s (outcome.Refused reason) = same_identifier s.epoid
+
+settlement_back : (s : Settlement) (o : PaymentOutcome) → settlement_at s.at (entry_with s o) ≡ Some (record s { outcome = o })
+settlement_back s (outcome.Paid cacct macct key) = refl
+settlement_back s (outcome.Refused reason) = refl
+
+-- where no settlement was found, no order was
+pub none_settled : (H : List Entry) (p : Epoid) → settlement_in H p ≡ None → order_in H p ≡ None
+unfolding settlement_in
+none_settled H p none = part (order_in H p) refl none
+  where
+    part : (o : Option Kept) → order_in H p ≡ o → option_and_then settlement_of o ≡ None → o ≡ None
+    part None found none = refl
+    part (Some kept) found none = absurd (settlement_some p kept.at kept.entry (settles_found p 0 H kept found) none)
+
+-- a settlement that was recorded is found
+settled_next : (H more : List Entry) (s : Settlement) → s.at ≡ length H → settlement_in H s.epoid ≡ None → settlement_in (H ++ entry_of s ∷ more) s.epoid ≡ Some s
+unfolding settlement_in
+settled_next H more s at none =
+    let kept : Kept = record { at = s.at; entry = entry_of s } in
+    let next : (n : ℕ) → n ≡ 0 + length H → order_at s.epoid n (entry_of s) ≡ Some kept =
+    λ n is. rw (settles_entry s s.outcome) (ap (λ (k : ℕ). let o : Option Kept = Some (record { at = k; entry = entry_of s }) in o) (omega (arith, is, at))) in
+    rw (found_next (order_at s.epoid) (entry_of s) more kept 0 H (none_settled H s.epoid none) next) (settlement_back s s.outcome)
+
+same_digests : (digest : List ℕ) → same_digest digest digest ≡ Ok tt
+unfolding same_digest
+same_digests digest = rw (same_bytes digest) refl
+
+order_again : (H more : List Entry) (head : Head) (cap : ℕ) (p : Presented) (moment later : ℕ)
+    → Again (λ e. H ++ e ∷ more) (again_or_settle H head cap p moment (settlement_in H p.order.epoid)) (λ e. again_or_settle (H ++ e ∷ more) head cap p later (settlement_in (H ++ e ∷ more) p.order.epoid))
+order_again H more head cap p moment later e reply keys is = part (settlement_in H p.order.epoid) refl is
+  where
+    part : (o : Option Settlement) → settlement_in H p.order.epoid ≡ o → again_or_settle H head cap p moment o ≡ Ok (decided reply keys (Some e))
+        → again_or_settle (H ++ e ∷ more) head cap p later (settlement_in (H ++ e ∷ more) p.order.epoid) ≡ Ok (decided (given_again (H ++ e ∷ more) reply) keys None)
+    part (Some kept) held is = absurd (none_recorded (result head p kept None) e reply keys refl (passed (same_digest kept.digest p.digest) _ _ is))
+    part None none is =
+        let s : Settlement = settled H p moment in
+        let same = same_decision (result head p s (Some (entry_of s))) (decided reply keys (Some e)) (passed (room_left H cap) _ _ is) in
+        let entry_is : entry_of s ≡ e = same_Some (entry_of s) e (ap (λ (d : Decision). d.entry) same) in
+        rw (sym entry_is, sym (ap (λ (d : Decision). d.reply) same), sym (ap (λ (d : Decision). d.keys) same), settled_next H more s refl none) (rw (same_digests p.digest) refl)
+
+order_steps_again : (H more : List Entry) (head : Head) (cap : ℕ) (body : List ℕ) (moment later : ℕ)
+    → Again (λ e. H ++ e ∷ more) (order_steps H head cap body moment) (λ e. order_steps (H ++ e ∷ more) head cap body later)
+unfolding order_steps
+order_steps_again H more head cap body moment later =
+    let held : Entry → List Entry = λ e. H ++ e ∷ more in
+    before held (well_formed IN_BODY (endorsed_of body)) _ _ (λ asked.
+    behind held (enrolled_as H MERCHANT asked.merchant) (λ e. enrolled_as (held e) MERCHANT asked.merchant) _ _ (λ party e is. stays_enrolled H (e ∷ more) MERCHANT asked.merchant party is) (λ merchant.
+    before held (endorsement_in merchant.key asked.sealed) _ _ (λ endorsement.
+    before held (well_formed IN_ORDER (order_of endorsement.order)) _ _ (λ order.
+    behind held (enrolled_as H CONSUMER order.consumer) (λ e. enrolled_as (held e) CONSUMER order.consumer) _ _ (λ party e is. stays_enrolled H (e ∷ more) CONSUMER order.consumer party is) (λ consumer.
+    before held (same_merchant asked.merchant order) _ _ (λ u.
+    before held (right_tag order.tag (order_tag consumer.key order)) _ _ (λ u.
+    before held (hidden_in consumer.key order.hidden) _ _ (λ hidden.
+    order_again H more head cap (record { merchant = merchant; consumer = consumer; endorsement = endorsement; digest = endorsement_digest endorsement; order = order; hidden = hidden }) moment later))))))))
+
+-- ---- status queries
+
+-- what every decision behind a test has, the decision has
+each_behind : {A : Type 0} (r : Result A Refusal) (f : A → Answer) → ((x : A) (d : Decision) → f x ≡ Ok d → d.entry ≡ None) → (d : Decision) → (r >>= f) ≡ Ok d → d.entry ≡ None
+each_behind (Ok x) f each d is = each x d is
+each_behind (Err fault) f each d is = absurd cc
+
+pub status_records_none : (H : List Entry) (head : Head) (body : List ℕ) (d : Decision) → status_steps H head body ≡ Ok d → d.entry ≡ None
+unfolding status_steps
+status_records_none H head body =
+    each_behind (well_formed IN_BODY (query_of body)) _ (λ asked.
+    each_behind (enrolled H asked.asker) _ (λ asker.
+    each_behind (right_tag asked.tag (hmac_of asker.key (codes "stat" ++ signed_part body))) _ (λ u.
+    each_behind (enough_entries H asked.least) _ (λ v d is. ap (λ (x : Decision). x.entry) (sym (same_decision (status H head asker asked) d is))))))
+
+status_steps_again : (H more : List Entry) (head : Head) (body : List ℕ) → Again (λ e. H ++ e ∷ more) (status_steps H head body) (λ e. status_steps (H ++ e ∷ more) head body)
+status_steps_again H more head body e reply keys is = absurd (none-some e (sym (status_records_none H head body (decided reply keys (Some e)) is)))
+
+-- ---- the kinds
+
+chosen : (b : Bool) (held : Entry → List Entry) (f g : Answer) (f' g' : Entry → Answer) → Again held f f' → Again held g g' → Again held (if b then f else g) (λ e. if b then f' e else g' e)
 chosen true held f g f' g' one other = one
 chosen false held f g f' g' one other = other
 
-steps_again : (H more : List Entry) (head : Head) (cap kind : ℕ) (body : List ℕ) → Again (λ e. H ++ e ∷ more) (steps H head cap kind body) (λ e. steps (H ++ e ∷ more) head cap kind body)
-steps_again H more head cap kind body =
-    chosen (kind == ENROL) (λ e. H ++ e ∷ more) _ _ _ _ (enrol_steps_again H more head cap body)
-    (chosen (kind == FUND) (λ e. H ++ e ∷ more) _ _ _ _ (fund_steps_again H more head cap body) (λ e acct at amount is. absurd (refused_not (refusal NOT_SERVED kind 0) (done acct at amount (Some e)) is)))
+steps_again : (H more : List Entry) (head : Head) (cap kind : ℕ) (body : List ℕ) (moment later : ℕ) → Again (λ e. H ++ e ∷ more) (steps H head cap kind body moment) (λ e. steps (H ++ e ∷ more) head cap kind body later)
+steps_again H more head cap kind body moment later =
+    let held : Entry → List Entry = λ e. H ++ e ∷ more in
+    chosen (kind == ENDORSED_ORDER) held _ _ _ _ (order_steps_again H more head cap body moment later)
+    (chosen (kind == STATUS_QUERY) held _ _ _ _ (status_steps_again H more head body)
+    (chosen (kind == ENROL) held _ _ _ _ (enrol_steps_again H more head cap body)
+    (chosen (kind == FUND) held _ _ _ _ (fund_steps_again H more head cap body) (λ e reply keys is. absurd (refused_not (refusal NOT_SERVED kind 0) (decided reply keys (Some e)) is)))))
   where
-    refused_not : (r : Refusal) (d : Decision) → (let first : Result Decision Refusal = Err r in first) ≡ Ok d → ⊥
+    refused_not : (r : Refusal) (d : Decision) → (let first : Answer = Err r in first) ≡ Ok d → ⊥
     refused_not r d is = cc
 
 pub told_again : ToldAgain
-told_again H more head cap kind body moment later entry acct at amount is =
-    let now : steps H head cap kind body ≡ Ok (done acct at amount (Some entry)) = step_of (steps H head cap kind body) is in
-    ap told (steps_again H more head cap kind body entry acct at amount now)
+told_again H more head cap kind body moment later entry reply keys is =
+    let now : steps H head cap kind body moment ≡ Ok (decided reply keys (Some entry)) = step_of (steps H head cap kind body moment) is in
+    ap told (steps_again H more head cap kind body moment later entry reply keys now)
   where
-    step_of : (r : Result Decision Refusal) → told r ≡ done acct at amount (Some entry) → r ≡ Ok (done acct at amount (Some entry))
-    step_of (Ok d) is = ap (λ (x : Decision). let o : Result Decision Refusal = Ok x in o) is
+    step_of : (r : Answer) → told r ≡ decided reply keys (Some entry) → r ≡ Ok (decided reply keys (Some entry))
+    step_of (Ok d) is = ap (λ (x : Decision). let o : Answer = Ok x in o) is
     step_of (Err r) is = absurd (none-some entry (ap (λ (d : Decision). d.entry) is))

@@ -1,4 +1,4 @@
--- An entry that is held already, and what a request that changes nothing more is told.
+-- An entry that is held already, and what a request is told whose entry is held or is recorded now.
 use Rattle.std.specs.Prelude.{ℕ, ◌==◌, ◌&&◌, Bool, false, List, Option, Some, None, if◌then◌else◌}
 use Rattle.std.specs.Str.{bytes_eq}
 use Rattle.nb_units.specs.declared.ids.AcctId.{AcctId}

@@ -1,9 +1,12 @@
 pub mod Head
 pub mod Requests
-pub mod Tags
 pub mod Checks
 pub mod Held
 pub mod Enrolments
 pub mod Fundings
+pub mod Settlements
+pub mod Payments
+pub mod Orders
+pub mod Statuses
 pub mod Verdict
 pub mod Laws

@@ -1,21 +1,25 @@
 -- The verdict on a request over a list of entries: one reply, and at most one entry that is recorded.
 use Rattle.std.specs.Prelude.{ℕ, ◌==◌, List, None, Result, Ok, Err, if◌then◌else◌}
+use Rattle.nb_units.specs.declared.frames.TheConstants.{ENDORSED_ORDER, STATUS_QUERY, ENROL, FUND}
 use Rattle.nb_book.specs.declared.entry.Entry.{Entry}
-use Rattle.nb_units.specs.declared.frames.TheConstants.{ENROL, FUND}
-use Rattle.nb_escrow.specs.declared.head.Head.{Head}
 use Rattle.nb_endorse.specs.declared.refusal.Refusal.{Refusal}
 use Rattle.nb_endorse.specs.declared.refusal.TheConstants.{NOT_SERVED}
 use Rattle.nb_endorse.specs.declared.reply.Reply.TheVariants.{Refused}
 use Rattle.nb_endorse.specs.Keys.{no_keys}
-use Rattle.nb_escrow.specs.declared.decision.Decision.{Decision}
 use Rattle.nb_endorse.specs.Refusals.{refusal}
+use Rattle.nb_escrow.specs.declared.head.Head.{Head}
+use Rattle.nb_escrow.specs.declared.decision.Decision.{Decision}
+use Rattle.nb_escrow.specs.Orders.{order_steps}
+use Rattle.nb_escrow.specs.Statuses.{status_steps}
 use Rattle.nb_escrow.specs.Enrolments.{enrol_steps}
 use Rattle.nb_escrow.specs.Fundings.{fund_steps}
 
--- the tests of each kind
-abbrev pub steps : List Entry → Head → ℕ → ℕ → List ℕ → Result Decision Refusal
-steps H head cap kind body =
-    if kind == ENROL then enrol_steps H head cap body
+-- the tests of each kind. Tickets, of kind 0B, are not served yet
+abbrev pub steps : List Entry → Head → ℕ → ℕ → List ℕ → ℕ → Result Decision Refusal
+steps H head cap kind body moment =
+    if kind == ENDORSED_ORDER then order_steps H head cap body moment
+    else if kind == STATUS_QUERY then status_steps H head body
+    else if kind == ENROL then enrol_steps H head cap body
     else if kind == FUND then fund_steps H head cap body
     else Err (refusal NOT_SERVED kind 0)
 
@@ -24,7 +28,6 @@ abbrev pub told : Result Decision Refusal → Decision
 told (Ok decision) = decision
 told (Err r) = record { reply = Refused r; keys = no_keys; entry = None }
 
--- over the entries H, under a head and a cap, on a frame of a kind with a body that came at a moment; no test of
--- these kinds asks for the moment
+-- over the entries H, under a head and a cap, on a frame of a kind with a body that came at a moment
 abbrev pub verdict : List Entry → Head → ℕ → ℕ → List ℕ → ℕ → Decision
-verdict H head cap kind body moment = told (steps H head cap kind body)
+verdict H head cap kind body moment = told (steps H head cap kind body moment)

@@ -12,8 +12,11 @@ const KEY: usize = 32;
 /// What a house's journal begins with: its own key, the operator's key, and the key of its index.
 #[derive(Clone, Copy, PartialEq, Eq, Debug)]
 pub struct Head {
+    /// What receipts are signed with, 32 bytes.
     pub house: Secret,
+    /// What enrolments and funds are signed with, 32 bytes.
     pub operator: Secret,
+    /// The key of the index of a book that keeps one, 16 bytes.
     pub index: [u8; 16],
 }
 

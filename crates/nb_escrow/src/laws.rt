@@ -1,9 +1,21 @@
 //! What holds of every verdict. Each function here does nothing: its contract is the law.
 
-ghost use Rattle.nb_escrow.specs.Laws.{ToldAgain};
+ghost use Rattle.nb_escrow.specs.Laws.{RecordsLegal, StatusTellsKey, ToldAgain};
 
-/// Nothing is recorded twice: a request whose entry was recorded is told the same account and place when it comes
-/// again, whatever was recorded since, and no second entry is made of it.
+/// Nothing is recorded twice: a request whose entry was recorded is given the same reply under the same keys when it comes
+/// again, at any moment and whatever was recorded since, and no second entry is made of it. What it is told of a balance is
+/// the balance by then.
 pub fn told_again()
     ensures { ToldAgain }
+{}
+
+/// To an authentic status query, over a Legal list of at least as many entries as it asks for, the reply gives a key exactly
+/// where an entry pays the order with that key and names who asks.
+pub fn status_tells_key()
+    ensures { StatusTellsKey }
+{}
+
+/// What a verdict records is legal after the entries that it was taken over, and there is room for it.
+pub fn records_legal()
+    ensures { RecordsLegal }
 {}

@@ -1,20 +1,35 @@
 //! The house's decision on one request.
 //!
 //! [`decide`] takes the book, the journal's head and a request, and gives the one reply and at most one entry: the
-//! `verdict` of `specs/Verdict.antt`, over the list of the entries that are held. The tests of each kind stand there
-//! in their order, a line each: `Enrolments.antt`, `Fundings.antt`, and what they share in `Checks.antt` and
-//! `Held.antt`; the layout of what may be asked for in `Requests.antt`. A decision's entry is legal after those held,
-//! and within the journal's cap. No memory is taken. What holds of every verdict stands in `specs/Laws.antt`, and is
-//! proved by the functions of [`laws`].
+//! `verdict` of `specs/Verdict.antt`, over the list of the entries that are held. The tests of each kind stand in a module of
+//! their own, in their order, a line each: an endorsed order in `Orders.antt` and, from its payment on, in `Payments.antt`; a status
+//! query in `Statuses.antt`; an enrolment in `Enrolments.antt`; a fund in `Fundings.antt`. What they share stands in
+//! `Checks.antt` and `Held.antt`, the layout of what may be asked for in `Requests.antt`, and what the parties of an order
+//! are told in `Settlements.antt`. In `src/` each of these has its file: `order.rt`, `payment.rt`, `status.rt`,
+//! `enrolment.rt`, `funding.rt`, `checks.rt`, `settlement.rt`.
 //!
-//! Left to others: recording the entry, the bytes of the reply, and the moment's clock.
+//! A decision's entry is legal after those held, and within the journal's cap. No memory is taken. What holds of every
+//! verdict stands in `specs/Laws.antt`, and is proved by the functions of [`laws`].
+//!
+//! Left to others: recording the entry, the bytes of the reply, and the moment's clock. Worked cases of every refusal stand in
+//! the tests of `nb_vault`, the lowest crate above this one.
 #![tactic(auto)]
 
+mod checks;
 mod decision;
+mod enrolment;
+mod funding;
 mod head;
 pub mod laws;
-mod request;
+mod order;
+mod payment;
+mod settlement;
+mod status;
 
-pub use decision::{Decision, decide, labels};
+pub use decision::{Decision, decide};
+pub use enrolment::Enrolment;
+pub use funding::Funding;
 pub use head::{HEAD, Head};
-pub use request::{Enrolment, Funding};
+pub use order::{EndorsedOrder, Presented};
+pub use settlement::{PaymentOutcome, RefusalReason, Settlement};
+pub use status::StatusQuery;

@@ -2,7 +2,7 @@ ghost use Rattle.std.specs.Prelude.{◌≡◌, ◌<◌, ◌≤◌, ◌++◌, [],
 ghost use Rattle.std.specs.Option.{option_to_list};
 ghost use Rattle.nb_book.specs.declared.limits.TheConstants.{MAX_CAP};
 ghost use Rattle.nb_units.specs.Room.{spare_of};
-ghost use Rattle.nb_msgs.specs.declared.reply.TheConstants.{MOST_REPLY};
+ghost use Rattle.nb_msgs.specs.declared.reply.TheConstants.{REPLY_ROOM};
 ghost use Rattle.nb_book.specs.Legal.{Legal, LegalAfter};
 ghost use Rattle.nb_vault.specs.House.{Answers, SameHouse};
 
@@ -48,7 +48,7 @@ impl House {
 
     /// Answers one request: its entry is recorded, and then its reply is appended to `out`.
     pub fn answer(&mut self, kind: u8, body: &[u8], moment: u64, out: &mut Vec<u8>) -> Answer
-        requires { MOST_REPLY ≤ spare_of out.old }
+        requires { REPLY_ROOM ≤ spare_of out.old }
         ensures answers { Answers self.old self.new kind body.now moment out.old.items out.new.items result }
         ensures legal { Legal self.new.book.entries }
         ensures room { vec_capacity out.old ≤ vec_capacity out.new }

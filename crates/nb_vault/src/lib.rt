@@ -14,3 +14,6 @@ mod opening;
 
 pub use house::{Answer, House};
 pub use opening::{Opened, Opening, layout, open};
+
+#[cfg(test)]
+mod tests;

@@ -1,5 +1,5 @@
 ghost use Rattle.std.specs.Prelude.{◌≡◌, ◌≤◌, [], vec_capacity};
-ghost use Rattle.nb_msgs.specs.declared.reply.TheConstants.{MOST_REPLY};
+ghost use Rattle.nb_msgs.specs.declared.reply.TheConstants.{REPLY_ROOM};
 ghost use Rattle.nb_vault.specs.House.{house_rules, SameHouse};
 ghost use Rattle.netbill.specs.Batch.{StepIs, Served, FaultOf, StepFaultOf, status_of};
 ghost use Rattle.netbill.specs.Numbers.{LimitIs};
@@ -7,7 +7,7 @@ ghost use Rattle.netbill.specs.Numbers.{LimitIs};
 use crate::ending::{BAD_INPUT, CLEAN, FRAME_LIMIT, OUT_OF_MEMORY, SINK_FAILED, SOURCE_FAILED};
 use crate::send::{Sent, send};
 use nb_frame::{FrameReader, Next};
-use nb_msgs::MOST_REPLY;
+use nb_msgs::REPLY_ROOM;
 use nb_port::{Clock, Sink, Source};
 use nb_vault::House;
 use std::alloc::Global;
@@ -72,7 +72,7 @@ pub fn serve<S: Source, K: Sink, C: Clock>(
     ensures fault { FaultOf (S.faults source.old) (S.faults source.new) (K.faults sink.old) (K.faults sink.new) result }
 {
     let mut reader = FrameReader::new(alloc);
-    let Ok(mut reply) = Vec::with_capacity(alloc, MOST_REPLY) else {
+    let Ok(mut reply) = Vec::with_capacity(alloc, REPLY_ROOM) else {
         return BatchEnd::NoMemory;
     };
     'frames: for _ in 0..MOST_FRAMES {
@@ -93,7 +93,7 @@ fn answer_next<S: Source, K: Sink, C: Clock>(
     sink: &mut K,
     clock: &mut C,
 ) -> Step
-    requires { MOST_REPLY ≤ vec_capacity reply.old }
+    requires { REPLY_ROOM ≤ vec_capacity reply.old }
     ensures step { StepIs (house_rules house.old.head house.old.book.cap) house.old.book.entries house.new.book.entries
         (record { left = S.left source.old; sent = K.sent sink.old; moments = C.moments clock.old })
         (record { left = S.left source.new; sent = K.sent sink.new; moments = C.moments clock.new }) result }

@@ -1,5 +1,5 @@
 use Rattle.std.proofs.Common.{◌≡◌, ◌≤◌, vec_capacity}
-use Rattle.nb_msgs.specs.declared.reply.TheConstants.{MOST_REPLY}
+use Rattle.nb_msgs.specs.declared.reply.TheConstants.{REPLY_ROOM}
 use Rattle.nb_vault.specs.House.{house_rules}
 use Rattle.netbill.proofs.Serving.{Ran}
 use Rattle.netbill.proofs.batch.serve.Given as goal
@@ -12,7 +12,7 @@ invariant-frames g l = record {
       (record { left = g.S.Source.left l.source; sent = g.K.Sink.sent l.sink; moments = g.C.Clock.moments l.clock }) l.counter l.house.book.entries;
   head : l.house.head ≡ l.fn.house.head;
   cap : l.house.book.cap ≡ l.fn.house.book.cap;
-  room : MOST_REPLY ≤ vec_capacity l.reply;
+  room : REPLY_ROOM ≤ vec_capacity l.reply;
   source : g.S.Source.faults l.fn.source ≤ g.S.Source.faults l.source;
   sink : g.K.Sink.faults l.fn.sink ≤ g.K.Sink.faults l.sink;
 }

@@ -3,7 +3,7 @@ use Rattle.std.specs.Option.{option_and_then}
 use Rattle.nb_book.specs.declared.funded.Funded.{Funded}
 use Rattle.nb_escrow.specs.Fundings.{funded_place}
 use Rattle.nb_escrow.proofs.Holding.{fund_place}
-use Rattle.nb_escrow.proofs.decision.funded_at.Goals as goal
+use Rattle.nb_escrow.proofs.funding.funded_at.Goals as goal
 
 pub returns-in-Some : goal.returns-in-Some
 returns-in-Some c =

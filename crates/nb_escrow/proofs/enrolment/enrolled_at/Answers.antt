@@ -3,7 +3,7 @@ use Rattle.std.specs.Option.{option_and_then}
 use Rattle.nb_book.specs.declared.party.Party.{Party}
 use Rattle.nb_escrow.specs.Enrolments.{party_place}
 use Rattle.nb_escrow.proofs.Holding.{enrol_place}
-use Rattle.nb_escrow.proofs.decision.enrolled_at.Goals as goal
+use Rattle.nb_escrow.proofs.enrolment.enrolled_at.Goals as goal
 
 pub returns-in-Some : goal.returns-in-Some
 returns-in-Some c =

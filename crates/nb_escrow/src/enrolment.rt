@@ -1,0 +1,144 @@
+ghost use Rattle.std.specs.Prelude.{◌≡◌, ◌≢◌, ◌<◌, ◌⊎◌, length, OnOk, IfOk, IfSome, IsSome, IsNone};
+ghost use Rattle.nb_units.specs.Reads.{Reads};
+ghost use Rattle.nb_book.specs.declared.entry.TheConstants.{CONSUMER, MERCHANT};
+ghost use Rattle.nb_book.specs.Searches.{party_in, holder_in};
+ghost use Rattle.nb_book.specs.Legal.{LegalAfter};
+ghost use Rattle.nb_endorse.specs.Replies.{HasLawfulReceipts};
+ghost use Rattle.nb_escrow.specs.Requests.{enrol_of};
+ghost use Rattle.nb_escrow.specs.Held.{place_in};
+ghost use Rattle.nb_escrow.specs.Enrolments.{enrol_entry, party_place, numbers_free, enrol_steps};
+
+use crate::checks::{allow, balance_now, check_room, check_tag, signed};
+use crate::decision::Decision;
+use crate::head::Head;
+use nb_book::{Book, CONSUMER, Entry, MERCHANT, Party};
+use nb_endorse::Refusal;
+use nb_endorse::refusal::PARTY_HELD;
+use nb_seal::hmac;
+use nb_units::{AcctId, Cut, Malformed, PartyId, Secret, Tag};
+
+// What the tag of an enrolment is over begins with this.
+const ENROL_LABEL: [u8; 4] = *b"enro";
+
+/// The operator asks to enrol a party.
+#[derive(Clone, Copy, PartialEq, Eq, Debug)]
+pub struct Enrolment {
+    /// The party's number, 4 bytes wide.
+    pub id: PartyId,
+    /// [`CONSUMER`] or [`MERCHANT`], one byte wide.
+    pub role: u8,
+    /// The number of its account, 4 bytes wide.
+    pub acct: AcctId,
+    /// The number that its orders must show, 8 bytes wide.
+    pub nonce: u64,
+    /// The key that it shares with the house, 32 bytes.
+    pub key: Secret,
+    /// The HMAC-SHA-256 (RFC 2104) of "enro" and the body before the tag, under the operator's key.
+    pub tag: Tag,
+}
+
+impl Enrolment {
+    /// The enrolment that the body spells, or the place of the first field that fails, in bytes from the body's front. A role
+    /// other than the two fails at 4.
+    #[tactic(auto, unfolding(crate::specs::Requests::enrol_of))]
+    pub fn read(body: &[u8]) -> Result<Enrolment, Malformed>
+        ensures reads { Reads result (enrol_of body.now) }
+        ensures role { IfOk result (λ asked. (asked.role ≡ CONSUMER) ⊎ (asked.role ≡ MERCHANT)) }
+    {
+        let mut cut = Cut::new(body);
+        let id = cut.u32()?;
+        let place = cut.place();
+        let role = cut.u8()?;
+        allow(role == CONSUMER || role == MERCHANT, place)?;
+        let acct = cut.u32()?;
+        let nonce = cut.u64()?;
+        let key = cut.fixed32()?;
+        let tag = cut.fixed32()?;
+        cut.done()?;
+        Ok(Enrolment {
+            id: PartyId(id),
+            role,
+            acct: AcctId(acct),
+            nonce,
+            key,
+            tag,
+        })
+    }
+
+    /// The entry that is recorded for it.
+    pub fn entry(&self) -> Entry
+        ensures { result ≡ enrol_entry self.now }
+    {
+        Entry::Enrol {
+            id: self.id,
+            role: self.role,
+            acct: self.acct,
+            nonce: self.nonce,
+            key: self.key,
+        }
+    }
+
+    // The place of the enrolment of the party that has this number, where that is equal to this one.
+    fn place_of(&self, party: &Party) -> Option<u64>
+        ensures { result ≡ party_place self.now party.now }
+    {
+        let same = party.role == self.role
+            && party.acct == self.acct
+            && party.nonce == self.nonce
+            && party.key == self.key;
+        if same { Some(party.at) } else { None }
+    }
+}
+
+// The tests of an enrolment, in order.
+#[tactic(auto, unfolding(crate::specs::Enrolments::enrol_steps))]
+pub(crate) fn decide_enrolment(book: &Book, head: &Head, body: &[u8]) -> Result<Decision, Refusal>
+    ensures steps { result ≡ enrol_steps book.now.entries head.now book.now.cap body.now }
+    ensures legal { IfOk result (λ decision. IfSome decision.entry (LegalAfter book.now.entries)) }
+    ensures room { IfOk result (λ decision. IsSome decision.entry → length book.now.entries < book.now.cap) }
+    ensures receipts { IfOk result (λ decision. HasLawfulReceipts decision.reply) }
+{
+    let asked = Enrolment::read(body)?;
+    check_tag(
+        &asked.tag,
+        &hmac(&head.operator, &ENROL_LABEL, signed(body)),
+    )?;
+    let entry = asked.entry();
+    if let Some(at) = enrolled_at(book, &asked) {
+        return Ok(Decision::done(asked.acct, at, balance_now(book, asked.acct), None));
+    }
+    check_free(book, asked.id, asked.acct)?;
+    check_room(book)?;
+    let at = u64::from(book.len());
+    Ok(Decision::done(asked.acct, at, balance_now(book, asked.acct), Some(entry)))
+}
+
+// The place of an equal enrolment, if there is one.
+fn enrolled_at(book: &Book, asked: &Enrolment) -> Option<u64>
+    ensures { result ≡ place_in book.now.entries (enrol_entry asked.now) }
+{
+    match book.party(asked.id) {
+        Some(party) => asked.place_of(&party),
+        None => None,
+    }
+}
+
+// Neither number is held or 0.
+#[tactic(auto, unfolding(crate::specs::Enrolments::numbers_free), using(crate::proofs::Holding::unheld, crate::proofs::Holding::holder_of))]
+fn check_free(book: &Book, id: PartyId, acct: AcctId) -> Result<(), Refusal>
+    ensures test { result ≡ numbers_free book.now.entries id acct }
+    ensures numbers { OnOk result ((id.0 ≢ 0) × (acct.0 ≢ 0)) }
+    ensures free { OnOk result (IsNone (party_in book.now.entries id) × IsNone (holder_in book.now.entries acct)) }
+{
+    if let Some(party) = book.party(id) {
+        return Err(Refusal::of(PARTY_HELD, u64::from(id.0), u64::from(party.acct.0)));
+    }
+    if let Some(account) = book.account(acct) {
+        return Err(Refusal::of(PARTY_HELD, u64::from(account.party.0), u64::from(acct.0)));
+    }
+    if id.0 != 0 && acct.0 != 0 {
+        Ok(())
+    } else {
+        Err(Refusal::of(PARTY_HELD, 0, 0))
+    }
+}

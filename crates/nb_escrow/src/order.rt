@@ -1,0 +1,267 @@
+ghost use Rattle.std.specs.Prelude.{◌≡◌, ◌≤◌, ◌<◌, length, IfOk, IfSome, IsSome, IsNone, OnOk, None};
+ghost use Rattle.nb_units.specs.Reads.{Reads};
+ghost use Rattle.nb_book.specs.Legal.{LegalAfter};
+ghost use Rattle.nb_book.specs.Searches.{order_in};
+ghost use Rattle.nb_epo.specs.declared.hidden.TheConstants.{MAX_HIDDEN};
+ghost use Rattle.nb_epo.specs.Reading.{order_of};
+ghost use Rattle.nb_epo.specs.Tags.{order_tag};
+ghost use Rattle.nb_endorse.specs.declared.endorsement.TheConstants.{MAX_SEALED};
+ghost use Rattle.nb_endorse.specs.declared.refusal.TheConstants.{IN_ORDER};
+ghost use Rattle.nb_endorse.specs.Replies.{HasLawfulReceipts};
+ghost use Rattle.nb_escrow.specs.Requests.{endorsed_of};
+ghost use Rattle.nb_escrow.specs.Checks.{well_formed, right_tag};
+ghost use Rattle.nb_escrow.specs.Orders.{IsPresented, endorsement_in, hidden_in, names_endorser, same_merchant, same_digest, unread_endorsement, unread_hidden, order_steps, settled, result as result_of};
+ghost use Rattle.nb_escrow.specs.Settlements.{settlement_in, entry_of, IsPaymentOutcome};
+
+use crate::checks::{check_room, find_party_as};
+use crate::decision::Decision;
+use crate::head::Head;
+use crate::payment::outcome;
+use crate::settlement::Settlement;
+use nb_book::{Book, CONSUMER, Entry, MERCHANT, Party};
+use nb_endorse::refusal::{
+    IDENTIFIER_USED, IN_ENDORSEMENT, IN_HIDDEN, IN_ORDER, MALFORMED, NOT_SEALED, OTHER_MERCHANT,
+    WRONG_TAG,
+};
+use nb_endorse::{
+    Endorsement, MAX_SEALED, Refusal, Reply, ReplyKeys, SealedFault, digest_of, read_sealed,
+};
+use nb_epo::{Hidden, Order, RevealFault, order_tag_ok, read_order, reveal};
+use nb_units::{Buffer, Cut, Digest, Epoid, Malformed, PartyId, Secret, Small};
+
+/// A merchant asks the house for the payment of an order.
+#[derive(Drop)]
+pub struct EndorsedOrder {
+    /// The merchant's number, 4 bytes wide.
+    pub merchant: PartyId,
+    /// The endorsement, sealed under the merchant's key: at most [`MAX_SEALED`] bytes.
+    pub sealed: Buffer,
+}
+
+impl EndorsedOrder {
+    /// The endorsed order that the body spells, or the place of the first field that fails, in bytes from the body's front. A
+    /// bad sealed endorsement is told at the place of its length, 4.
+    #[tactic(auto, unfolding(crate::specs::Requests::endorsed_of))]
+    pub fn read(body: &[u8]) -> Result<EndorsedOrder, Malformed>
+        ensures reads { Reads result (endorsed_of body.now) }
+        ensures short { IfOk result (λ asked. length asked.sealed ≤ MAX_SEALED) }
+    {
+        let mut cut = Cut::new(body);
+        let merchant = cut.u32()?;
+        let bytes = cut.bytes(MAX_SEALED as u32)?;
+        cut.done()?;
+        let mut sealed = Buffer::new();
+        sealed.raw(bytes);
+        Ok(EndorsedOrder {
+            merchant: PartyId(merchant),
+            sealed,
+        })
+    }
+}
+
+/// An order whose parties, seals, grammar and tag were tested: who takes part, and what each of them says. Whether it was
+/// settled before, and whether it is paid, is tested next.
+#[derive(Clone, Copy, PartialEq, Eq, Debug)]
+pub struct Presented {
+    /// Who endorses the order.
+    pub merchant: Party,
+    /// Who signed it.
+    pub consumer: Party,
+    pub endorsement: Endorsement,
+    /// The digest of the endorsement.
+    pub digest: Digest,
+    pub order: Order,
+    /// What the order says to the house alone.
+    pub hidden: Hidden,
+}
+
+// The tests of an endorsed order, in order.
+#[tactic(auto, unfolding(crate::specs::Orders::order_steps))]
+pub(crate) fn decide_order(
+    book: &Book,
+    head: &Head,
+    body: &[u8],
+    moment: u64,
+) -> Result<Decision, Refusal>
+    ensures steps { result ≡ order_steps book.now.entries head.now book.now.cap body.now moment }
+    ensures legal { IfOk result (λ decision. IfSome decision.entry (LegalAfter book.now.entries)) }
+    ensures room { IfOk result (λ decision. IsSome decision.entry → length book.now.entries < book.now.cap) }
+    ensures receipts { IfOk result (λ decision. HasLawfulReceipts decision.reply) }
+{
+    let asked = EndorsedOrder::read(body)?;
+    let merchant = find_party_as(book, MERCHANT, asked.merchant)?;
+    let endorsement = open_endorsement(&asked.sealed, &merchant.key)?;
+    let order = read_endorsed(&endorsement.order)?;
+    let consumer = find_party_as(book, CONSUMER, order.consumer)?;
+    check_merchant(asked.merchant, &order)?;
+    check_order_tag(&order, &consumer.key)?;
+    let hidden = open_hidden(&order.hidden, &consumer.key)?;
+    let presented = Presented {
+        merchant,
+        consumer,
+        endorsement,
+        digest: digest_of(&endorsement),
+        order,
+        hidden,
+    };
+    if let Some(kept) = settled_before(book, &order.epoid) {
+        check_digest(&kept.digest, &presented.digest)?;
+        return Ok(presented.result(head, &kept, None));
+    }
+    check_room(book)?;
+    let settlement = presented.settle(book, moment);
+    Ok(presented.result(head, &settlement, Some(settlement.entry())))
+}
+
+impl Presented {
+    // How the order is settled, which is new.
+    fn settle(&self, book: &Book, moment: u64) -> Settlement
+        requires presented { IsPresented book.now.entries self.now }
+        requires new { IsNone (order_in book.now.entries self.now.order.epoid) }
+        ensures settled { result ≡ settled book.now.entries self.now moment }
+        ensures legal { LegalAfter book.now.entries (entry_of result) }
+        ensures outcome { IsPaymentOutcome result.outcome }
+    {
+        Settlement {
+            at: u64::from(book.len()),
+            digest: self.digest,
+            epoid: self.order.epoid,
+            consumer: self.order.consumer,
+            merchant: self.order.merchant,
+            product: self.order.product,
+            price: self.order.price,
+            moment,
+            outcome: outcome(book, self, moment),
+        }
+    }
+
+    // What both parties are told of a settlement.
+    fn result(&self, head: &Head, settlement: &Settlement, entry: Option<Entry>) -> Decision
+        requires { IsPaymentOutcome settlement.now.outcome }
+        ensures result { result ≡ result_of head.now self.now settlement.now entry }
+        ensures receipts { HasLawfulReceipts result.reply }
+    {
+        Decision {
+            reply: Reply::Result {
+                merchant: settlement.receipt_in_role(MERCHANT),
+                consumer: settlement.receipt_in_role(CONSUMER),
+            },
+            keys: ReplyKeys {
+                house: head.house,
+                first: self.merchant.key,
+                second: self.consumer.key,
+            },
+            entry,
+        }
+    }
+}
+
+// The endorsement that is sealed under the merchant's key.
+#[tactic(auto, unfolding(crate::specs::Orders::endorsement_in))]
+fn open_endorsement(sealed: &Buffer, key: &Secret) -> Result<Endorsement, Refusal>
+    requires { length sealed.now ≤ MAX_SEALED }
+    ensures { result ≡ endorsement_in key.now sealed.now }
+{
+    match read_sealed(sealed.as_slice(), key) {
+        Ok(endorsement) => Ok(endorsement),
+        Err(fault) => Err(unread_endorsement(fault)),
+    }
+}
+
+// The refusal of an endorsement that was not read.
+fn unread_endorsement(fault: SealedFault) -> Refusal
+    ensures { result ≡ unread_endorsement fault }
+{
+    match fault {
+        SealedFault::BadSeal { iv } => Refusal::with(NOT_SEALED, &iv),
+        SealedFault::Malformed { place } => Refusal::of(MALFORMED, place as u64, IN_ENDORSEMENT),
+    }
+}
+
+// The order that is endorsed.
+fn read_endorsed(bytes: &Small) -> Result<Order, Refusal>
+    ensures test { result ≡ well_formed IN_ORDER (order_of bytes.now) }
+    ensures short { IfOk result (λ order. length order.hidden ≤ MAX_HIDDEN) }
+{
+    match read_order(bytes.as_slice()) {
+        Ok(order) => Ok(order),
+        Err(Malformed { place }) => Err(Refusal::of(MALFORMED, place as u64, IN_ORDER)),
+    }
+}
+
+// The hidden part that is sealed under the consumer's key.
+#[tactic(auto, unfolding(crate::specs::Orders::hidden_in))]
+fn open_hidden(sealed: &Small, key: &Secret) -> Result<Hidden, Refusal>
+    requires { length sealed.now ≤ MAX_HIDDEN }
+    ensures { result ≡ hidden_in key.now sealed.now }
+{
+    match reveal(sealed.as_slice(), key) {
+        Ok(hidden) => Ok(hidden),
+        Err(fault) => Err(unread_hidden(fault)),
+    }
+}
+
+// The refusal of a hidden part that was not read.
+fn unread_hidden(fault: RevealFault) -> Refusal
+    ensures { result ≡ unread_hidden fault }
+{
+    match fault {
+        RevealFault::BadSeal { iv } => Refusal::with(NOT_SEALED, &iv),
+        RevealFault::Malformed { place } => Refusal::of(MALFORMED, place as u64, IN_HIDDEN),
+    }
+}
+
+#[tactic(auto, unfolding(crate::specs::Orders::same_merchant))]
+fn check_merchant(endorser: PartyId, order: &Order) -> Result<(), Refusal>
+    ensures test { result ≡ same_merchant endorser order.now }
+    ensures same { OnOk result ((order.now.merchant ≡ endorser) × (order.now.epoid.merchant ≡ endorser)) }
+{
+    check_named(endorser, order.merchant)?;
+    check_named(endorser, order.epoid.merchant)
+}
+
+fn check_named(endorser: PartyId, merchant: PartyId) -> Result<(), Refusal>
+    ensures test { result ≡ names_endorser endorser merchant }
+    ensures same { OnOk result (merchant ≡ endorser) }
+{
+    if merchant == endorser {
+        Ok(())
+    } else {
+        Err(Refusal::of(OTHER_MERCHANT, u64::from(endorser.0), u64::from(merchant.0)))
+    }
+}
+
+#[tactic(auto, unfolding(crate::specs::Checks::right_tag))]
+fn check_order_tag(order: &Order, key: &Secret) -> Result<(), Refusal>
+    ensures { result ≡ right_tag order.now.tag (order_tag key.now order.now) }
+{
+    if order_tag_ok(order, key) {
+        Ok(())
+    } else {
+        Err(Refusal::with(WRONG_TAG, &order.tag))
+    }
+}
+
+// How the order of this identifier was settled, if it was.
+#[tactic(auto, unfolding(crate::specs::Settlements::settlement_in))]
+pub(crate) fn settled_before(book: &Book, epoid: &Epoid) -> Option<Settlement>
+    ensures found { result ≡ settlement_in book.now.entries epoid.now }
+    ensures new { result ≡ None → IsNone (order_in book.now.entries epoid.now) }
+    ensures outcome { IfSome result (λ kept. IsPaymentOutcome kept.outcome) }
+{
+    match book.order(epoid) {
+        Some(kept) => Settlement::of(&kept),
+        None => None,
+    }
+}
+
+#[tactic(auto, unfolding(crate::specs::Orders::same_digest))]
+fn check_digest(kept: &Digest, digest: &Digest) -> Result<(), Refusal>
+    ensures { result ≡ same_digest kept.now digest.now }
+{
+    if kept == digest {
+        Ok(())
+    } else {
+        Err(Refusal::with(IDENTIFIER_USED, kept))
+    }
+}

@@ -1,0 +1,222 @@
+ghost use Rattle.std.specs.Prelude.{◌≡◌, ◌↔◌, IfSome, IsSome, None, Some};
+ghost use Rattle.nb_endorse.specs.declared.receipt.TheConstants.{PAID};
+ghost use Rattle.nb_endorse.specs.Replies.{KeepsRules};
+ghost use Rattle.nb_endorse.specs.Spelling.{IsCode};
+ghost use Rattle.nb_escrow.specs.Settlements.{settlement_of, entry_of, may_see, receipt_saying, receipt_in_role, receipt_of_party, IsPaymentOutcome};
+
+use nb_book::reason::{BALANCE_LOW, CONSUMER_ACCOUNT, CONSUMER_NONCE, MERCHANT_ACCOUNT};
+use nb_book::{CONSUMER, Entry, Kept, MERCHANT};
+use nb_endorse::{PAID, Receipt};
+use nb_units::{AcctId, Digest, Epoid, PartyId, Price, Secret};
+
+/// Why an order was refused: one of the codes of [`reason`](nb_book::reason), and the two numbers of which it speaks.
+#[derive(Clone, Copy, PartialEq, Eq, Debug)]
+pub struct RefusalReason {
+    /// One byte wide.
+    pub code: u8,
+    /// The first number, 8 bytes wide.
+    pub a: u64,
+    /// The second number, 8 bytes wide.
+    pub b: u64,
+}
+
+/// What became of an order.
+#[derive(Clone, Copy, PartialEq, Eq, Debug)]
+pub enum PaymentOutcome {
+    /// The price moved from the consumer's account, `cacct`, to the merchant's, `macct`. The key, 32 bytes, is the one that
+    /// the merchant gave for the goods.
+    Paid {
+        cacct: AcctId,
+        macct: AcctId,
+        key: Secret,
+    },
+    /// Nothing moved.
+    Refused(RefusalReason),
+}
+
+/// How an order was settled: the entry that records it, with its place.
+#[derive(Clone, Copy, PartialEq, Eq, Debug)]
+pub struct Settlement {
+    /// The number of entries before it, 8 bytes wide.
+    pub at: u64,
+    /// The SHA-256 digest (FIPS 180-4) of the endorsement before it was sealed.
+    pub digest: Digest,
+    /// The order's identifier, 16 bytes wide.
+    pub epoid: Epoid,
+    /// Who pays, 4 bytes wide.
+    pub consumer: PartyId,
+    /// Who is paid, 4 bytes wide.
+    pub merchant: PartyId,
+    /// The merchant's number for the product, 4 bytes wide.
+    pub product: u32,
+    /// The price, in the house's smallest unit of money, 8 bytes wide.
+    pub price: Price,
+    /// When it was settled, in seconds since 1970-01-01 00:00 UTC, 8 bytes wide.
+    pub moment: u64,
+    /// Whether it was paid.
+    pub outcome: PaymentOutcome,
+}
+
+impl Settlement {
+    /// How an entry that was found settled its order. `None` where the entry is an enrolment or a fund, which settle none.
+    pub fn of(kept: &Kept) -> Option<Settlement>
+        ensures { result ≡ settlement_of kept.now }
+    {
+        let at = kept.at;
+        match kept.entry {
+            Entry::Paid {
+                digest,
+                epoid,
+                consumer,
+                merchant,
+                product,
+                price,
+                cacct,
+                macct,
+                moment,
+                key,
+            } => Some(Settlement {
+                at,
+                digest,
+                epoid,
+                consumer,
+                merchant,
+                product,
+                price,
+                moment,
+                outcome: PaymentOutcome::Paid { cacct, macct, key },
+            }),
+            Entry::Refused {
+                digest,
+                epoid,
+                consumer,
+                merchant,
+                product,
+                price,
+                code,
+                a,
+                b,
+                moment,
+            } => Some(Settlement {
+                at,
+                digest,
+                epoid,
+                consumer,
+                merchant,
+                product,
+                price,
+                moment,
+                outcome: PaymentOutcome::Refused(RefusalReason { code, a, b }),
+            }),
+            _ => None,
+        }
+    }
+
+    /// The entry that records it.
+    pub fn entry(&self) -> Entry
+        ensures { result ≡ entry_of self.now }
+    {
+        let Settlement {
+            digest,
+            epoid,
+            consumer,
+            merchant,
+            product,
+            price,
+            moment,
+            ..
+        } = *self;
+        match self.outcome {
+            PaymentOutcome::Paid { cacct, macct, key } => Entry::Paid {
+                digest,
+                epoid,
+                consumer,
+                merchant,
+                product,
+                price,
+                cacct,
+                macct,
+                moment,
+                key,
+            },
+            PaymentOutcome::Refused(RefusalReason { code, a, b }) => Entry::Refused {
+                digest,
+                epoid,
+                consumer,
+                merchant,
+                product,
+                price,
+                code,
+                a,
+                b,
+                moment,
+            },
+        }
+    }
+
+    /// The receipt of the party in this role, [`CONSUMER`] or [`MERCHANT`]. A reason has to have one of the codes of receipts,
+    /// from 31 to 37.
+    #[tactic(auto, unfolding(crate::specs::Settlements::receipt_in_role))]
+    pub fn receipt_in_role(&self, role: u8) -> Receipt
+        requires { IsPaymentOutcome self.now.outcome }
+        ensures receipt { result ≡ receipt_in_role role self.now }
+        ensures lawful { KeepsRules result }
+    {
+        match self.outcome {
+            PaymentOutcome::Paid { key, .. } => self.receipt_saying(PAID, Some(key), None),
+            PaymentOutcome::Refused(RefusalReason { code, a, b }) => {
+                self.receipt_saying(code, None, may_see(role, code).then_some((a, b)))
+            }
+        }
+    }
+
+    // A receipt with this code, and key or numbers.
+    fn receipt_saying(&self, code: u8, key: Option<Secret>, shown: Option<(u64, u64)>) -> Receipt
+        requires code { IsCode code }
+        requires keyed { IsSome key ↔ (code ≡ PAID) }
+        requires showing { code ≡ PAID → shown ≡ None }
+        ensures receipt { result ≡ receipt_saying self.now code key shown }
+        ensures lawful { KeepsRules result }
+    {
+        Receipt {
+            code,
+            consumer: self.consumer,
+            merchant: self.merchant,
+            product: self.product,
+            price: self.price,
+            epoid: self.epoid,
+            at: self.at,
+            moment: self.moment,
+            key,
+            shown,
+        }
+    }
+
+    /// The receipt of this party, in the role in which the settlement names it; `None` where it does not. A reason has to have
+    /// one of the codes of receipts, from 31 to 37.
+    pub fn receipt_of_party(&self, id: PartyId) -> Option<Receipt>
+        requires { IsPaymentOutcome self.now.outcome }
+        ensures receipt { result ≡ receipt_of_party id (Some self.now) }
+        ensures lawful { IfSome result KeepsRules }
+    {
+        if self.consumer == id {
+            Some(self.receipt_in_role(CONSUMER))
+        } else if self.merchant == id {
+            Some(self.receipt_in_role(MERCHANT))
+        } else {
+            None
+        }
+    }
+}
+
+// Whether the party in this role is shown the numbers of a reason.
+#[tactic(auto, unfolding(crate::specs::Settlements::may_see))]
+fn may_see(role: u8, code: u8) -> bool
+    ensures { result ≡ may_see role code }
+{
+    match code {
+        CONSUMER_ACCOUNT | CONSUMER_NONCE | BALANCE_LOW => role == CONSUMER,
+        MERCHANT_ACCOUNT => role == MERCHANT,
+        _ => true,
+    }
+}

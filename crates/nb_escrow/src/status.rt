@@ -1,0 +1,104 @@
+ghost use Rattle.std.specs.Prelude.{◌≡◌, IfOk, OnOk, IsNone};
+ghost use Rattle.nb_units.specs.Reads.{Reads};
+ghost use Rattle.nb_book.specs.Legal.{Legal};
+ghost use Rattle.nb_endorse.specs.Replies.{HasLawfulReceipts};
+ghost use Rattle.nb_escrow.specs.Requests.{query_of};
+ghost use Rattle.nb_escrow.specs.Statuses.{enough_entries, status, status_steps};
+
+use crate::checks::{check_tag, find_party, signed};
+use crate::decision::Decision;
+use crate::head::Head;
+use crate::order::settled_before;
+use nb_book::{Book, Party};
+use nb_endorse::refusal::TOO_FEW_ENTRIES;
+use nb_endorse::{Refusal, Reply, ReplyKeys};
+use nb_seal::hmac;
+use nb_units::{Cut, Epoid, Malformed, PartyId, Tag};
+
+// What the tag of a status query is over begins with this.
+const STATUS_LABEL: [u8; 4] = *b"stat";
+
+/// A party asks for the status of an order.
+#[derive(Clone, Copy, PartialEq, Eq, Debug)]
+pub struct StatusQuery {
+    /// The number of who asks, 4 bytes wide.
+    pub asker: PartyId,
+    /// The order's identifier, 16 bytes wide.
+    pub epoid: Epoid,
+    /// How many entries the house has to hold at least, 8 bytes wide.
+    pub least: u64,
+    /// The HMAC-SHA-256 (RFC 2104) of "stat" and the body before the tag, under the key of who asks.
+    pub tag: Tag,
+}
+
+impl StatusQuery {
+    /// The status query that the body spells, or the place of the first field that fails, in bytes from the body's front.
+    #[tactic(auto, unfolding(crate::specs::Requests::query_of))]
+    pub fn read(body: &[u8]) -> Result<StatusQuery, Malformed>
+        ensures { Reads result (query_of body.now) }
+    {
+        let mut cut = Cut::new(body);
+        let asker = cut.u32()?;
+        let epoid = cut.fixed16()?;
+        let least = cut.u64()?;
+        let tag = cut.fixed32()?;
+        cut.done()?;
+        Ok(StatusQuery {
+            asker: PartyId(asker),
+            epoid: Epoid::read(&epoid),
+            least,
+            tag,
+        })
+    }
+}
+
+// The tests of a status query, in order.
+#[tactic(auto, unfolding(crate::specs::Statuses::status_steps))]
+pub(crate) fn decide_status(book: &Book, head: &Head, body: &[u8]) -> Result<Decision, Refusal>
+    ensures steps { result ≡ status_steps book.now.entries head.now body.now }
+    ensures none { IfOk result (λ decision. IsNone decision.entry) }
+    ensures receipts { IfOk result (λ decision. HasLawfulReceipts decision.reply) }
+    ensures list { OnOk result (Legal book.now.entries) }
+{
+    let asked = StatusQuery::read(body)?;
+    let asker = find_party(book, asked.asker)?;
+    check_tag(&asked.tag, &hmac(&asker.key, &STATUS_LABEL, signed(body)))?;
+    check_entries(book, asked.least)?;
+    Ok(status_of(book, head, &asker, &asked))
+}
+
+#[tactic(auto, unfolding(crate::specs::Statuses::enough_entries))]
+fn check_entries(book: &Book, least: u64) -> Result<(), Refusal>
+    ensures { result ≡ enough_entries book.now.entries least }
+{
+    let held = u64::from(book.len());
+    if least <= held {
+        Ok(())
+    } else {
+        Err(Refusal::of(TOO_FEW_ENTRIES, held, least))
+    }
+}
+
+// What who asks is told.
+fn status_of(book: &Book, head: &Head, asker: &Party, asked: &StatusQuery) -> Decision
+    ensures status { result ≡ status book.now.entries head.now asker.now asked.now }
+    ensures receipts { HasLawfulReceipts result.reply }
+{
+    let receipt = match settled_before(book, &asked.epoid) {
+        Some(settlement) => settlement.receipt_of_party(asked.asker),
+        None => None,
+    };
+    Decision {
+        reply: Reply::Status {
+            place: u64::from(book.len()),
+            epoid: asked.epoid,
+            receipt,
+        },
+        keys: ReplyKeys {
+            house: head.house,
+            first: asker.key,
+            ..ReplyKeys::none()
+        },
+        entry: None,
+    }
+}
