@@ -4,11 +4,14 @@ ghost use Rattle.nb_book.specs.Searches.{funded_in};
 use crate::entry::Entry;
 use nb_units::AcctId;
 
-/// A fund: its place, the number of entries before it, and what it put into which account.
+/// A fund: its place, and what it put into which account.
 #[derive(Clone, Copy, PartialEq, Eq, Debug)]
 pub struct Funded {
+    /// The number of entries before it, 8 bytes wide.
     pub at: u64,
+    /// The number of the account, 4 bytes wide.
     pub acct: AcctId,
+    /// In the house's smallest unit of money, 8 bytes wide.
     pub amount: u64,
 }
 

@@ -4,10 +4,12 @@ ghost use Rattle.nb_book.specs.Searches.{order_in};
 use crate::entry::Entry;
 use nb_units::Epoid;
 
-/// A payment or a refusal: its place, the number of entries before it, and the entry.
+/// A payment or a refusal, and its place.
 #[derive(Clone, Copy, PartialEq, Eq, Debug)]
 pub struct Kept {
+    /// The number of entries before it, 8 bytes wide.
     pub at: u64,
+    /// A payment or a refusal.
     pub entry: Entry,
 }
 

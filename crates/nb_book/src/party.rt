@@ -4,13 +4,18 @@ ghost use Rattle.nb_book.specs.Searches.{party_in, role_of, account_of, nonce_of
 use crate::entry::Entry;
 use nb_units::{AcctId, PartyId, Secret};
 
-/// An enrolled party: the place of its enrolment, the number of entries before it, and what that says.
+/// An enrolled party: the place of its enrolment, and what that says.
 #[derive(Clone, Copy, PartialEq, Eq, Debug)]
 pub struct Party {
+    /// The number of entries before its enrolment, 8 bytes wide.
     pub at: u64,
+    /// [`CONSUMER`](crate::CONSUMER) or [`MERCHANT`](crate::MERCHANT), one byte wide.
     pub role: u8,
+    /// The number of its account, 4 bytes wide.
     pub acct: AcctId,
+    /// The number that its orders must show, 8 bytes wide.
     pub nonce: u64,
+    /// The key that it shares with the house, 32 bytes.
     pub key: Secret,
 }
 
