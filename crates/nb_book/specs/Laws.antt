@@ -1,12 +1,13 @@
 -- What holds of every Legal list.
-use Rattle.std.specs.Prelude.{◌≡◌, ℕ, ◌==◌, ◌+◌, ◌≤◌, Bool, false, List, [], ◌∷◌, ◌++◌, IsNone}
+use Rattle.std.specs.Prelude.{◌≡◌, ℕ, ◌==◌, ◌+◌, ◌≤◌, Bool, false, List, [], ◌∷◌, ◌++◌, IsNone, if◌then◌else◌}
 use Rattle.std.specs.List.{sum_by, count_by}
 use Rattle.std.specs.Str.{bytes_eq}
 use Rattle.nb_units.specs.declared.ids.PartyId.{PartyId}
 use Rattle.nb_units.specs.declared.ids.AcctId.{AcctId}
+use Rattle.nb_units.specs.declared.ids.Price.{Price}
 use Rattle.nb_units.specs.declared.epoid.Epoid.{Epoid}
 use Rattle.nb_book.specs.declared.entry.Entry.{Entry}
-use Rattle.nb_book.specs.declared.entry.Entry.TheVariants.{Enrol, Fund}
+use Rattle.nb_book.specs.declared.entry.Entry.TheVariants.{Enrol, Fund, Paid}
 use Rattle.nb_book.specs.declared.entry.TheConstants.{CONSUMER, MERCHANT}
 use Rattle.nb_book.specs.declared.limits.TheConstants.{MAX_CAP, MAX_TOTAL, MAX_PRICE, MAX_AGE, MAX_AHEAD}
 use Rattle.nb_book.specs.declared.reason.TheConstants.{CONSUMER_ACCOUNT, MERCHANT_ACCOUNT, PRICE_RANGE, TOO_OLD, TOO_EARLY, BALANCE_LOW, CONSUMER_NONCE}
@@ -50,6 +51,13 @@ UnheldIsEmpty = (H : List Entry) → Legal H → (a : AcctId) → IsNone (holder
 abbrev pub BalanceAfter : Type 0
 BalanceAfter = (H : List Entry) (e : Entry) → Legal H → LegalAfter H e → (a : AcctId)
     → balance (H ++ e ∷ []) a + debit a e ≡ balance H a + credit a e
+
+-- a payment takes its price from the consumer's account, brings it into the merchant's, and leaves all others
+abbrev pub PaymentMoves : Type 0
+PaymentMoves = (H : List Entry) (digest : List ℕ) (epoid : Epoid) (consumer merchant : PartyId) (product : ℕ) (price : Price) (cacct macct : AcctId) (moment : ℕ) (key : List ℕ)
+    → Legal H → LegalAfter H (Paid digest epoid consumer merchant product price cacct macct moment key) → (a : AcctId)
+    → balance (H ++ Paid digest epoid consumer merchant product price cacct macct moment key ∷ []) a + (if cacct.0 == a.0 then price.0 else 0)
+    ≡ balance H a + (if macct.0 == a.0 then price.0 else 0)
 
 -- an entry that is legal next makes a Legal list
 abbrev pub StaysLegal : Type 0

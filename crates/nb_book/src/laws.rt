@@ -1,6 +1,6 @@
 //! What holds of every Legal list. Each function here does nothing: its contract is the law.
 
-ghost use Rattle.nb_book.specs.Laws.{LimitsAre, ReasonsAre, NoneOverdrawn, BalancesMakeTotal, BalancesFit, TotalFits, UnheldIsEmpty, BalanceAfter, StaysLegal, EnrolledOnce, OpenedOnce, FundedOnce, SettledOnce};
+ghost use Rattle.nb_book.specs.Laws.{LimitsAre, ReasonsAre, NoneOverdrawn, BalancesMakeTotal, BalancesFit, TotalFits, UnheldIsEmpty, BalanceAfter, PaymentMoves, StaysLegal, EnrolledOnce, OpenedOnce, FundedOnce, SettledOnce};
 
 /// The limits and the roles in numbers.
 pub fn limits()
@@ -40,6 +40,11 @@ pub fn unheld_is_empty()
 /// An entry changes each balance by what it brings to the account and what it takes from it.
 pub fn balance_after()
     ensures { BalanceAfter }
+{}
+
+/// A payment takes its price from the consumer's account, brings it into the merchant's, and leaves all others.
+pub fn payment_moves()
+    ensures { PaymentMoves }
 {}
 
 /// A list stays Legal when an entry that is legal next comes after it.

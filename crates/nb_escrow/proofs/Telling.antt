@@ -1,6 +1,7 @@
 -- A request whose entry was recorded finds its own entry when it comes again.
-use Rattle.std.proofs.Common.{codes, ◌≡◌, ℕ, ◌+◌, Bool, true, false, List, [], ◌∷◌, ◌++◌, length, Option, None, Some, Result, Ok, Err, arith, refl, sym, ap, ◌∙◌, eq-eqb}
+use Rattle.std.proofs.Common.{codes, ◌≡◌, ℕ, ◌+◌, Bool, true, false, List, [], ◌∷◌, ◌++◌, length, Option, None, Some, Result, Ok, Err, arith, refl, sym, ap, ◌∙◌, eq-eqb, subst}
 use Rattle.std.proofs.lemmas.Option.{same_Some, none-some}
+use Rattle.std.proofs.lemmas.List.{append_assoc, append-nil}
 use Rattle.std.proofs.lemmas.Slice.Eq.{bytes_eq-Decides}
 use Rattle.std.specs.Prelude.{◌==◌, if◌then◌else◌}
 use Rattle.std.specs.Option.{option_or, option_and_then}
@@ -42,8 +43,9 @@ use Rattle.nb_escrow.specs.Fundings.{fund_entry, reference_new, account_held, to
 use Rattle.nb_escrow.specs.Settlements.{settlement_at, settlement_of, settlement_in, entry_with, entry_of}
 use Rattle.nb_escrow.specs.Orders.{endorsement_in, hidden_in, same_merchant, same_digest, settled, result, again_or_settle, order_steps}
 use Rattle.nb_escrow.specs.Statuses.{enough_entries, status, status_steps}
-use Rattle.nb_escrow.specs.Laws.{given_again, ToldAgain}
-use Rattle.nb_escrow.specs.Verdict.{steps, told}
+use Rattle.nb_escrow.specs.Laws.{given_again, ToldAgain, ResultStays}
+use Rattle.nb_endorse.specs.declared.reply.Reply.TheVariants.{Result as Receipts, Refused as Refusal_told}
+use Rattle.nb_escrow.specs.Verdict.{steps, told, verdict}
 use Rattle.nb_escrow.proofs.Settling.{settlement_some, settles_found}
 
 -- ---- the place of an entry that is held
@@ -290,3 +292,65 @@ told_again H more head cap kind body moment later entry reply keys is =
     step_of : (r : Answer) → told r ≡ decided reply keys (Some entry) → r ≡ Ok (decided reply keys (Some entry))
     step_of (Ok d) is = ap (λ (x : Decision). let o : Answer = Ok x in o) is
     step_of (Err r) is = absurd (none-some entry (ap (λ (d : Decision). d.entry) is))
+
+-- ---- the result of an order
+
+-- a decision that records nothing is taken again
+abbrev Stays : Answer → Answer → Type 0
+Stays first second = (d : Decision) → d.entry ≡ None → first ≡ Ok d → second ≡ Ok d
+
+stays_behind : {A : Type 0} (r r' : Result A Refusal) (f g : A → Answer) → ((x : A) → r ≡ Ok x → r' ≡ Ok x) → ((x : A) → Stays (f x) (g x)) → Stays (r >>= f) (r' >>= g)
+stays_behind (Ok x) r' f g keeps stays d none is = rw (keeps x refl) (stays x d none is)
+stays_behind (Err fault) r' f g keeps stays d none is = absurd cc
+
+settlement_stays : (H more : List Entry) (p : Epoid) (s : Settlement) → settlement_in H p ≡ Some s → settlement_in (H ++ more) p ≡ Some s
+unfolding settlement_in
+settlement_stays H more p s is = part (order_in H p) refl is
+  where
+    part : (o : Option Kept) → order_in H p ≡ o → option_and_then settlement_of o ≡ Some s → option_and_then settlement_of (order_in (H ++ more) p) ≡ Some s
+    part None found is = absurd cc
+    part (Some kept) found is = rw (found_stays (order_at p) 0 H more kept found) is
+
+order_stays : (H more : List Entry) (head : Head) (cap : ℕ) (p : Presented) (moment later : ℕ)
+    → Stays (again_or_settle H head cap p moment (settlement_in H p.order.epoid)) (again_or_settle (H ++ more) head cap p later (settlement_in (H ++ more) p.order.epoid))
+order_stays H more head cap p moment later d none is = part (settlement_in H p.order.epoid) refl is
+  where
+    part : (o : Option Settlement) → settlement_in H p.order.epoid ≡ o → again_or_settle H head cap p moment o ≡ Ok d
+        → again_or_settle (H ++ more) head cap p later (settlement_in (H ++ more) p.order.epoid) ≡ Ok d
+    part (Some kept) held is = rw (settlement_stays H more p.order.epoid kept held) is
+    part None new is =
+        let s : Settlement = settled H p moment in
+        let same = same_decision (result head p s (Some (entry_of s))) d (passed (room_left H cap) _ _ is) in
+        absurd (none-some (entry_of s) (sym (ap (λ (x : Decision). x.entry) same ∙ none)))
+
+order_steps_stay : (H more : List Entry) (head : Head) (cap : ℕ) (body : List ℕ) (moment later : ℕ) → Stays (order_steps H head cap body moment) (order_steps (H ++ more) head cap body later)
+unfolding order_steps
+order_steps_stay H more head cap body moment later =
+    stays_behind (well_formed IN_BODY (endorsed_of body)) _ _ _ (λ x is. is) (λ asked.
+    stays_behind (enrolled_as H MERCHANT asked.merchant) _ _ _ (λ party is. stays_enrolled H more MERCHANT asked.merchant party is) (λ merchant.
+    stays_behind (endorsement_in merchant.key asked.sealed) _ _ _ (λ x is. is) (λ endorsement.
+    stays_behind (well_formed IN_ORDER (order_of endorsement.order)) _ _ _ (λ x is. is) (λ order.
+    stays_behind (enrolled_as H CONSUMER order.consumer) _ _ _ (λ party is. stays_enrolled H more CONSUMER order.consumer party is) (λ consumer.
+    stays_behind (same_merchant asked.merchant order) _ _ _ (λ x is. is) (λ u.
+    stays_behind (right_tag order.tag (order_tag consumer.key order)) _ _ _ (λ x is. is) (λ u.
+    stays_behind (hidden_in consumer.key order.hidden) _ _ _ (λ x is. is) (λ hidden.
+    order_stays H more head cap (record { merchant = merchant; consumer = consumer; endorsement = endorsement; digest = endorsement_digest endorsement; order = order; hidden = hidden }) moment later))))))))
+
+pub result_stays : ResultStays
+result_stays H more head cap body moment later merchant consumer keys None is = ap told (order_steps_stay (H ++ []) more head cap body moment later d refl now)
+  where
+    d : Decision
+    d = decided (Receipts merchant consumer) keys None
+
+    step_of : (r : Answer) → told r ≡ d → r ≡ Ok d
+    step_of (Ok x) is = ap (λ (y : Decision). let o : Answer = Ok y in o) is
+    step_of (Err why) is = absurd (refused_not why (ap (λ (x : Decision). x.reply) is))
+      where
+        refused_not : (why : Refusal) → (let reply : Reply = Refusal_told why in reply) ≡ Receipts merchant consumer → ⊥
+        refused_not why is = cc
+
+    now : order_steps (H ++ []) head cap body moment ≡ Ok d
+    now = subst (λ (xs : List Entry). order_steps xs head cap body moment ≡ Ok d) (sym (append-nil H)) (step_of (order_steps H head cap body moment) is)
+result_stays H more head cap body moment later merchant consumer keys (Some entry) is =
+    subst (λ (xs : List Entry). verdict xs head cap ENDORSED_ORDER body later ≡ decided (Receipts merchant consumer) keys None) (sym (append_assoc H (entry ∷ []) more))
+    (told_again H more head cap ENDORSED_ORDER body moment later entry (Receipts merchant consumer) keys is)

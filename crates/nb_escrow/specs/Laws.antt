@@ -1,8 +1,9 @@
 -- What holds of every verdict.
-use Rattle.std.specs.Prelude.{◌≡◌, ◌↔◌, ◌⊎◌, ℕ, ◌<◌, ◌≤◌, ◌∷◌, ◌++◌, List, length, codes, Some, None, Ok}
+use Rattle.std.specs.Prelude.{◌≡◌, ◌↔◌, ◌⊎◌, ℕ, ◌<◌, ◌≤◌, ◌∷◌, ◌++◌, List, length, codes, Option, Some, None, Ok}
 use Rattle.std.specs.List.{Any}
+use Rattle.std.specs.Option.{option_to_list}
 use Rattle.nb_units.specs.declared.epoid.Epoid.{Epoid}
-use Rattle.nb_units.specs.declared.frames.TheConstants.{STATUS_QUERY}
+use Rattle.nb_units.specs.declared.frames.TheConstants.{ENDORSED_ORDER, STATUS_QUERY}
 use Rattle.nb_units.specs.declared.ids.PartyId.{PartyId}
 use Rattle.nb_seal.specs.Hmac.{hmac_of}
 use Rattle.nb_book.specs.declared.entry.Entry.{Entry}
@@ -11,8 +12,9 @@ use Rattle.nb_book.specs.declared.party.Party.{Party}
 use Rattle.nb_book.specs.Legal.{LegalAfter, Legal}
 use Rattle.nb_book.specs.Money.{balance}
 use Rattle.nb_book.specs.Searches.{party_in}
+use Rattle.nb_endorse.specs.declared.receipt.Receipt.{Receipt}
 use Rattle.nb_endorse.specs.declared.reply.Reply.{Reply}
-use Rattle.nb_endorse.specs.declared.reply.Reply.TheVariants.{Done, Status}
+use Rattle.nb_endorse.specs.declared.reply.Reply.TheVariants.{Result as Receipts, Done, Status}
 use Rattle.nb_endorse.specs.declared.reply.ReplyKeys.{ReplyKeys}
 use Rattle.nb_escrow.specs.declared.head.Head.{Head}
 use Rattle.nb_escrow.specs.declared.status.StatusQuery.{StatusQuery}
@@ -31,11 +33,18 @@ given_again L (Done acct at amount) = Done acct at (balance L acct)
 given_again L other = other
 
 -- A request whose entry was recorded may come again, at any moment and after any further entries: it is given the same reply
--- under the same keys, and records nothing.
+-- under the same keys, with a balance by then where it is told one, and records nothing.
 abbrev pub ToldAgain : Type 0
 ToldAgain = (H more : List Entry) (head : Head) (cap kind : ℕ) (body : List ℕ) (moment later : ℕ) (entry : Entry) (reply : Reply) (keys : ReplyKeys)
     → verdict H head cap kind body moment ≡ record { reply = reply; keys = keys; entry = Some entry }
     → verdict (H ++ entry ∷ more) head cap kind body later ≡ record { reply = given_again (H ++ entry ∷ more) reply; keys = keys; entry = None }
+
+-- The result of an order stays: its request may come again at any moment, and after whatever was recorded behind these entries
+-- and its own. The reply is the same, under the same keys, and nothing is recorded.
+abbrev pub ResultStays : Type 0
+ResultStays = (H more : List Entry) (head : Head) (cap : ℕ) (body : List ℕ) (moment later : ℕ) (merchant consumer : Receipt) (keys : ReplyKeys) (entry : Option Entry)
+    → verdict H head cap ENDORSED_ORDER body moment ≡ record { reply = Receipts merchant consumer; keys = keys; entry = entry }
+    → verdict (H ++ option_to_list entry ++ more) head cap ENDORSED_ORDER body later ≡ record { reply = Receipts merchant consumer; keys = keys; entry = None }
 
 -- the entry pays the order of this identifier, names this party as its consumer or as its merchant, and has this key
 abbrev pub PaysWith : Epoid → PartyId → List ℕ → Entry → Type 0
@@ -55,7 +64,7 @@ pub record IsAuthentic (H : List Entry) (body : List ℕ) (asked : StatusQuery) 
   pub enrolled : party_in H asked.asker ≡ Some asker
   pub signed : asked.tag ≡ hmac_of asker.key (codes "stat" ++ signed_part body)
 
--- to an authentic status query over as many entries as it asks for, the reply gives a key exactly where an entry pays the order
+-- to an authentic status query over at least as many entries as it asks for, the reply gives a key exactly where an entry pays the order
 -- with that key and names who asks
 abbrev pub KeyWherePaid : List Entry → List ℕ → Reply → Type 0
 KeyWherePaid H body reply = (asked : StatusQuery) (key : List ℕ) → IsAuthentic H body asked → asked.least ≤ length H

@@ -35,8 +35,8 @@ pub fn decide(book: &Book, head: &Head, kind: u8, body: &[u8], moment: u64) -> D
     ensures room { IsSome result.entry → length book.now.entries < book.now.cap }
     ensures receipts { HasLawfulReceipts result.reply }
 
-    // To an authentic status query over as many entries as it asks for, a key is given exactly where an entry pays the order
-    // with it and names who asks.
+    // To an authentic status query, over at least as many entries as it asks for, a key is given exactly where an entry pays the
+    // order with it and names who asks.
     ensures key { kind ≡ STATUS_QUERY → KeyWherePaid book.now.entries body.now result.reply }
 {
     match test(book, head, kind, body, moment) {
@@ -49,7 +49,7 @@ pub fn decide(book: &Book, head: &Head, kind: u8, body: &[u8], moment: u64) -> D
     }
 }
 
-// The tests of each kind.
+// The tests of each kind. That the list is Legal is what the book tells where it is asked: the law on keys needs it.
 fn test(book: &Book, head: &Head, kind: u8, body: &[u8], moment: u64) -> Result<Decision, Refusal>
     ensures steps { result ≡ steps book.now.entries head.now book.now.cap kind body.now moment }
     ensures legal { IfOk result (λ decision. IfSome decision.entry (LegalAfter book.now.entries)) }
