@@ -1,1 +1,4 @@
 pub mod Moments
+pub mod Tears
+pub mod Stops
+pub mod Ranges

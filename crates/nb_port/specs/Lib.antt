@@ -2,7 +2,9 @@ pub mod Faults
 pub mod Source
 pub mod Sink
 pub mod Disk
+pub mod Images
 pub mod Clock
 pub mod Calls
 pub mod Memory
+pub mod Laws
 pub mod System

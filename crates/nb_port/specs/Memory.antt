@@ -1,5 +1,5 @@
 -- The memory forms: what each is seen as, and what a call makes of it.
-use Rattle.std.specs.Prelude.{◌≡◌, ℕ, ◌-◌, List, [], ◌++◌, Option, Some, None, length, take, drop, replicate, slice_index, slice_index_or, min, nat_lt, if◌then◌else◌}
+use Rattle.std.specs.Prelude.{◌≡◌, ◌⊎◌, ⊤, ℕ, ◌-◌, ◌<◌, List, [], ◌∷◌, ◌++◌, Option, Some, None, length, take, drop, replicate, slice_index, slice_index_or, min, nat_lt, if◌then◌else◌}
 use Rattle.nb_port.specs.Faults.{last_count}
 use Rattle.nb_port.specs.Calls.{Calls, worked, failed}
 use Rattle.nb_port.specs.declared.source.ReadOut.{ReadOut}
@@ -8,6 +8,11 @@ use Rattle.nb_port.specs.declared.sink.WriteOut.{WriteOut}
 use Rattle.nb_port.specs.declared.sink.WriteOut.TheVariants as writes
 use Rattle.nb_port.specs.declared.disk.DiskRead.{DiskRead}
 use Rattle.nb_port.specs.declared.disk.DiskRead.TheVariants as disks
+use Rattle.nb_port.specs.declared.disk.DiskOut.{DiskOut}
+use Rattle.nb_port.specs.declared.disk.DiskOut.TheVariants as outs
+use Rattle.nb_port.specs.declared.memory.step.DiskStep.{DiskStep}
+use Rattle.nb_port.specs.declared.memory.step.DiskStep.TheVariants.{Pause, Wrote, Tore, Synced}
+use Rattle.nb_port.specs.Disk.{put_at}
 
 -- a source: the bytes that are left, the most that one read gives, and its calls
 pub record SourceState : Type 0 where
@@ -37,15 +42,41 @@ SinkWrites old new piece (writes.Took n) =
     (n ≡ length piece) × (new.sent ≡ old.sent ++ piece) × (new.calls ≡ worked old.calls)
 SinkWrites old new piece writes.Failed = (new.sent ≡ old.sent) × (new.calls ≡ failed old.calls)
 
--- a disk: its bytes from place 0 on, and its calls
+-- a disk: its bytes from place 0 on, what they were when it was made, its steps since, two for each call that is recorded,
+-- how many more steps it records without taking memory, and its calls
 pub record DiskState : Type 0 where
   pub content : List ℕ
+  pub start : List ℕ
+  pub steps : List DiskStep
+  pub spare : ℕ
   pub calls : Calls
+
+-- a call that is recorded by these two steps, and worked
+abbrev pub Worked : DiskState → DiskState → DiskStep → DiskStep → Type 0
+Worked old new first second =
+    (new.start ≡ old.start) × (new.steps ≡ old.steps ++ first ∷ second ∷ []) × (new.calls ≡ worked old.calls)
+
+-- a call that failed: it is recorded by these two steps, or else there was no room for them
+abbrev pub FailedCall : DiskState → DiskState → DiskStep → DiskStep → Type 0 → Type 0
+FailedCall old new first second no_room =
+    (new.content ≡ old.content) × (new.start ≡ old.start) × (new.calls ≡ failed old.calls)
+    × ((new.steps ≡ old.steps ++ first ∷ second ∷ []) ⊎ ((new.steps ≡ old.steps) × no_room))
 
 -- what a read makes of it
 abbrev pub DiskReads : DiskState → DiskState → DiskRead → Type 0
-DiskReads old new (disks.Got n) = new ≡ record { content = old.content; calls = worked old.calls }
-DiskReads old new disks.Failed = new ≡ record { content = old.content; calls = failed old.calls }
+DiskReads old new (disks.Got n) = (new.content ≡ old.content) × Worked old new Pause Pause
+DiskReads old new disks.Failed = FailedCall old new Pause Pause (old.spare < 2)
+
+-- what a write makes of it; its record takes memory for its bytes too
+abbrev pub DiskWrites : DiskState → DiskState → ℕ → List ℕ → DiskOut → Type 0
+DiskWrites old new place piece outs.Done =
+    (new.content ≡ put_at old.content place piece) × Worked old new (Wrote place piece) Pause
+DiskWrites old new place piece outs.Failed = FailedCall old new (Tore place piece) Pause ⊤
+
+-- what a sync makes of it
+abbrev pub DiskSyncs : DiskState → DiskState → DiskOut → Type 0
+DiskSyncs old new outs.Done = (new.content ≡ old.content) × Worked old new Pause Synced
+DiskSyncs old new outs.Failed = FailedCall old new Pause Pause (old.spare < 2)
 
 -- a clock: the moments that it was made with, and how many calls there were
 pub record ClockState : Type 0 where

@@ -1,5 +1,5 @@
-ghost use Rattle.std.specs.Prelude.{◌≡◌, ℕ, ◌≤◌, List, Option, length};
-ghost use Rattle.nb_port.specs.Disk.{DiskGives};
+ghost use Rattle.std.specs.Prelude.{◌≡◌, ℕ, ◌≤◌, ◌<◌, ◌+◌, ◌^◌, List, Option, IfSome, length};
+ghost use Rattle.nb_port.specs.Disk.{DiskGives, WriteGives, SyncGives, Torn, NoneNew, Follows, Elapses};
 
 /// What a read of a disk gives.
 #[derive(Clone, Copy, PartialEq, Eq, Debug)]
@@ -10,13 +10,31 @@ pub enum DiskRead {
     Failed,
 }
 
-/// Where bytes are kept, each at its place.
+/// What a write or a sync of a disk gives.
+#[derive(Clone, Copy, PartialEq, Eq, Debug)]
+pub enum DiskOut {
+    /// All of it was done.
+    Done,
+    /// It failed. A write that failed may have changed any byte of its range, and no other.
+    Failed,
+}
+
+/// Where bytes are kept, each at its place. What is written is sure to stay only from the next sync on that is done.
 pub trait Disk {
-    /// The count of failures. It never falls, and a read that fails raises it. It stays at 2^64 - 1.
+    /// The count of failures. It never falls, and a call that fails raises it. It stays at 2^64 - 1.
     ghost faults: { Self → ℕ };
 
     /// The bytes from place 0 on; None where the disk does not tell.
     ghost content: { Self → Option (List ℕ) };
+
+    /// The images that are known to be left by a stop now; none where the disk does not tell.
+    ghost allowed: { Self → List ℕ → Type 0 };
+
+    /// How far time went. It never falls.
+    ghost moment: { Self → ℕ };
+
+    /// The images that are known to be left by a stop at a moment since that one, within calls too.
+    ghost left: { Self → ℕ → List ℕ → Type 0 };
 
     /// The count of failures so far.
     fn fault_count(&self) -> u64
@@ -27,5 +45,31 @@ pub trait Disk {
         ensures gives { DiskGives (faults self.old) (faults self.new) (content self.old) place
             (length buf.old) buf.new result }
         ensures content { content self.new ≡ content self.old }
+        ensures images { NoneNew (allowed self.old) (allowed self.new) }
+        ensures time { Elapses (moment self.old) (moment self.new) (left self.old) (left self.new) (allowed self.new) }
         ensures count { faults self.old ≤ faults self.new };
+
+    /// Writes the piece at `place`, over what stands there and past the end. The place is within the content or at its end.
+    fn write(&mut self, place: u64, piece: &[u8]) -> DiskOut
+        requires inside { IfSome (content self.old) (λ bytes. place ≤ length bytes) }
+        requires small { place + length piece.now < 2 ^ 63 }
+        ensures gives { WriteGives (faults self.old) (faults self.new) (content self.old) (content self.new)
+            place piece.now result }
+        ensures images { Follows (Torn place (length piece.now)) (allowed self.old) (allowed self.new) }
+        ensures time { Elapses (moment self.old) (moment self.new) (left self.old) (left self.new) (allowed self.new) }
+        ensures count { faults self.old ≤ faults self.new };
+
+    /// Makes all that was written stay.
+    fn sync(&mut self) -> DiskOut
+        ensures gives { SyncGives (faults self.old) (faults self.new) (content self.old) (allowed self.new) result }
+        ensures content { content self.new ≡ content self.old }
+        ensures images { NoneNew (allowed self.old) (allowed self.new) }
+        ensures time { Elapses (moment self.old) (moment self.new) (left self.old) (left self.new) (allowed self.new) }
+        ensures count { faults self.old ≤ faults self.new };
+
+    /// What is allowed now is among what is left since any moment up to now.
+    ghost counts_now: { (d : Self) (t : ℕ) (c : List ℕ) → t ≤ moment d → allowed d c → left d t c };
+
+    /// What is left since now is allowed now.
+    ghost only_now: { (d : Self) (c : List ℕ) → left d (moment d) c → allowed d c };
 }

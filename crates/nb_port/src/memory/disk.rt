@@ -1,38 +1,63 @@
-ghost use Rattle.std.specs.Prelude.{◌≡◌, ◌↔◌, ◌≤◌, Some, length, IfOk};
+ghost use Rattle.std.specs.Prelude.{◌≡◌, ◌⊎◌, ◌≤◌, ◌<◌, ◌+◌, ◌*◌, ◌^◌, Some, [], length, IfOk};
 ghost use Rattle.nb_port.specs.Calls.{no_calls, NextFails};
-ghost use Rattle.nb_port.specs.Disk.{DiskGives, ReadsContent};
-ghost use Rattle.nb_port.specs.Memory.{DiskReads};
+ghost use Rattle.nb_port.specs.Disk.{DiskGives, WriteGives, SyncGives, ReadsContent, NoneNew, Follows, Torn, Elapses};
+ghost use Rattle.nb_port.specs.Images.{Images, LeftFrom, now_counts, now_only, image_at};
+ghost use Rattle.nb_port.specs.Memory.{DiskReads, DiskWrites, DiskSyncs};
 
-use crate::disk::{Disk, DiskRead};
+use crate::disk::{Disk, DiskOut, DiskRead};
 use crate::memory::counter::Counter;
-use nb_units::NoMemory;
+use crate::memory::fill::Fill;
+use crate::memory::record::{record_pause, record_sync, record_tear, record_write};
+use crate::memory::replay::{put, replay};
+use crate::memory::step::DiskStep;
+use nb_units::{Blob, NoMemory};
 use std::alloc::Global;
 use std::marker::Model;
 
-/// A disk whose content is in memory.
+/// A disk whose content is in memory, with a record of all its calls. A call for whose record there is no memory fails, and
+/// changes nothing but the count of failures.
 #[derive(Drop)]
 pub struct MemDisk {
+    alloc: Global,
+    start: Vec<u8>,
     content: Vec<u8>,
+    steps: Vec<DiskStep>,
     calls: Counter,
 }
 
 impl Model for MemDisk {
+    ghost use Rattle.std.specs.Prelude.{◌≡◌, ◌-◌, ◌%◌, length, vec_len, vec_capacity};
     ghost use Rattle.nb_port.specs.Memory.{DiskState};
+    ghost use Rattle.nb_port.specs.Images.{fresh, after};
 
     ghost Value = { DiskState };
 
-    ghost view = { λ d. record { content = d.content.items; calls = d.calls } };
+    ghost view = { λ d. record {
+      content = d.content.items;
+      start = d.start.items;
+      steps = d.steps.items;
+      spare = vec_capacity d.steps - vec_len d.steps;
+      calls = d.calls;
+    } };
+
+    ghost invariant = { λ d.
+        (d.content.items ≡ (after (fresh d.start.items) d.steps.items).content) × (length d.steps.items % 2 ≡ 0) };
 }
 
 impl MemDisk {
-    /// A disk that holds the bytes of `content` from place 0 on. `fails` has the numbers of the calls that
-    /// are to fail.
+    /// A disk that holds the bytes of `content` from place 0 on, and of which a stop leaves these. `fails` has the numbers of
+    /// the calls that are to fail, from 1, all kinds together.
     pub fn new(alloc: Global, content: &[u8], fails: &[u64]) -> Result<MemDisk, NoMemory>
-        ensures { IfOk result (λ disk. disk ≡
-            record { content = content.now; calls = no_calls fails.now }) }
+        ensures content { IfOk result (λ disk. disk.content ≡ content.now) }
+        ensures start { IfOk result (λ disk. disk.start ≡ content.now) }
+        ensures steps { IfOk result (λ disk. disk.steps ≡ []) }
+        ensures calls { IfOk result (λ disk. disk.calls ≡ no_calls fails.now) }
     {
         Ok(MemDisk {
+            alloc,
+            start: Vec::from_slice(alloc, content)?,
             content: Vec::from_slice(alloc, content)?,
+            steps: Vec::new(alloc),
             calls: Counter::new(alloc, fails)?,
         })
     }
@@ -44,11 +69,23 @@ impl MemDisk {
         self.content.as_slice()
     }
 
-    /// How many calls were made. It stays at 2^64 - 1.
+    /// How many calls are recorded: all but those for whose record there was no memory.
     pub fn calls(&self) -> u64
-        ensures { result ≡ self.now.calls.made }
+        ensures { 2 * result ≡ length self.now.steps }
     {
-        self.calls.made()
+        self.steps.len() as u64 / 2
+    }
+
+    /// What a stop at a moment may leave, with `fill` in the bytes that are not sure to stay. Moment 2i is after call i of
+    /// those recorded, and 2i - 1 within it.
+    pub fn image(&self, alloc: Global, moment: u64, fill: Fill) -> Result<Blob, NoMemory>
+        requires { moment ≤ length self.now.steps }
+        ensures left { IfOk result (λ image. ⟦<MemDisk as Disk>⟧.left self.now moment image) }
+        ensures exact { IfOk result (λ image. image ≡ image_at self.now.start self.now.steps moment fill) }
+    {
+        let steps = &self.steps.as_slice()[..moment as usize];
+        let image = replay(alloc, self.start.as_slice(), steps, fill)?;
+        Blob::of(alloc, image.as_slice())
     }
 }
 
@@ -56,6 +93,16 @@ impl Disk for MemDisk {
     ghost faults = { λ d. d.calls.faults };
 
     ghost content = { λ d. Some d.content };
+
+    ghost allowed = { λ d. Images d.start d.steps };
+
+    ghost moment = { λ d. length d.steps };
+
+    ghost left = { λ d. LeftFrom d.start d.steps };
+
+    ghost counts_now = { λ d t c le is. now_counts d.start d.steps t c le is };
+
+    ghost only_now = { λ d c is. now_only d.start d.steps c is };
 
     fn fault_count(&self) -> u64 {
         self.calls.faults()
@@ -65,14 +112,82 @@ impl Disk for MemDisk {
         ensures gives { DiskGives self.old.calls.faults self.new.calls.faults (Some self.old.content)
             place (length buf.old) buf.new result }
         ensures content { Some self.new.content ≡ Some self.old.content }
+        ensures images { NoneNew (Images self.old.start self.old.steps) (Images self.new.start self.new.steps) }
+        ensures time { Elapses (length self.old.steps) (length self.new.steps) (LeftFrom self.old.start self.old.steps)
+            (LeftFrom self.new.start self.new.steps) (Images self.new.start self.new.steps) }
         ensures count { self.old.calls.faults ≤ self.new.calls.faults }
-        ensures fails { (result ≡ DiskRead.Failed) ↔ NextFails self.old.calls }
+        ensures fails { NextFails self.old.calls → result ≡ DiskRead.Failed }
+        ensures only { result ≡ DiskRead.Failed → NextFails self.old.calls ⊎ (self.old.spare < 2) }
         ensures state { DiskReads self.old self.new result }
+        ensures spare { self.old.spare ≤ self.new.spare + 2 }
     {
         if self.calls.next() {
+            let _ = record_pause(&mut self.steps);
+            return DiskRead::Failed;
+        }
+        if record_pause(&mut self.steps).is_err() {
+            self.calls.fail();
             return DiskRead::Failed;
         }
         DiskRead::Got(copy_at(self.content.as_slice(), place, buf))
+    }
+
+    fn write(&mut self, place: u64, piece: &[u8]) -> DiskOut
+        requires inside { place ≤ length self.old.content }
+        requires small { place + length piece.now < 2 ^ 63 }
+        ensures gives { WriteGives self.old.calls.faults self.new.calls.faults (Some self.old.content)
+            (Some self.new.content) place piece.now result }
+        ensures images { Follows (Torn place (length piece.now)) (Images self.old.start self.old.steps)
+            (Images self.new.start self.new.steps) }
+        ensures time { Elapses (length self.old.steps) (length self.new.steps) (LeftFrom self.old.start self.old.steps)
+            (LeftFrom self.new.start self.new.steps) (Images self.new.start self.new.steps) }
+        ensures count { self.old.calls.faults ≤ self.new.calls.faults }
+        ensures fails { NextFails self.old.calls → result ≡ DiskOut.Failed }
+        ensures only { result ≡ DiskOut.Failed → NextFails self.old.calls ⊎ (self.new.steps ≡ self.old.steps) }
+        ensures state { DiskWrites self.old self.new place piece.now result }
+        ensures spare { self.old.spare ≤ self.new.spare + 2 }
+    {
+        let at = place as usize;
+        if self.calls.next() {
+            let _ = record_tear(self.alloc, &mut self.steps, at, piece);
+            return DiskOut::Failed;
+        }
+        if self.content.reserve(piece.len()).is_err() {
+            self.calls.fail();
+            return DiskOut::Failed;
+        }
+        if record_write(self.alloc, &mut self.steps, at, piece).is_err() {
+            self.calls.fail();
+            return DiskOut::Failed;
+        }
+        put(&mut self.content, at, piece).unwrap();
+        DiskOut::Done
+    }
+
+    fn sync(&mut self) -> DiskOut
+        ensures gives { SyncGives self.old.calls.faults self.new.calls.faults (Some self.old.content)
+            (Images self.new.start self.new.steps) result }
+        ensures content { Some self.new.content ≡ Some self.old.content }
+        ensures images { NoneNew (Images self.old.start self.old.steps) (Images self.new.start self.new.steps) }
+        ensures time { Elapses (length self.old.steps) (length self.new.steps) (LeftFrom self.old.start self.old.steps)
+            (LeftFrom self.new.start self.new.steps) (Images self.new.start self.new.steps) }
+        ensures count { self.old.calls.faults ≤ self.new.calls.faults }
+        ensures fails { NextFails self.old.calls → result ≡ DiskOut.Failed }
+        ensures only { result ≡ DiskOut.Failed → NextFails self.old.calls ⊎ (self.old.spare < 2) }
+        ensures state { DiskSyncs self.old self.new result }
+        ensures spare { self.old.spare ≤ self.new.spare + 2 }
+    {
+        if self.calls.next() {
+            let _ = record_pause(&mut self.steps);
+            return DiskOut::Failed;
+        }
+        match record_sync(&mut self.steps) {
+            Ok(()) => DiskOut::Done,
+            Err(_) => {
+                self.calls.fail();
+                DiskOut::Failed
+            }
+        }
     }
 }
 
@@ -93,6 +208,42 @@ mod tests {
     use super::*;
     use std::test::Fail;
 
+    // Writes bytes at a place, where that place is within the content or at its end.
+    fn write(disk: &mut MemDisk, place: u64, piece: &str) -> DiskOut {
+        if place > disk.content().len() as u64 || place > 100 || piece.len() > 100 {
+            return DiskOut::Failed;
+        }
+        disk.write(place, piece.as_bytes())
+    }
+
+    // Appends the images at a moment, with fill Old, New and Byte(b'#'), and a blank behind each.
+    fn append_images(
+        lines: &mut Vec<u8>,
+        disk: &MemDisk,
+        alloc: Global,
+        moment: u64,
+    ) -> Result<(), NoMemory> {
+        if moment / 2 + moment % 2 <= disk.calls() {
+            for fill in [Fill::Old, Fill::New, Fill::Byte(b'#')] {
+                lines.extend_from_slice(disk.image(alloc, moment, fill)?.as_slice())?;
+                lines.extend_from_slice(b" ")?;
+            }
+        }
+        Ok(())
+    }
+
+    // A disk with these calls behind it, of which the fourth and the fifth failed.
+    fn written(alloc: Global) -> Result<MemDisk, NoMemory> {
+        let mut disk = MemDisk::new(alloc, b"abcdef", &[4, 5])?;
+        write(&mut disk, 6, "gh");
+        disk.sync();
+        write(&mut disk, 2, "XYZ");
+        write(&mut disk, 1, "pqrstuvw");
+        disk.sync();
+        disk.sync();
+        Ok(disk)
+    }
+
     #[test]
     fn fails_once_and_goes_on(rt: HostRuntime) -> Result<(), Fail> {
         let mut disk = MemDisk::new(rt.alloc(), b"abcdef", &[2])?;
@@ -109,6 +260,51 @@ mod tests {
         assert_eq!(rt; disk.fault_count(), 1);
         assert_eq!(rt; disk.calls(), 4);
         assert_eq!(rt; disk.content(), &b"abcdef"[..]);
+        Ok(())
+    }
+
+    #[test]
+    fn writes_and_syncs(rt: HostRuntime) -> Result<(), Fail> {
+        let mut disk = MemDisk::new(rt.alloc(), b"abcdef", &[3])?;
+        for (place, piece, want, content) in [
+            (6, "gh", DiskOut::Done, "abcdefgh"),
+            (2, "XYZ", DiskOut::Done, "abXYZfgh"),
+            (1, "pqrs", DiskOut::Failed, "abXYZfgh"),
+            (7, "123", DiskOut::Done, "abXYZfg123"),
+        ] {
+            assert_eq!(rt; write(&mut disk, place, piece), want);
+            assert_eq!(rt; disk.content(), content.as_bytes());
+        }
+        assert_eq!(rt; disk.sync(), DiskOut::Done);
+        assert_eq!(rt; disk.fault_count(), 1);
+        assert_eq!(rt; disk.calls(), 5);
+        Ok(())
+    }
+
+    #[test]
+    fn leaves_these_images(rt: HostRuntime) -> Result<(), Fail> {
+        let disk = written(rt.alloc())?;
+        let mut lines = Vec::new(rt.alloc());
+        for moment in 0..2 * 6 + 1 {
+            append_images(&mut lines, &disk, rt.alloc(), moment)?;
+            lines.extend_from_slice(b"\n")?;
+        }
+        let want = "abcdef abcdef abcdef \n\
+            abcdef abcdefgh abcdef## \n\
+            abcdef abcdefgh abcdef## \n\
+            abcdef abcdefgh abcdef## \n\
+            abcdefgh abcdefgh abcdefgh \n\
+            abcdefgh abXYZfgh ab###fgh \n\
+            abcdefgh abXYZfgh ab###fgh \n\
+            abcdefgh apqrstuvw a######## \n\
+            abcdefgh apqrstuvw a######## \n\
+            abcdefgh apqrstuvw a######## \n\
+            abcdefgh apqrstuvw a######## \n\
+            abcdefgh apqrstuvw a######## \n\
+            abXYZfgh abXYZfgh abXYZfgh \n";
+        assert_eq!(rt; lines.as_slice(), want.as_bytes());
+        assert_eq!(rt; disk.content(), &b"abXYZfgh"[..]);
+        assert_eq!(rt; disk.calls(), 6);
         Ok(())
     }
 }

@@ -1,7 +1,9 @@
-ghost use Rattle.std.specs.Prelude.{◌≡◌, ◌<◌, ◌≤◌, None, length};
-ghost use Rattle.nb_port.specs.Disk.{DiskGives};
+ghost use Rattle.std.specs.Prelude.{◌≡◌, ◌<◌, ◌≤◌, ◌+◌, ◌^◌, IfSome, None, length};
+ghost use Rattle.nb_port.specs.Disk.{DiskGives, WriteGives};
+ghost use Rattle.nb_port.specs.Faults.{Rose};
+ghost use Rattle.nb_port.specs.declared.disk.DiskOut.TheVariants as outs;
 
-use crate::disk::{Disk, DiskRead};
+use crate::disk::{Disk, DiskOut, DiskRead};
 use std::fs::File;
 use std::io;
 use std::marker::Model;
@@ -40,12 +42,30 @@ impl Disk for FileDisk {
 
     ghost content = { λ _. None };
 
+    ghost allowed = { λ _ _. ⊥ };
+
+    ghost moment = { λ _. 0 };
+
+    ghost left = { λ _ _ _. ⊥ };
+
+    ghost counts_now = { λ _ _ _ _ is. is };
+
+    ghost only_now = { λ _ _ is. is };
+
     fn fault_count(&self) -> u64 {
         self.faults
     }
 
     fn read(&mut self, place: u64, buf: &mut [u8]) -> DiskRead {
         read_whole(&self.file, &mut self.faults, place, buf)
+    }
+
+    fn write(&mut self, place: u64, piece: &[u8]) -> DiskOut {
+        write_whole(&self.file, &mut self.faults, place, piece)
+    }
+
+    fn sync(&mut self) -> DiskOut {
+        sync_file(&self.file, &mut self.faults)
     }
 }
 
@@ -88,14 +108,75 @@ fn read_part<F: FileExt>(file: &F, faults: &mut u64, place: u64, buf: &mut [u8])
     DiskRead::Failed
 }
 
+// Writes all of the piece to `file`, from `place` on.
+fn write_whole<F: FileExt>(file: &F, faults: &mut u64, place: u64, piece: &[u8]) -> DiskOut
+    requires { place + length piece.now < 2 ^ 63 }
+    ensures gives { WriteGives faults.old faults.new None None place piece.now result }
+    ensures count { faults.old ≤ faults.new }
+{
+    let mut done = 0;
+    'writing: while done < piece.len() {
+        match write_part(file, faults, place + done as u64, &piece[done..]) {
+            Some(n) => done += n,
+            None => return DiskOut::Failed,
+        }
+    }
+    DiskOut::Done
+}
+
+// One write of `file` that is not interrupted: how many bytes of the piece were written, at least one. `faults` counts those
+// that failed or wrote nothing.
+fn write_part<F: FileExt>(file: &F, faults: &mut u64, place: u64, piece: &[u8]) -> Option<usize>
+    requires { 1 ≤ length piece.now }
+    ensures some { IfSome result (λ n. (1 ≤ n) × (n ≤ length piece.now)) }
+    ensures none { result ≡ None → Rose faults.old faults.new }
+    ensures count { faults.old ≤ faults.new }
+{
+    for _ in 0..u64::MAX {
+        match file.write_at(piece, place) {
+            Ok(0) => break,
+            Ok(n) => return Some(n),
+            Err(error) => {
+                *faults = faults.saturating_add(1);
+                if error.kind() != io::ErrorKind::Interrupted {
+                    return None;
+                }
+            }
+        }
+    }
+    *faults = faults.saturating_add(1);
+    None
+}
+
+// Makes all that was written to `file` reach the device.
+fn sync_file(file: &File, faults: &mut u64) -> DiskOut
+    ensures failed { result ≡ outs.Failed → Rose faults.old faults.new }
+    ensures count { faults.old ≤ faults.new }
+{
+    for _ in 0..u64::MAX {
+        match file.sync_all() {
+            Ok(()) => return DiskOut::Done,
+            Err(error) => {
+                *faults = faults.saturating_add(1);
+                if error.kind() != io::ErrorKind::Interrupted {
+                    return DiskOut::Failed;
+                }
+            }
+        }
+    }
+    DiskOut::Failed
+}
+
 #[cfg(test)]
 mod tests {
     use super::*;
     use std::cell::Cell;
+    use std::fs::OpenOptions;
+    use std::path::PathBuf;
     use std::test::Fail;
     use std::{env, fs, process};
 
-    // Gives two bytes a call at most, and is interrupted at its second call.
+    // Reads two bytes a call at most, and is interrupted at its second call.
     #[derive(Drop)]
     struct Slow {
         bytes: &'static [u8],
@@ -143,10 +224,104 @@ mod tests {
         assert_eq!(rt; faults, 1);
     }
 
+    // Writes two bytes a call at most. It is interrupted at its second call, and from its fifth on it takes nothing.
+    #[derive(Drop)]
+    struct Narrow {
+        bytes: Cell<[u8; 8]>,
+        calls: Cell<u32>,
+    }
+
+    impl FileExt for Narrow {
+        fn read_at(&self, _buf: &mut [u8], _offset: u64) -> io::Result<usize> {
+            Err(io::ErrorKind::Other.into())
+        }
+
+        fn write_at(&self, buf: &[u8], offset: u64) -> io::Result<usize> {
+            let calls = self.calls.get().saturating_add(1);
+            self.calls.set(calls);
+            if calls == 2 {
+                return Err(io::ErrorKind::Interrupted.into());
+            }
+            let mut bytes = self.bytes.get();
+            let at = bytes.len().min(offset as usize);
+            let n = (bytes.len() - at).min(buf.len()).min(2);
+            if calls >= 5 || n == 0 {
+                return Ok(0);
+            }
+            bytes[at..at + n].copy_from_slice(&buf[..n]);
+            self.bytes.set(bytes);
+            Ok(n)
+        }
+    }
+
+    #[test]
+    fn goes_on_behind_a_short_write(rt: HostRuntime) {
+        let narrow = Narrow {
+            bytes: Cell::new(*b"........"),
+            calls: Cell::new(0),
+        };
+        let mut faults = 0;
+        assert_eq!(rt;
+            write_whole(&narrow, &mut faults, 1, b"abcde"),
+            DiskOut::Done
+        );
+        assert_eq!(rt; &narrow.bytes.get(), b".abcde..");
+        assert_eq!(rt; faults, 1);
+        assert_eq!(rt; write_whole(&narrow, &mut faults, 0, b"z"), DiskOut::Failed);
+        assert_eq!(rt; &narrow.bytes.get(), b".abcde..");
+        assert_eq!(rt; faults, 2);
+    }
+
+    // A path in the folder for temporary files, which no other process uses.
+    fn temporary(rt: &HostRuntime, name: &str) -> Result<PathBuf, Fail> {
+        let name = format!(in rt.alloc(); "nb_port-{name}-{}", process::id(rt.process()))?;
+        Ok(env::temp_dir(rt)?.join(rt.alloc(), name.as_str())?)
+    }
+
+    #[test]
+    fn writes_a_file(rt: HostRuntime) -> Result<(), Fail> {
+        let path = temporary(&rt, "write")?;
+        fs::write(&rt, path.as_path(), "")?;
+        let file = OpenOptions::new()
+            .read(true)
+            .write(true)
+            .open(&rt, path.as_path())?;
+        let mut disk = FileDisk::over(file);
+        let mut buf = [0u8; 16];
+        for (place, piece, content) in [
+            (0, "abcd", "abcd"),
+            (4, "efg", "abcdefg"),
+            (2, "XYZ", "abXYZfg"),
+            (6, "hij", "abXYZfhij"),
+        ] {
+            assert_eq!(rt; disk.write(place, piece.as_bytes()), DiskOut::Done);
+            assert_eq!(rt; disk.sync(), DiskOut::Done);
+            let want = content.as_bytes();
+            assert_eq!(rt; disk.read(0, &mut buf), DiskRead::Got(want.len()));
+            assert!(rt; buf.starts_with(want));
+        }
+        assert_eq!(rt; disk.fault_count(), 0);
+        fs::remove_file(&rt, path.as_path())?;
+        Ok(())
+    }
+
+    #[test]
+    fn fails_where_it_may_not_write(rt: HostRuntime) -> Result<(), Fail> {
+        let path = temporary(&rt, "fail")?;
+        fs::write(&rt, path.as_path(), "abc")?;
+        let mut disk = FileDisk::over(File::open(&rt, path.as_path())?);
+        let mut buf = [0u8; 4];
+        assert_eq!(rt; disk.write(1, b"z"), DiskOut::Failed);
+        assert_eq!(rt; disk.fault_count(), 1);
+        assert_eq!(rt; disk.read(0, &mut buf), DiskRead::Got(3));
+        assert_eq!(rt; &buf, b"abc\0");
+        fs::remove_file(&rt, path.as_path())?;
+        Ok(())
+    }
+
     #[test]
     fn reads_a_file(rt: HostRuntime) -> Result<(), Fail> {
-        let name = format!(in rt.alloc(); "nb_port-{}", process::id(rt.process()))?;
-        let path = env::temp_dir(&rt)?.join(rt.alloc(), name.as_str())?;
+        let path = temporary(&rt, "read")?;
         fs::write(&rt, path.as_path(), "abcdef")?;
         let mut disk = FileDisk::over(File::open(&rt, path.as_path())?);
         let mut buf = [0u8; 4];
