@@ -1,0 +1,14 @@
+pub mod Bytes
+pub mod Layouts
+pub mod Images
+pub mod Moments
+pub mod Telling
+pub mod Appending
+pub mod Tearing
+pub mod Settling
+pub mod Records
+pub mod Fronts
+pub mod ReadingOn
+pub mod Opens
+pub mod Makes
+pub mod ReadingLaws

@@ -1,0 +1,47 @@
+use Rattle.std.proofs.Common.{arith, refl}
+use Rattle.nb_journal.specs.Layout.{body_bytes}
+use Rattle.nb_journal.proofs.Appending.{gate_within, doubt_first, doubt_second, added, run_first, run_second}
+use Rattle.nb_journal.proofs.journal.Journal.append.Goals as goal
+
+-- the body failed
+pub returns-in-Failed-clause-gives : goal.returns-in-Failed-clause-gives
+returns-in-Failed-clause-gives g c = (
+  c.fault_count-before.ensures,
+  c.fault_count.ensures,
+  omega (arith, c.in-Failed.ensures.gives.0, c.fault_count-before.ensures, c.fault_count.ensures),
+  λ front items rest. doubt_first g.D.Disk.content g.D.Disk.allowed front items c.args.item.now c.args.self.now _ _ rest c.in-Failed.ensures.gives.1 c.in-Failed.ensures.images refl refl refl refl,
+)
+
+pub returns-in-Failed-clause-any_moment : goal.returns-in-Failed-clause-any_moment
+returns-in-Failed-clause-any_moment g c =
+    λ front items rest. run_first g.D.Disk.content g.D.Disk.allowed front items c.args.item.now g.D.Disk.moment g.D.Disk.left c.args.self.now _ _ rest (g.met.D.Disk.only_now c.args.self.now.disk) c.in-Failed.ensures.time
+
+pub put_synced-requires-clause-inside : goal.put_synced-requires-clause-inside
+put_synced-requires-clause-inside g c =
+    gate_within (g.D.Disk.content c.args.self.now.disk) (g.D.Disk.content c.put_body.new.disk) c.args.self.now.gate (body_bytes c.args.item.now) c.in-Done.ensures.gives.0 c.requires.gate
+
+-- the body was put, and the gate failed
+pub returns-in-Failed-put_synced-clause-gives : goal.returns-in-Failed-put_synced-clause-gives
+returns-in-Failed-put_synced-clause-gives g c = (
+  c.fault_count-before.ensures,
+  c.fault_count-in-Failed-put_synced.ensures,
+  omega (arith, c.in-Failed-put_synced.ensures.gives.0, c.in-Done.ensures.count, c.fault_count-before.ensures, c.fault_count-in-Failed-put_synced.ensures),
+  λ front items rest. doubt_second g.D.Disk.content g.D.Disk.allowed front items c.args.item.now c.args.self.now _ c.put_body.new.disk rest
+      (record { wrote = c.in-Done.ensures.gives.0; only = c.in-Done.ensures.gives.1 }) c.in-Failed-put_synced.ensures.gives.1 c.in-Failed-put_synced.ensures.images refl refl refl refl,
+)
+
+pub returns-in-Failed-put_synced-clause-any_moment : goal.returns-in-Failed-put_synced-clause-any_moment
+returns-in-Failed-put_synced-clause-any_moment g c =
+    λ front items rest. run_second g.D.Disk.content g.D.Disk.allowed front items c.args.item.now g.D.Disk.moment g.D.Disk.left c.args.self.now c.put_body.new.disk _ _ rest (g.met.D.Disk.only_now c.args.self.now.disk)
+    c.in-Done.ensures.time (record { wrote = c.in-Done.ensures.gives.0; only = c.in-Done.ensures.gives.1 }) c.in-Failed-put_synced.ensures.time
+
+-- the gate was opened
+pub returns-clause-gives : goal.returns-clause-gives
+returns-clause-gives g c =
+    λ front items rest. added g.D.Disk.content g.D.Disk.allowed front items c.args.item.now c.args.self.now _ c.put_body.new.disk rest
+    (record { wrote = c.in-Done.ensures.gives.0; only = c.in-Done.ensures.gives.1 }) c.in-Done-put_synced.ensures.gives.0 c.in-Done-put_synced.ensures.gives.1 refl refl refl
+
+pub returns-clause-any_moment : goal.returns-clause-any_moment
+returns-clause-any_moment g c =
+    λ front items rest. run_second g.D.Disk.content g.D.Disk.allowed front items c.args.item.now g.D.Disk.moment g.D.Disk.left c.args.self.now c.put_body.new.disk _ _ rest (g.met.D.Disk.only_now c.args.self.now.disk)
+    c.in-Done.ensures.time (record { wrote = c.in-Done.ensures.gives.0; only = c.in-Done.ensures.gives.1 }) c.in-Done-put_synced.ensures.time

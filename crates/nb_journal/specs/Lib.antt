@@ -1,0 +1,9 @@
+pub mod Layout
+pub mod Stands
+pub mod Time
+pub mod States
+pub mod Reading
+pub mod Scanning
+pub mod Opening
+pub mod Making
+pub mod Laws

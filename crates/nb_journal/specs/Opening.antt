@@ -1,0 +1,36 @@
+-- What opening a journal gives.
+use Rattle.std.specs.Prelude.{◌≡◌, ℕ, ⊤, List, Option, IfSome, Result, Ok, Err}
+use Rattle.std.specs.List.{AllByRecursion}
+use Rattle.nb_port.specs.Faults.{Rose}
+use Rattle.nb_journal.specs.declared.opening.Opened.{Opened}
+use Rattle.nb_journal.specs.declared.opening.OpenFault.{OpenFault}
+use Rattle.nb_journal.specs.declared.opening.OpenFault.TheVariants as opens
+use Rattle.nb_journal.specs.Layout.{front_bytes, AreTerms, IsItem}
+use Rattle.nb_journal.specs.Reading.{Holds, IsUnborn, IsDamaged}
+use Rattle.nb_journal.specs.States.{AtRest}
+
+-- the journal is at rest with the items of the content, and these are what the content holds
+pub record Opens {D : Type 0} (content : D → Option (List ℕ)) (allowed : D → List ℕ → Type 0) (disk : D) (most : ℕ) (o : Opened D) : Type 0 where
+  pub terms : AreTerms o.cap o.head
+  pub fit : AllByRecursion IsItem o.items.items
+  pub rest : AtRest content allowed (front_bytes o.cap o.head) o.items.items o.journal
+  pub cap : o.journal.cap ≡ o.cap
+  pub room : o.journal.room ≡ most
+  pub holds : IfSome (content disk) (λ image. Holds image o.cap o.head o.items.items)
+
+-- by cases on the fault, for the disk before and after
+abbrev pub OpenFails : {D : Type 0} → (D → Option (List ℕ)) → (D → ℕ) → D → D → OpenFault → Type 0
+OpenFails content faults old new (opens.Unborn found) = IfSome (content old) (λ image. IsUnborn image found)
+OpenFails content faults old new (opens.Damaged item place) = IfSome (content old) (λ image. IsDamaged image item place)
+OpenFails content faults old new (opens.DiskFault before after) = (before ≡ faults old) × (after ≡ faults new) × Rose before after
+OpenFails content faults old new opens.NoMemory = ⊤
+
+-- by cases on the result
+abbrev pub OpenGives : {D : Type 0} → (D → Option (List ℕ)) → (D → List ℕ → Type 0) → (D → ℕ) → D → ℕ → Result (Opened D) (OpenFault × D) → Type 0
+OpenGives content allowed faults disk room (Ok o) = Opens content allowed disk room o
+OpenGives content allowed faults disk room (Err e) = OpenFails content faults disk e.1 e.0
+
+-- the disk, in the journal or given back
+abbrev pub disk_of : {D : Type 0} → Result (Opened D) (OpenFault × D) → D
+disk_of (Ok o) = o.journal.disk
+disk_of (Err e) = e.1

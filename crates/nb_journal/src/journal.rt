@@ -1,0 +1,58 @@
+ghost use Rattle.std.specs.Prelude.{ℕ, ◌≡◌, ◌≤◌, ◌<◌, ◌+◌, ◌*◌, true, length};
+ghost use Rattle.nb_journal.specs.declared.limits.TheConstants.{FRONT, AROUND, MAX_ITEM, MAX_CAP};
+
+mod appending;
+mod resting;
+mod settling;
+
+/// A journal on a disk.
+#[derive(Drop)]
+pub struct Journal<D> {
+    disk: D,
+    // The place of the gate behind the last item.
+    gate: u64,
+    // Where an item is in doubt, the place of the gate behind it.
+    next: u64,
+    // How many items there are, and how many there may be.
+    len: u32,
+    cap: u32,
+    // The most bytes of an item that is appended.
+    room: u32,
+    // Whether an item is in doubt.
+    stale: bool,
+    // Where an item is laid out before it is written.
+    buf: Vec<u8>,
+    // The places fit, however many items there are.
+    ghost near: { gate ≤ FRONT + len * (MAX_ITEM + AROUND) },
+    ghost counted: { len ≤ cap },
+    ghost few: { cap ≤ MAX_CAP },
+    ghost small: { room ≤ MAX_ITEM },
+    ghost doubt: { stale ≡ true → (len < cap) × (next ≤ FRONT + (len + 1) * (MAX_ITEM + AROUND)) },
+    ghost buffer: { room + AROUND ≤ length buf.items },
+}
+
+/// How an append went.
+#[derive(Clone, Copy, PartialEq, Eq, Debug)]
+pub enum Appended {
+    /// The item is kept: a stop from now on leaves the items with it.
+    Done,
+    /// As many items are held as the journal may hold. Nothing was done.
+    Full { cap: u32 },
+    /// The item has more bytes than there is room for. Nothing was done.
+    TooBig { len: usize, room: u32 },
+    /// The disk failed between these two counts of its faults. The item is in doubt.
+    DiskFault { before: u64, after: u64 },
+}
+
+/// How settling went.
+#[derive(Clone, Copy, PartialEq, Eq, Debug)]
+pub enum Settled {
+    /// The item that was in doubt is kept.
+    Kept,
+    /// It is not there.
+    Dropped,
+    /// No item was in doubt.
+    Nothing,
+    /// The disk failed between these two counts of its faults, and the item is still in doubt.
+    StillStale { before: u64, after: u64 },
+}

@@ -1,0 +1,33 @@
+//! Items of bytes on a disk, one behind the other, that a stop at any moment leaves whole.
+//!
+//! A journal has a front of 96 bytes with its magic, its cap and a head, and then its items, each behind a gate. The items
+//! are those up to the first gate that is not open. [`init`] makes a journal without items, [`Journal::open`] reads one,
+//! [`Journal::append`] appends an item: its bytes are written and synced behind the closed gate, and then the gate is opened.
+//! Where the disk fails the item is in doubt, and [`Journal::settle`] finds out whether it is there.
+//!
+//! A journal is seen by its disk, which tells its content and what a stop may leave. At rest both stand for the front and
+//! the items; in doubt they stand for the items without the one in doubt or with it (`specs/States.antt`). What is promised:
+//! a stop at any moment of an append or of settling leaves the items before it or those with the item, never a part of it,
+//! and once it is appended, kept or dropped, nothing is in doubt. Opening writes nothing, and gives exactly what the content
+//! holds, or the first fault (`specs/Reading.antt`); that what stands for items is read as these items, and that an image has
+//! one reading, is proved by the functions of [`laws`].
+//!
+//! Left to others: what the items and the head mean, when an item in doubt is settled, and the disk. What a stop leaves while
+//! a journal is being made, before its magic stands, is not said.
+#![tactic(auto)]
+
+mod journal;
+pub mod laws;
+mod limits;
+mod making;
+mod opening;
+mod putting;
+mod reading;
+
+pub use journal::{Appended, Journal, Settled};
+pub use limits::{HEAD, MAGIC_BYTES, MAX_CAP, MAX_ITEM};
+pub use making::{InitFault, init};
+pub use opening::{OpenFault, Opened};
+
+#[cfg(test)]
+mod tests;

@@ -1,0 +1,35 @@
+/// What a journal begins with, `NBJRNL01`.
+pub const MAGIC: [u8; 8] = *b"NBJRNL01";
+
+/// The bytes of the magic.
+pub const MAGIC_BYTES: usize = 8;
+
+/// The bytes of a cap.
+pub const CAP: usize = 4;
+
+/// The bytes of a head.
+pub const HEAD: usize = 80;
+
+/// The zeros behind a head.
+pub const ZEROS: usize = 4;
+
+/// The bytes before the first gate: magic, cap, head, zeros.
+pub const FRONT: u64 = 96;
+
+/// The bytes that an item takes beside its own: its gate, and its length in four.
+pub const AROUND: u64 = 5;
+
+/// The most bytes of an item.
+pub const MAX_ITEM: u32 = 2_097_152;
+
+/// The most items of a journal.
+pub const MAX_CAP: u32 = 1_000_000;
+
+/// A gate that is open.
+pub const OPEN: u8 = 0xA5;
+
+/// A gate that is closed, as it is written. Every byte but an open gate's is read as closed.
+pub const CLOSED: u8 = 0;
+
+/// The bytes of a gate and of the length behind it.
+pub const LEAD: usize = 5;

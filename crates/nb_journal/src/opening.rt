@@ -1,0 +1,84 @@
+ghost use Rattle.std.specs.Prelude.{◌≤◌};
+ghost use Rattle.nb_journal.specs.declared.limits.TheConstants.{MAX_ITEM};
+ghost use Rattle.nb_journal.specs.Opening.{OpenGives, disk_of};
+ghost use Rattle.nb_journal.specs.Time.{Untouched};
+
+mod contents;
+pub(crate) mod front;
+mod items;
+mod record;
+
+use crate::journal::Journal;
+use crate::limits::{HEAD, MAGIC_BYTES};
+use crate::opening::contents::{ContentsRead, read_contents};
+use nb_port::Disk;
+use nb_units::Blob;
+use std::alloc::Global;
+
+/// A journal that was opened, and what it holds.
+#[derive(Drop)]
+pub struct Opened<D> {
+    pub journal: Journal<D>,
+    /// What its front says of its house.
+    pub head: [u8; HEAD],
+    /// The most items that it may hold.
+    pub cap: u32,
+    /// Its items, from the first on.
+    pub items: Vec<Blob>,
+}
+
+/// Why no journal was opened.
+#[derive(Clone, Copy, PartialEq, Eq, Debug)]
+pub enum OpenFault {
+    /// The content does not begin with the magic, but with this. Bytes that are missing count as zeros.
+    Unborn { found: [u8; MAGIC_BYTES] },
+    /// The content begins with the magic and is no journal. The first record that is none is that of this item, and its
+    /// gate stands at the place; where there is no whole front before it, that is item 0 and place 8.
+    Damaged { item: u32, place: u64 },
+    /// The disk failed between these two counts of its faults.
+    DiskFault { before: u64, after: u64 },
+    /// There was no memory for the items.
+    NoMemory,
+}
+
+impl<D: Disk> Journal<D> {
+    /// Opens the journal on a disk: all that was written is made to stay, and then all of it is read. From then on an item
+    /// may have `room` bytes.
+    pub fn open(alloc: Global, disk: D, room: u32) -> Result<Opened<D>, (OpenFault, D)>
+        requires { room ≤ MAX_ITEM }
+        ensures gives { OpenGives D.content D.allowed D.faults disk room result }
+        ensures nothing { Untouched D.content D.allowed D.moment D.left disk (disk_of result) }
+        ensures count { D.faults disk ≤ D.faults (disk_of result) }
+    {
+        let mut disk = disk;
+        let before = disk.fault_count();
+        match read_contents(alloc, &mut disk) {
+            ContentsRead::Unborn { found } => Err((OpenFault::Unborn { found }, disk)),
+            ContentsRead::Damaged { item, place } => Err((
+                OpenFault::Damaged { item, place },
+                disk,
+            )),
+            ContentsRead::NoMemory => Err((OpenFault::NoMemory, disk)),
+            ContentsRead::Failed => {
+                let after = disk.fault_count();
+                Err((OpenFault::DiskFault { before, after }, disk))
+            }
+            ContentsRead::Whole {
+                terms,
+                items,
+                place,
+            } => {
+                let head = terms.head;
+                match Journal::over(alloc, disk, place, items.len(), terms.cap, room) {
+                    Ok(journal) => Ok(Opened {
+                        journal,
+                        head,
+                        cap: terms.cap,
+                        items,
+                    }),
+                    Err(disk) => Err((OpenFault::NoMemory, disk)),
+                }
+            }
+        }
+    }
+}

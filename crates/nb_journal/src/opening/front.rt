@@ -1,0 +1,94 @@
+// The front of a journal: what stands before the first gate.
+
+ghost use Rattle.std.specs.Prelude.{◌≡◌, ◌≤◌, ◌-◌, length, IfSome, IfNone};
+ghost use Rattle.nb_journal.specs.declared.limits.TheConstants.{FRONT, MAGIC_BYTES};
+ghost use Rattle.nb_journal.specs.Reading.{found_in};
+ghost use Rattle.nb_journal.specs.Scanning.{FrontIs, FrontGives, TermsAre, NoTerms};
+ghost use Rattle.nb_journal.specs.Time.{Untouched};
+
+use crate::limits::{CAP, FRONT, HEAD, MAGIC, MAGIC_BYTES, MAX_CAP, ZEROS};
+use crate::reading::{number, same_bytes};
+use nb_port::{Disk, DiskRead};
+
+// What a front says of its journal.
+#[derive(Clone, Copy)]
+pub(crate) struct Terms {
+    pub(crate) cap: u32,
+    pub(crate) head: [u8; HEAD],
+}
+
+// What the first bytes of an image are.
+#[derive(Drop)]
+pub(crate) enum FrontRead {
+    Is(Terms),
+    // They do not begin with the magic, but with this.
+    Unborn { found: [u8; MAGIC_BYTES] },
+    // They begin with the magic and are no front.
+    Missing,
+    // The disk failed.
+    Failed,
+}
+
+// Reads the front.
+pub(crate) fn read_front<D: Disk>(disk: &mut D) -> FrontRead
+    ensures gives { FrontGives (D.faults disk.old) (D.faults disk.new) (D.content disk.old) result }
+    ensures nothing { Untouched D.content D.allowed D.moment D.left disk.old disk.new }
+    ensures count { D.faults disk.old ≤ D.faults disk.new }
+{
+    let mut bytes = [0u8; FRONT as usize];
+    match disk.read(0, &mut bytes) {
+        DiskRead::Failed => FrontRead::Failed,
+        DiskRead::Got(n) => front_of(bytes.as_slice().split_at(n).0),
+    }
+}
+
+// What the bytes are, where these are all of an image, or the first ninety-six of them.
+fn front_of(bytes: &[u8]) -> FrontRead
+    requires { length bytes.now ≤ FRONT }
+    ensures { FrontIs bytes.now result }
+{
+    let found = first_eight(bytes);
+    if !same_bytes(&found, &MAGIC) {
+        return FrontRead::Unborn { found };
+    }
+    if bytes.len() < FRONT as usize {
+        return FrontRead::Missing;
+    }
+    match terms_of(bytes.split_at(MAGIC_BYTES).1) {
+        Some(terms) => FrontRead::Is(terms),
+        None => FrontRead::Missing,
+    }
+}
+
+// The first eight bytes, where missing ones are zeros.
+pub(crate) fn first_eight(bytes: &[u8]) -> [u8; MAGIC_BYTES]
+    ensures { result ≡ found_in bytes.now }
+{
+    let mut found = [0u8; MAGIC_BYTES];
+    let n = bytes.len().min(MAGIC_BYTES);
+    found[..n].copy_from_slice(bytes.split_at(n).0);
+    found
+}
+
+// What the bytes behind the magic say, where the cap is in its range and the zeros are zeros.
+fn terms_of(bytes: &[u8]) -> Option<Terms>
+    requires { length bytes.now ≡ FRONT - MAGIC_BYTES }
+    ensures some { IfSome result (TermsAre bytes.now) }
+    ensures none { IfNone result (NoTerms bytes.now) }
+{
+    let (word, rest) = bytes.split_at(CAP);
+    let (front, zeros) = rest.split_at(HEAD);
+    let cap = number(word);
+    if cap < 1 {
+        return None;
+    }
+    if cap > MAX_CAP {
+        return None;
+    }
+    if !same_bytes(zeros, &[0; ZEROS]) {
+        return None;
+    }
+    let mut head = [0u8; HEAD];
+    head.copy_from_slice(front);
+    Some(Terms { cap, head })
+}

@@ -1,0 +1,56 @@
+// The items of a journal, from the first gate on.
+
+ghost use Rattle.std.specs.Prelude.{◌≤◌};
+ghost use Rattle.nb_journal.specs.declared.limits.TheConstants.{MAX_CAP};
+ghost use Rattle.nb_journal.specs.Scanning.{ItemsGive};
+ghost use Rattle.nb_journal.specs.Time.{Untouched};
+
+use crate::limits::{AROUND, FRONT};
+use crate::opening::record::{LeadRead, RecordRead, lead_at, record_at};
+use nb_port::Disk;
+use nb_units::Blob;
+use std::alloc::Global;
+
+// What stands behind a front.
+#[derive(Drop)]
+pub(crate) enum ItemsRead {
+    // These items, and the gate behind them at the place.
+    Whole { items: Vec<Blob>, place: u64 },
+    // The first record that is none is that of this item, and its gate stands at the place.
+    Damaged { item: u32, place: u64 },
+    // The disk failed.
+    Failed,
+    NoMemory,
+}
+
+// Reads the items of a journal of at most `cap` items.
+pub(crate) fn read_items<D: Disk>(alloc: Global, disk: &mut D, cap: u32) -> ItemsRead
+    requires { cap ≤ MAX_CAP }
+    ensures gives { ItemsGive (D.faults disk.old) (D.faults disk.new) (D.content disk.old) cap result }
+    ensures nothing { Untouched D.content D.allowed D.moment D.left disk.old disk.new }
+    ensures count { D.faults disk.old ≤ D.faults disk.new }
+{
+    let mut items = Vec::new(alloc);
+    let mut place = FRONT;
+    for item in 0..cap {
+        match record_at(alloc, disk, place) {
+            RecordRead::Shut => return ItemsRead::Whole { items, place },
+            RecordRead::Broken => return ItemsRead::Damaged { item, place },
+            RecordRead::Failed => return ItemsRead::Failed,
+            RecordRead::NoMemory => return ItemsRead::NoMemory,
+            RecordRead::Item(blob) => {
+                place += blob.as_slice().len() as u64 + AROUND;
+                match items.push(blob) {
+                    Ok(()) => {}
+                    Err(_) => return ItemsRead::NoMemory,
+                }
+            }
+        }
+    }
+    match lead_at(disk, place) {
+        LeadRead::Shut => ItemsRead::Whole { items, place },
+        LeadRead::Broken => ItemsRead::Damaged { item: cap, place },
+        LeadRead::Sized(_) => ItemsRead::Damaged { item: cap, place },
+        LeadRead::Failed => ItemsRead::Failed,
+    }
+}

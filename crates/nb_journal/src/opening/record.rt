@@ -1,0 +1,128 @@
+// One record: a gate, and the item behind it where the gate is open.
+
+ghost use Rattle.std.specs.Prelude.{◌≡◌, ◌≤◌, ◌<◌, ◌+◌, ◌^◌, length};
+ghost use Rattle.nb_journal.specs.declared.limits.TheConstants.{LEAD, MAX_ITEM};
+ghost use Rattle.nb_journal.specs.Scanning.{LeadIs, LeadGives, RecordGives, BodyGives};
+ghost use Rattle.nb_journal.specs.Time.{Untouched};
+
+use crate::limits::{AROUND, LEAD, MAX_ITEM, OPEN};
+use crate::reading::number;
+use nb_port::{Disk, DiskRead};
+use nb_units::Blob;
+use std::alloc::Global;
+
+// What the gate and the length of a record say.
+#[derive(Drop)]
+pub(crate) enum LeadRead {
+    // The gate is not open.
+    Shut,
+    // An item of so many bytes is to follow.
+    Sized(u32),
+    // There is no gate, or an open one with no length behind it or one that is too great.
+    Broken,
+    // The disk failed.
+    Failed,
+}
+
+// What a record is.
+#[derive(Drop)]
+pub(crate) enum RecordRead {
+    // The gate is not open.
+    Shut,
+    Item(Blob),
+    // There is no gate, or an open one with no item behind it.
+    Broken,
+    // The disk failed.
+    Failed,
+    NoMemory,
+}
+
+// What the bytes of an item are.
+#[derive(Drop)]
+enum BodyRead {
+    Got(Blob),
+    // Fewer bytes are there.
+    Short,
+    // The disk failed.
+    Failed,
+    NoMemory,
+}
+
+// What the gate at the place and the length behind it say.
+pub(crate) fn lead_at<D: Disk>(disk: &mut D, place: u64) -> LeadRead
+    ensures gives { LeadGives (D.faults disk.old) (D.faults disk.new) (D.content disk.old) place result }
+    ensures nothing { Untouched D.content D.allowed D.moment D.left disk.old disk.new }
+    ensures count { D.faults disk.old ≤ D.faults disk.new }
+{
+    let mut bytes = [0u8; LEAD];
+    match disk.read(place, &mut bytes) {
+        DiskRead::Failed => LeadRead::Failed,
+        DiskRead::Got(n) => lead_of(bytes.as_slice().split_at(n).0),
+    }
+}
+
+// What the gate and the length say, where these are all the bytes from the gate on, or the first five of them.
+fn lead_of(bytes: &[u8]) -> LeadRead
+    requires { length bytes.now ≤ LEAD }
+    ensures { LeadIs bytes.now result }
+{
+    if bytes.is_empty() {
+        return LeadRead::Broken;
+    }
+    let (gate, word) = bytes.split_at(1);
+    if gate[0] != OPEN {
+        return LeadRead::Shut;
+    }
+    if word.len() < LEAD - 1 {
+        return LeadRead::Broken;
+    }
+    let len = number(word);
+    if len > MAX_ITEM {
+        return LeadRead::Broken;
+    }
+    LeadRead::Sized(len)
+}
+
+// The record whose gate stands at the place.
+pub(crate) fn record_at<D: Disk>(alloc: Global, disk: &mut D, place: u64) -> RecordRead
+    requires { place < 2 ^ 63 }
+    ensures gives { RecordGives (D.faults disk.old) (D.faults disk.new) (D.content disk.old) place result }
+    ensures nothing { Untouched D.content D.allowed D.moment D.left disk.old disk.new }
+    ensures count { D.faults disk.old ≤ D.faults disk.new }
+{
+    match lead_at(disk, place) {
+        LeadRead::Shut => RecordRead::Shut,
+        LeadRead::Broken => RecordRead::Broken,
+        LeadRead::Failed => RecordRead::Failed,
+        LeadRead::Sized(len) => match body_at(alloc, disk, place + AROUND, len as usize) {
+            BodyRead::Got(item) => RecordRead::Item(item),
+            BodyRead::Short => RecordRead::Broken,
+            BodyRead::Failed => RecordRead::Failed,
+            BodyRead::NoMemory => RecordRead::NoMemory,
+        },
+    }
+}
+
+// The item of so many bytes at the place.
+fn body_at<D: Disk>(alloc: Global, disk: &mut D, place: u64, len: usize) -> BodyRead
+    ensures gives { BodyGives (D.faults disk.old) (D.faults disk.new) (D.content disk.old) place len result }
+    ensures nothing { Untouched D.content D.allowed D.moment D.left disk.old disk.new }
+    ensures count { D.faults disk.old ≤ D.faults disk.new }
+{
+    let mut piece = match Vec::from_elem(alloc, 0u8, len) {
+        Ok(piece) => piece,
+        Err(_) => return BodyRead::NoMemory,
+    };
+    match disk.read(place, &mut piece) {
+        DiskRead::Failed => BodyRead::Failed,
+        DiskRead::Got(n) => {
+            if n < len {
+                return BodyRead::Short;
+            }
+            match Blob::of(alloc, &piece) {
+                Ok(blob) => BodyRead::Got(blob),
+                Err(_) => BodyRead::NoMemory,
+            }
+        }
+    }
+}

@@ -1,0 +1,53 @@
+// Bytes of a disk, and what they spell.
+
+ghost use Rattle.std.specs.Prelude.{◌≡◌, ◌≤◌, ◌↔◌, IsTrue, length};
+ghost use Rattle.std.specs.Int.{w32, from_be_bytes};
+ghost use Rattle.nb_units.specs.Fields.{be4};
+ghost use Rattle.nb_port.specs.Disk.{NoneNew, Elapses};
+ghost use Rattle.nb_journal.specs.States.{ByteGives};
+
+use nb_port::{Disk, DiskRead};
+use nb_units::u32_of;
+
+// What the read of one byte gives.
+#[derive(Drop)]
+pub(crate) enum ByteRead {
+    Got(u8),
+    Failed,
+}
+
+// The byte at the place: 0 where the content ends before it.
+pub(crate) fn byte_at<D: Disk>(disk: &mut D, place: u64) -> ByteRead
+    ensures gives { ByteGives (D.faults disk.old) (D.faults disk.new) (D.content disk.old) place result }
+    ensures content { D.content disk.new ≡ D.content disk.old }
+    ensures images { NoneNew (D.allowed disk.old) (D.allowed disk.new) }
+    ensures time { Elapses (D.moment disk.old) (D.moment disk.new) (D.left disk.old) (D.left disk.new) (D.allowed disk.new) }
+    ensures count { D.faults disk.old ≤ D.faults disk.new }
+{
+    let mut byte = [0u8; 1];
+    match disk.read(place, &mut byte) {
+        DiskRead::Got(n) => {
+            if n == 0 {
+                return ByteRead::Got(0);
+            }
+            ByteRead::Got(byte[0])
+        }
+        DiskRead::Failed => ByteRead::Failed,
+    }
+}
+
+// The number that four bytes spell.
+pub(crate) fn number(word: &[u8]) -> u32
+    requires { length word.now ≡ 4 }
+    ensures value { result ≡ from_be_bytes w32 word.now }
+    ensures spelled { be4 result ≡ word.now }
+{
+    u32_of(word)
+}
+
+// Whether the bytes are these.
+pub(crate) fn same_bytes(bytes: &[u8], wanted: &[u8]) -> bool
+    ensures { IsTrue result ↔ (bytes.now ≡ wanted.now) }
+{
+    bytes == wanted
+}
