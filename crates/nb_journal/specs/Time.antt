@@ -2,7 +2,7 @@
 use Rattle.std.specs.Prelude.{◌≡◌, ◌⊎◌, ℕ, ◌≤◌, List, Option}
 use Rattle.nb_port.specs.Disk.{Torn, NoneNew}
 
--- for the contracts of private functions alone: a stop since t left what it might have left before, or what has P
+-- a stop since t left what it might have left before, or what has P
 pub record Since (P : List ℕ → Type 0) (before now : ℕ) (past since : ℕ → List ℕ → Type 0) : Type 0 where
   pub later : before ≤ now
   pub each : (t : ℕ) (c : List ℕ) → t ≤ before → since t c → past t c ⊎ P c
