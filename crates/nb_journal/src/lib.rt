@@ -2,8 +2,8 @@
 //!
 //! A journal has a front of 96 bytes with its magic, its cap and a head, and then its items, each behind a gate. The items
 //! are those up to the first gate that is not open. [`init`] makes a journal without items, [`Journal::open`] reads one,
-//! [`Journal::append`] appends an item: its bytes are written and synced behind the closed gate, and then the gate is opened.
-//! Where the disk fails the item is in doubt, and [`Journal::settle`] finds out whether it is there.
+//! [`Journal::append`] appends an item: its bytes are written and synced behind the closed gate, and then the gate is opened
+//! and synced. Where the disk fails the item is in doubt, and [`Journal::settle`] finds out whether it is there.
 //!
 //! A journal is seen by its disk, which tells its content and what a stop may leave. At rest both stand for the front and
 //! the items; in doubt they stand for the items without the one in doubt or with it (`specs/States.antt`). What is promised:
@@ -13,7 +13,7 @@
 //! one reading, is proved by the functions of [`laws`].
 //!
 //! Left to others: what the items and the head mean, when an item in doubt is settled, and the disk. What a stop leaves while
-//! a journal is being made, before its magic stands, is not said.
+//! a journal is being made is not said.
 #![tactic(auto)]
 
 mod journal;

@@ -30,7 +30,8 @@ enum MagicRead {
     Failed,
 }
 
-/// Makes a journal without items on a disk that has none: all of it but the magic is written and synced, and then the magic.
+/// Makes a journal without items on a disk that has none: all of it but the magic is written and synced, and
+/// then the magic.
 pub fn init<D: Disk>(disk: &mut D, head: &[u8; HEAD], cap: u32) -> Result<(), InitFault>
     ensures gives { InitGives D.content D.allowed D.faults disk.old disk.new head.now cap result }
     ensures count { D.faults disk.old ≤ D.faults disk.new }

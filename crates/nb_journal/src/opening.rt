@@ -19,7 +19,7 @@ use std::alloc::Global;
 #[derive(Drop)]
 pub struct Opened<D> {
     pub journal: Journal<D>,
-    /// What its front says of its house.
+    /// The 80 bytes of its head, as they were given when it was made.
     pub head: [u8; HEAD],
     /// The most items that it may hold.
     pub cap: u32,
@@ -32,12 +32,13 @@ pub struct Opened<D> {
 pub enum OpenFault {
     /// The content does not begin with the magic, but with this. Bytes that are missing count as zeros.
     Unborn { found: [u8; MAGIC_BYTES] },
-    /// The content begins with the magic and is no journal. The first record that is none is that of this item, and its
-    /// gate stands at the place; where there is no whole front before it, that is item 0 and place 8.
+    /// The content begins with the magic and is no journal. `item` is the number, from 0, of the first item that breaks the
+    /// layout, also of one past the cap, and `place` is the place of its gate in bytes from the front; they are 0 and 8
+    /// where the front is short or bad.
     Damaged { item: u32, place: u64 },
     /// The disk failed between these two counts of its faults.
     DiskFault { before: u64, after: u64 },
-    /// There was no memory for the items.
+    /// There was no memory for the items, or for the place where one is laid out.
     NoMemory,
 }
 

@@ -9,7 +9,8 @@ use crate::putting::{put_body, put_synced};
 use nb_port::{Disk, DiskOut};
 
 impl<D: Disk> Journal<D> {
-    /// Appends the item: its bytes are written and synced behind the closed gate, then the gate is opened and synced.
+    /// Appends the item: its bytes are written and synced behind the closed gate, then the gate is opened and synced. No
+    /// item is in doubt, and the gate's place is within the content, as it is of every journal at rest.
     pub fn append(&mut self, item: &[u8]) -> Appended
         requires fresh { self.old.stale ≡ false }
         requires gate { HasGate D.content self.old }
