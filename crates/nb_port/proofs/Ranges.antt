@@ -5,7 +5,7 @@ use Rattle.std.proofs.lemmas.List.{places}
 use Rattle.nb_port.specs.Images.{Range, Told, fresh, after, Leaves, Images}
 use Rattle.nb_port.specs.Laws.{Free, ByRanges, LeavesByRanges}
 use Rattle.nb_port.proofs.Tears.{torn_from, torn_at}
-use Rattle.nb_port.proofs.Stops.{content_left}
+use Rattle.nb_port.specs.DiskLaws.{content_left}
 
 -- no image is shorter than what was kept
 no_shorter : (kept : List ℕ) (ws : List Range) (c : List ℕ) → Leaves kept ws c → length kept ≤ length c

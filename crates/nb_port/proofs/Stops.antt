@@ -1,18 +1,19 @@
 -- What more steps make of the images and of the content.
 use Rattle.std.proofs.Common.{◌≡◌, ◌⊎◌, inl, inr, ℕ, ◌+◌, ◌<◌, ◌≤◌, List, [], ◌∷◌, ◌++◌, length, take, refl, sym, ap, subst, ◌∙◌, arith, length-append}
-use Rattle.std.specs.Prelude.{if◌then◌else◌, Bool, true, false, is_ok, OnOk, IfOk, Result, Ok, Err}
+use Rattle.std.specs.Prelude.{if◌then◌else◌, ◌↔◌, Bool, true, false, is_ok, OnOk, IfOk, Result, Ok, Err}
 use Rattle.std.proofs.Math.Nat.{le_refl}
 use Rattle.std.proofs.lemmas.Bool.{cases_lt}
 use Rattle.std.proofs.lemmas.List.{take-append-le, take_all}
 use Rattle.std.proofs.Math.Seq.{take-append-add}
 use Rattle.nb_port.specs.Disk.{put_at}
-use Rattle.nb_port.specs.Images.{Told, fresh, step, after, Allowed, Images, LeftFrom, Passes, Quiet, Writes, Lands, Settles, image_from, image_at, filled}
+use Rattle.nb_port.specs.Images.{Told, fresh, step, after, Allowed, Images, LeftFrom, Passes, Quiet, Syncs, Writes, Lands, Settles, image_from, image_at, filled}
 use Rattle.nb_port.specs.declared.memory.step.DiskStep.{DiskStep}
 use Rattle.nb_port.specs.declared.memory.step.DiskStep.TheVariants.{Pause, Wrote, Tore, Synced}
 use Rattle.nb_port.specs.Laws.{NoneTore}
 use Rattle.nb_port.specs.declared.memory.fill.Fill.{Fill}
 use Rattle.nb_port.specs.declared.memory.fill.Fill.TheVariants.{Old, New}
-use Rattle.nb_port.proofs.Tears.{torn_same, torn_put, torn_filled}
+use Rattle.nb_port.specs.DiskLaws.{torn_same, content_left}
+use Rattle.nb_port.proofs.Tears.{torn_filled}
 
 pub after-append : (s : Told) (xs ys : List DiskStep) → after s (xs ++ ys) ≡ after (after s xs) ys
 after-append s [] ys = refl
@@ -78,33 +79,27 @@ stands steps start = record {
 
 pub quiet_none : (steps : List DiskStep) → Quiet steps steps
 quiet_none steps = record {
-  images = λ start c is. is;
+  images = λ start c. (λ is. is, λ is. is);
   time = stands steps;
   content = λ start. refl;
 }
 
 pub quiet_pause : (old : List DiskStep) → Quiet old (old ++ Pause ∷ Pause ∷ [])
 quiet_pause old = record {
-  images = λ start c is. ahead start old (Pause ∷ Pause ∷ []) c is;
+  images = λ start c. (ahead start old (Pause ∷ Pause ∷ []) c, behind start old (Pause ∷ Pause ∷ []) c);
   time = elapses old Pause Pause (λ start c is. inl (ahead start old (Pause ∷ []) c is));
   content = λ start. ap (λ (s : Told). s.content) (after-append (fresh start) old (Pause ∷ Pause ∷ []));
 }
 
--- the content is one of the images
-pub content_allowed : (s : Told) (steps : List DiskStep) → Allowed s s.content → Allowed (after s steps) (after s steps).content
-content_allowed s [] is = is
-content_allowed s (Pause ∷ xs) is = content_allowed s xs is
-content_allowed s (Wrote place bytes ∷ xs) is =
-    content_allowed (step s (Wrote place bytes)) xs (s.content, is, torn_put place (length bytes) s.content bytes refl)
-content_allowed s (Tore place bytes ∷ xs) is =
-    content_allowed (step s (Tore place bytes)) xs (s.content, is, torn_same place (length bytes) s.content)
-content_allowed s (Synced ∷ xs) is = content_allowed (step s Synced) xs refl
+pub syncs_none : (steps : List DiskStep) → Syncs steps steps
+syncs_none steps = record {
+  images = λ start c is. is;
+  time = stands steps;
+  content = λ start. refl;
+}
 
-pub content_left : (start : List ℕ) (steps : List DiskStep) → Images start steps (after (fresh start) steps).content
-content_left start steps = content_allowed (fresh start) steps refl
-
-pub quiet_sync : (old : List DiskStep) → Quiet old (old ++ Pause ∷ Synced ∷ [])
-quiet_sync old = record {
+pub syncs_done : (old : List DiskStep) → Syncs old (old ++ Pause ∷ Synced ∷ [])
+syncs_done old = record {
   images = λ start c is. subst (Images start old) (sym (ahead start old (Pause ∷ Synced ∷ []) c is)) (content_left start old);
   time = elapses old Pause Synced (λ start c is. inl (ahead start old (Pause ∷ []) c is));
   content = λ start. ap (λ (s : Told). s.content) (after-append (fresh start) old (Pause ∷ Synced ∷ []));
@@ -117,12 +112,14 @@ settles old start c is =
 pub writes_none : (place n : ℕ) (steps : List DiskStep) → Writes place n steps steps
 writes_none place n steps = record {
   images = λ start c is. (c, is, torn_same place n c);
+  kept = λ start c is. is;
   time = stands steps;
 }
 
 pub writes_done : (place : ℕ) (bytes : List ℕ) (old : List DiskStep) → Writes place (length bytes) old (old ++ Wrote place bytes ∷ Pause ∷ [])
 writes_done place bytes old = record {
   images = λ start c is. ahead start old (Wrote place bytes ∷ Pause ∷ []) c is;
+  kept = λ start c is. behind start old (Wrote place bytes ∷ Pause ∷ []) c (c, is, torn_same place (length bytes) c);
   time = elapses old (Wrote place bytes) Pause (λ start c is.
       inr (behind start old (Wrote place bytes ∷ Pause ∷ []) c (ahead start old (Wrote place bytes ∷ []) c is)));
 }
@@ -130,6 +127,7 @@ writes_done place bytes old = record {
 pub writes_torn : (place : ℕ) (bytes : List ℕ) (old : List DiskStep) → Writes place (length bytes) old (old ++ Tore place bytes ∷ Pause ∷ [])
 writes_torn place bytes old = record {
   images = λ start c is. ahead start old (Tore place bytes ∷ Pause ∷ []) c is;
+  kept = λ start c is. behind start old (Tore place bytes ∷ Pause ∷ []) c (c, is, torn_same place (length bytes) c);
   time = elapses old (Tore place bytes) Pause (λ start c is.
       inr (behind start old (Tore place bytes ∷ Pause ∷ []) c (ahead start old (Tore place bytes ∷ []) c is)));
 }
@@ -155,6 +153,16 @@ pub when_ok : {T E : Type 0} (P : List DiskStep → Type 0) (old more new : List
 when_ok P old more new (Ok x) e longer = rw e longer
 when_ok P old more new (Err x) e longer = tt
 
+-- ---- pauses
+
+-- a pause, and two of them, leave what was left before
+pub pauses : (start : List ℕ) (steps : List DiskStep) (c : List ℕ)
+    → (Images start (steps ++ Pause ∷ []) c ↔ Images start steps c) × (Images start (steps ++ Pause ∷ Pause ∷ []) c ↔ Images start steps c)
+pauses start steps c = (
+  (ahead start steps (Pause ∷ []) c, behind start steps (Pause ∷ []) c),
+  (ahead start steps (Pause ∷ Pause ∷ []) c, behind start steps (Pause ∷ Pause ∷ []) c),
+)
+
 -- ---- an image that is computed
 
 -- what a fill gives is one of the images
@@ -171,12 +179,17 @@ filled_from fill s c (Synced ∷ xs) is = filled_from fill (step s Synced) s.con
 pub image_left : (fill : Fill) (start : List ℕ) (steps : List DiskStep) → Images start steps (image_from fill start start steps)
 image_left fill start steps = filled_from fill (fresh start) start steps refl
 
--- so it is among those left since its moment
+-- so it is allowed at its moment, and is among those left since
 pub image_at_left : {E : Type 0} (start : List ℕ) (steps : List DiskStep) (moment : ℕ) (fill : Fill) (bytes : List ℕ) (r : Result (List ℕ) E)
-    → moment ≤ length steps → bytes ≡ image_at start steps moment fill → IfOk r (λ b. b ≡ bytes) → IfOk r (λ b. LeftFrom start steps moment b)
-image_at_left start steps moment fill bytes (Ok b) within e is =
+    → bytes ≡ image_at start steps moment fill → IfOk r (λ b. b ≡ bytes) → IfOk r (Images start (take moment steps))
+image_at_left start steps moment fill bytes (Ok b) e is = rw (is, e) (image_left fill start (take moment steps))
+image_at_left start steps moment fill bytes (Err x) e is = tt
+
+pub image_at_since : {E : Type 0} (start : List ℕ) (steps : List DiskStep) (moment : ℕ) (fill : Fill) (bytes : List ℕ) (r : Result (List ℕ) E)
+    → moment ≤ length steps → bytes ≡ image_at start steps moment fill → IfOk r (λ b. b ≡ bytes) → IfOk r (LeftFrom start steps moment)
+image_at_since start steps moment fill bytes (Ok b) within e is =
     (moment, le_refl moment, within, rw (is, e) (image_left fill start (take moment steps)))
-image_at_left start steps moment fill bytes (Err x) within e is = tt
+image_at_since start steps moment fill bytes (Err x) within e is = tt
 
 pub old_kept : (s : Told) (c : List ℕ) (steps : List DiskStep) → c ≡ s.kept → image_from Old s.content c steps ≡ (after s steps).kept
 old_kept s c [] e = e

@@ -1,8 +1,9 @@
 -- What a torn write changes: bytes in its range and past the old end, and no others.
-use Rattle.std.proofs.Common.{◌≡◌, ◌⊎◌, inl, inr, ℕ, ◌+◌, ◌-◌, ◌<◌, ◌≤◌, List, ◌++◌, length, take, drop, get_or, min, replicate, refl, ap, arith, rules}
+use Rattle.std.proofs.Common.{◌≡◌, ◌⊎◌, inl, inr, ℕ, ◌+◌, ◌-◌, ◌<◌, ◌≤◌, List, ◌++◌, length, take, drop, get_or, min, replicate, ap, subst, arith, rules}
 use Rattle.std.proofs.lemmas.List.{places, ext_get_or}
 use Rattle.nb_port.specs.Disk.{Torn, put_at}
 use Rattle.nb_port.specs.Images.{filled}
+use Rattle.nb_port.specs.DiskLaws.{torn_same, torn_put}
 use Rattle.nb_port.specs.declared.memory.fill.Fill.{Fill}
 use Rattle.nb_port.specs.declared.memory.fill.Fill.TheVariants.{Old, New, Byte}
 
@@ -32,24 +33,15 @@ torn_at place n old new torn i h (inr high) =
     let e = ap (λ (xs : List ℕ). get_or xs (i - (place + n)) 0) torn.after in
     grind (arith, places)
 
--- bytes that stay are torn
-pub torn_same : (place n : ℕ) (old : List ℕ) → Torn place n old old
-torn_same place n old = torn_from place n old old (omega arith) (λ i h out. refl)
-
--- bytes that are put are torn
-pub torn_put : (place n : ℕ) (old bytes : List ℕ) → length bytes ≡ n → Torn place n old (put_at old place bytes)
-unfolding put_at
-torn_put place n old bytes e = torn_from place n old _ (search (rules, places)) (λ i h out. at i h out)
-  where
-    at : (i : ℕ) → i < length old → (i < place) ⊎ (place + n ≤ i) → get_or (take place old ++ bytes ++ drop (place + length bytes) old) i 0 ≡ get_or old i 0
-    at i h (inl low) = grind (arith, places)
-    at i h (inr high) = grind (arith, places)
+-- as many bytes as the range has, put at its place, are torn
+pub torn_put_as : (place n : ℕ) (old bytes : List ℕ) → length bytes ≡ n → Torn place n old (put_at old place bytes)
+torn_put_as place n old bytes e = subst (λ (n : ℕ). Torn place n old (put_at old place bytes)) e (torn_put place bytes old)
 
 -- so are those that a fill puts
 pub torn_filled : (fill : Fill) (place : ℕ) (old bytes : List ℕ) → Torn place (length bytes) old (filled fill old place bytes)
 torn_filled Old place old bytes = torn_same place (length bytes) old
-torn_filled New place old bytes = torn_put place (length bytes) old bytes refl
-torn_filled (Byte b) place old bytes = torn_put place (length bytes) old (replicate (length bytes) b) (search (rules, places))
+torn_filled New place old bytes = torn_put place bytes old
+torn_filled (Byte b) place old bytes = torn_put_as place (length bytes) old (replicate (length bytes) b) (search (rules, places))
 
 -- bytes that are put in two parts, those past the end first
 pub put_in_parts : (old : List ℕ) (place at n : ℕ) (bytes : List ℕ) → at ≡ min place (length old) → n ≡ min (length bytes) (length old - at)

@@ -3,7 +3,7 @@
 --
 -- An image is a list of bytes that a stop may leave. Between two syncs that are done a stop may leave any bytes in each written
 -- range and past the end at the first of them; all other bytes stay. After a sync that is done a stop leaves the content.
-use Rattle.std.specs.Prelude.{◌≡◌, ◌⊎◌, ℕ, ◌+◌, ◌-◌, ◌≤◌, List, ◌++◌, Option, Some, None, length, take, drop, min, max, ⊤}
+use Rattle.std.specs.Prelude.{◌≡◌, ◌⊎◌, ℕ, ◌+◌, ◌-◌, ◌≤◌, List, ◌++◌, Option, Some, None, length, take, drop, min, max, ⊤, ◌↔◌}
 use Rattle.nb_port.specs.Faults.{Rose}
 use Rattle.nb_port.specs.declared.disk.DiskRead.{DiskRead}
 use Rattle.nb_port.specs.declared.disk.DiskRead.TheVariants as reads
@@ -57,14 +57,22 @@ WriteGives before after old new place piece outs.Failed = Rose before after × M
 abbrev pub Only : Option (List ℕ) → (List ℕ → Type 0) → Type 0
 Only content images = (c : List ℕ) → images c → content ≡ Some c
 
--- the counts of faults, the content, the images after it
-abbrev pub SyncGives : ℕ → ℕ → Option (List ℕ) → (List ℕ → Type 0) → DiskOut → Type 0
-SyncGives before after content images outs.Done = Only content images
-SyncGives before after content images outs.Failed = Rose before after
+-- the images are the same
+abbrev pub SameImages : (List ℕ → Type 0) → (List ℕ → Type 0) → Type 0
+SameImages old new = (c : List ℕ) → new c ↔ old c
 
 -- each new image is an old one
 abbrev pub NoneNew : (List ℕ → Type 0) → (List ℕ → Type 0) → Type 0
 NoneNew old new = (c : List ℕ) → new c → old c
+
+-- each old image is still one
+abbrev pub NoneLost : (List ℕ → Type 0) → (List ℕ → Type 0) → Type 0
+NoneLost old new = (c : List ℕ) → old c → new c
+
+-- the counts of faults, the content, the images before and after
+abbrev pub SyncGives : ℕ → ℕ → Option (List ℕ) → (List ℕ → Type 0) → (List ℕ → Type 0) → DiskOut → Type 0
+SyncGives before after content old new outs.Done = Only content new
+SyncGives before after content old new outs.Failed = Rose before after × SameImages old new
 
 -- each new image is an old one after a step
 abbrev pub Follows : (List ℕ → List ℕ → Type 0) → (List ℕ → Type 0) → (List ℕ → Type 0) → Type 0

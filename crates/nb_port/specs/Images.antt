@@ -1,10 +1,7 @@
 -- What a stop leaves of a disk in memory, which keeps its start and two steps for each of its calls. The moment is how many
 -- steps were made: after call i it is 2i, and within that call 2i - 1.
 use Rattle.std.specs.Prelude.{◌≡◌, ℕ, ◌≤◌, List, [], ◌∷◌, ◌++◌, length, take, replicate, Bool, if◌then◌else◌}
-use Rattle.std.proofs.Math.Seq.{take-length, take_all}
-use Rattle.std.proofs.Math.Nat.{le_refl}
-use Rattle.std.proofs.Common.{subst, sym}
-use Rattle.nb_port.specs.Disk.{put_at, Torn, NoneNew, Follows, Elapses}
+use Rattle.nb_port.specs.Disk.{put_at, Torn, SameImages, NoneNew, NoneLost, Follows, Elapses}
 use Rattle.nb_port.specs.declared.memory.step.DiskStep.{DiskStep}
 use Rattle.nb_port.specs.declared.memory.step.DiskStep.TheVariants.{Pause, Wrote, Tore, Synced}
 use Rattle.nb_port.specs.declared.memory.fill.Fill.{Fill}
@@ -51,18 +48,6 @@ Images start steps = Allowed (after (fresh start) steps)
 abbrev pub LeftFrom : List ℕ → List DiskStep → ℕ → List ℕ → Type 0
 LeftFrom start steps t c = (m : ℕ) × (t ≤ m) × (m ≤ length steps) × Images start (take m steps) c
 
--- what a stop may leave now is among that
-pub now_counts : (start : List ℕ) (steps : List DiskStep) (t : ℕ) (c : List ℕ) → t ≤ length steps → Images start steps c
-    → LeftFrom start steps t c
-now_counts start steps t c within is =
-    let whole = subst (λ (xs : List DiskStep). Images start xs c) (sym (take-length steps)) is in
-    (length steps, within, le_refl (length steps), whole)
-
--- and since now there is no more
-pub now_only : (start : List ℕ) (steps : List DiskStep) (c : List ℕ) → LeftFrom start steps (length steps) c
-    → Images start steps c
-now_only start steps c left = subst (λ (xs : List DiskStep). Images start xs c) (take_all left.0 steps left.1) left.3
-
 -- ---- what two more steps do, for the contracts of private functions
 
 -- the steps behind a call that made these two, where it is recorded
@@ -78,15 +63,22 @@ abbrev pub Passes : List DiskStep → List DiskStep → Type 0
 Passes old new = (start : List ℕ) →
     Elapses (length old) (length new) (LeftFrom start old) (LeftFrom start new) (Images start new)
 
--- no image is new, and the content stays
+-- the images and the content stay
 pub record Quiet (old new : List DiskStep) : Type 0 where
+  pub images : (start : List ℕ) → SameImages (Images start old) (Images start new)
+  pub time : Passes old new
+  pub content : Lands (λ bytes. bytes) old new
+
+-- no image is new, and the content stays
+pub record Syncs (old new : List DiskStep) : Type 0 where
   pub images : (start : List ℕ) → NoneNew (Images start old) (Images start new)
   pub time : Passes old new
   pub content : Lands (λ bytes. bytes) old new
 
--- each image is torn from one before
+-- each image is torn from one before, and those from before are among them
 pub record Writes (place n : ℕ) (old new : List DiskStep) : Type 0 where
   pub images : (start : List ℕ) → Follows (Torn place n) (Images start old) (Images start new)
+  pub kept : (start : List ℕ) → NoneLost (Images start old) (Images start new)
   pub time : Passes old new
 
 -- the content alone is left

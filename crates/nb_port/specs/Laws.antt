@@ -4,6 +4,7 @@ use Rattle.nb_port.specs.Disk.{Torn}
 use Rattle.nb_port.specs.Images.{Range, fresh, after, Images, image_from}
 use Rattle.nb_port.specs.declared.memory.step.DiskStep.{DiskStep}
 use Rattle.nb_port.specs.declared.memory.step.DiskStep.TheVariants.{Pause, Wrote, Tore, Synced}
+use Rattle.nb_port.specs.declared.memory.fill.Fill.{Fill}
 use Rattle.nb_port.specs.declared.memory.fill.Fill.TheVariants.{Old, New}
 
 -- ---- the set of images, by its durable length and its ranges
@@ -50,7 +51,18 @@ abbrev pub TornWithin : Type 0
 TornWithin = (place : ℕ) (bytes : List ℕ) →
     TornBy (Wrote place bytes) place (length bytes) × TornBy (Tore place bytes) place (length bytes)
 
+-- within a call that writes nothing a stop leaves exactly what it leaves before it, and so it does after it
+pub record PausesChangeNothing : Type 0 where
+  pub within : (start : List ℕ) (steps : List DiskStep) (image : List ℕ) →
+      Images start (steps ++ Pause ∷ []) image ↔ Images start steps image
+  pub behind : (start : List ℕ) (steps : List DiskStep) (image : List ℕ) →
+      Images start (steps ++ Pause ∷ Pause ∷ []) image ↔ Images start steps image
+
 -- ---- the images that are computed
+
+-- whatever the fill, it is one of the images
+abbrev pub FilledIsAllowed : Type 0
+FilledIsAllowed = (start : List ℕ) (steps : List DiskStep) (fill : Fill) → Images start steps (image_from fill start start steps)
 
 -- with fill Old it is what was kept
 abbrev pub OldIsKept : Type 0

@@ -8,3 +8,4 @@ pub mod Calls
 pub mod Memory
 pub mod Laws
 pub mod System
+pub mod DiskLaws

@@ -12,7 +12,7 @@ use Rattle.nb_port.specs.declared.disk.DiskOut.{DiskOut}
 use Rattle.nb_port.specs.declared.disk.DiskOut.TheVariants as outs
 use Rattle.nb_port.specs.declared.memory.step.DiskStep.{DiskStep}
 use Rattle.nb_port.specs.declared.memory.step.DiskStep.TheVariants.{Pause, Wrote, Tore, Synced}
-use Rattle.nb_port.specs.Disk.{put_at}
+use Rattle.nb_port.specs.Images.{fresh, after}
 
 -- a source: the bytes that are left, the most that one read gives, and its calls
 pub record SourceState : Type 0 where
@@ -42,14 +42,17 @@ SinkWrites old new piece (writes.Took n) =
     (n ≡ length piece) × (new.sent ≡ old.sent ++ piece) × (new.calls ≡ worked old.calls)
 SinkWrites old new piece writes.Failed = (new.sent ≡ old.sent) × (new.calls ≡ failed old.calls)
 
--- a disk: its bytes from place 0 on, what they were when it was made, its steps since, two for each call that is recorded,
--- how many more steps it records without taking memory, and its calls
+-- a disk: its bytes from place 0 on when it was made, its steps since, two for each call that is recorded, how many more steps
+-- it records without taking memory, and its calls
 pub record DiskState : Type 0 where
-  pub content : List ℕ
   pub start : List ℕ
   pub steps : List DiskStep
   pub spare : ℕ
   pub calls : Calls
+
+-- its bytes from place 0 on
+abbrev pub content_of : DiskState → List ℕ
+content_of d = (after (fresh d.start) d.steps).content
 
 -- a call that is recorded by these two steps, and worked
 abbrev pub Worked : DiskState → DiskState → DiskStep → DiskStep → Type 0
@@ -59,23 +62,22 @@ Worked old new first second =
 -- a call that failed: it is recorded by these two steps, or else there was no room for them
 abbrev pub FailedCall : DiskState → DiskState → DiskStep → DiskStep → Type 0 → Type 0
 FailedCall old new first second no_room =
-    (new.content ≡ old.content) × (new.start ≡ old.start) × (new.calls ≡ failed old.calls)
+    (new.start ≡ old.start) × (new.calls ≡ failed old.calls)
     × ((new.steps ≡ old.steps ++ first ∷ second ∷ []) ⊎ ((new.steps ≡ old.steps) × no_room))
 
 -- what a read makes of it
 abbrev pub DiskReads : DiskState → DiskState → DiskRead → Type 0
-DiskReads old new (disks.Got n) = (new.content ≡ old.content) × Worked old new Pause Pause
+DiskReads old new (disks.Got n) = Worked old new Pause Pause
 DiskReads old new disks.Failed = FailedCall old new Pause Pause (old.spare < 2)
 
 -- what a write makes of it; its record takes memory for its bytes too
 abbrev pub DiskWrites : DiskState → DiskState → ℕ → List ℕ → DiskOut → Type 0
-DiskWrites old new place piece outs.Done =
-    (new.content ≡ put_at old.content place piece) × Worked old new (Wrote place piece) Pause
+DiskWrites old new place piece outs.Done = Worked old new (Wrote place piece) Pause
 DiskWrites old new place piece outs.Failed = FailedCall old new (Tore place piece) Pause ⊤
 
 -- what a sync makes of it
 abbrev pub DiskSyncs : DiskState → DiskState → DiskOut → Type 0
-DiskSyncs old new outs.Done = (new.content ≡ old.content) × Worked old new Pause Synced
+DiskSyncs old new outs.Done = Worked old new Pause Synced
 DiskSyncs old new outs.Failed = FailedCall old new Pause Pause (old.spare < 2)
 
 -- a clock: the moments that it was made with, and how many calls there were

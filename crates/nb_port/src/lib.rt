@@ -9,8 +9,9 @@
 //!
 //! A disk is also seen as the images that a stop of the system may leave, now and at each moment since an earlier one, within
 //! calls too. From a write on, up to the next sync that is done, a stop may leave any bytes in its range and past the end;
-//! after that sync it leaves the content alone. The trait says what each call makes of the images. Which they are is known of
-//! a [`MemDisk`], and is said by the functions of [`laws`]: by its content, its durable length and its pending ranges.
+//! after that sync it leaves the content alone. A read, and a sync that failed, change nothing of that. The trait says what
+//! each call makes of the images. Which they are is known of a [`MemDisk`], and is said by the functions of [`laws`]: by its
+//! content, its durable length and its pending ranges.
 //!
 //! [`MemSource`], [`MemSink`], [`MemDisk`] and [`MemClock`] hold all in memory and tell all of it. Calls chosen when one is
 //! made fail, and no others, but for want of memory. A [`MemDisk`] keeps a record of its calls, and gives an image at each

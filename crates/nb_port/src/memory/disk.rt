@@ -1,8 +1,10 @@
-ghost use Rattle.std.specs.Prelude.{◌≡◌, ◌⊎◌, ◌≤◌, ◌<◌, ◌+◌, ◌*◌, ◌^◌, Some, [], length, IfOk};
+ghost use Rattle.std.specs.Prelude.{◌≡◌, ◌⊎◌, ◌≤◌, ◌<◌, ◌+◌, ◌*◌, ◌^◌, Some, [], length, take, IfOk};
 ghost use Rattle.nb_port.specs.Calls.{no_calls, NextFails};
-ghost use Rattle.nb_port.specs.Disk.{DiskGives, WriteGives, SyncGives, ReadsContent, NoneNew, Follows, Torn, Elapses};
-ghost use Rattle.nb_port.specs.Images.{Images, LeftFrom, now_counts, now_only, image_at};
-ghost use Rattle.nb_port.specs.Memory.{DiskReads, DiskWrites, DiskSyncs};
+ghost use Rattle.nb_port.specs.Disk.{DiskGives, WriteGives, SyncGives, ReadsContent, Torn};
+ghost use Rattle.nb_port.specs.Disk.{SameImages, NoneNew, NoneLost, Follows, Elapses};
+ghost use Rattle.nb_port.specs.Images.{Images, LeftFrom, image_at};
+ghost use Rattle.nb_port.specs.Memory.{content_of, DiskReads, DiskWrites, DiskSyncs};
+ghost use Rattle.nb_port.specs.DiskLaws.{content_now, now_counts, now_only};
 
 use crate::disk::{Disk, DiskOut, DiskRead};
 use crate::memory::counter::Counter;
@@ -14,8 +16,8 @@ use nb_units::{Blob, NoMemory};
 use std::alloc::Global;
 use std::marker::Model;
 
-/// A disk whose content is in memory, with a record of all its calls. A call for whose record there is no memory fails, and
-/// changes nothing but the count of failures.
+/// A disk whose content is in memory, with a record of its calls. A call for whose record there is no memory is not recorded
+/// and fails: it counts as made and as failed, and changes nothing else.
 #[derive(Drop)]
 pub struct MemDisk {
     alloc: Global,
@@ -33,7 +35,6 @@ impl Model for MemDisk {
     ghost Value = { DiskState };
 
     ghost view = { λ d. record {
-      content = d.content.items;
       start = d.start.items;
       steps = d.steps.items;
       spare = vec_capacity d.steps - vec_len d.steps;
@@ -48,7 +49,7 @@ impl MemDisk {
     /// A disk that holds the bytes of `content` from place 0 on, and of which a stop leaves these. `fails` has the numbers of
     /// the calls that are to fail, from 1, all kinds together.
     pub fn new(alloc: Global, content: &[u8], fails: &[u64]) -> Result<MemDisk, NoMemory>
-        ensures content { IfOk result (λ disk. disk.content ≡ content.now) }
+        ensures content { IfOk result (λ disk. content_of disk ≡ content.now) }
         ensures start { IfOk result (λ disk. disk.start ≡ content.now) }
         ensures steps { IfOk result (λ disk. disk.steps ≡ []) }
         ensures calls { IfOk result (λ disk. disk.calls ≡ no_calls fails.now) }
@@ -64,7 +65,7 @@ impl MemDisk {
 
     /// The bytes from place 0 on.
     pub fn content(&self) -> &[u8]
-        ensures { result.now ≡ self.now.content }
+        ensures { result.now ≡ content_of self.now }
     {
         self.content.as_slice()
     }
@@ -76,11 +77,12 @@ impl MemDisk {
         self.steps.len() as u64 / 2
     }
 
-    /// What a stop at a moment may leave, with `fill` in the bytes that are not sure to stay. Moment 2i is after call i of
-    /// those recorded, and 2i - 1 within it.
+    /// An image that a stop at a moment may leave: the one with `fill` in the bytes that are not sure to stay. Moment 2i is
+    /// after call i of those recorded, and 2i - 1 within it.
     pub fn image(&self, alloc: Global, moment: u64, fill: Fill) -> Result<Blob, NoMemory>
         requires { moment ≤ length self.now.steps }
-        ensures left { IfOk result (λ image. ⟦<MemDisk as Disk>⟧.left self.now moment image) }
+        ensures left { IfOk result (Images self.now.start (take moment self.now.steps)) }
+        ensures since { IfOk result (⟦<MemDisk as Disk>⟧.left self.now moment) }
         ensures exact { IfOk result (λ image. image ≡ image_at self.now.start self.now.steps moment fill) }
     {
         let steps = &self.steps.as_slice()[..moment as usize];
@@ -92,13 +94,15 @@ impl MemDisk {
 impl Disk for MemDisk {
     ghost faults = { λ d. d.calls.faults };
 
-    ghost content = { λ d. Some d.content };
+    ghost content = { λ d. Some (content_of d) };
 
     ghost allowed = { λ d. Images d.start d.steps };
 
     ghost moment = { λ d. length d.steps };
 
     ghost left = { λ d. LeftFrom d.start d.steps };
+
+    ghost content_counts = { λ d c is. content_now d.start d.steps c is };
 
     ghost counts_now = { λ d t c le is. now_counts d.start d.steps t c le is };
 
@@ -109,10 +113,10 @@ impl Disk for MemDisk {
     }
 
     fn read(&mut self, place: u64, buf: &mut [u8]) -> DiskRead
-        ensures gives { DiskGives self.old.calls.faults self.new.calls.faults (Some self.old.content)
+        ensures gives { DiskGives self.old.calls.faults self.new.calls.faults (Some (content_of self.old))
             place (length buf.old) buf.new result }
-        ensures content { Some self.new.content ≡ Some self.old.content }
-        ensures images { NoneNew (Images self.old.start self.old.steps) (Images self.new.start self.new.steps) }
+        ensures content { Some (content_of self.new) ≡ Some (content_of self.old) }
+        ensures images { SameImages (Images self.old.start self.old.steps) (Images self.new.start self.new.steps) }
         ensures time { Elapses (length self.old.steps) (length self.new.steps) (LeftFrom self.old.start self.old.steps)
             (LeftFrom self.new.start self.new.steps) (Images self.new.start self.new.steps) }
         ensures count { self.old.calls.faults ≤ self.new.calls.faults }
@@ -133,12 +137,13 @@ impl Disk for MemDisk {
     }
 
     fn write(&mut self, place: u64, piece: &[u8]) -> DiskOut
-        requires inside { place ≤ length self.old.content }
+        requires inside { place ≤ length (content_of self.old) }
         requires small { place + length piece.now < 2 ^ 63 }
-        ensures gives { WriteGives self.old.calls.faults self.new.calls.faults (Some self.old.content)
-            (Some self.new.content) place piece.now result }
+        ensures gives { WriteGives self.old.calls.faults self.new.calls.faults (Some (content_of self.old))
+            (Some (content_of self.new)) place piece.now result }
         ensures images { Follows (Torn place (length piece.now)) (Images self.old.start self.old.steps)
             (Images self.new.start self.new.steps) }
+        ensures kept { NoneLost (Images self.old.start self.old.steps) (Images self.new.start self.new.steps) }
         ensures time { Elapses (length self.old.steps) (length self.new.steps) (LeftFrom self.old.start self.old.steps)
             (LeftFrom self.new.start self.new.steps) (Images self.new.start self.new.steps) }
         ensures count { self.old.calls.faults ≤ self.new.calls.faults }
@@ -165,9 +170,9 @@ impl Disk for MemDisk {
     }
 
     fn sync(&mut self) -> DiskOut
-        ensures gives { SyncGives self.old.calls.faults self.new.calls.faults (Some self.old.content)
-            (Images self.new.start self.new.steps) result }
-        ensures content { Some self.new.content ≡ Some self.old.content }
+        ensures gives { SyncGives self.old.calls.faults self.new.calls.faults (Some (content_of self.old))
+            (Images self.old.start self.old.steps) (Images self.new.start self.new.steps) result }
+        ensures content { Some (content_of self.new) ≡ Some (content_of self.old) }
         ensures images { NoneNew (Images self.old.start self.old.steps) (Images self.new.start self.new.steps) }
         ensures time { Elapses (length self.old.steps) (length self.new.steps) (LeftFrom self.old.start self.old.steps)
             (LeftFrom self.new.start self.new.steps) (Images self.new.start self.new.steps) }
@@ -178,6 +183,7 @@ impl Disk for MemDisk {
         ensures spare { self.old.spare ≤ self.new.spare + 2 }
     {
         if self.calls.next() {
+            // What is pending stays so.
             let _ = record_pause(&mut self.steps);
             return DiskOut::Failed;
         }

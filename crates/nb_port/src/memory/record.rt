@@ -1,6 +1,6 @@
 ghost use Rattle.std.specs.Prelude.{◌≡◌, ◌<◌, ◌≤◌, ◌+◌, length, vec_len, vec_capacity, OnOk, OnErr, is_ok};
 ghost use Rattle.nb_port.specs.Disk.{put_at};
-ghost use Rattle.nb_port.specs.Images.{Quiet, Writes, Lands, Settles, recorded};
+ghost use Rattle.nb_port.specs.Images.{Quiet, Syncs, Writes, Lands, Settles, recorded};
 
 use crate::memory::step::DiskStep;
 use nb_units::{Blob, NoMemory};
@@ -19,7 +19,7 @@ pub fn record_pause(steps: &mut Vec<DiskStep>) -> Result<(), NoMemory>
 /// Records a sync that is done.
 pub fn record_sync(steps: &mut Vec<DiskStep>) -> Result<(), NoMemory>
     ensures steps { steps.new.items ≡ recorded (is_ok result) steps.old.items DiskStep.Pause DiskStep.Synced }
-    ensures quiet { Quiet steps.old.items steps.new.items }
+    ensures syncs { Syncs steps.old.items steps.new.items }
     ensures only { OnOk result (Settles steps.new.items) }
     ensures spare { vec_capacity steps.old + vec_len steps.new ≤ vec_capacity steps.new + vec_len steps.old + 2 }
     ensures full { OnErr result (vec_capacity steps.old < vec_len steps.old + 2) }

@@ -2,6 +2,7 @@ ghost use Rattle.std.specs.Prelude.{◌≡◌, ◌<◌, ◌≤◌, ◌+◌, ◌^
 ghost use Rattle.nb_port.specs.Disk.{DiskGives, WriteGives};
 ghost use Rattle.nb_port.specs.Faults.{Rose};
 ghost use Rattle.nb_port.specs.declared.disk.DiskOut.TheVariants as outs;
+ghost use Rattle.nb_port.specs.DiskLaws.{untold};
 
 use crate::disk::{Disk, DiskOut, DiskRead};
 use std::fs::File;
@@ -47,6 +48,8 @@ impl Disk for FileDisk {
     ghost moment = { λ _. 0 };
 
     ghost left = { λ _ _ _. ⊥ };
+
+    ghost content_counts = { λ _ c is. untold c is };
 
     ghost counts_now = { λ _ _ _ _ is. is };
 

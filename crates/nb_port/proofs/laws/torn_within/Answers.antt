@@ -2,7 +2,7 @@ use Rattle.std.proofs.Common.{ℕ, List, [], ◌∷◌, length}
 use Rattle.nb_port.specs.Laws.{TornBy}
 use Rattle.nb_port.specs.declared.memory.step.DiskStep.TheVariants.{Pause, Wrote, Tore}
 use Rattle.nb_port.proofs.Stops.{ahead, behind}
-use Rattle.nb_port.proofs.Tears.{torn_same}
+use Rattle.nb_port.specs.DiskLaws.{torn_same}
 use Rattle.nb_port.proofs.laws.torn_within.Goals as goal
 
 done : (place : ℕ) (bytes : List ℕ) → TornBy (Wrote place bytes) place (length bytes)
