@@ -21,9 +21,9 @@ pub untouched_then : {D : Type 0} (content : D → Option (List ℕ)) (allowed :
     → Untouched content allowed moment left old mid → Untouched content allowed moment left mid new → Untouched content allowed moment left old new
 untouched_then content allowed moment left old mid new first second = record {
   same = second.same ∙ first.same;
-  images = λ c is. first.images c (second.images c is);
+  images = λ c. (λ is. (first.images c).0 ((second.images c).0 is), λ is. (second.images c).1 ((first.images c).1 is));
   time = record {
     later = omega (arith, first.time.later, second.time.later);
-    each = λ t c le since. ⊎_elim (first.time.each t c le) (λ now. inr (first.images c now)) (second.time.each t c (omega (arith, le, first.time.later)) since);
+    each = λ t c le since. ⊎_elim (first.time.each t c le) (λ now. inr ((first.images c).0 now)) (second.time.each t c (omega (arith, le, first.time.later)) since);
   };
 }

@@ -1,6 +1,6 @@
 -- What making a journal gives.
 use Rattle.std.specs.Prelude.{◌≡◌, ◌≢◌, ◌⊎◌, ℕ, ◌<◌, ◌≤◌, List, [], Option, IfSome, Result, Ok, Err}
-use Rattle.nb_port.specs.Disk.{Only, NoneNew}
+use Rattle.nb_port.specs.Disk.{Only, SameImages}
 use Rattle.nb_port.specs.Faults.{Rose}
 use Rattle.nb_journal.specs.declared.making.InitFault.{InitFault}
 use Rattle.nb_journal.specs.declared.making.InitFault.TheVariants as inits
@@ -19,7 +19,7 @@ IsCap cap = (1 ≤ cap) × (cap ≤ MAX_CAP)
 abbrev pub InitFails : {D : Type 0} → (D → Option (List ℕ)) → (D → List ℕ → Type 0) → (D → ℕ) → D → D → ℕ → InitFault → Type 0
 InitFails content allowed faults old new cap (inits.BadCap given) = (given ≡ cap) × ((cap ≡ 0) ⊎ (MAX_CAP < cap)) × (new ≡ old)
 InitFails content allowed faults old new cap (inits.Exists found) =
-    IsCap cap × (found ≡ magic) × IfSome (content old) (λ image. found_in image ≡ magic) × (content new ≡ content old) × NoneNew (allowed old) (allowed new)
+    IsCap cap × (found ≡ magic) × IfSome (content old) (λ image. found_in image ≡ magic) × (content new ≡ content old) × SameImages (allowed old) (allowed new)
 InitFails content allowed faults old new cap (inits.DiskFault before after) = IsCap cap × (before ≡ faults old) × (after ≡ faults new) × Rose before after
 
 -- the content and all that a stop leaves stand for no items

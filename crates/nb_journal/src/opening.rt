@@ -1,7 +1,7 @@
 ghost use Rattle.std.specs.Prelude.{◌≤◌};
 ghost use Rattle.nb_journal.specs.declared.limits.TheConstants.{MAX_ITEM};
 ghost use Rattle.nb_journal.specs.Opening.{OpenGives, disk_of};
-ghost use Rattle.nb_journal.specs.Time.{Untouched};
+ghost use Rattle.nb_journal.specs.Time.{Unwritten};
 
 mod contents;
 pub(crate) mod front;
@@ -48,7 +48,7 @@ impl<D: Disk> Journal<D> {
     pub fn open(alloc: Global, disk: D, room: u32) -> Result<Opened<D>, (OpenFault, D)>
         requires { room ≤ MAX_ITEM }
         ensures gives { OpenGives D.content D.allowed D.faults disk room result }
-        ensures nothing { Untouched D.content D.allowed D.moment D.left disk (disk_of result) }
+        ensures nothing { Unwritten D.content D.allowed D.moment D.left disk (disk_of result) }
         ensures count { D.faults disk ≤ D.faults (disk_of result) }
     {
         let mut disk = disk;

@@ -3,7 +3,7 @@
 ghost use Rattle.std.specs.Prelude.{◌≡◌, ◌≤◌, ◌↔◌, IsTrue, length};
 ghost use Rattle.std.specs.Int.{w32, from_be_bytes};
 ghost use Rattle.nb_units.specs.Fields.{be4};
-ghost use Rattle.nb_port.specs.Disk.{NoneNew, Elapses};
+ghost use Rattle.nb_port.specs.Disk.{SameImages, Elapses};
 ghost use Rattle.nb_journal.specs.States.{ByteGives};
 
 use nb_port::{Disk, DiskRead};
@@ -20,7 +20,7 @@ pub(crate) enum ByteRead {
 pub(crate) fn byte_at<D: Disk>(disk: &mut D, place: u64) -> ByteRead
     ensures gives { ByteGives (D.faults disk.old) (D.faults disk.new) (D.content disk.old) place result }
     ensures content { D.content disk.new ≡ D.content disk.old }
-    ensures images { NoneNew (D.allowed disk.old) (D.allowed disk.new) }
+    ensures images { SameImages (D.allowed disk.old) (D.allowed disk.new) }
     ensures time { Elapses (D.moment disk.old) (D.moment disk.new) (D.left disk.old) (D.left disk.new) (D.allowed disk.new) }
     ensures count { D.faults disk.old ≤ D.faults disk.new }
 {

@@ -1,6 +1,7 @@
 // Bytes from the layout of a journal, and not from the program.
 
 ghost use Rattle.std.specs.Prelude.{◌≡◌, ◌≤◌, true, None};
+ghost use Rattle.nb_port.specs.DiskLaws.{untold};
 ghost use Rattle.nb_port.specs.Faults.{Rose};
 
 use super::*;
@@ -51,6 +52,8 @@ impl Disk for PlainDisk {
     ghost moment = { λ _. 0 };
 
     ghost left = { λ _ _ _. ⊥ };
+
+    ghost content_counts = { λ _ c is. untold c is };
 
     ghost counts_now = { λ _ _ _ _ is. is };
 

@@ -2,7 +2,7 @@
 
 ghost use Rattle.std.specs.Prelude.{◌≤◌};
 ghost use Rattle.nb_journal.specs.Scanning.{ContentsGive};
-ghost use Rattle.nb_journal.specs.Time.{Untouched};
+ghost use Rattle.nb_journal.specs.Time.{Unwritten};
 
 use crate::limits::MAGIC_BYTES;
 use crate::opening::front::{FrontRead, Terms, read_front};
@@ -40,7 +40,7 @@ pub(crate) enum ContentsRead {
 // Makes all that was written stay, and reads it.
 pub(crate) fn read_contents<D: Disk>(alloc: Global, disk: &mut D) -> ContentsRead
     ensures gives { ContentsGive (D.faults disk.old) (D.faults disk.new) (D.content disk.old) (D.allowed disk.new) result }
-    ensures nothing { Untouched D.content D.allowed D.moment D.left disk.old disk.new }
+    ensures nothing { Unwritten D.content D.allowed D.moment D.left disk.old disk.new }
     ensures count { D.faults disk.old ≤ D.faults disk.new }
 {
     match disk.sync() {
