@@ -35,12 +35,13 @@ TornTo place end old new =
     × (take place (take (length old) new) ≡ take place old)
     × (drop end (take (length old) new) ≡ drop end old)
 
--- so are bytes that are put at the front, and at a place
+-- so are bytes that are put at the front
 front_torn : (bytes old : List ℕ) → TornTo zero (length bytes) old (bytes ++ drop (length bytes) old)
 front_torn [] old = (le_refl (length old), refl, take-length old)
 front_torn (b ∷ bs) [] = (zero-le, refl, refl)
 front_torn (b ∷ bs) (x ∷ xs) = let rest = front_torn bs xs in (suc-le-suc rest.0, refl, rest.2)
 
+-- and at a place
 torn_put_to : (place : ℕ) (bytes old : List ℕ)
     → TornTo place (count_on place (length bytes)) old (take place old ++ bytes ++ drop (count_on place (length bytes)) old)
 torn_put_to zero bytes old = front_torn bytes old

@@ -51,7 +51,7 @@ abbrev pub TornWithin : Type 0
 TornWithin = (place : ℕ) (bytes : List ℕ) →
     TornBy (Wrote place bytes) place (length bytes) × TornBy (Tore place bytes) place (length bytes)
 
--- within a call that writes nothing a stop leaves exactly what it leaves before it, and so it does after it
+-- one pause, as within a read and within a sync, and two, as behind a read and behind a sync that failed, leave what was left
 pub record PausesChangeNothing : Type 0 where
   pub within : (start : List ℕ) (steps : List DiskStep) (image : List ℕ) →
       Images start (steps ++ Pause ∷ []) image ↔ Images start steps image
