@@ -322,6 +322,16 @@ mod tests {
         Ok(())
     }
 
+    // A device that keeps nothing cannot be synced.
+    #[test]
+    fn fails_where_it_may_not_sync(rt: HostRuntime) -> Result<(), Fail> {
+        let file = OpenOptions::new().write(true).open(&rt, "/dev/null")?;
+        let mut disk = FileDisk::over(file);
+        assert_eq!(rt; disk.sync(), DiskOut::Failed);
+        assert_eq!(rt; disk.fault_count(), 1);
+        Ok(())
+    }
+
     #[test]
     fn reads_a_file(rt: HostRuntime) -> Result<(), Fail> {
         let path = temporary(&rt, "read")?;
