@@ -24,7 +24,7 @@ mod opening;
 mod putting;
 mod reading;
 
-pub use journal::{Appended, Journal, Settled};
+pub use journal::{AppendFault, Journal, Settled, StillStale};
 pub use limits::{HEAD, MAGIC_BYTES, MAX_CAP, MAX_ITEM};
 pub use making::{InitFault, init};
 pub use opening::{OpenFault, Opened};

@@ -7,8 +7,8 @@ use Rattle.nb_journal.proofs.journal.Journal.append.Goals as goal
 pub returns-in-Failed-clause-gives : goal.returns-in-Failed-clause-gives
 returns-in-Failed-clause-gives g c = (
   c.fault_count-before.ensures,
-  c.fault_count.ensures,
-  omega (arith, c.in-Failed.ensures.gives.0, c.fault_count-before.ensures, c.fault_count.ensures),
+  c.fault_count-after.ensures,
+  omega (arith, c.in-Failed.ensures.gives.0, c.fault_count-before.ensures, c.fault_count-after.ensures),
   λ front items rest. doubt_first g.D.Disk.content g.D.Disk.allowed front items c.args.item.now c.args.self.now _ _ rest c.in-Failed.ensures.gives.1 c.in-Failed.ensures.images refl refl refl refl,
 )
 
@@ -24,8 +24,8 @@ put_synced-requires-clause-inside g c =
 pub returns-in-Failed-put_synced-clause-gives : goal.returns-in-Failed-put_synced-clause-gives
 returns-in-Failed-put_synced-clause-gives g c = (
   c.fault_count-before.ensures,
-  c.fault_count-in-Failed-put_synced.ensures,
-  omega (arith, c.in-Failed-put_synced.ensures.gives.0, c.in-Done.ensures.count, c.fault_count-before.ensures, c.fault_count-in-Failed-put_synced.ensures),
+  c.fault_count-after-in-Failed-put_synced.ensures,
+  omega (arith, c.in-Failed-put_synced.ensures.gives.0, c.in-Done.ensures.count, c.fault_count-before.ensures, c.fault_count-after-in-Failed-put_synced.ensures),
   λ front items rest. doubt_second g.D.Disk.content g.D.Disk.allowed front items c.args.item.now c.args.self.now _ c.put_body.new.disk rest
       (record { wrote = c.in-Done.ensures.gives.0; only = c.in-Done.ensures.gives.1 }) c.in-Failed-put_synced.ensures.gives.1 c.in-Failed-put_synced.ensures.images refl refl refl refl,
 )
