@@ -1,7 +1,7 @@
 ghost use Rattle.std.specs.Prelude.{ℕ, ◌≡◌, ◌≤◌, List};
 ghost use Rattle.nb_journal.specs.Stands.{BeforeOrAfter};
 ghost use Rattle.nb_journal.specs.States.{InDoubt, SettleGives, DoubtBeforeSettle, DoubtAfterSettle, SameLimits};
-ghost use Rattle.nb_journal.specs.Time.{LeavesOnly};
+ghost use Rattle.nb_journal.specs.Time.{LeavesOnly, Untouched};
 
 use crate::journal::{Journal, Settled, StillStale};
 use crate::limits::OPEN;
@@ -15,6 +15,7 @@ impl<D: Disk> Journal<D> {
         ensures gives { SettleGives D.content D.allowed D.faults self.old self.new result }
         ensures asked { DoubtBeforeSettle self.old result }
         ensures doubt { DoubtAfterSettle self.new result }
+        ensures nothing { Untouched D.content D.allowed D.moment D.left self.old.disk self.new.disk }
         ensures limits { SameLimits self.old self.new }
         ensures count { D.faults self.old.disk ≤ D.faults self.new.disk }
         ensures any_moment { (front : List ℕ) (items : List (List ℕ)) (item : List ℕ) → InDoubt D.content D.allowed front items item self.old
