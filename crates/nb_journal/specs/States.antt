@@ -17,7 +17,8 @@ use Rattle.nb_journal.specs.Layout.{open_gate, up_to_gate}
 use Rattle.nb_journal.specs.Stands.{Stands, BeforeOrAfter}
 
 -- nothing is in doubt: the content stands for the items, and a stop leaves nothing else
-pub record AtRest {D : Type 0} (content : D → Option (List ℕ)) (allowed : D → List ℕ → Type 0) (front : List ℕ) (items : List (List ℕ)) (j : Journal D) : Type 0 where
+pub record AtRest {D : Type 0} (content : D → Option (List ℕ)) (allowed : D → List ℕ → Type 0)
+    (front : List ℕ) (items : List (List ℕ)) (j : Journal D) : Type 0 where
   pub fresh : j.stale ≡ false
   pub place : j.gate ≡ length (up_to_gate front items)
   pub count : j.len ≡ length items
@@ -25,7 +26,8 @@ pub record AtRest {D : Type 0} (content : D → Option (List ℕ)) (allowed : D 
   pub only : Only (content j.disk) (allowed j.disk)
 
 -- an item is in doubt: the content, and what a stop leaves, stands for the items without it or with it
-pub record InDoubt {D : Type 0} (content : D → Option (List ℕ)) (allowed : D → List ℕ → Type 0) (front : List ℕ) (items : List (List ℕ)) (item : List ℕ) (j : Journal D) : Type 0 where
+pub record InDoubt {D : Type 0} (content : D → Option (List ℕ)) (allowed : D → List ℕ → Type 0)
+    (front : List ℕ) (items : List (List ℕ)) (item : List ℕ) (j : Journal D) : Type 0 where
   pub stale : j.stale ≡ true
   pub place : j.gate ≡ length (up_to_gate front items)
   pub next : j.next ≡ length (up_to_gate front (items ++ item ∷ []))
@@ -127,11 +129,11 @@ abbrev pub PutGives : ℕ → ℕ → Option (List ℕ) → Option (List ℕ) �
 PutGives before after old new place piece images outs.Done = (new ≡ wrote_at old place piece) × Only new images
 PutGives before after old new place piece images outs.Failed = Rose before after × MayTear old new place (length piece)
 
--- nothing is in doubt, and so much was found
-pub record IsOver {D : Type 0} (d : D) (place count most long : ℕ) (j : Journal D) : Type 0 where
+-- nothing is in doubt, so many items were found and the gate behind them at the place, under these limits
+pub record IsOver {D : Type 0} (d : D) (place count max_items max_bytes : ℕ) (j : Journal D) : Type 0 where
   pub disk : j.disk ≡ d
   pub gate : j.gate ≡ place
   pub len : j.len ≡ count
-  pub cap : j.cap ≡ most
-  pub room : j.room ≡ long
+  pub cap : j.cap ≡ max_items
+  pub room : j.room ≡ max_bytes
   pub fresh : j.stale ≡ false

@@ -17,7 +17,8 @@ impl<D: Disk> Journal<D> {
         requires fresh { self.old.stale ≡ false }
         requires gate { HasGate D.content self.old }
         ensures gives { AppendGives D.content D.allowed D.faults self.old self.new item.now result }
-        ensures bytes { OnOk result (D.content self.new.disk ≡ wrote_at (D.content self.old.disk) self.old.gate (item_bytes item.now ++ 0 ∷ [])) }
+        ensures bytes { OnOk result (D.content self.new.disk
+            ≡ wrote_at (D.content self.old.disk) self.old.gate (item_bytes item.now ++ 0 ∷ [])) }
         ensures fits { AppendFits self.old item.now result }
         ensures doubt { DoubtAfterAppend self.new result }
         ensures limits { SameLimits self.old self.new }
