@@ -4,6 +4,7 @@ ghost use Rattle.nb_journal.specs.declared.limits.TheConstants.{FRONT, AROUND, M
 mod appending;
 mod resting;
 mod settling;
+mod state;
 
 /// A journal on a disk.
 #[derive(Drop)]
