@@ -1,5 +1,5 @@
 -- The two steps of an append: the body is put behind the closed gate, and then the gate is opened.
-use Rattle.std.proofs.Common.{◌≡◌, inl, ℕ, ◌+◌, ◌<◌, ◌≤◌, false, true, List, [], ◌∷◌, ◌++◌, length, Option, Some, None, IfSome, arith, sym, ap, subst, ◌∙◌, length-append}
+use Rattle.std.proofs.Common.{◌≡◌, refl, inl, ℕ, ◌+◌, ◌<◌, ◌≤◌, false, true, List, [], ◌∷◌, ◌++◌, length, Option, Some, None, IfSome, arith, sym, ap, subst, ◌∙◌, length-append}
 use Rattle.std.proofs.lemmas.List.{length-take}
 use Rattle.nb_port.specs.Disk.{Torn, MayTear, Only, Follows, put_at, wrote_at}
 use Rattle.nb_journal.specs.Layout.{open_gate, item_bytes, body_bytes, up_to_gate}
@@ -7,6 +7,7 @@ use Rattle.nb_journal.specs.Stands.{Stands, BeforeOrAfter}
 use Rattle.nb_journal.specs.States.{AtRest, InDoubt, HasGate}
 use Rattle.nb_journal.specs.Time.{Since, TornOf, LeavesOnly}
 use Rattle.nb_journal.specs.declared.journal.Journal.{Journal}
+use Rattle.nb_journal.proofs.Bytes.{both_put}
 use Rattle.nb_journal.proofs.Images.{stands_torn, Staged, stands_put, staged_open, staged_torn}
 use Rattle.nb_journal.proofs.Layouts.{item_length, up_to_next}
 use Rattle.nb_journal.proofs.Moments.{started, goes_on}
@@ -46,6 +47,15 @@ longer d gate bytes inside = simp (length-append, length-take) (omega arith)
 -- the place of the gate is within the content behind a write of the body
 pub gate_within : (old new : Option (List ℕ)) (gate : ℕ) (bytes : List ℕ) → new ≡ wrote_at old (gate + 1) bytes → IfSome old (λ d. gate < length d) → IfSome new (λ d. gate ≤ length d)
 gate_within old new gate bytes wrote within = some_wrote old new (gate + 1) bytes (λ d. gate < length d) (λ d. gate ≤ length d) wrote (λ d inside. longer d gate bytes inside) within
+
+-- the body put behind the gate and then the gate: one write of both, where the disk tells
+pub both_wrote : (old mid new : Option (List ℕ)) (gate byte : ℕ) (bytes : List ℕ) → mid ≡ wrote_at old (gate + 1) bytes → new ≡ wrote_at mid gate (byte ∷ []) → IfSome old (λ d. gate < length d)
+    → new ≡ wrote_at old gate (byte ∷ bytes)
+both_wrote old mid new gate byte bytes first second inside = second ∙ ap (λ (told : Option (List ℕ)). wrote_at told gate (byte ∷ [])) first ∙ both old inside
+  where
+    both : (told : Option (List ℕ)) → IfSome told (λ d. gate < length d) → wrote_at (wrote_at told (gate + 1) bytes) gate (byte ∷ []) ≡ wrote_at told gate (byte ∷ bytes)
+    both None inside = refl
+    both (Some d) inside = ap Some (both_put d gate byte bytes inside)
 
 -- ---- journals
 

@@ -1,6 +1,6 @@
 -- What a write does to bytes that stand behind a front: to those behind a gate, and to the gate.
-use Rattle.std.proofs.Common.{◌≡◌, ℕ, ◌+◌, ◌≤◌, List, [], ◌∷◌, ◌++◌, length, take, drop, arith, refl, sym, ap, subst, ◌∙◌, length-append, length-drop}
-use Rattle.std.proofs.lemmas.List.{append_assoc, drop-drop, take-take, take-append-drop, drop-take}
+use Rattle.std.proofs.Common.{◌≡◌, ℕ, ◌+◌, ◌<◌, ◌≤◌, List, [], ◌∷◌, ◌++◌, length, take, drop, arith, refl, sym, ap, subst, ◌∙◌, length-append, length-drop}
+use Rattle.std.proofs.lemmas.List.{append_assoc, drop-drop, take-take, take-append-drop, drop-take, take_at, drop_at, length-take-le}
 use Rattle.std.proofs.Math.Seq.{take-append_seam, drop-append-add}
 use Rattle.nb_port.specs.Disk.{Torn, put_at}
 
@@ -72,3 +72,22 @@ gate_torn front gate rest c torn = part (drop (length front) c) refl
           more = drop (length rest) xs;
           bytes = front_kept front (gate ∷ rest) c 1 torn ∙ ap (λ (ys : List ℕ). front ++ ys) some ∙ ap (λ (ys : List ℕ). front ++ byte ∷ ys) split;
         }
+
+-- bytes that are put behind a gate, and then the gate: one write of both
+pub both_put : (old : List ℕ) (gate byte : ℕ) (bytes : List ℕ) → gate < length old → put_at (put_at old (gate + 1) bytes) gate (byte ∷ []) ≡ put_at old gate (byte ∷ bytes)
+unfolding put_at
+both_put old gate byte bytes inside =
+    let front = take (gate + 1) old in
+    let behind = bytes ++ drop (gate + 1 + length bytes) old in
+    let long : length front ≡ gate + 1 = length-take-le (gate + 1) old (omega (arith, inside)) in
+    let split : front ++ bytes ++ drop (gate + 1 + length bytes) old ≡ front ++ behind = append_assoc front bytes (drop (gate + 1 + length bytes) old) in
+    let before : take gate (front ++ behind) ≡ take gate old =
+    sym (take-take gate (gate + 1) (front ++ behind) (omega arith)) ∙ ap (take gate) (take_at front behind (gate + 1) long) ∙ take-take gate (gate + 1) old (omega arith) in
+    let after : drop (gate + 1) (front ++ behind) ≡ behind = drop_at front behind (gate + 1) long in
+    let next : gate + 1 + length bytes ≡ gate + length (byte ∷ bytes) = omega arith in
+    ap (λ (xs : List ℕ). take gate xs ++ byte ∷ [] ++ drop (gate + 1) xs) split
+    ∙ ap (λ (xs : List ℕ). xs ++ byte ∷ [] ++ drop (gate + 1) (front ++ behind)) before
+    ∙ ap (λ (xs : List ℕ). take gate old ++ byte ∷ [] ++ xs) after
+    ∙ append_assoc (take gate old) (byte ∷ []) behind
+    ∙ ap (λ (n : ℕ). take gate old ++ byte ∷ (bytes ++ drop n old)) next
+    ∙ sym (append_assoc (take gate old) (byte ∷ bytes) (drop (gate + length (byte ∷ bytes)) old))

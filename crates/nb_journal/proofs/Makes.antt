@@ -1,5 +1,5 @@
 -- A journal without items: all of it but the magic is put, and then the magic.
-use Rattle.std.proofs.Common.{◌≡◌, ◌≢◌, ℕ, ◌+◌, List, [], ◌∷◌, ◌++◌, length, drop, Option, Some, None, IfSome, sym, ap, ◌∙◌}
+use Rattle.std.proofs.Common.{◌≡◌, ◌≢◌, refl, ℕ, ◌+◌, List, [], ◌∷◌, ◌++◌, length, drop, Option, Some, None, IfSome, sym, ap, ◌∙◌}
 use Rattle.std.specs.Prelude.{replicate, ⊤}
 use Rattle.std.proofs.lemmas.List.{append_assoc, append-nil}
 use Rattle.nb_port.specs.Disk.{put_at, wrote_at}
@@ -40,6 +40,16 @@ magic_put cap head image has = record {
       ∙ ap (λ (xs : List ℕ). xs ++ 0 ∷ has.rest) (sym (append-nil (front_bytes cap head)));
 }
 
+-- the magic over the zeros: one write of both
+both_put : (old : List ℕ) (cap : ℕ) (head : List ℕ) → put_at (put_at old 0 (unborn_bytes cap head)) 0 magic ≡ put_at old 0 (front_bytes cap head ++ 0 ∷ [])
+unfolding put_at
+both_put old cap head = refl
+
+-- the same where the disk tells
+both_at : (told : Option (List ℕ)) (cap : ℕ) (head : List ℕ) → wrote_at (wrote_at told 0 (unborn_bytes cap head)) 0 magic ≡ wrote_at told 0 (front_bytes cap head ++ 0 ∷ [])
+both_at None cap head = refl
+both_at (Some old) cap head = ap Some (both_put old cap head)
+
 -- what the content begins with is not the magic
 pub begins_other : (told : Option (List ℕ)) (found : List ℕ) → found ≢ magic → IfSome told (λ image. found ≡ found_in image) → IfSome told (λ image. found_in image ≢ magic)
 begins_other told found other is = some_each told (λ image. found ≡ found_in image) (λ image. found_in image ≢ magic) (λ image same e. other (same ∙ e)) is
@@ -54,3 +64,7 @@ pub made : (old mid new : Option (List ℕ)) (cap : ℕ) (head : List ℕ) → m
 made old mid new cap head first second =
     some_wrote mid new 0 magic (HasTerms cap head) (Stands (front_bytes cap head) []) second (magic_put cap head)
     (some_wrote old mid 0 (unborn_bytes cap head) (λ image. ⊤) (HasTerms cap head) first (λ image any. terms_put cap head image) (any_content old))
+
+-- and as one write of both
+pub made_bytes : (old mid new : Option (List ℕ)) (cap : ℕ) (head : List ℕ) → mid ≡ wrote_at old 0 (unborn_bytes cap head) → new ≡ wrote_at mid 0 magic → new ≡ wrote_at old 0 (front_bytes cap head ++ 0 ∷ [])
+made_bytes old mid new cap head first second = second ∙ ap (λ (told : Option (List ℕ)). wrote_at told 0 magic) first ∙ both_at old cap head

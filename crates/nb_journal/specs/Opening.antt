@@ -10,12 +10,13 @@ use Rattle.nb_journal.specs.Reading.{Holds, IsUnborn, IsDamaged}
 use Rattle.nb_journal.specs.States.{AtRest}
 
 -- the journal is at rest with the items of the content, and these are what the content holds
-pub record Opens {D : Type 0} (content : D → Option (List ℕ)) (allowed : D → List ℕ → Type 0) (disk : D) (most : ℕ) (o : Opened D) : Type 0 where
+pub record Opens {D : Type 0} (content : D → Option (List ℕ)) (allowed : D → List ℕ → Type 0)
+    (disk : D) (max_bytes : ℕ) (o : Opened D) : Type 0 where
   pub terms : AreTerms o.cap o.head
   pub fit : AllByRecursion IsItem o.items.items
   pub rest : AtRest content allowed (front_bytes o.cap o.head) o.items.items o.journal
   pub cap : o.journal.cap ≡ o.cap
-  pub room : o.journal.room ≡ most
+  pub room : o.journal.room ≡ max_bytes
   pub holds : IfSome (content disk) (λ image. Holds image o.cap o.head o.items.items)
 
 -- by cases on the fault, for the disk before and after

@@ -4,6 +4,7 @@ ghost use Rattle.nb_journal.specs.declared.limits.TheConstants.{FRONT, AROUND, M
 mod appending;
 mod resting;
 mod settling;
+mod state;
 
 /// A journal on a disk.
 #[derive(Drop)]
@@ -31,28 +32,31 @@ pub struct Journal<D> {
     ghost buffer: { room + AROUND ≤ length buf.items },
 }
 
-/// How an append went.
+/// Why an item was not appended.
 #[derive(Clone, Copy, PartialEq, Eq, Debug)]
-pub enum Appended {
-    /// The item is kept: a stop from now on leaves the items with it.
-    Done,
+pub enum AppendFault {
     /// As many items are held as the journal may hold. Nothing was done.
     Full { cap: u32 },
-    /// The item has more bytes than there is room for. Nothing was done.
+    /// The item has `len` bytes, and no more than `room` are allowed. Nothing was done.
     TooBig { len: usize, room: u32 },
     /// The disk failed between these two counts of its faults. The item is in doubt.
     DiskFault { before: u64, after: u64 },
 }
 
-/// How settling went.
+/// What settling found out.
 #[derive(Clone, Copy, PartialEq, Eq, Debug)]
 pub enum Settled {
-    /// The item that was in doubt is kept.
+    /// The item that was in doubt is there, behind the others.
     Kept,
     /// It is not there.
     Dropped,
-    /// No item was in doubt.
+    /// No item was in doubt. Nothing was done.
     Nothing,
-    /// The disk failed between these two counts of its faults, and the item is still in doubt.
-    StillStale { before: u64, after: u64 },
+}
+
+/// The disk failed between these two counts of its faults, and the item is still in doubt.
+#[derive(Clone, Copy, PartialEq, Eq, Debug)]
+pub struct StillStale {
+    pub before: u64,
+    pub after: u64,
 }

@@ -8,7 +8,8 @@
 //! A journal is seen by its disk, which tells its content and what a stop may leave. At rest both stand for the front and
 //! the items; in doubt they stand for the items without the one in doubt or with it (`specs/States.antt`). What is promised:
 //! a stop at any moment of an append or of settling leaves the items before it or those with the item, never a part of it,
-//! and once it is appended, kept or dropped, nothing is in doubt. Opening writes nothing, and gives exactly what the content
+//! and once it is appended, kept or dropped, nothing is in doubt. What a journal that was made and an append that is done
+//! leave in the content is said byte for byte. Opening and settling write nothing. Opening gives exactly what the content
 //! holds, or the first fault (`specs/Reading.antt`); that what stands for items is read as these items, and that an image has
 //! one reading, is proved by the functions of [`laws`].
 //!
@@ -24,7 +25,7 @@ mod opening;
 mod putting;
 mod reading;
 
-pub use journal::{Appended, Journal, Settled};
+pub use journal::{AppendFault, Journal, Settled, StillStale};
 pub use limits::{HEAD, MAGIC_BYTES, MAX_CAP, MAX_ITEM};
 pub use making::{InitFault, init};
 pub use opening::{OpenFault, Opened};

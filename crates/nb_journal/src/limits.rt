@@ -1,5 +1,5 @@
 /// What a journal begins with, `NBJRNL01`.
-pub const MAGIC: [u8; 8] = *b"NBJRNL01";
+pub const MAGIC: [u8; MAGIC_BYTES] = *b"NBJRNL01";
 
 /// The bytes of the magic.
 pub const MAGIC_BYTES: usize = 8;
@@ -16,8 +16,14 @@ pub const ZEROS: usize = 4;
 /// The bytes before the first gate: magic, cap, head, zeros.
 pub const FRONT: u64 = 96;
 
-/// The bytes that an item takes beside its own: its gate, and its length in four.
-pub const AROUND: u64 = 5;
+/// The bytes of the length of an item.
+pub const LENGTH: usize = 4;
+
+/// The bytes of a gate and of the length behind it.
+pub const LEAD: usize = 1 + LENGTH;
+
+/// The bytes that an item takes beside its own: those of its gate and its length.
+pub const AROUND: u64 = LEAD as u64;
 
 /// The most bytes of an item.
 pub const MAX_ITEM: u32 = 2_097_152;
@@ -30,6 +36,3 @@ pub const OPEN: u8 = 0xA5;
 
 /// A gate that is closed, as it is written. Every byte but an open gate's is read as closed.
 pub const CLOSED: u8 = 0;
-
-/// The bytes of a gate and of the length behind it.
-pub const LEAD: usize = 5;

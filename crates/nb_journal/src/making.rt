@@ -1,5 +1,6 @@
-ghost use Rattle.std.specs.Prelude.{◌≡◌, ◌≤◌, ◌++◌, ◌∷◌, [], replicate};
-ghost use Rattle.nb_journal.specs.Layout.{terms};
+ghost use Rattle.std.specs.Prelude.{◌≡◌, ◌≤◌, ◌++◌, ◌∷◌, [], replicate, OnOk};
+ghost use Rattle.nb_port.specs.Disk.{wrote_at};
+ghost use Rattle.nb_journal.specs.Layout.{terms, front_bytes};
 ghost use Rattle.nb_journal.specs.Making.{InitGives, MagicGives};
 ghost use Rattle.nb_journal.specs.Time.{Untouched};
 
@@ -34,6 +35,7 @@ enum MagicRead {
 /// then the magic.
 pub fn init<D: Disk>(disk: &mut D, head: &[u8; HEAD], cap: u32) -> Result<(), InitFault>
     ensures gives { InitGives D.content D.allowed D.faults disk.old disk.new head.now cap result }
+    ensures bytes { OnOk result (D.content disk.new ≡ wrote_at (D.content disk.old) 0 (front_bytes cap head.now ++ 0 ∷ [])) }
     ensures count { D.faults disk.old ≤ D.faults disk.new }
 {
     if cap < 1 {

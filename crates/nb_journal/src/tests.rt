@@ -150,11 +150,11 @@ fn keeps_items(rt: HostRuntime) -> Result<(), Fail> {
     assert_eq!(rt; opened.items.len(), 0);
     let items: [&[u8]; 5] = [&[1, 2, 3, 4, 5], &[1, 2, 3], &[], &[1], &[]];
     let wants = [
-        Appended::TooBig { len: 5, room: 4 },
-        Appended::Done,
-        Appended::Done,
-        Appended::Full { cap: 2 },
-        Appended::Full { cap: 2 },
+        Err(AppendFault::TooBig { len: 5, room: 4 }),
+        Ok(()),
+        Ok(()),
+        Err(AppendFault::Full { cap: 2 }),
+        Err(AppendFault::Full { cap: 2 }),
     ];
     for i in 0..5 {
         if opened.journal.is_stale() {
@@ -163,7 +163,7 @@ fn keeps_items(rt: HostRuntime) -> Result<(), Fail> {
         assert_eq!(rt; opened.journal.append(items[i]), wants[i]);
     }
     assert_eq!(rt; opened.journal.len(), 2);
-    assert_eq!(rt; opened.journal.settle(), Settled::Nothing);
+    assert_eq!(rt; opened.journal.settle(), Ok(Settled::Nothing));
     let disk = opened.journal.into_disk();
     let two = image(alloc, &[0xA5, 0, 0, 0, 3, 1, 2, 3, 0xA5, 0, 0, 0, 0, 0])?;
     assert_eq!(rt; disk.content.as_slice(), two.as_slice());
@@ -199,13 +199,13 @@ fn settles_after_a_fault(rt: HostRuntime) -> Result<(), Fail> {
         }
         assert_eq!(rt;
             opened.journal.append(&[7]),
-            Appended::DiskFault {
+            Err(AppendFault::DiskFault {
                 before: 0,
                 after: 1
-            }
+            })
         );
         assert_eq!(rt; opened.journal.is_stale(), true);
-        assert_eq!(rt; opened.journal.settle(), wants[i]);
+        assert_eq!(rt; opened.journal.settle(), Ok(wants[i]));
         assert_eq!(rt; opened.journal.is_stale(), false);
     }
     Ok(())

@@ -1,9 +1,11 @@
-ghost use Rattle.std.specs.Prelude.{ℕ, ◌≡◌, ◌≤◌, List, false};
+ghost use Rattle.std.specs.Prelude.{ℕ, ◌≡◌, ◌≤◌, List, [], ◌∷◌, ◌++◌, false, OnOk};
+ghost use Rattle.nb_port.specs.Disk.{wrote_at};
+ghost use Rattle.nb_journal.specs.Layout.{item_bytes};
 ghost use Rattle.nb_journal.specs.Stands.{BeforeOrAfter};
-ghost use Rattle.nb_journal.specs.States.{AtRest, InDoubt, HasGate, AppendGives, Taken, SameLimits};
+ghost use Rattle.nb_journal.specs.States.{AtRest, HasGate, AppendGives, AppendFits, DoubtAfterAppend, SameLimits};
 ghost use Rattle.nb_journal.specs.Time.{LeavesOnly};
 
-use crate::journal::{Appended, Journal};
+use crate::journal::{AppendFault, Journal};
 use crate::limits::{AROUND, OPEN};
 use crate::putting::{put_body, put_synced};
 use nb_port::{Disk, DiskOut};
@@ -11,49 +13,48 @@ use nb_port::{Disk, DiskOut};
 impl<D: Disk> Journal<D> {
     /// Appends the item: its bytes are written and synced behind the closed gate, then the gate is opened and synced. No
     /// item is in doubt, and the gate's place is within the content, as it is of every journal at rest.
-    pub fn append(&mut self, item: &[u8]) -> Appended
+    pub fn append(&mut self, item: &[u8]) -> Result<(), AppendFault>
         requires fresh { self.old.stale ≡ false }
         requires gate { HasGate D.content self.old }
         ensures gives { AppendGives D.content D.allowed D.faults self.old self.new item.now result }
-        ensures taken { Taken self.old self.new item.now result }
+        ensures bytes { OnOk result (D.content self.new.disk
+            ≡ wrote_at (D.content self.old.disk) self.old.gate (item_bytes item.now ++ 0 ∷ [])) }
+        ensures fits { AppendFits self.old item.now result }
+        ensures doubt { DoubtAfterAppend self.new result }
         ensures limits { SameLimits self.old self.new }
         ensures count { D.faults self.old.disk ≤ D.faults self.new.disk }
         ensures any_moment { (front : List ℕ) (items : List (List ℕ)) → AtRest D.content D.allowed front items self.old
             → LeavesOnly D.moment D.left self.old.disk self.new.disk (BeforeOrAfter front items item.now) }
     {
         if self.len >= self.cap {
-            return Appended::Full { cap: self.cap };
+            return Err(AppendFault::Full { cap: self.cap });
         }
         if item.len() > self.room as usize {
-            return Appended::TooBig {
+            return Err(AppendFault::TooBig {
                 len: item.len(),
                 room: self.room,
-            };
+            });
         }
         let before = self.disk.fault_count();
         self.next = self.gate + (item.len() as u64 + AROUND);
         self.stale = true;
         match put_body(&mut self.disk, self.gate + 1, &mut self.buf, item) {
             DiskOut::Failed => {
-                return Appended::DiskFault {
-                    before,
-                    after: self.disk.fault_count(),
-                };
+                let after = self.disk.fault_count();
+                return Err(AppendFault::DiskFault { before, after });
             }
             DiskOut::Done => {}
         }
         match put_synced(&mut self.disk, self.gate, &[OPEN]) {
             DiskOut::Failed => {
-                return Appended::DiskFault {
-                    before,
-                    after: self.disk.fault_count(),
-                };
+                let after = self.disk.fault_count();
+                return Err(AppendFault::DiskFault { before, after });
             }
             DiskOut::Done => {}
         }
         self.stale = false;
         self.gate = self.next;
         self.len += 1;
-        Appended::Done
+        Ok(())
     }
 }

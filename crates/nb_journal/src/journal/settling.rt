@@ -1,9 +1,9 @@
 ghost use Rattle.std.specs.Prelude.{ℕ, ◌≡◌, ◌≤◌, List};
 ghost use Rattle.nb_journal.specs.Stands.{BeforeOrAfter};
-ghost use Rattle.nb_journal.specs.States.{InDoubt, SettleGives, Asked, SameLimits};
-ghost use Rattle.nb_journal.specs.Time.{LeavesOnly};
+ghost use Rattle.nb_journal.specs.States.{InDoubt, SettleGives, DoubtBeforeSettle, DoubtAfterSettle, SameLimits};
+ghost use Rattle.nb_journal.specs.Time.{LeavesOnly, Unwritten};
 
-use crate::journal::{Journal, Settled};
+use crate::journal::{Journal, Settled, StillStale};
 use crate::limits::OPEN;
 use crate::reading::{ByteRead, byte_at};
 use nb_port::{Disk, DiskOut};
@@ -11,77 +11,42 @@ use nb_port::{Disk, DiskOut};
 impl<D: Disk> Journal<D> {
     /// Finds out whether the item that is in doubt is there, so that nothing is in doubt: all that was written is made to
     /// stay, and then its gate is read.
-    pub fn settle(&mut self) -> Settled
+    pub fn settle(&mut self) -> Result<Settled, StillStale>
         ensures gives { SettleGives D.content D.allowed D.faults self.old self.new result }
-        ensures asked { Asked self.old self.new result }
+        ensures asked { DoubtBeforeSettle self.old result }
+        ensures doubt { DoubtAfterSettle self.new result }
+        ensures nothing { Unwritten D.content D.allowed D.moment D.left self.old.disk self.new.disk }
         ensures limits { SameLimits self.old self.new }
         ensures count { D.faults self.old.disk ≤ D.faults self.new.disk }
         ensures any_moment { (front : List ℕ) (items : List (List ℕ)) (item : List ℕ) → InDoubt D.content D.allowed front items item self.old
             → LeavesOnly D.moment D.left self.old.disk self.new.disk (BeforeOrAfter front items item) }
     {
         if !self.stale {
-            return Settled::Nothing;
+            return Ok(Settled::Nothing);
         }
         let before = self.disk.fault_count();
         match self.disk.sync() {
             DiskOut::Failed => {
-                return Settled::StillStale {
-                    before,
-                    after: self.disk.fault_count(),
-                };
+                let after = self.disk.fault_count();
+                return Err(StillStale { before, after });
             }
             DiskOut::Done => {}
         }
         match byte_at(&mut self.disk, self.gate) {
             ByteRead::Failed => {
-                return Settled::StillStale {
-                    before,
-                    after: self.disk.fault_count(),
-                };
+                let after = self.disk.fault_count();
+                return Err(StillStale { before, after });
             }
             ByteRead::Got(byte) => {
                 if byte != OPEN {
                     self.stale = false;
-                    return Settled::Dropped;
+                    return Ok(Settled::Dropped);
                 }
             }
         }
         self.stale = false;
         self.gate = self.next;
         self.len += 1;
-        Settled::Kept
-    }
-}
-
-impl<D> Journal<D> {
-    /// Whether an item is in doubt.
-    pub fn is_stale(&self) -> bool
-        ensures { result ≡ self.now.stale }
-    {
-        self.stale
-    }
-
-    /// How many items there are, without one that is in doubt.
-    pub fn len(&self) -> u32
-        ensures { result ≡ self.now.len }
-    {
-        self.len
-    }
-
-    /// The disk, at the end.
-    pub fn into_disk(self) -> D
-        ensures { result ≡ self.disk }
-    {
-        let Journal {
-            disk,
-            gate: _,
-            next: _,
-            len: _,
-            cap: _,
-            room: _,
-            stale: _,
-            buf: _,
-        } = self;
-        disk
+        Ok(Settled::Kept)
     }
 }

@@ -5,7 +5,7 @@ ghost use Rattle.nb_journal.specs.declared.limits.TheConstants.{LEAD, MAX_ITEM};
 ghost use Rattle.nb_journal.specs.Scanning.{LeadIs, LeadGives, RecordGives, BodyGives};
 ghost use Rattle.nb_journal.specs.Time.{Untouched};
 
-use crate::limits::{AROUND, LEAD, MAX_ITEM, OPEN};
+use crate::limits::{AROUND, LEAD, LENGTH, MAX_ITEM, OPEN};
 use crate::reading::number;
 use nb_port::{Disk, DiskRead};
 use nb_units::Blob;
@@ -73,7 +73,7 @@ fn lead_of(bytes: &[u8]) -> LeadRead
     if gate[0] != OPEN {
         return LeadRead::Shut;
     }
-    if word.len() < LEAD - 1 {
+    if word.len() < LENGTH {
         return LeadRead::Broken;
     }
     let len = number(word);

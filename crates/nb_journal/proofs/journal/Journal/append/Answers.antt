@@ -1,14 +1,14 @@
 use Rattle.std.proofs.Common.{arith, refl}
-use Rattle.nb_journal.specs.Layout.{body_bytes}
-use Rattle.nb_journal.proofs.Appending.{gate_within, doubt_first, doubt_second, added, run_first, run_second}
+use Rattle.nb_journal.specs.Layout.{open_gate, item_bytes, body_bytes}
+use Rattle.nb_journal.proofs.Appending.{gate_within, both_wrote, doubt_first, doubt_second, added, run_first, run_second}
 use Rattle.nb_journal.proofs.journal.Journal.append.Goals as goal
 
 -- the body failed
 pub returns-in-Failed-clause-gives : goal.returns-in-Failed-clause-gives
 returns-in-Failed-clause-gives g c = (
   c.fault_count-before.ensures,
-  c.fault_count.ensures,
-  omega (arith, c.in-Failed.ensures.gives.0, c.fault_count-before.ensures, c.fault_count.ensures),
+  c.fault_count-after.ensures,
+  omega (arith, c.in-Failed.ensures.gives.0, c.fault_count-before.ensures, c.fault_count-after.ensures),
   λ front items rest. doubt_first g.D.Disk.content g.D.Disk.allowed front items c.args.item.now c.args.self.now _ _ rest c.in-Failed.ensures.gives.1 c.in-Failed.ensures.images refl refl refl refl,
 )
 
@@ -24,8 +24,8 @@ put_synced-requires-clause-inside g c =
 pub returns-in-Failed-put_synced-clause-gives : goal.returns-in-Failed-put_synced-clause-gives
 returns-in-Failed-put_synced-clause-gives g c = (
   c.fault_count-before.ensures,
-  c.fault_count-in-Failed-put_synced.ensures,
-  omega (arith, c.in-Failed-put_synced.ensures.gives.0, c.in-Done.ensures.count, c.fault_count-before.ensures, c.fault_count-in-Failed-put_synced.ensures),
+  c.fault_count-after-in-Failed-put_synced.ensures,
+  omega (arith, c.in-Failed-put_synced.ensures.gives.0, c.in-Done.ensures.count, c.fault_count-before.ensures, c.fault_count-after-in-Failed-put_synced.ensures),
   λ front items rest. doubt_second g.D.Disk.content g.D.Disk.allowed front items c.args.item.now c.args.self.now _ c.put_body.new.disk rest
       (record { wrote = c.in-Done.ensures.gives.0; only = c.in-Done.ensures.gives.1 }) c.in-Failed-put_synced.ensures.gives.1 c.in-Failed-put_synced.ensures.images refl refl refl refl,
 )
@@ -40,6 +40,12 @@ pub returns-clause-gives : goal.returns-clause-gives
 returns-clause-gives g c =
     λ front items rest. added g.D.Disk.content g.D.Disk.allowed front items c.args.item.now c.args.self.now _ c.put_body.new.disk rest
     (record { wrote = c.in-Done.ensures.gives.0; only = c.in-Done.ensures.gives.1 }) c.in-Done-put_synced.ensures.gives.0 c.in-Done-put_synced.ensures.gives.1 refl refl refl
+
+pub returns-clause-bytes : goal.returns-clause-bytes
+unfolding body_bytes item_bytes
+returns-clause-bytes g c =
+    both_wrote (g.D.Disk.content c.args.self.now.disk) (g.D.Disk.content c.put_body.new.disk) _ c.args.self.now.gate open_gate (body_bytes c.args.item.now)
+    c.in-Done.ensures.gives.0 c.in-Done-put_synced.ensures.gives.0 c.requires.gate
 
 pub returns-clause-any_moment : goal.returns-clause-any_moment
 returns-clause-any_moment g c =

@@ -12,8 +12,8 @@ returns-then-gate c =
     let shut : get_or c.args.bytes.now 0 0 ≢ open_gate = search rules in
     λ xs is. shut_there c.args.bytes.now xs some shut is
 
-pub returns-then-word : goal.returns-then-word
-returns-then-word c =
+pub returns-then-word-lt-LENGTH : goal.returns-then-word-lt-LENGTH
+returns-then-word-lt-LENGTH c =
     let some : 0 < length c.args.bytes.now = search rules in
     let opens : get_or c.args.bytes.now 0 0 ≡ open_gate = search rules in
     λ xs is. short_there c.args.bytes.now c.split_at.result.1.now xs some opens c.split_at.ensures.back (search rules) is
