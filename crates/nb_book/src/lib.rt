@@ -22,6 +22,7 @@ mod legal;
 mod limits;
 mod party;
 pub mod reason;
+mod spelling;
 
 pub use account::Account;
 pub use book::Book;
@@ -30,6 +31,9 @@ pub use funded::Funded;
 pub use kept::Kept;
 pub use limits::{MAX_AGE, MAX_AHEAD, MAX_CAP, MAX_PRICE, MAX_TOTAL};
 pub use party::Party;
+pub use spelling::{EntryFault, MAX_ENTRIES, MAX_ENTRY, read_entry, write_entry};
 
+#[cfg(test)]
+mod spelling_tests;
 #[cfg(test)]
 mod tests;
