@@ -1,5 +1,5 @@
 -- Entries as rows of fields.
-use Rattle.std.proofs.Common.{◌≡◌, ◌⊎◌, inl, inr, ℕ, ◌+◌, ◌<◌, ◌≤◌, ◌^◌, Bool, true, false, ◌==◌, cond, ltb, List, [], ◌∷◌, ◌++◌, length, length-append, length-take, take, drop, Result, Ok, Err, refl, sym, ap, subst, ◌∙◌, arith}
+use Rattle.std.proofs.Common.{◌≡◌, inl, inr, ℕ, ◌+◌, ◌<◌, ◌≤◌, ◌^◌, Bool, true, false, ◌==◌, cond, ltb, List, [], ◌∷◌, ◌++◌, length, length-append, length-take, drop, Result, Ok, Err, refl, sym, ap, subst, ◌∙◌, arith}
 use Rattle.std.specs.List.{AllByRecursion}
 use Rattle.std.proofs.lemmas.List.{take_at, drop_at}
 use Rattle.std.proofs.lemmas.Bool.{eqb-true, leb-true, ltb-true, ltb-false, eq-eqb, le-leb}
@@ -18,15 +18,14 @@ use Rattle.nb_units.specs.Reads.{Reads}
 use Rattle.nb_units.specs.declared.malformed.Malformed.{Malformed}
 use Rattle.nb_book.specs.declared.entry.Entry.{Entry}
 use Rattle.nb_book.specs.declared.entry.Entry.TheVariants.{Enrol, Fund, Paid, Refused}
-use Rattle.nb_book.specs.declared.entry.TheConstants.{CONSUMER, MERCHANT}
 use Rattle.nb_book.specs.declared.reason.TheConstants.{FIRST, LAST}
 use Rattle.nb_book.specs.declared.spelling.TheConstants.{ENROL, FUND, PAID, REFUSED, MAX_ENTRY}
 use Rattle.nb_units.specs.declared.ids.PartyId.{PartyId}
 use Rattle.nb_units.specs.declared.ids.Price.{Price}
 use Rattle.nb_book.specs.Legal.{ReasonIsTrue}
-use Rattle.nb_book.specs.Spelling.{IsRole, IsCode, IsEntry, Spells, entry_bytes, entries_bytes, bytes_of_kind}
+use Rattle.nb_book.specs.Spelling.{IsRole, IsCode, IsEntry, entry_bytes, entries_bytes, bytes_of_kind}
 use Rattle.nb_book.specs.declared.spelling.EntryFault.{EntryFault}
-use Rattle.nb_book.specs.Reading.{ReadsEntry, is_role, is_code, enrol_of, fund_of, paid_of, refused_of, behind_kind, entry_of, entry_at, counted_from}
+use Rattle.nb_book.specs.Reading.{ReadsEntry, is_role, is_code, enrol_of, fund_of, paid_of, refused_of, behind_kind, entry_of, counted_from}
 use Rattle.nb_book.specs.Laws.{EntryReadsBack, EntrySpellsBack, OneSpelling, EntryLayout, LegalKeepsRules}
 
 -- ---- the kind of an entry
@@ -98,7 +97,7 @@ raw_within n = record { told = λ R bytes place bad next inside each e. field_wi
 epoid_within : Within epoid
 epoid_within = record {
   told = λ R bytes place bad next inside each e.
-      field_within (raw_at 16 bytes place) 16 bytes place bad (λ x. next (epoid_of x)) (field_short bytes place 16).0 inside (λ x h is. each (epoid_of x) h is) e
+      field_within (raw_at 16 bytes place) 16 bytes place bad (λ x. next (epoid_of x)) (field_short bytes place 16).0 inside (λ x h is. each (epoid_of x) h is) e;
 }
 
 -- a test tells the place of its field
@@ -110,21 +109,21 @@ test_within false bytes place bad next inside each e = let same : place ≡ bad 
 tested_within : {A : Type 0} {f : Row A} (test : A → Bool) → Within f → Within (tested f test)
 tested_within test within = record {
   told = λ R bytes place bad next inside each e.
-      within.told R bytes place bad (λ x. allowed (test x) place >>= λ is. next x) inside (λ x h is. test_within (test x) bytes place bad (next x) inside (each x h) is) e
+      within.told R bytes place bad (λ x. allowed (test x) place >>= λ is. next x) inside (λ x h is. test_within (test x) bytes place bad (next x) inside (each x h) is) e;
 }
 
 mark_within : (kind : ℕ) → Within (mark kind)
 mark_within kind = record {
   told = λ R bytes place bad next inside each e.
       let within : Within (tested byte (λ k. k == kind)) = tested_within (λ k. k == kind) byte_within in
-      within.told R bytes place bad (λ k. next tt) inside (λ k h is. each tt h is) e
+      within.told R bytes place bad (λ k. next tt) inside (λ k h is. each tt h is) e;
 }
 
 and_within : {A B : Type 0} {f : Row A} {g : Row B} → Within f → Within g → Within (f & g)
 and_within {f = f} {g = g} first second = record {
   told = λ R bytes place bad next inside each e.
       first.told R bytes place bad (λ x. g.read R bytes (f.behind place x) (λ y. next (x, y))) inside
-      (λ x h is. second.told R bytes (f.behind place x) bad (λ y. next (x, y)) h (λ y there that. each (x, y) there that) is) e
+      (λ x h is. second.told R bytes (f.behind place x) bad (λ y. next (x, y)) h (λ y there that. each (x, y) there that) is) e;
 }
 
 -- ---- entries of one kind
@@ -356,11 +355,10 @@ one_front : (d e : Entry) (rest more : List ℕ) → IsEntry d → IsEntry e →
 one_front d e rest more fits too same =
     let first = front_reads (entry_bytes d ++ rest) d fits (take_at (entry_bytes d) rest (length (entry_bytes d)) refl) in
     let second = front_reads (entry_bytes e ++ more) e too (take_at (entry_bytes e) more (length (entry_bytes e)) refl) in
-    let one : d ≡ e = ok_is d e (sym first ∙ ap entry_of same ∙ second) in
-    (
+    let one : d ≡ e = ok_is d e (sym first ∙ ap entry_of same ∙ second) in (
       one,
       sym (drop_at (entry_bytes d) rest (length (entry_bytes d)) refl) ∙ ap (drop (length (entry_bytes d))) same
-      ∙ ap (λ (x : Entry). drop (length (entry_bytes x)) (entry_bytes e ++ more)) one ∙ drop_at (entry_bytes e) more (length (entry_bytes e)) refl,
+          ∙ ap (λ (x : Entry). drop (length (entry_bytes x)) (entry_bytes e ++ more)) one ∙ drop_at (entry_bytes e) more (length (entry_bytes e)) refl,
     )
 
 -- bytes of an entry are not no bytes

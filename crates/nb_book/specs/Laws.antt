@@ -15,7 +15,7 @@ use Rattle.nb_book.specs.declared.limits.TheConstants.{MAX_CAP, MAX_TOTAL, MAX_P
 use Rattle.nb_book.specs.declared.reason.TheConstants.{CONSUMER_ACCOUNT, MERCHANT_ACCOUNT, PRICE_RANGE, TOO_OLD, TOO_EARLY, BALANCE_LOW, CONSUMER_NONCE, FIRST, LAST}
 use Rattle.nb_book.specs.Searches.{holder_in, settles}
 use Rattle.nb_book.specs.Money.{credit, debit, credits, debits, balance, total, accounts}
-use Rattle.nb_book.specs.declared.spelling.TheConstants.{ENROL, FUND, PAID, REFUSED, MAX_ENTRY, MAX_ENTRIES}
+use Rattle.nb_book.specs.declared.spelling.TheConstants.{ENROL, FUND, PAID, REFUSED, MAX_ENTRY, MAX_ITEM_ENTRIES}
 use Rattle.nb_book.specs.Legal.{LegalAfter, Legal}
 use Rattle.nb_book.specs.Spelling.{IsEntry, KeepsRules, Spells, entry_bytes, bytes_of_kind}
 use Rattle.nb_book.specs.Reading.{entry_at}
@@ -120,7 +120,7 @@ OneSpelling =
 abbrev pub EntryLayout : Type 0
 EntryLayout =
     ((e : Entry) → IsEntry e → (length (entry_bytes e) ≡ bytes_of_kind e) × (length (entry_bytes e) ≤ MAX_ENTRY))
-    × (ENROL ∷ FUND ∷ PAID ∷ REFUSED ∷ [] ≡ 1 ∷ 2 ∷ 3 ∷ 4 ∷ []) × (MAX_ENTRY ≡ 117) × (MAX_ENTRIES ≡ 32)
+    × (ENROL ∷ FUND ∷ PAID ∷ REFUSED ∷ [] ≡ 1 ∷ 2 ∷ 3 ∷ 4 ∷ []) × (MAX_ENTRY ≡ 117) × (MAX_ITEM_ENTRIES ≡ 32)
 
 -- an entry that may come next keeps the rules of entries, so that it can be written
 abbrev pub LegalKeepsRules : Type 0

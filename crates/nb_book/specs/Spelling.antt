@@ -8,7 +8,7 @@ use Rattle.nb_book.specs.declared.entry.Entry.{Entry}
 use Rattle.nb_book.specs.declared.entry.Entry.TheVariants.{Enrol, Fund, Paid, Refused}
 use Rattle.nb_book.specs.declared.entry.TheConstants.{CONSUMER, MERCHANT}
 use Rattle.nb_book.specs.declared.reason.TheConstants.{FIRST, LAST}
-use Rattle.nb_book.specs.declared.spelling.TheConstants.{ENROL, FUND, PAID, REFUSED, MAX_ENTRIES}
+use Rattle.nb_book.specs.declared.spelling.TheConstants.{ENROL, FUND, PAID, REFUSED, MAX_ITEM_ENTRIES}
 
 -- 01 | party 4 | role 1 | account 4 | nonce 8 | key 32
 -- 02 | account 4 | amount 8 | reference 16
@@ -66,4 +66,4 @@ pub record Spells (item : List ℕ) (es : List Entry) : Type 0 where
   pub bytes : item ≡ entries_bytes es
   pub each : AllByRecursion IsEntry es
   pub some : 1 ≤ length es
-  pub most : length es ≤ MAX_ENTRIES
+  pub most : length es ≤ MAX_ITEM_ENTRIES

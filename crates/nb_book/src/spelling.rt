@@ -15,7 +15,7 @@ use nb_units::{AcctId, Buffer, Cut, Epoid, Malformed, PartyId, Pen, Price};
 pub const MAX_ENTRY: usize = 117;
 
 /// The most entries of an item of a journal.
-pub const MAX_ENTRIES: usize = 32;
+pub const MAX_ITEM_ENTRIES: usize = 32;
 
 // The first byte of an entry, its kind.
 const ENROL: u8 = 1;

@@ -1,4 +1,4 @@
-use Rattle.std.proofs.Common.{◌≡◌, arith, length}
+use Rattle.std.proofs.Common.{arith, length}
 use Rattle.nb_units.specs.Laws.{StandsAt}
 use Rattle.nb_units.proofs.Rows.{if_read}
 use Rattle.nb_book.specs.Spelling.{IsEntry, entry_bytes}
