@@ -1,19 +1,24 @@
--- What holds of every Legal list.
-use Rattle.std.specs.Prelude.{◌≡◌, ℕ, ◌==◌, ◌+◌, ◌≤◌, Bool, false, List, [], ◌∷◌, ◌++◌, IsNone, if◌then◌else◌}
+-- What holds of every Legal list, and of the bytes of entries.
+use Rattle.std.specs.Prelude.{◌≡◌, ℕ, ◌==◌, ◌+◌, ◌≤◌, Bool, false, List, [], ◌∷◌, ◌++◌, length, IsNone, Ok, if◌then◌else◌}
 use Rattle.std.specs.List.{sum_by, count_by}
 use Rattle.std.specs.Str.{bytes_eq}
 use Rattle.nb_units.specs.declared.ids.PartyId.{PartyId}
 use Rattle.nb_units.specs.declared.ids.AcctId.{AcctId}
 use Rattle.nb_units.specs.declared.ids.Price.{Price}
 use Rattle.nb_units.specs.declared.epoid.Epoid.{Epoid}
+use Rattle.nb_units.specs.Frames.{AreBytes}
+use Rattle.nb_units.specs.Laws.{StandsAt}
 use Rattle.nb_book.specs.declared.entry.Entry.{Entry}
 use Rattle.nb_book.specs.declared.entry.Entry.TheVariants.{Enrol, Fund, Paid}
 use Rattle.nb_book.specs.declared.entry.TheConstants.{CONSUMER, MERCHANT}
 use Rattle.nb_book.specs.declared.limits.TheConstants.{MAX_CAP, MAX_TOTAL, MAX_PRICE, MAX_AGE, MAX_AHEAD}
-use Rattle.nb_book.specs.declared.reason.TheConstants.{CONSUMER_ACCOUNT, MERCHANT_ACCOUNT, PRICE_RANGE, TOO_OLD, TOO_EARLY, BALANCE_LOW, CONSUMER_NONCE}
+use Rattle.nb_book.specs.declared.reason.TheConstants.{CONSUMER_ACCOUNT, MERCHANT_ACCOUNT, PRICE_RANGE, TOO_OLD, TOO_EARLY, BALANCE_LOW, CONSUMER_NONCE, FIRST, LAST}
 use Rattle.nb_book.specs.Searches.{holder_in, settles}
 use Rattle.nb_book.specs.Money.{credit, debit, credits, debits, balance, total, accounts}
+use Rattle.nb_book.specs.declared.spelling.TheConstants.{ENROL, FUND, PAID, REFUSED, MAX_ENTRY, MAX_ITEM_ENTRIES}
 use Rattle.nb_book.specs.Legal.{LegalAfter, Legal}
+use Rattle.nb_book.specs.Spelling.{IsEntry, KeepsRules, Spells, entry_bytes, bytes_of_kind}
+use Rattle.nb_book.specs.Reading.{entry_at}
 
 -- the limits and roles in numbers
 abbrev pub LimitsAre : Type 0
@@ -25,7 +30,7 @@ LimitsAre =
 abbrev pub ReasonsAre : Type 0
 ReasonsAre =
     (CONSUMER_ACCOUNT ≡ 31) × (MERCHANT_ACCOUNT ≡ 32) × (PRICE_RANGE ≡ 33) × (TOO_OLD ≡ 34) × (TOO_EARLY ≡ 35) × (BALANCE_LOW ≡ 36)
-    × (CONSUMER_NONCE ≡ 37)
+    × (CONSUMER_NONCE ≡ 37) × (FIRST ≡ 31) × (LAST ≡ 37)
 
 -- what was taken from an account is at most what came into it
 abbrev pub NoneOverdrawn : Type 0
@@ -93,3 +98,30 @@ FundedOnce = (H : List Entry) → Legal H → (r : List ℕ) → count_by (cites
 -- at most one entry pays or refuses the order of an identifier
 abbrev pub SettledOnce : Type 0
 SettledOnce = (H : List Entry) → Legal H → (p : Epoid) → count_by (settles p) H ≤ 1
+
+-- ---- bytes
+
+-- an entry that stands at a place is read there as that entry
+abbrev pub EntryReadsBack : Type 0
+EntryReadsBack = (bytes : List ℕ) (place : ℕ) (e : Entry) → IsEntry e → StandsAt (entry_bytes e) bytes place → entry_at bytes place ≡ Ok e
+
+-- what is read as an entry at a place is within its limits, and its spelling stands there
+abbrev pub EntrySpellsBack : Type 0
+EntrySpellsBack = (bytes : List ℕ) (place : ℕ) (e : Entry) → AreBytes bytes → entry_at bytes place ≡ Ok e
+    → IsEntry e × StandsAt (entry_bytes e) bytes place
+
+-- bytes begin with the spelling of one entry at most, and an item spells one list of entries
+abbrev pub OneSpelling : Type 0
+OneSpelling =
+    ((d e : Entry) (rest more : List ℕ) → IsEntry d → IsEntry e → entry_bytes d ++ rest ≡ entry_bytes e ++ more → (d ≡ e) × (rest ≡ more))
+    × ((item : List ℕ) (ds es : List Entry) → Spells item ds → Spells item es → ds ≡ es)
+
+-- an entry has as many bytes as its kind says, at most 117; the kinds are 1 to 4, and an item has at most 32 entries
+abbrev pub EntryLayout : Type 0
+EntryLayout =
+    ((e : Entry) → IsEntry e → (length (entry_bytes e) ≡ bytes_of_kind e) × (length (entry_bytes e) ≤ MAX_ENTRY))
+    × (ENROL ∷ FUND ∷ PAID ∷ REFUSED ∷ [] ≡ 1 ∷ 2 ∷ 3 ∷ 4 ∷ []) × (MAX_ENTRY ≡ 117) × (MAX_ITEM_ENTRIES ≡ 32)
+
+-- an entry that may come next keeps the rules of entries, so that it can be written
+abbrev pub LegalKeepsRules : Type 0
+LegalKeepsRules = (H : List Entry) (e : Entry) → LegalAfter H e → KeepsRules e

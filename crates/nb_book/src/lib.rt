@@ -1,15 +1,19 @@
-//! The book of a house: its entries in order, and what they say of parties, accounts, orders and money.
+//! The book of a house: its entries in order, what they say of parties, accounts, orders and money, and their bytes.
 //!
 //! A [`Book`] is seen as a [`Ledger`](specs/Ledger.antt): the list of its entries, its cap, and its spare, the
 //! number of entries that can be applied without taking memory. A look-up gives the first entry that names its
 //! key, a balance is a sum over the whole list, and [`Book::legal`] says whether an entry may come next. The list
 //! of a book is Legal at all times: each entry was legal after those before it.
 //!
+//! An entry has one spelling in bytes, which [`write_entry`] appends and [`read_entry`] reads at the place of a cut; an item
+//! of a journal is from 1 to [`MAX_ITEM_ENTRIES`] of them, one behind the other.
+//!
 //! What the words mean stands in `specs/`: the look-ups in `Searches.antt`, the sums in `Money.antt`, the rule for
-//! each entry in `Legal.antt`, the codes of refused orders in [`reason`]. What holds of every Legal list stands in
+//! each entry in `Legal.antt`, the codes of refused orders in [`reason`], the bytes of an entry in `Spelling.antt` and, field by
+//! field with the place of each, in `Reading.antt`. What holds of every Legal list and of every spelling stands in
 //! `specs/Laws.antt` and is proved by the functions of [`laws`].
 //!
-//! Left to others: how an entry is spelled in bytes, where it is kept, and who may ask for it.
+//! Left to others: where an entry is kept, and who may ask for it.
 #![tactic(auto)]
 
 mod account;
@@ -22,6 +26,7 @@ mod legal;
 mod limits;
 mod party;
 pub mod reason;
+mod spelling;
 
 pub use account::Account;
 pub use book::Book;
@@ -30,6 +35,9 @@ pub use funded::Funded;
 pub use kept::Kept;
 pub use limits::{MAX_AGE, MAX_AHEAD, MAX_CAP, MAX_PRICE, MAX_TOTAL};
 pub use party::Party;
+pub use spelling::{EntryFault, MAX_ENTRY, MAX_ITEM_ENTRIES, read_entry, write_entry};
 
+#[cfg(test)]
+mod spelling_tests;
 #[cfg(test)]
 mod tests;

@@ -83,7 +83,7 @@ tested f test = record {
   read = λ R bytes place next. f.read R bytes place (λ x. allowed (test x) place >>= λ is. next x);
 }
 
-allowed_found : {R : Type 0} (test : Bool) (place : ℕ) (next : Result R ℕ) (y : R) → (allowed test place >>= λ is. next) ≡ Ok y → (test ≡ true) × (next ≡ Ok y)
+pub allowed_found : {R : Type 0} (test : Bool) (place : ℕ) (next : Result R ℕ) (y : R) → (allowed test place >>= λ is. next) ≡ Ok y → (test ≡ true) × (next ≡ Ok y)
 allowed_found true place next y e = (refl, e)
 allowed_found false place next y e = absurd cc
 
@@ -103,7 +103,7 @@ tested_row f test row = record {
 abbrev pub field : {A : Type 0} → (A → List ℕ) → (ℕ → A → ℕ) → (A → Type 0) → (List ℕ → ℕ → Result A CutFault) → Row A
 field spelled behind fits at = record { spelled = spelled; behind = behind; fits = fits; read = λ R bytes place next. or_place (at bytes place) >>= next }
 
-read_found : {A R : Type 0} (r : Result A CutFault) (next : A → Result R ℕ) (y : R) → (or_place r >>= next) ≡ Ok y → (x : A) × (r ≡ Ok x) × (next x ≡ Ok y)
+pub read_found : {A R : Type 0} (r : Result A CutFault) (next : A → Result R ℕ) (y : R) → (or_place r >>= next) ≡ Ok y → (x : A) × (r ≡ Ok x) × (next x ≡ Ok y)
 read_found (Ok x) next y e = (x, refl, e)
 read_found (Err fault) next y e = absurd cc
 

@@ -83,14 +83,18 @@ abbrev pub ◌>>=◌ : {A B E : Type 0} → Result A E → (A → Result B E) �
 
 -- ---- what a cut does
 
+-- it moves past n bytes
+abbrev pub moved : Reading → ℕ → Reading
+moved cut n = record { bytes = cut.bytes; place = cut.place + n }
+
 -- it moves past n bytes where the field was read, and else stays
 abbrev pub moved_by : {A : Type 0} → Reading → ℕ → Result A CutFault → Reading
-moved_by cut n (Ok x) = record { bytes = cut.bytes; place = cut.place + n }
+moved_by cut n (Ok x) = moved cut n
 moved_by cut n (Err fault) = cut
 
 -- the same for a text, with the four bytes of its length
 abbrev pub moved_past : Reading → Result (Bor (List ℕ)) CutFault → Reading
-moved_past cut (Ok text) = record { bytes = cut.bytes; place = cut.place + (4 + length text.now) }
+moved_past cut (Ok text) = moved cut (4 + length text.now)
 moved_past cut (Err fault) = cut
 
 -- a text that was read, without where it lies in memory

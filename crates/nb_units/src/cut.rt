@@ -1,5 +1,5 @@
-ghost use Rattle.std.specs.Prelude.{◌≡◌, ◌≤◌, drop, length, IfOk};
-ghost use Rattle.nb_units.specs.Fields.{raw_at, u8_at, u32_at, u64_at, bytes_at, done_at, moved_by, moved_past, seen};
+ghost use Rattle.std.specs.Prelude.{◌≡◌, ◌≤◌, ◌<◌, ◌+◌, ◌^◌, drop, length, IfOk};
+ghost use Rattle.nb_units.specs.Fields.{raw_at, u8_at, u32_at, u64_at, bytes_at, done_at, moved_by, moved_past, moved, seen};
 
 use crate::number::{u32_of, u64_of};
 use std::marker::Model;
@@ -50,6 +50,23 @@ impl<'a> Cut<'a> {
         ensures { result ≡ self.now.place }
     {
         self.place
+    }
+
+    /// What is left: the bytes from the place on.
+    pub fn rest(&self) -> &'a [u8]
+        ensures value { result.now ≡ drop self.now.place self.now.bytes }
+        ensures inside { self.now.place + length result.now ≡ length self.now.bytes }
+        ensures short { length self.now.bytes < 2 ^ 64 }
+    {
+        self.bytes.split_at(self.place).1
+    }
+
+    /// Passes over `n` bytes, which are left.
+    pub fn skip(&mut self, n: usize)
+        requires { self.old.place + n ≤ length self.old.bytes }
+        ensures { self.new ≡ moved self.old n }
+    {
+        self.place += n;
     }
 
     /// One byte, or [`CutFault::Short`].
@@ -154,12 +171,5 @@ impl<'a> Cut<'a> {
             return Err(CutFault::Extra { place: self.place });
         }
         Ok(())
-    }
-
-    // What is left, from the place on.
-    fn rest(&self) -> &'a [u8]
-        ensures { result.now ≡ drop self.now.place self.now.bytes }
-    {
-        self.bytes.split_at(self.place).1
     }
 }

@@ -15,7 +15,7 @@ pub struct Epoid {
 #[tactic(auto, unfolding(crate::specs::Epoid::epoid_of, crate::specs::Epoid::epoid_bytes))]
 impl Epoid {
     ghost use Rattle.std.specs.Prelude.{◌≡◌};
-    ghost use Rattle.nb_units.specs.Epoid.{epoid_bytes, epoid_of};
+    ghost use Rattle.nb_units.specs.Epoid.{IsEpoid, epoid_bytes, epoid_of};
 
     /// The identifier that the bytes spell: the merchant, the moment, the serial number, each big-endian.
     pub fn read(bytes: &[u8; 16]) -> Epoid
@@ -35,6 +35,7 @@ impl Epoid {
     pub fn write(&self) -> [u8; 16]
         ensures spelling { result ≡ epoid_bytes self.now }
         ensures back { epoid_of result ≡ self.now }
+        ensures fits { IsEpoid self.now }
     {
         let Epoid {
             merchant: PartyId(merchant),

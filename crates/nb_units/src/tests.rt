@@ -108,7 +108,9 @@ fn tells_places(rt: HostRuntime) {
     assert!(rt; cut.bytes(1).is_ok());
     assert_eq!(rt; cut.u32(), Err(CutFault::Short { place: 6 }));
     assert_eq!(rt; cut.done(), Err(CutFault::Extra { place: 6 }));
-    assert_eq!(rt; cut.u8(), Ok(9));
+    assert_eq!(rt; cut.rest(), [9].as_slice());
+    cut.skip(1);
+    assert_eq!(rt; cut.place(), 7);
     assert_eq!(rt; cut.done(), Ok(()));
 }
 

@@ -1,0 +1,313 @@
+ghost use Rattle.std.specs.Prelude.{◌≡◌, ◌≤◌, ◌++◌, length, vec_capacity, IfOk, IfErr, Ok};
+ghost use Rattle.nb_units.specs.Fields.{allowed};
+ghost use Rattle.nb_units.specs.Laws.{StandsAt};
+ghost use Rattle.nb_units.specs.Reads.{Reads};
+ghost use Rattle.nb_units.specs.Room.{spare_of};
+ghost use Rattle.nb_book.specs.declared.spelling.TheConstants.{MAX_ENTRY};
+ghost use Rattle.nb_book.specs.Spelling.{KeepsRules, IsEntry, entry_bytes, bytes_of_kind};
+ghost use Rattle.nb_book.specs.Reading.{is_role, is_code, enrol_of, fund_of, paid_of, refused_of, entry_of, entry_at, ReadsEntry, moved_past};
+
+use crate::entry::{CONSUMER, Entry, MERCHANT};
+use crate::reason::{FIRST, LAST};
+use nb_units::{AcctId, Buffer, Cut, Epoid, Malformed, PartyId, Pen, Price};
+
+/// The most bytes of an entry.
+pub const MAX_ENTRY: usize = 117;
+
+/// The most entries of an item of a journal.
+pub const MAX_ITEM_ENTRIES: usize = 32;
+
+// The first byte of an entry, its kind.
+const ENROL: u8 = 1;
+
+const FUND: u8 = 2;
+
+const PAID: u8 = 3;
+
+const REFUSED: u8 = 4;
+
+/// No entry stands at the front of a cut. The place is that of the first field that fails, in bytes from the front of the
+/// cut's slice.
+#[derive(Clone, Copy, PartialEq, Eq, Debug)]
+pub struct EntryFault {
+    pub place: usize,
+}
+
+/// Appends the entry's bytes. It needs room for [`MAX_ENTRY`] bytes, also for a shorter entry; the role of an enrolment must
+/// be one of the two, and the code of a refusal one of [`reason`](crate::reason), as they are of every entry that is legal.
+/// It takes no memory.
+pub fn write_entry(e: &Entry, out: &mut Vec<u8>)
+    requires lawful { KeepsRules e.now }
+    requires room { MAX_ENTRY ≤ spare_of out.old }
+    ensures bytes { out.new.items ≡ out.old.items ++ entry_bytes e.now }
+    ensures fits { IsEntry e.now }
+    ensures long { length (entry_bytes e.now) ≤ MAX_ENTRY }
+    ensures room { vec_capacity out.new ≡ vec_capacity out.old }
+{
+    let bytes = spelled(e);
+    let mut pen = Pen::over(out);
+    pen.raw(bytes.as_slice());
+}
+
+/// The entry at the front of the cut, which is then passed over; what follows it is free. A fault tells the place of the first
+/// field that fails: a field of which bytes are missing, a kind that no entry has, a role that is neither of the two, or a
+/// code that is none of [`reason`](crate::reason). After it the cut is as before.
+pub fn read_entry(cut: &mut Cut) -> Result<Entry, EntryFault>
+    // The fields in their order, and the first that fails.
+    ensures reads { ReadsEntry result (entry_at cut.old.bytes cut.old.place) }
+    ensures moved { cut.new ≡ moved_past cut.old result }
+
+    // An entry that is read is spelled so, and one that is spelled so is read.
+    ensures spelled { IfOk result (λ e. IsEntry e × StandsAt (entry_bytes e) cut.old.bytes cut.old.place) }
+    ensures found { (e : Entry) → IsEntry e → StandsAt (entry_bytes e) cut.old.bytes cut.old.place → result ≡ Ok e }
+{
+    match read_front(cut.rest()) {
+        Ok(e) => {
+            cut.skip(spelled_len(&e));
+            Ok(e)
+        }
+        Err(Malformed { place }) => Err(EntryFault {
+            place: cut.place() + place,
+        }),
+    }
+}
+
+// The entry's bytes.
+#[tactic(auto, unfolding(crate::specs::Spelling::entry_bytes))]
+fn spelled(e: &Entry) -> Buffer
+    requires { KeepsRules e.now }
+    ensures bytes { result ≡ entry_bytes e.now }
+    ensures fits { IsEntry e.now }
+    ensures long { length result ≤ MAX_ENTRY }
+{
+    let mut bytes = Buffer::new();
+    match e {
+        Entry::Enrol {
+            id,
+            role,
+            acct,
+            nonce,
+            key,
+        } => {
+            bytes.u8(ENROL);
+            bytes.u32(id.0);
+            bytes.u8(*role);
+            bytes.u32(acct.0);
+            bytes.u64(*nonce);
+            bytes.raw(key);
+        }
+        Entry::Fund {
+            acct,
+            amount,
+            reference,
+        } => {
+            bytes.u8(FUND);
+            bytes.u32(acct.0);
+            bytes.u64(*amount);
+            bytes.raw(reference);
+        }
+        Entry::Paid {
+            digest,
+            epoid,
+            consumer,
+            merchant,
+            product,
+            price,
+            cacct,
+            macct,
+            moment,
+            key,
+        } => {
+            bytes.u8(PAID);
+            bytes.raw(digest);
+            bytes.raw(&epoid.write());
+            bytes.u32(consumer.0);
+            bytes.u32(merchant.0);
+            bytes.u32(*product);
+            bytes.u64(price.0);
+            bytes.u32(cacct.0);
+            bytes.u32(macct.0);
+            bytes.u64(*moment);
+            bytes.raw(key);
+        }
+        Entry::Refused {
+            digest,
+            epoid,
+            consumer,
+            merchant,
+            product,
+            price,
+            code,
+            a,
+            b,
+            moment,
+        } => {
+            bytes.u8(REFUSED);
+            bytes.raw(digest);
+            bytes.raw(&epoid.write());
+            bytes.u32(consumer.0);
+            bytes.u32(merchant.0);
+            bytes.u32(*product);
+            bytes.u64(price.0);
+            bytes.u8(*code);
+            bytes.u64(*a);
+            bytes.u64(*b);
+            bytes.u64(*moment);
+        }
+    }
+    bytes
+}
+
+// The entry at the front of the bytes.
+fn read_front(bytes: &[u8]) -> Result<Entry, Malformed>
+    ensures reads { Reads result (entry_of bytes.now) }
+    ensures spelled { IfOk result (λ e. IsEntry e × StandsAt (entry_bytes e) bytes.now 0) }
+    ensures inside { IfErr result (λ malformed. malformed.place ≤ length bytes.now) }
+{
+    read_fields(bytes)
+}
+
+#[tactic(auto, unfolding(crate::specs::Reading::entry_of))]
+fn read_fields(bytes: &[u8]) -> Result<Entry, Malformed>
+    ensures { Reads result (entry_of bytes.now) }
+{
+    let mut cut = Cut::new(bytes);
+    match cut.u8()? {
+        ENROL => read_enrol(cut),
+        FUND => read_fund(cut),
+        PAID => read_paid(cut),
+        REFUSED => read_refused(cut),
+        _ => Err(Malformed { place: 0 }),
+    }
+}
+
+// What follows reads the fields behind a kind.
+
+#[tactic(auto, unfolding(crate::specs::Reading::enrol_of))]
+fn read_enrol(mut cut: Cut) -> Result<Entry, Malformed>
+    requires { cut.place ≡ 1 }
+    ensures { Reads result (enrol_of cut.entry.bytes) }
+{
+    let id = cut.u32()?;
+    let place = cut.place();
+    let role = cut.u8()?;
+    allow(is_role(role), place)?;
+    let acct = cut.u32()?;
+    let nonce = cut.u64()?;
+    let key = cut.fixed32()?;
+    Ok(Entry::Enrol {
+        id: PartyId(id),
+        role,
+        acct: AcctId(acct),
+        nonce,
+        key,
+    })
+}
+
+#[tactic(auto, unfolding(crate::specs::Reading::fund_of))]
+fn read_fund(mut cut: Cut) -> Result<Entry, Malformed>
+    requires { cut.place ≡ 1 }
+    ensures { Reads result (fund_of cut.entry.bytes) }
+{
+    let acct = cut.u32()?;
+    let amount = cut.u64()?;
+    let reference = cut.fixed16()?;
+    Ok(Entry::Fund {
+        acct: AcctId(acct),
+        amount,
+        reference,
+    })
+}
+
+#[tactic(auto, unfolding(crate::specs::Reading::paid_of))]
+fn read_paid(mut cut: Cut) -> Result<Entry, Malformed>
+    requires { cut.place ≡ 1 }
+    ensures { Reads result (paid_of cut.entry.bytes) }
+{
+    let digest = cut.fixed32()?;
+    let epoid = cut.fixed16()?;
+    let consumer = cut.u32()?;
+    let merchant = cut.u32()?;
+    let product = cut.u32()?;
+    let price = cut.u64()?;
+    let cacct = cut.u32()?;
+    let macct = cut.u32()?;
+    let moment = cut.u64()?;
+    let key = cut.fixed32()?;
+    Ok(Entry::Paid {
+        digest,
+        epoid: Epoid::read(&epoid),
+        consumer: PartyId(consumer),
+        merchant: PartyId(merchant),
+        product,
+        price: Price(price),
+        cacct: AcctId(cacct),
+        macct: AcctId(macct),
+        moment,
+        key,
+    })
+}
+
+#[tactic(auto, unfolding(crate::specs::Reading::refused_of))]
+fn read_refused(mut cut: Cut) -> Result<Entry, Malformed>
+    requires { cut.place ≡ 1 }
+    ensures { Reads result (refused_of cut.entry.bytes) }
+{
+    let digest = cut.fixed32()?;
+    let epoid = cut.fixed16()?;
+    let consumer = cut.u32()?;
+    let merchant = cut.u32()?;
+    let product = cut.u32()?;
+    let price = cut.u64()?;
+    let place = cut.place();
+    let code = cut.u8()?;
+    allow(is_code(code), place)?;
+    let a = cut.u64()?;
+    let b = cut.u64()?;
+    let moment = cut.u64()?;
+    Ok(Entry::Refused {
+        digest,
+        epoid: Epoid::read(&epoid),
+        consumer: PartyId(consumer),
+        merchant: PartyId(merchant),
+        product,
+        price: Price(price),
+        code,
+        a,
+        b,
+        moment,
+    })
+}
+
+// Whether a party may have this role.
+fn is_role(role: u8) -> bool
+    ensures { result ≡ is_role role }
+{
+    role == CONSUMER || role == MERCHANT
+}
+
+// Whether a refused order may have this code.
+fn is_code(code: u8) -> bool
+    ensures { result ≡ is_code code }
+{
+    FIRST <= code && code <= LAST
+}
+
+// Whether the value of the field at this place is allowed.
+fn allow(is: bool, place: usize) -> Result<(), Malformed>
+    ensures { Reads result (allowed is place) }
+{
+    if is { Ok(()) } else { Err(Malformed { place }) }
+}
+
+// How many bytes the entry is spelled in.
+fn spelled_len(e: &Entry) -> usize
+    ensures { result ≡ bytes_of_kind e.now }
+{
+    match e {
+        Entry::Enrol { .. } => 50,
+        Entry::Fund { .. } => 29,
+        Entry::Paid { .. } => 117,
+        Entry::Refused { .. } => 94,
+    }
+}
