@@ -44,7 +44,7 @@ pub fn write_entry(e: &Entry, out: &mut Vec<u8>)
     ensures long { length (entry_bytes e.now) ≤ MAX_ENTRY }
     ensures room { vec_capacity out.new ≡ vec_capacity out.old }
 {
-    let bytes = spelled(e);
+    let bytes = e.spelled();
     let mut pen = Pen::over(out);
     pen.raw(bytes.as_slice());
 }
@@ -72,90 +72,93 @@ pub fn read_entry(cut: &mut Cut) -> Result<Entry, EntryFault>
     }
 }
 
-// The entry's bytes.
 #[tactic(auto, unfolding(crate::specs::Spelling::entry_bytes))]
-fn spelled(e: &Entry) -> Buffer
-    requires { KeepsRules e.now }
-    ensures bytes { result ≡ entry_bytes e.now }
-    ensures fits { IsEntry e.now }
-    ensures long { length result ≤ MAX_ENTRY }
-{
-    let mut bytes = Buffer::new();
-    match e {
-        Entry::Enrol {
-            id,
-            role,
-            acct,
-            nonce,
-            key,
-        } => {
-            bytes.u8(ENROL);
-            bytes.u32(id.0);
-            bytes.u8(*role);
-            bytes.u32(acct.0);
-            bytes.u64(*nonce);
-            bytes.raw(key);
+impl Entry {
+    /// The entry's bytes, at most [`MAX_ENTRY`]. The role of an enrolment must be one of the two, and the code of a refusal one of
+    /// [`reason`](crate::reason), as they are of every entry that is legal. It takes no memory.
+    pub fn spelled(&self) -> Buffer
+        requires { KeepsRules self.now }
+        ensures bytes { result ≡ entry_bytes self.now }
+        ensures fits { IsEntry self.now }
+        ensures long { length result ≤ MAX_ENTRY }
+    {
+        let mut bytes = Buffer::new();
+        match self {
+            Entry::Enrol {
+                id,
+                role,
+                acct,
+                nonce,
+                key,
+            } => {
+                bytes.u8(ENROL);
+                bytes.u32(id.0);
+                bytes.u8(*role);
+                bytes.u32(acct.0);
+                bytes.u64(*nonce);
+                bytes.raw(key);
+            }
+            Entry::Fund {
+                acct,
+                amount,
+                reference,
+            } => {
+                bytes.u8(FUND);
+                bytes.u32(acct.0);
+                bytes.u64(*amount);
+                bytes.raw(reference);
+            }
+            Entry::Paid {
+                digest,
+                epoid,
+                consumer,
+                merchant,
+                product,
+                price,
+                cacct,
+                macct,
+                moment,
+                key,
+            } => {
+                bytes.u8(PAID);
+                bytes.raw(digest);
+                bytes.raw(&epoid.write());
+                bytes.u32(consumer.0);
+                bytes.u32(merchant.0);
+                bytes.u32(*product);
+                bytes.u64(price.0);
+                bytes.u32(cacct.0);
+                bytes.u32(macct.0);
+                bytes.u64(*moment);
+                bytes.raw(key);
+            }
+            Entry::Refused {
+                digest,
+                epoid,
+                consumer,
+                merchant,
+                product,
+                price,
+                code,
+                a,
+                b,
+                moment,
+            } => {
+                bytes.u8(REFUSED);
+                bytes.raw(digest);
+                bytes.raw(&epoid.write());
+                bytes.u32(consumer.0);
+                bytes.u32(merchant.0);
+                bytes.u32(*product);
+                bytes.u64(price.0);
+                bytes.u8(*code);
+                bytes.u64(*a);
+                bytes.u64(*b);
+                bytes.u64(*moment);
+            }
         }
-        Entry::Fund {
-            acct,
-            amount,
-            reference,
-        } => {
-            bytes.u8(FUND);
-            bytes.u32(acct.0);
-            bytes.u64(*amount);
-            bytes.raw(reference);
-        }
-        Entry::Paid {
-            digest,
-            epoid,
-            consumer,
-            merchant,
-            product,
-            price,
-            cacct,
-            macct,
-            moment,
-            key,
-        } => {
-            bytes.u8(PAID);
-            bytes.raw(digest);
-            bytes.raw(&epoid.write());
-            bytes.u32(consumer.0);
-            bytes.u32(merchant.0);
-            bytes.u32(*product);
-            bytes.u64(price.0);
-            bytes.u32(cacct.0);
-            bytes.u32(macct.0);
-            bytes.u64(*moment);
-            bytes.raw(key);
-        }
-        Entry::Refused {
-            digest,
-            epoid,
-            consumer,
-            merchant,
-            product,
-            price,
-            code,
-            a,
-            b,
-            moment,
-        } => {
-            bytes.u8(REFUSED);
-            bytes.raw(digest);
-            bytes.raw(&epoid.write());
-            bytes.u32(consumer.0);
-            bytes.u32(merchant.0);
-            bytes.u32(*product);
-            bytes.u64(price.0);
-            bytes.u8(*code);
-            bytes.u64(*a);
-            bytes.u64(*b);
-            bytes.u64(*moment);
-        }
+        bytes
     }
-    bytes
 }
 
 // The entry at the front of the bytes.
