@@ -4,8 +4,8 @@ use Rattle.std.specs.Option.{option_to_list}
 use Rattle.nb_book.specs.declared.entry.Entry.{Entry}
 use Rattle.nb_escrow.specs.declared.head.Head.{Head}
 use Rattle.nb_vault.specs.declared.house.House.{House}
-use Rattle.nb_vault.specs.declared.house.Answer.{Answer}
-use Rattle.nb_vault.specs.declared.house.Answer.TheVariants as answers
+use Rattle.nb_vault.specs.declared.house.HouseAnswer.{HouseAnswer}
+use Rattle.nb_vault.specs.declared.house.HouseAnswer.TheVariants as answers
 use Rattle.nb_endorse.specs.declared.refusal.TheConstants.{NO_MEMORY}
 use Rattle.nb_escrow.specs.Verdict.{verdict}
 use Rattle.nb_msgs.specs.ReplyBytes.{reply_bytes}
@@ -24,7 +24,7 @@ abbrev pub SameHouse : House → House → Type 0
 SameHouse old new = (new.head ≡ old.head) × (new.book.cap ≡ old.book.cap)
 
 -- how the house answers: what is recorded after it, and what stands in out
-abbrev pub Answers : House → House → ℕ → List ℕ → ℕ → List ℕ → List ℕ → Answer → Type 0
+abbrev pub Answers : House → House → ℕ → List ℕ → ℕ → List ℕ → List ℕ → HouseAnswer → Type 0
 Answers old new kind body moment out out' (answers.Answered at) =
     let ruling = house_rules old.head old.book.cap old.book.entries (record { kind = kind; body = body; moment = moment }) in
     SameHouse old new × (at ≡ length old.book.entries) × (new.book.entries ≡ old.book.entries ++ option_to_list ruling.entry) × (out' ≡ out ++ ruling.reply)

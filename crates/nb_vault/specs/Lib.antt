@@ -1,3 +1,11 @@
 pub mod Stands
 pub mod Turns
 pub mod House
+pub mod Lines
+pub mod Chronicle
+pub mod Holdings
+pub mod Records
+pub mod Vaults
+pub mod Parts
+pub mod Restoring
+pub mod Opens

@@ -24,7 +24,7 @@ pub struct House {
 
 /// How a request was answered.
 #[derive(Clone, Copy, PartialEq, Eq, Debug)]
-pub enum Answer {
+pub enum HouseAnswer {
     /// It was decided over `at` entries.
     Answered { at: u64 },
     /// There was no memory for one entry more, and nothing was recorded.
@@ -47,7 +47,7 @@ impl House {
     }
 
     /// Answers one request: its entry is recorded, and then its reply is appended to `out`.
-    pub fn answer(&mut self, kind: u8, body: &[u8], moment: u64, out: &mut Vec<u8>) -> Answer
+    pub fn answer(&mut self, kind: u8, body: &[u8], moment: u64, out: &mut Vec<u8>) -> HouseAnswer
         requires { REPLY_ROOM ≤ spare_of out.old }
         ensures answers { Answers self.old self.new kind body.now moment out.old.items out.new.items result }
         ensures legal { Legal self.new.book.entries }
@@ -57,12 +57,12 @@ impl House {
         if self.book.reserve(1).is_err() {
             let refusal = Refusal::of(NO_MEMORY, 0, 0);
             write_reply(&Reply::Refused(refusal), &ReplyKeys::none(), out);
-            return Answer::NoMemory;
+            return HouseAnswer::NoMemory;
         }
         let decision = decide(&self.book, &self.head, kind, body, moment);
         self.record(&decision.entry);
         write_reply(&decision.reply, &decision.keys, out);
-        Answer::Answered { at }
+        HouseAnswer::Answered { at }
     }
 
     // Records the entry, where there is one.

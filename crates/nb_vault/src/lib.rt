@@ -10,10 +10,19 @@
 #![tactic(auto)]
 
 mod house;
+mod line;
 mod opening;
+mod origin;
+mod parts;
+mod records;
+mod restore;
+mod vault;
 
-pub use house::{Answer, House};
+pub use house::{House, HouseAnswer};
+pub use line::Line;
 pub use opening::{Opened, Opening, layout, open};
+pub use origin::Origin;
+pub use vault::{Answer, MAX_FAULTS, Vault, VaultFault};
 
 #[cfg(test)]
 mod tests;

@@ -12,8 +12,8 @@ use Rattle.netbill.proofs.Serving.{nothing_whole}
 use Rattle.nb_book.specs.declared.entry.Entry.{Entry}
 use Rattle.nb_book.specs.Legal.{Legal}
 use Rattle.nb_vault.specs.declared.house.House.{House}
-use Rattle.nb_vault.specs.declared.house.Answer.{Answer}
-use Rattle.nb_vault.specs.declared.house.Answer.TheVariants as answers
+use Rattle.nb_vault.specs.declared.house.HouseAnswer.{HouseAnswer}
+use Rattle.nb_vault.specs.declared.house.HouseAnswer.TheVariants as answers
 use Rattle.nb_frame.specs.Reader.{HoldsFrame}
 use Rattle.nb_vault.specs.House.{house_rules, Answers}
 use Rattle.nb_vault.specs.Turns.{Request, Ruling, Mark, At, NoMemory, Turn, IsFaultless, refused}
@@ -30,12 +30,12 @@ holds_frame held body kind h k b =
     let same : h.one ≡ record { kind = kind; body = body } = sym (ap (λ (n : ℕ). let f : Frame = record { kind = n; body = body } in f) first ∙ ap (λ (xs : List ℕ). let f : Frame = record { kind = h.one.kind; body = xs } in f) second) in
     subst P same (h.lawful, h.is)
 
-abbrev pub mark_of : Answer → Mark
+abbrev pub mark_of : HouseAnswer → Mark
 mark_of (answers.Answered at) = At at
 mark_of answers.NoMemory = NoMemory
 
 -- how a house answers is a turn
-turn_of : (old new : House) (kind moment : ℕ) (body out out' : List ℕ) (answer : Answer) → out ≡ [] → Answers old new kind body moment out out' answer
+turn_of : (old new : House) (kind moment : ℕ) (body out out' : List ℕ) (answer : HouseAnswer) → out ≡ [] → Answers old new kind body moment out out' answer
     → Turn (house_rules old.head old.book.cap) (at_rest old.book.entries) (record { kind = kind; body = body; moment = moment }) (mark_of answer) out' (at_rest new.book.entries)
 turn_of old new kind moment body out out' (answers.Answered at) none a = (
   omega arith,
@@ -50,11 +50,11 @@ turn_of old new kind moment body out out' (answers.Answered at) none a = (
 turn_of old new kind moment body out out' answers.NoMemory none a =
     (omega arith, a.2 ∙ ap (λ (xs : List ℕ). xs ++ refused NO_MEMORY 0 0) none, ap at_rest a.1)
 
-free_of : (answer : Answer) → IsFaultless (mark_of answer)
+free_of : (answer : HouseAnswer) → IsFaultless (mark_of answer)
 free_of (answers.Answered at) = tt
 free_of answers.NoMemory = tt
 
-pub stepped_with : (old new : House) (kind moment : ℕ) (held body out out' : List ℕ) (answer : Answer) (before after : Outside)
+pub stepped_with : (old new : House) (kind moment : ℕ) (held body out out' : List ℕ) (answer : HouseAnswer) (before after : Outside)
     → HoldsFrame held → kind ≡ slice_index held 3 → body ≡ drop HEADER held → Consumes before.left after.left held → Gives before.moments after.moments moment → out ≡ [] → Answers old new kind body moment out out' answer
     → Legal new.book.entries → (done : List ℕ → Type 0) → done out' → (s : Stepped (house_rules old.head old.book.cap) old.book.entries new.book.entries before after) × done s.one.reply
 stepped_with old new kind moment held body out out' answer before after h k b took now none a legal done sent =

@@ -1,0 +1,209 @@
+-- A turn, from its steps: settling, and making the entry of the verdict durable.
+use Rattle.std.proofs.Common.{◌≡◌, ◌⊎◌, inl, inr, ℕ, ◌+◌, List, [], ◌∷◌, ◌++◌, length, take, Option, None, Some, Ok, Err, refl, sym, ap, subst, ◌∙◌}
+use Rattle.std.specs.Option.{option_to_list}
+use Rattle.std.proofs.lemmas.List.{append-nil}
+use Rattle.nb_book.specs.declared.entry.Entry.{Entry}
+use Rattle.nb_journal.specs.Time.{LeavesOnly}
+use Rattle.nb_escrow.specs.declared.decision.Decision.{Decision}
+use Rattle.nb_escrow.specs.declared.head.Head.{Head}
+use Rattle.nb_escrow.specs.Head.{head_of}
+use Rattle.nb_escrow.specs.Verdict.{verdict}
+use Rattle.nb_vault.specs.declared.line.Line.{Line}
+use Rattle.nb_vault.specs.declared.line.Line.TheVariants.{Doubt, Fault}
+use Rattle.nb_vault.specs.declared.parts.Parts.{Parts}
+use Rattle.nb_vault.specs.declared.records.Counts.{Counts}
+use Rattle.nb_vault.specs.Holdings.{StandsFor, StandsForEither}
+use Rattle.nb_vault.specs.declared.vault.Answer.{Answer}
+use Rattle.nb_vault.specs.Lines.{AreOf, entries_of, next_turn}
+use Rattle.nb_vault.specs.Parts.{IsVault, SameOrigin, SameButRoom, CommitGives, seen_as}
+use Rattle.nb_vault.specs.Records.{EitherOf, WithOrWithout, disk_of}
+use Rattle.nb_vault.specs.Turns.{Request, State, Settles, Decides, Doubts}
+use Rattle.nb_vault.specs.Vaults.{Chronicled, state_of, rules_of, StandsForState, adopts, commits, ruled, Decided, Doubted, IsDurable, Adds, LinesOf}
+use Rattle.nb_vault.proofs.Resting.{leaves_more, leaves_then, rest_images}
+use Rattle.nb_vault.proofs.Vaulting.{same_opening}
+use Rattle.nb_journal.proofs.Moments.{started}
+use Rattle.nb_vault.proofs.Seeing.{state_at, state_seen, entries_seen, either_seen, settled_fresh, room_seen}
+
+-- what is kept of a doubt: nothing, or all of it
+abbrev pub IsKept : Option Entry → Option Entry → Type 0
+IsKept kept doubt = (kept ≡ None) ⊎ (kept ≡ doubt)
+
+-- a verdict is taken over the entries without the one in doubt, or with it
+pub settles : (entries : List Entry) (doubt kept : Option Entry) (n : ℕ) → IsKept kept doubt → Settles (record { entries = entries; doubt = option_to_list doubt; faults = n }) (entries ++ option_to_list kept)
+settles entries doubt kept n (inl none) = inl (ap (λ (o : Option Entry). entries ++ option_to_list o) none ∙ append-nil entries)
+settles entries doubt kept n (inr all) = inr (ap (λ (o : Option Entry). entries ++ option_to_list o) all)
+
+-- an entry in doubt stands behind the others
+pub together : (last over : List Entry) (doubt entry : Option Entry) (e : Entry) → last ≡ over → doubt ≡ Some e → entry ≡ Some e → last ++ option_to_list doubt ≡ over ++ option_to_list entry
+together last over doubt entry e a b d = rw (a, b, d) refl
+
+-- the lines are of one turn
+pub adopts_are : (by turn : ℕ) (kept : Option Entry) (more : List Line) → AreOf by turn more → AreOf by turn (adopts by turn kept ++ more)
+adopts_are by turn None more are = are
+adopts_are by turn (Some entry) more are = ((refl, refl), are)
+
+pub commits_are : (by turn : ℕ) (entry : Option Entry) → AreOf by turn (commits by turn entry)
+commits_are by turn None = tt
+commits_are by turn (Some entry) = ((refl, refl), tt)
+
+-- ---- images
+
+-- what is left while the entry is made durable
+pub image_behind : (head : List ℕ) (cap : ℕ) (entries over last rest : List Entry) (doubt kept entry : Option Entry) (image : List ℕ) → IsKept kept doubt → over ≡ entries ++ option_to_list kept
+    → (last ≡ over ++ option_to_list entry) ⊎ (last ++ rest ≡ over ++ option_to_list entry) → StandsForEither head cap over (option_to_list entry) image
+    → StandsForEither head cap entries (option_to_list doubt) image ⊎ StandsForEither head cap last rest image
+image_behind head cap entries over last rest doubt kept entry image is over_is last_is (inl before) = inl (without is)
+  where
+    without : IsKept kept doubt → StandsForEither head cap entries (option_to_list doubt) image
+    without (inl none) = inl (subst (λ (es : List Entry). StandsFor head cap es image) (over_is ∙ ap (λ (o : Option Entry). entries ++ option_to_list o) none ∙ append-nil entries) before)
+    without (inr all) = inr (subst (λ (es : List Entry). StandsFor head cap es image) (over_is ∙ ap (λ (o : Option Entry). entries ++ option_to_list o) all) before)
+image_behind head cap entries over last rest doubt kept entry image is over_is (inl last_is) (inr behind) = inr (inl (subst (λ (es : List Entry). StandsFor head cap es image) (sym last_is) behind))
+image_behind head cap entries over last rest doubt kept entry image is over_is (inr last_is) (inr behind) = inr (inr (subst (λ (es : List Entry). StandsFor head cap es image) (sym last_is) behind))
+
+module _ {D : Type 0} (content : D → Option (List ℕ)) (allowed : D → List ℕ → Type 0) (faults : D → ℕ) where
+  module _ (old mid : Parts D) (vault : IsVault content allowed faults old) (settled : IsVault content allowed faults mid) (same : SameOrigin old mid) (by turn : ℕ) (kept : Option Entry)
+      (kept_is : IsKept kept old.records.doubt) (entries : mid.records.book.entries ≡ old.records.book.entries ++ option_to_list kept) (lines : mid.lines.items ≡ old.lines.items ++ adopts by turn kept) where
+    -- the entries that the verdict is taken over, as the lines tell them
+    over_lines : entries_of (seen_as old).origin.entries ((seen_as old).lines ++ adopts by turn kept) ≡ mid.records.book.entries
+    over_lines =
+        ap (entries_of (take old.opening old.records.book.entries)) (sym lines)
+        ∙ ap (λ (opening : List Entry). entries_of opening mid.lines.items) (sym (same_opening content allowed faults old mid (option_to_list kept) vault same entries)) ∙ sym settled.tells.listed
+
+    -- what the verdict records
+    pub ruled_is : (request : Request) → ruled (seen_as old) ((seen_as old).lines ++ adopts by turn kept) request ≡ (rules_of (seen_as old) mid.records.book.entries request).entry
+    ruled_is request = ap (λ (es : List Entry). (rules_of (seen_as old) es request).entry) over_lines
+
+    pub settles_over : Settles (state_of (seen_as old)) mid.records.book.entries
+    settles_over = subst (λ (s : State). Settles s mid.records.book.entries) (sym (state_seen content allowed faults old vault)) (subst (Settles (state_at old)) (sym entries) (settles old.records.book.entries old.records.doubt kept old.faults kept_is))
+
+    -- the turn decided
+    pub decides : (new : Parts D) → IsVault content allowed faults new → (request : Request) (at : ℕ) (reply : List ℕ) (entry : Option Entry) → at ≡ length mid.records.book.entries → entry ≡ (rules_of (seen_as old) mid.records.book.entries request).entry
+        → reply ≡ (rules_of (seen_as old) mid.records.book.entries request).reply → new.records.book.entries ≡ mid.records.book.entries ++ option_to_list entry → new.records.doubt ≡ None → new.faults ≡ old.faults
+        → Decides (rules_of (seen_as old)) (state_of (seen_as old)) request at reply (state_of (seen_as new))
+    decides new done request at reply entry at_is entry_is reply_is more none few = record {
+      over = mid.records.book.entries;
+      settled = settles_over;
+      at = at_is;
+      told = reply_is;
+      left = state_seen content allowed faults new done ∙ rw (more, none, few, sym entry_is, vault.faults_are) refl;
+    }
+
+    -- the lines of it
+    pub decided_lines : (request : Request) (entry : Option Entry) (added : List Line) → entry ≡ (rules_of (seen_as old) mid.records.book.entries request).entry → added ≡ adopts by turn kept ++ commits by turn entry
+        → Decided (seen_as old) by turn request added
+    decided_lines request entry added entry_is is = record { kept = kept; lines = is ∙ ap (λ (o : Option Entry). adopts by turn kept ++ commits by turn o) (entry_is ∙ sym (ruled_is request)) }
+
+    -- the entry could not be made durable
+    pub doubts : (new : Parts D) → IsVault content allowed faults new → (request : Request) (entry : Entry) → Some entry ≡ (rules_of (seen_as old) mid.records.book.entries request).entry
+        → new.records.book.entries ≡ mid.records.book.entries → new.records.doubt ≡ Some entry → new.faults ≡ old.faults + 1 → Doubts (rules_of (seen_as old)) (state_of (seen_as old)) request (state_of (seen_as new))
+    doubts new done request entry entry_is more doubt one = record {
+      over = mid.records.book.entries;
+      entry = entry;
+      settled = settles_over;
+      recorded = sym entry_is;
+      left = state_seen content allowed faults new done ∙ rw (more, doubt, one, vault.faults_are) refl;
+    }
+
+    pub doubted_lines : (request : Request) (entry : Entry) (before after : ℕ) (added : List Line) → Some entry ≡ (rules_of (seen_as old) mid.records.book.entries request).entry
+        → added ≡ adopts by turn kept ++ Doubt by turn entry ∷ Fault by turn before after ∷ [] → Doubted (seen_as old) by turn before after request added
+    doubted_lines request entry before after added entry_is is = record { kept = kept; entry = entry; verdict = ruled_is request ∙ sym entry_is; lines = is }
+
+  module _ (moment : D → ℕ) (left : D → ℕ → List ℕ → Type 0) where
+    -- nothing was done
+    pub leaves_here : (p new : Parts D) → IsVault content allowed faults p → ((c : List ℕ) → left (disk_of p.records) (moment (disk_of p.records)) c → allowed (disk_of p.records) c) → disk_of new.records ≡ disk_of p.records
+        → LeavesOnly moment left (disk_of p.records) (disk_of new.records) (λ image. StandsForState (seen_as p) image ⊎ StandsForState (seen_as new) image)
+    leaves_here p new vault only_now same =
+        subst (λ (d : D). LeavesOnly moment left (disk_of p.records) d (λ image. StandsForState (seen_as p) image ⊎ StandsForState (seen_as new) image)) (sym same)
+        (started moment left (disk_of p.records) (λ image. StandsForState (seen_as p) image ⊎ StandsForState (seen_as new) image)
+        (λ c is. inl (either_seen content allowed faults p vault c (rest_images content allowed p.records vault.rests c (only_now c is)))))
+
+    -- settling failed
+    pub leaves_unsettled : (p : Parts D) (new : D) (Q : List ℕ → Type 0) → IsVault content allowed faults p → LeavesOnly moment left (disk_of p.records) new (EitherOf p.records)
+        → LeavesOnly moment left (disk_of p.records) new (λ image. StandsForState (seen_as p) image ⊎ Q image)
+    leaves_unsettled p new Q vault leaves =
+        leaves_more moment left (disk_of p.records) new (EitherOf p.records) (λ image. StandsForState (seen_as p) image ⊎ Q image) (λ c is. inl (either_seen content allowed faults p vault c is)) leaves
+
+    -- both steps were taken
+    pub leaves_both : (old mid new : Parts D) (vault : IsVault content allowed faults old) → IsVault content allowed faults new → SameOrigin old mid → SameOrigin mid new → (kept entry : Option Entry) → IsKept kept old.records.doubt
+        → mid.records.book.entries ≡ old.records.book.entries ++ option_to_list kept
+        → (new.records.book.entries ≡ mid.records.book.entries ++ option_to_list entry) ⊎ (new.records.book.entries ++ option_to_list new.records.doubt ≡ mid.records.book.entries ++ option_to_list entry)
+        → LeavesOnly moment left (disk_of old.records) (disk_of mid.records) (EitherOf old.records) → LeavesOnly moment left (disk_of mid.records) (disk_of new.records) (WithOrWithout mid.records (option_to_list entry))
+        → LeavesOnly moment left (disk_of old.records) (disk_of new.records) (λ image. StandsForState (seen_as old) image ⊎ StandsForState (seen_as new) image)
+    leaves_both old mid new vault done first second kept entry kept_is entries last leaves more =
+        leaves_then moment left (disk_of old.records) (disk_of mid.records) (disk_of new.records) (EitherOf old.records) (WithOrWithout mid.records (option_to_list entry)) (λ image. StandsForState (seen_as old) image ⊎ StandsForState (seen_as new) image)
+        leaves more (λ c is. inl (either_seen content allowed faults old vault c is)) (λ c is. seen c (behind c is))
+      where
+        behind : (c : List ℕ) → WithOrWithout mid.records (option_to_list entry) c → EitherOf old.records c ⊎ StandsForEither old.records.head old.records.book.cap new.records.book.entries (option_to_list new.records.doubt) c
+        behind c is =
+            image_behind old.records.head old.records.book.cap old.records.book.entries mid.records.book.entries new.records.book.entries (option_to_list new.records.doubt) old.records.doubt kept entry c kept_is entries last
+            (subst (λ (head : List ℕ). StandsForEither head old.records.book.cap mid.records.book.entries (option_to_list entry) c) first.terms.head
+            (subst (λ (cap : ℕ). StandsForEither mid.records.head cap mid.records.book.entries (option_to_list entry) c) first.terms.cap is))
+
+        seen : (c : List ℕ) → EitherOf old.records c ⊎ StandsForEither old.records.head old.records.book.cap new.records.book.entries (option_to_list new.records.doubt) c → StandsForState (seen_as old) c ⊎ StandsForState (seen_as new) c
+        seen c (inl was) = inl (either_seen content allowed faults old vault c was)
+        seen c (inr now) = inr (either_seen content allowed faults new done c
+            (subst (λ (head : List ℕ). StandsForEither head new.records.book.cap new.records.book.entries (option_to_list new.records.doubt) c) (sym (second.terms.head ∙ first.terms.head))
+            (subst (λ (cap : ℕ). StandsForEither old.records.head cap new.records.book.entries (option_to_list new.records.doubt) c) (sym (second.terms.cap ∙ first.terms.cap)) now)))
+
+  -- what was answered is durable
+  pub durable : (p : Parts D) → IsVault content allowed faults p → p.records.doubt ≡ None → IsDurable allowed (seen_as p)
+  durable p vault none = record {
+    fresh = settled_fresh content allowed faults p.records vault.rests none;
+    images = λ image is.
+        let all : EitherOf p.records image = rest_images content allowed p.records vault.rests image is in
+        subst (λ (es : List Entry). StandsFor p.records.head p.records.book.cap es image) (sym (entries_seen content allowed faults p vault))
+        (alone image (subst (λ (d : Option Entry). StandsForEither p.records.head p.records.book.cap p.records.book.entries (option_to_list d) image) none all));
+  }
+    where
+      alone : (image : List ℕ) → StandsForEither p.records.head p.records.book.cap p.records.book.entries [] image → StandsFor p.records.head p.records.book.cap p.records.book.entries image
+      alone image (inl is) = is
+      alone image (inr is) = subst (λ (es : List Entry). StandsFor p.records.head p.records.book.cap es image) (append-nil p.records.book.entries) is
+
+  -- ---- the steps, by cases on the entry
+
+  pub commit_ok : (mid new : Parts D) (by turn : ℕ) (entry : Option Entry) → mid.records.doubt ≡ None → CommitGives faults mid new by turn entry (Ok tt)
+      → (new.records.book.entries ≡ mid.records.book.entries ++ option_to_list entry) × (new.records.doubt ≡ None) × (new.lines.items ≡ mid.lines.items ++ commits by turn entry) × (new.faults ≡ mid.faults)
+  commit_ok mid new by turn None none gives =
+      (ap (λ (p : Parts D). p.records.book.entries) gives.0 ∙ sym (append-nil mid.records.book.entries), ap (λ (p : Parts D). p.records.doubt) gives.0 ∙ none, ap (λ (p : Parts D). p.lines.items) gives.0 ∙ sym (append-nil mid.lines.items), ap (λ (p : Parts D). p.faults) gives.0)
+  commit_ok mid new by turn (Some entry) none gives = (gives.2, gives.0, gives.1, gives.3)
+
+  pub commit_err : (mid new : Parts D) (by turn : ℕ) (entry : Option Entry) (counts : Counts) → CommitGives faults mid new by turn entry (Err counts)
+      → (e : Entry) × (entry ≡ Some e) × (new.records.book.entries ≡ mid.records.book.entries) × (new.records.doubt ≡ Some e)
+      × (new.lines.items ≡ mid.lines.items ++ Doubt by turn e ∷ Fault by turn counts.before counts.after ∷ []) × (new.faults ≡ mid.faults + 1)
+  commit_err mid new by turn None counts gives = absurd cc
+  commit_err mid new by turn (Some e) counts gives = (e, refl, gives.2.entries, gives.0, gives.1, gives.3)
+
+  pub then_same : (old mid new : Parts D) → SameOrigin old mid → SameOrigin mid new → SameOrigin old new
+  then_same old mid new first second = record {
+    terms = record { head = second.terms.head ∙ first.terms.head; cap = second.terms.cap ∙ first.terms.cap };
+    opening = second.opening ∙ first.opening;
+    count = second.count ∙ first.count;
+    head = second.head ∙ first.head;
+  }
+
+  -- ---- the verdict
+
+  pub verdict_is : (old mid : Parts D) → IsVault content allowed faults old → SameOrigin old mid → (kind moment : ℕ) (body : List ℕ) (decision : Decision)
+      → decision ≡ verdict mid.records.book.entries mid.head mid.records.book.cap kind body moment → decision ≡ verdict mid.records.book.entries (head_of old.records.head) old.records.book.cap kind body moment
+  verdict_is old mid vault same kind moment body decision is =
+      is ∙ ap (λ (head : Head). verdict mid.records.book.entries head mid.records.book.cap kind body moment) (same.head ∙ vault.keys)
+      ∙ ap (λ (cap : ℕ). verdict mid.records.book.entries (head_of old.records.head) cap kind body moment) same.terms.cap
+
+  -- ---- from before the memory was taken
+
+  pub from_start : (moment : D → ℕ) (left : D → ℕ → List ℕ → Type 0) (old start new : Parts D) → SameButRoom old start
+      → LeavesOnly moment left (disk_of start.records) (disk_of new.records) (λ image. StandsForState (seen_as start) image ⊎ StandsForState (seen_as new) image)
+      → LeavesOnly moment left (disk_of old.records) (disk_of new.records) (λ image. StandsForState (seen_as old) image ⊎ StandsForState (seen_as new) image)
+  from_start moment left old start new same leaves =
+      subst (λ (v : Chronicled D). LeavesOnly moment left v.disk (disk_of new.records) (λ image. StandsForState v image ⊎ StandsForState (seen_as new) image)) (room_seen content allowed faults old start same) leaves
+
+  pub adds_from : (old start new : Parts D) → SameButRoom old start → (by turn : ℕ) (request : Request) (answer : Answer) (added : List Line) → turn ≡ next_turn start.lines.items → new.lines.items ≡ start.lines.items ++ added → AreOf by turn added
+      → LinesOf (seen_as start) by turn request added answer → Adds (seen_as old) (seen_as new) by request answer
+  adds_from old start new same by turn request answer added turn_is behind made lines =
+      subst (λ (v : Chronicled D). Adds v (seen_as new) by request answer) (room_seen content allowed faults old start same)
+      (record {
+        added = added;
+        behind = behind;
+        made = subst (λ (n : ℕ). AreOf by n added) turn_is made;
+        lines = subst (λ (n : ℕ). LinesOf (seen_as start) by n request added answer) turn_is lines;
+      })

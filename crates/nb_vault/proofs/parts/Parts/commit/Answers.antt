@@ -1,0 +1,25 @@
+use Rattle.std.proofs.Common.{◌∷◌, [], ◌++◌, refl, ap, ◌∙◌, arith}
+use Rattle.nb_vault.specs.declared.records.Records.{Records}
+use Rattle.nb_vault.specs.declared.line.Line.TheVariants.{Fault}
+use Rattle.nb_vault.proofs.Vaulting.{commit_done, doubt_done, fault_origin, fault_rests, fault_disk}
+use Rattle.nb_vault.proofs.parts.Parts.commit.Goals as goal
+
+pub returns-in-Ok-clause-vault : goal.returns-in-Ok-clause-vault
+returns-in-Ok-clause-vault g c =
+    commit_done g.D.Disk.content g.D.Disk.allowed g.D.Disk.faults c.args.self.now _ c.args.by c.args.turn c.requires.vault c.requires.turn
+    (record { terms = c.add.ensures.terms; opening = refl; count = refl; head = refl }) c.add.ensures.rests c.in-Some.entry c.add.ensures.count c.in-Ok.ensures.gives.1 c.in-Ok.ensures.gives.0 c.push_reserved.ensures.items refl
+
+pub returns-in-Err-clause-vault : goal.returns-in-Err-clause-vault
+returns-in-Err-clause-vault g c =
+    let old = c.args.self.now in
+    let new = c.fail.new.self in
+    let same = c.fail.ensures.rest in
+    let failed = c.in-Err.ensures.gives.1 in
+    let content = g.D.Disk.content in
+    let allowed = g.D.Disk.allowed in
+    let faults = g.D.Disk.faults in
+    doubt_done content allowed faults old new c.args.by c.args.turn c.requires.vault c.requires.turn
+    (fault_origin content allowed faults old new c.add.new.self same.0 c.add.ensures.terms same.1 same.2 same.3) (fault_rests content allowed faults old new c.add.new.self same.0 c.add.ensures.rests)
+    c.in-Some.entry c.in-Err.counts.before c.in-Err.counts.after c.requires.few (omega (arith, failed.before)) failed.rose (fault_disk content allowed faults old new c.add.new.self same.0 c.in-Err.counts.after failed.after)
+    (ap (λ (r : Records _). r.book.entries) same.0 ∙ failed.entries) (ap (λ (r : Records _). r.doubt) same.0 ∙ c.in-Err.ensures.gives.0)
+    (c.fail.ensures.lines ∙ ap (λ xs. xs ++ Fault c.args.by c.args.turn c.in-Err.counts.before c.in-Err.counts.after ∷ []) c.push_reserved-in-Err.ensures.items) c.fail.ensures.faults

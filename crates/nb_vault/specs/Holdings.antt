@@ -1,0 +1,33 @@
+-- What an image of the disk stands for: a journal with a head and a cap, whose items spell a Legal list of entries.
+use Rattle.std.specs.Prelude.{◌≡◌, ◌⊎◌, ℕ, ◌≤◌, List, ◌++◌, length, map}
+use Rattle.std.specs.List.{flat_map, AllByRecursion}
+use Rattle.nb_book.specs.declared.entry.Entry.{Entry}
+use Rattle.nb_book.specs.Legal.{Legal}
+use Rattle.nb_book.specs.Spelling.{entries_bytes, Spells}
+use Rattle.nb_journal.specs.Layout.{front_bytes, AreTerms}
+use Rattle.nb_journal.specs.Stands.{Stands}
+
+-- the items spell these entries, from 1 to 32 each
+pub record Joins (items : List (List ℕ)) (entries : List Entry) : Type 0 where
+  pub groups : List (List Entry)
+  pub spelled : items ≡ map entries_bytes groups
+  pub each : AllByRecursion (λ (group : List Entry). Spells (entries_bytes group) group) groups
+  pub joined : entries ≡ flat_map (λ (group : List Entry). group) groups
+
+-- the image is a journal with this head, this cap and these entries
+pub record StandsFor (head : List ℕ) (cap : ℕ) (entries : List Entry) (image : List ℕ) : Type 0 where
+  pub items : List (List ℕ)
+  pub terms : AreTerms cap head
+  pub stands : Stands (front_bytes cap head) items image
+  pub joins : Joins items entries
+  pub legal : Legal entries
+  pub within : length entries ≤ cap
+
+-- it stands for the entries alone, or for these and those in doubt
+abbrev pub StandsForEither : List ℕ → ℕ → List Entry → List Entry → List ℕ → Type 0
+StandsForEither head cap entries doubt image = StandsFor head cap entries image ⊎ StandsFor head cap (entries ++ doubt) image
+
+-- an image stands for one list
+abbrev pub OneList : Type 0
+OneList = (image head head' : List ℕ) (cap cap' : ℕ) (entries entries' : List Entry) → StandsFor head cap entries image → StandsFor head' cap' entries' image
+    → (cap ≡ cap') × (head ≡ head') × (entries ≡ entries')

@@ -1,0 +1,92 @@
+-- What opening a vault gives.
+use Rattle.std.specs.Prelude.{◌≡◌, ℕ, ⊤, List, [], Option, Some, None, IfSome, Result, Ok, Err, length}
+use Rattle.nb_port.specs.Faults.{Rose}
+use Rattle.nb_book.specs.declared.entry.Entry.{Entry}
+use Rattle.nb_journal.specs.declared.opening.Opened.{Opened}
+use Rattle.nb_journal.specs.Layout.{front_bytes, AreTerms}
+use Rattle.nb_journal.specs.Reading.{Holds, IsUnborn, IsDamaged}
+use Rattle.nb_journal.specs.States.{AtRest}
+use Rattle.nb_vault.specs.declared.parts.Parts.{Parts}
+use Rattle.nb_vault.specs.declared.records.TheConstants.{ROOM}
+use Rattle.nb_vault.specs.declared.vault.opening.VaultFault.{VaultFault}
+use Rattle.nb_vault.specs.declared.vault.opening.VaultFault.TheVariants as opens
+use Rattle.nb_vault.specs.Holdings.{Joins, StandsFor}
+use Rattle.nb_vault.specs.Parts.{IsVault}
+use Rattle.nb_vault.specs.Records.{disk_of}
+use Rattle.nb_vault.specs.Restoring.{FirstBad}
+use Rattle.nb_vault.specs.Vaults.{Chronicled, IsDurable, Keeps}
+
+-- the image is a journal, and this is its first item that does not spell entries which may come next
+pub record IsBadEntry (image : List ℕ) (item : ℕ) : Type 0 where
+  pub cap : ℕ
+  pub head : List ℕ
+  pub items : List (List ℕ)
+  pub holds : Holds image cap head items
+  pub first : FirstBad cap items item
+
+-- by cases on the fault, for the disk before and after
+abbrev pub OpenFails : {D : Type 0} → (D → Option (List ℕ)) → (D → ℕ) → D → D → VaultFault → Type 0
+OpenFails content faults old new (opens.Unborn found) = IfSome (content old) (λ image. IsUnborn image found)
+OpenFails content faults old new (opens.Damaged item place) = IfSome (content old) (λ image. IsDamaged image item place)
+OpenFails content faults old new (opens.BadEntry item) = IfSome (content old) (λ image. IsBadEntry image item)
+OpenFails content faults old new (opens.DiskFault before after) = (before ≡ faults old) × (after ≡ faults new) × Rose before after
+OpenFails content faults old new opens.NoMemory = ⊤
+
+-- nothing was done yet, the content stands for the entries, and a stop leaves nothing else
+pub record OpensAs {D : Type 0} (content : D → Option (List ℕ)) (allowed : D → List ℕ → Type 0) (faults : D → ℕ) (disk : D) (v : Chronicled D) : Type 0 where
+  pub lines : v.lines ≡ []
+  pub count : v.origin.faults ≡ faults disk
+  pub stands : IfSome (content disk) (StandsFor v.origin.head v.origin.cap v.origin.entries)
+  pub durable : IsDurable allowed v
+  pub keeps : Keeps content allowed faults v
+
+-- by cases on the result
+abbrev pub OpenGives : {D : Type 0} → (D → Option (List ℕ)) → (D → List ℕ → Type 0) → (D → ℕ) → D → Result (Chronicled D) (VaultFault × D) → Type 0
+OpenGives content allowed faults disk (Ok v) = OpensAs content allowed faults disk v
+OpenGives content allowed faults disk (Err e) = OpenFails content faults disk e.1 e.0
+
+-- what comes of a content that stands for these entries: they are opened, or the disk failed, or there was no memory
+abbrev pub OpensWhole : {D : Type 0} → List ℕ → ℕ → List Entry → Result (Chronicled D) (VaultFault × D) → Type 0
+OpensWhole head cap entries (Ok v) = (v.origin.head ≡ head) × (v.origin.cap ≡ cap) × (v.origin.entries ≡ entries)
+OpensWhole head cap entries (Err (opens.DiskFault before after, disk)) = ⊤
+OpensWhole head cap entries (Err (opens.NoMemory, disk)) = ⊤
+OpensWhole head cap entries (Err other) = ⊥
+
+abbrev pub WholeOpens : {D : Type 0} → Option (List ℕ) → Result (Chronicled D) (VaultFault × D) → Type 0
+WholeOpens content result = (image head : List ℕ) (cap : ℕ) (entries : List Entry) → content ≡ Some image → StandsFor head cap entries image → OpensWhole head cap entries result
+
+-- the disk, in the vault or given back
+abbrev pub disk_in : {D : Type 0} → Result (Chronicled D) (VaultFault × D) → D
+disk_in (Ok v) = v.disk
+disk_in (Err e) = e.1
+
+-- ---- for the contracts of private functions alone
+
+-- a journal that was opened, with its items
+pub record IsOpened {D : Type 0} (content : D → Option (List ℕ)) (allowed : D → List ℕ → Type 0) (o : Opened D) : Type 0 where
+  pub terms : AreTerms o.cap o.head
+  pub rest : AtRest content allowed (front_bytes o.cap o.head) o.items.items o.journal
+  pub cap : o.journal.cap ≡ o.cap
+  pub room : o.journal.room ≡ ROOM
+
+-- a vault over these items
+pub record IsRestored {D : Type 0} (content : D → Option (List ℕ)) (allowed : D → List ℕ → Type 0) (faults : D → ℕ) (o : Opened D) (count : ℕ) (p : Parts D) : Type 0 where
+  pub vault : IsVault content allowed faults p
+  pub joins : Joins o.items.items p.records.book.entries
+  pub opening : p.opening ≡ length p.records.book.entries
+  pub settled : p.records.doubt ≡ None
+  pub lines : p.lines.items ≡ []
+  pub from : p.count ≡ count
+  pub head : p.records.head ≡ o.head
+  pub cap : p.records.book.cap ≡ o.cap
+  pub disk : disk_of p.records ≡ o.journal.disk
+
+-- by cases on the fault, with the disk that is given back
+abbrev pub RestoreFails : {D : Type 0} → Opened D → D → VaultFault → Type 0
+RestoreFails o disk (opens.BadEntry item) = FirstBad o.cap o.items.items item × (disk ≡ o.journal.disk)
+RestoreFails o disk opens.NoMemory = disk ≡ o.journal.disk
+RestoreFails o disk other = ⊥
+
+abbrev pub RestoreGives : {D : Type 0} → (D → Option (List ℕ)) → (D → List ℕ → Type 0) → (D → ℕ) → Opened D → ℕ → Result (Parts D) (VaultFault × D) → Type 0
+RestoreGives content allowed faults o count (Ok p) = IsRestored content allowed faults o count p
+RestoreGives content allowed faults o count (Err e) = RestoreFails o e.1 e.0

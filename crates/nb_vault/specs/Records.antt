@@ -1,0 +1,68 @@
+-- The entries of a house, in memory and on the disk. The words take what a disk tells as arguments: its content, its images,
+-- its count of faults.
+use Rattle.std.specs.Prelude.{◌≡◌, ◌≢◌, ℕ, ◌<◌, ◌≤◌, List, [], ◌∷◌, ◌++◌, length, Option, None, Some, IfSome, Result, Ok, Err}
+use Rattle.std.specs.Option.{option_to_list}
+use Rattle.nb_port.specs.Faults.{Rose}
+use Rattle.nb_book.specs.declared.entry.Entry.{Entry}
+use Rattle.nb_book.specs.Legal.{LegalAfter, Legal}
+use Rattle.nb_book.specs.Spelling.{entry_bytes, IsEntry}
+use Rattle.nb_journal.specs.declared.journal.Journal.{Journal}
+use Rattle.nb_journal.specs.Layout.{front_bytes, AreTerms}
+use Rattle.nb_journal.specs.States.{AtRest, InDoubt}
+use Rattle.nb_vault.specs.declared.records.Records.{Records}
+use Rattle.nb_vault.specs.declared.records.Counts.{Counts}
+use Rattle.nb_vault.specs.declared.records.TheConstants.{ROOM}
+use Rattle.nb_vault.specs.Holdings.{Joins, StandsForEither}
+
+-- a journal with these items, at rest where nothing is in doubt
+abbrev pub RestsIn : {D : Type 0} → (D → Option (List ℕ)) → (D → List ℕ → Type 0) → List ℕ → List (List ℕ) → Option Entry → Journal D → Type 0
+RestsIn content allowed front items None journal = AtRest content allowed front items journal
+RestsIn content allowed front items (Some entry) journal = InDoubt content allowed front items (entry_bytes entry) journal
+
+-- the journal holds the entries of the book, and the entry in doubt is legal behind them
+pub record Rests {D : Type 0} (content : D → Option (List ℕ)) (allowed : D → List ℕ → Type 0) (r : Records D) : Type 0 where
+  pub items : List (List ℕ)
+  pub joins : Joins items r.book.entries
+  pub terms : AreTerms r.book.cap r.head
+  pub journal : RestsIn content allowed (front_bytes r.book.cap r.head) items r.doubt r.journal
+  pub cap : r.journal.cap ≡ r.book.cap
+  pub room : r.journal.room ≡ ROOM
+  pub legal : Legal r.book.entries
+  pub count : length r.book.entries ≤ r.book.cap
+  pub next : IfSome r.doubt (LegalAfter r.book.entries)
+  pub fits : IfSome r.doubt IsEntry
+  pub within : IfSome r.doubt (λ entry. length r.book.entries < r.book.cap)
+
+abbrev pub disk_of : {D : Type 0} → Records D → D
+disk_of r = r.journal.disk
+
+-- an image stands for the entries, without these or with them
+abbrev pub WithOrWithout : {D : Type 0} → Records D → List Entry → List ℕ → Type 0
+WithOrWithout r more image = StandsForEither r.head r.book.cap r.book.entries more image
+
+-- the same of the entry in doubt
+abbrev pub EitherOf : {D : Type 0} → Records D → List ℕ → Type 0
+EitherOf r image = WithOrWithout r (option_to_list r.doubt) image
+
+-- head and cap stay
+pub record SameTerms {D : Type 0} (old new : Records D) : Type 0 where
+  pub head : new.head ≡ old.head
+  pub cap : new.book.cap ≡ old.book.cap
+
+-- the counts of the disk's faults at the beginning of a call that failed and at its end
+pub record Failed {D : Type 0} (faults : D → ℕ) (old new : Records D) (counts : Counts) : Type 0 where
+  pub before : counts.before ≡ faults (disk_of old)
+  pub after : counts.after ≡ faults (disk_of new)
+  pub rose : Rose counts.before counts.after
+  pub entries : new.book.entries ≡ old.book.entries
+
+-- by cases on the result: what was in doubt is kept, or is not there, or is still in doubt
+abbrev pub SettleGives : {D : Type 0} → (D → ℕ) → Records D → Records D → Result (Option Entry) Counts → Type 0
+SettleGives faults old new (Ok None) = (new.doubt ≡ None) × (new.book.entries ≡ old.book.entries)
+SettleGives faults old new (Ok (Some entry)) = (new.doubt ≡ None) × (old.doubt ≡ Some entry) × (new.book.entries ≡ old.book.entries ++ entry ∷ [])
+SettleGives faults old new (Err counts) = (new.doubt ≡ old.doubt) × (old.doubt ≢ None) × Failed faults old new counts
+
+-- by cases on the result: the entry is recorded, or it is in doubt
+abbrev pub AddGives : {D : Type 0} → (D → ℕ) → Records D → Records D → Entry → Result (Unit {0}) Counts → Type 0
+AddGives faults old new entry (Ok done) = (new.doubt ≡ None) × (new.book.entries ≡ old.book.entries ++ entry ∷ [])
+AddGives faults old new entry (Err counts) = (new.doubt ≡ Some entry) × Failed faults old new counts

@@ -1,0 +1,135 @@
+-- What a vault is seen as, what every vault keeps, and how it answers.
+use Rattle.std.specs.Prelude.{◌≡◌, ◌≢◌, ◌⊎◌, ℕ, ◌≤◌, Bool, true, false, List, [], ◌∷◌, ◌++◌, length, Option, Some, IfSome, if◌then◌else◌}
+use Rattle.nb_port.specs.Faults.{Rose}
+use Rattle.nb_book.specs.declared.entry.Entry.{Entry}
+use Rattle.nb_book.specs.Legal.{Legal}
+use Rattle.nb_journal.specs.Layout.{AreTerms}
+use Rattle.nb_endorse.specs.declared.refusal.TheConstants.{DISK_FAULT, WORN, NO_MEMORY}
+use Rattle.nb_escrow.specs.Head.{head_of}
+use Rattle.nb_vault.specs.declared.line.Line.{Line}
+use Rattle.nb_vault.specs.declared.line.Line.TheVariants.{Commit, Adopted, Doubt, Fault}
+use Rattle.nb_vault.specs.declared.origin.Origin.{Origin}
+use Rattle.nb_vault.specs.declared.vault.Answer.{Answer}
+use Rattle.nb_vault.specs.declared.vault.Answer.TheVariants as answers
+use Rattle.nb_vault.specs.Chronicle.{Sound, Backed, NeverFall}
+use Rattle.nb_vault.specs.Holdings.{StandsFor, StandsForEither}
+use Rattle.nb_vault.specs.House.{house_rules}
+use Rattle.nb_vault.specs.Lines.{entries_of, faults_of, open_doubt, next_turn, AreOf}
+use Rattle.nb_vault.specs.Turns.{Request, Ruling, State, Mark, At, Turn, most_faults, refused}
+use Rattle.nb_vault.specs.Turns as turns
+
+-- what it was opened with, what was done since, whether an entry is in doubt, and the disk
+pub record Chronicled (D : Type 0) : Type 0 where
+  pub origin : Origin
+  pub lines : List Line
+  pub stale : Bool
+  pub disk : D
+
+-- the entries that are recorded
+abbrev pub entries_in : {D : Type 0} → Chronicled D → List Entry
+entries_in v = entries_of v.origin.entries v.lines
+
+-- the entry in doubt, if one is
+abbrev pub doubt_in : {D : Type 0} → Chronicled D → List Entry
+doubt_in v = if v.stale then open_doubt v.lines else []
+
+-- the state of the house
+abbrev pub state_of : {D : Type 0} → Chronicled D → State
+state_of v = record { entries = entries_in v; doubt = doubt_in v; faults = faults_of v.lines }
+
+-- the rules that it goes by
+abbrev pub rules_of : {D : Type 0} → Chronicled D → List Entry → Request → Ruling
+rules_of v = house_rules (head_of v.origin.head) v.origin.cap
+
+-- an image stands for the entries, without those in doubt or with them
+abbrev pub StandsForState : {D : Type 0} → Chronicled D → List ℕ → Type 0
+StandsForState v image = StandsForEither v.origin.head v.origin.cap (entries_in v) (doubt_in v) image
+
+-- what every vault keeps
+pub record Keeps {D : Type 0} (content : D → Option (List ℕ)) (allowed : D → List ℕ → Type 0) (faults : D → ℕ) (v : Chronicled D) : Type 0 where
+  -- its list is legal, also with an entry in doubt, and within the cap
+  pub legal : Legal (entries_in v ++ doubt_in v)
+  pub within : length (entries_in v ++ doubt_in v) ≤ v.origin.cap
+  pub terms : AreTerms v.origin.cap v.origin.head
+  -- it is what its content stands for, and what a stop leaves
+  pub bytes : IfSome (content v.disk) (StandsForState v)
+  pub images : (image : List ℕ) → allowed v.disk image → StandsForState v image
+  -- where it is stale an entry is in doubt
+  pub doubt : v.stale ≡ true → doubt_in v ≢ []
+  -- its lines adopt what was in doubt, their faults are the disk's, their turns never fall, and few are faults
+  pub sound : Sound v.lines
+  pub backed : Backed v.origin.faults v.lines (faults v.disk)
+  pub turns : NeverFall v.lines
+  pub few : faults_of v.lines ≤ most_faults
+
+-- ---- answering
+
+-- the request
+abbrev pub request_of : ℕ → List ℕ → ℕ → Request
+request_of kind body moment = record { kind = kind; body = body; moment = moment }
+
+-- how a turn went, by the answer; a reply is handed out where it decided, and nowhere else
+abbrev pub TurnOf : {D : Type 0} → Chronicled D → Chronicled D → Request → List ℕ → List ℕ → Answer → Type 0
+TurnOf old new request out out' (answers.Answered at) =
+    (reply : List ℕ) × Turn (rules_of old) (state_of old) request (At at) reply (state_of new) × (out' ≡ out ++ reply)
+TurnOf old new request out out' (answers.DiskFault before after) =
+    Turn (rules_of old) (state_of old) request (turns.Fault before after) (refused DISK_FAULT before after) (state_of new) × (out' ≡ out)
+TurnOf old new request out out' (answers.Worn faults) =
+    Turn (rules_of old) (state_of old) request turns.Worn (refused WORN faults 0) (state_of new) × (out' ≡ out)
+TurnOf old new request out out' answers.NoMemory =
+    Turn (rules_of old) (state_of old) request turns.NoMemory (refused NO_MEMORY 0 0) (state_of new) × (out' ≡ out)
+
+-- the line of an entry in doubt that is kept
+abbrev pub adopts : ℕ → ℕ → Option Entry → List Line
+adopts by turn (Some entry) = Adopted by turn entry ∷ []
+adopts by turn other = []
+
+-- the line of the entry of a verdict that is recorded
+abbrev pub commits : ℕ → ℕ → Option Entry → List Line
+commits by turn (Some entry) = Commit by turn entry ∷ []
+commits by turn other = []
+
+-- what the verdict records, over the entries behind these lines
+abbrev pub ruled : {D : Type 0} → Chronicled D → List Line → Request → Option Entry
+ruled v lines request = (rules_of v (entries_of v.origin.entries lines) request).entry
+
+-- a turn that decided: at most one line that adopts, and then that of the entry of the verdict over the lines before it
+pub record Decided {D : Type 0} (old : Chronicled D) (by turn : ℕ) (request : Request) (added : List Line) : Type 0 where
+  pub kept : Option Entry
+  pub lines : added ≡ adopts by turn kept ++ commits by turn (ruled old (old.lines ++ adopts by turn kept) request)
+
+-- a turn whose entry could not be made durable: at most one line that adopts, the doubt, and the fault
+pub record Doubted {D : Type 0} (old : Chronicled D) (by turn before after : ℕ) (request : Request) (added : List Line) : Type 0 where
+  pub kept : Option Entry
+  pub entry : Entry
+  pub verdict : ruled old (old.lines ++ adopts by turn kept) request ≡ Some entry
+  pub lines : added ≡ adopts by turn kept ++ Doubt by turn entry ∷ Fault by turn before after ∷ []
+
+-- the lines of one answer
+abbrev pub LinesOf : {D : Type 0} → Chronicled D → ℕ → ℕ → Request → List Line → Answer → Type 0
+LinesOf old by turn request added (answers.Answered at) = Decided old by turn request added
+LinesOf old by turn request added (answers.DiskFault before after) = (added ≡ Fault by turn before after ∷ []) ⊎ Doubted old by turn before after request added
+LinesOf old by turn request added (answers.Worn faults) = added ≡ []
+LinesOf old by turn request added answers.NoMemory = added ≡ []
+
+-- what an answer adds to the lines
+pub record Adds {D : Type 0} (old new : Chronicled D) (by : ℕ) (request : Request) (answer : Answer) : Type 0 where
+  pub added : List Line
+  pub behind : new.lines ≡ old.lines ++ added
+  pub made : AreOf by (next_turn old.lines) added
+  pub lines : LinesOf old by (next_turn old.lines) request added answer
+
+-- each image that a stop leaves stands for the entries alone, and nothing is in doubt
+pub record IsDurable {D : Type 0} (allowed : D → List ℕ → Type 0) (v : Chronicled D) : Type 0 where
+  pub fresh : v.stale ≡ false
+  pub images : (image : List ℕ) → allowed v.disk image → StandsFor v.origin.head v.origin.cap (entries_in v) image
+
+-- where it answered
+abbrev pub DurableWhere : {D : Type 0} → (D → List ℕ → Type 0) → Chronicled D → Answer → Type 0
+DurableWhere allowed new (answers.Answered at) = IsDurable allowed new
+DurableWhere allowed new other = Unit {0}
+
+-- a fault lies within the call's counts of faults
+abbrev pub FaultWithin : ℕ → ℕ → Answer → Type 0
+FaultWithin from to (answers.DiskFault before after) = (from ≤ before) × Rose before after × (after ≤ to)
+FaultWithin from to other = Unit {0}

@@ -1,0 +1,15 @@
+use nb_book::Entry;
+use nb_journal::HEAD;
+use std::collections::LinkedList;
+
+/// What a vault was opened with. No value of it is made: it is what contracts speak of.
+pub struct Origin {
+    /// The entries that stood on the disk.
+    pub entries: LinkedList<Entry>,
+    /// The bytes of the journal's head.
+    pub head: [u8; HEAD],
+    /// The most entries that may be held.
+    pub cap: u32,
+    /// The disk's count of faults when it was open.
+    pub faults: u64,
+}

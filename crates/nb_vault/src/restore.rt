@@ -1,0 +1,71 @@
+// The entries of a journal's items, into a book.
+
+ghost use Rattle.std.specs.Prelude.{◌≡◌, ◌≤◌, [], length};
+ghost use Rattle.nb_book.specs.declared.limits.TheConstants.{MAX_CAP};
+ghost use Rattle.nb_vault.specs.Restoring.{ItemGives, ItemsGive, IsList};
+
+use nb_book::{Book, MAX_ITEM_ENTRIES, read_entry};
+use nb_units::{Blob, Cut};
+
+// How the entries of one item went into the book.
+#[derive(Clone, Copy, PartialEq, Eq, Debug)]
+pub(crate) enum ItemRead {
+    Whole,
+    Bad,
+    NoMemory,
+}
+
+// How those of all items went. `item` is the number of the first that is bad, from 0.
+#[derive(Clone, Copy, PartialEq, Eq, Debug)]
+pub(crate) enum ItemsRead {
+    Whole,
+    Bad { item: u32 },
+    NoMemory,
+}
+
+// Applies the entries of the items, up to the first item that does not spell entries which may come next.
+pub(crate) fn restore(book: &mut Book, items: &[Blob]) -> ItemsRead
+    requires empty { book.old.entries ≡ [] }
+    requires few { length items.now ≤ MAX_CAP }
+    ensures gives { ItemsGive book.old.cap items.now book.new.entries result }
+    ensures cap { book.new.cap ≡ book.old.cap }
+{
+    for (i, item) in items.iter().enumerate() {
+        match restore_item(book, item.as_slice()) {
+            ItemRead::Whole => {}
+            ItemRead::Bad => return ItemsRead::Bad { item: i as u32 },
+            ItemRead::NoMemory => return ItemsRead::NoMemory,
+        }
+    }
+    ItemsRead::Whole
+}
+
+// Applies the entries of one item.
+fn restore_item(book: &mut Book, item: &[u8]) -> ItemRead
+    ensures gives { ItemGives book.old.cap item.now book.old.entries book.new.entries result }
+    ensures list { IsList book.old.cap book.old.entries }
+    ensures cap { book.new.cap ≡ book.old.cap }
+{
+    let room = (book.cap() - book.len()) as usize;
+    let mut cut = Cut::new(item);
+    for n in 0..MAX_ITEM_ENTRIES {
+        if n >= room {
+            return ItemRead::Bad;
+        }
+        let entry = match read_entry(&mut cut) {
+            Ok(entry) => entry,
+            Err(_) => return ItemRead::Bad,
+        };
+        if !book.legal(&entry) {
+            return ItemRead::Bad;
+        }
+        if book.reserve(1).is_err() {
+            return ItemRead::NoMemory;
+        }
+        book.apply(&entry);
+        if cut.rest().is_empty() {
+            return ItemRead::Whole;
+        }
+    }
+    ItemRead::Bad
+}

@@ -1,0 +1,100 @@
+ghost use Rattle.std.specs.Prelude.{◌≤◌};
+ghost use Rattle.nb_journal.specs.Time.{Unwritten};
+ghost use Rattle.nb_vault.specs.Opens.{OpenGives, WholeOpens, disk_in, IsOpened, RestoreGives};
+
+use crate::parts::Parts;
+use crate::records::{ROOM, Records};
+use crate::restore::{ItemsRead, restore};
+use crate::vault::Vault;
+use nb_book::Book;
+use nb_escrow::Head;
+use nb_journal::{Journal, MAGIC_BYTES, OpenFault, Opened};
+use nb_port::Disk;
+use std::alloc::Global;
+
+/// Why no vault was opened.
+#[derive(Clone, Copy, PartialEq, Eq, Debug)]
+pub enum VaultFault {
+    /// The content is no journal: it begins with this, where missing bytes count as zeros.
+    Unborn { found: [u8; MAGIC_BYTES] },
+    /// The content is a journal that breaks the layout first at the item of this number, from 0, whose gate is at this place in
+    /// bytes from the front; they are 0 and 8 where the front is short or bad.
+    Damaged { item: u32, place: u64 },
+    /// The content is a whole journal, and this is its first item, from 0, that does not spell 1 to 32 entries which are legal
+    /// next and within the cap.
+    BadEntry { item: u32 },
+    /// The disk failed between these two counts of its faults.
+    DiskFault { before: u64, after: u64 },
+    /// There was no memory.
+    NoMemory,
+}
+
+impl<D: Disk> Vault<D> {
+    /// Opens the vault on a disk: all that was written is made to stay, and its entries are read. Nothing is written.
+    pub fn open(alloc: Global, disk: D) -> Result<Vault<D>, (VaultFault, D)>
+        ensures gives { OpenGives D.content D.allowed D.faults disk result }
+        ensures whole { WholeOpens (D.content disk) result }
+        ensures nothing { Unwritten D.content D.allowed D.moment D.left disk (disk_in result) }
+        ensures count { D.faults disk ≤ D.faults (disk_in result) }
+    {
+        let count = disk.fault_count();
+        match Journal::open(alloc, disk, ROOM) {
+            Ok(opened) => match restored(alloc, opened, count) {
+                Ok(parts) => Ok(Vault { parts }),
+                Err((fault, disk)) => Err((fault, disk)),
+            },
+            Err((OpenFault::Unborn { found }, disk)) => Err((VaultFault::Unborn { found }, disk)),
+            Err((OpenFault::Damaged { item, place }, disk)) => {
+                Err((VaultFault::Damaged { item, place }, disk))
+            }
+            Err((OpenFault::DiskFault { before, after }, disk)) => {
+                Err((VaultFault::DiskFault { before, after }, disk))
+            }
+            Err((OpenFault::NoMemory, disk)) => Err((VaultFault::NoMemory, disk)),
+        }
+    }
+}
+
+// A vault over a journal that was opened. `count` is the disk's count of faults before it was.
+fn restored<D: Disk>(
+    alloc: Global,
+    opened: Opened<D>,
+    count: u64,
+) -> Result<Parts<D>, (VaultFault, D)>
+    requires opened { IsOpened D.content D.allowed opened }
+    requires count { count ≤ D.faults opened.journal.disk }
+    ensures gives { RestoreGives D.content D.allowed D.faults opened count result }
+{
+    let Opened {
+        journal,
+        head,
+        cap,
+        items,
+    } = opened;
+    let keys = Head::read(&head);
+    let mut book = match Book::new(alloc, cap, &keys.index) {
+        Ok(book) => book,
+        Err(_) => return Err((VaultFault::NoMemory, journal.into_disk())),
+    };
+    match restore(&mut book, items.as_slice()) {
+        ItemsRead::Whole => {}
+        ItemsRead::Bad { item } => {
+            return Err((VaultFault::BadEntry { item }, journal.into_disk()));
+        }
+        ItemsRead::NoMemory => return Err((VaultFault::NoMemory, journal.into_disk())),
+    }
+    let opening = book.len();
+    Ok(Parts {
+        records: Records {
+            book,
+            journal,
+            head,
+            doubt: None,
+        },
+        head: keys,
+        opening,
+        count,
+        lines: Vec::new(alloc),
+        faults: 0,
+    })
+}
