@@ -100,6 +100,6 @@ ReadsEntry (Ok e) read = read ≡ Ok e
 ReadsEntry (Err fault) read = read ≡ Err fault.place
 
 -- what it made of the cut: it moved past the entry that was read, and else stays
-abbrev pub moved_past : Reading → Result Entry EntryFault → Reading
-moved_past cut (Ok e) = moved cut (length (entry_bytes e))
-moved_past cut (Err fault) = cut
+abbrev pub moved_past_entry : Reading → Result Entry EntryFault → Reading
+moved_past_entry cut (Ok e) = moved cut (length (entry_bytes e))
+moved_past_entry cut (Err fault) = cut

@@ -5,7 +5,7 @@ ghost use Rattle.nb_units.specs.Reads.{Reads};
 ghost use Rattle.nb_units.specs.Room.{spare_of};
 ghost use Rattle.nb_book.specs.declared.spelling.TheConstants.{MAX_ENTRY};
 ghost use Rattle.nb_book.specs.Spelling.{KeepsRules, IsEntry, entry_bytes, bytes_of_kind};
-ghost use Rattle.nb_book.specs.Reading.{is_role, is_code, enrol_of, fund_of, paid_of, refused_of, entry_of, entry_at, ReadsEntry, moved_past};
+ghost use Rattle.nb_book.specs.Reading.{is_role, is_code, enrol_of, fund_of, paid_of, refused_of, entry_of, entry_at, ReadsEntry, moved_past_entry};
 
 use crate::entry::{CONSUMER, Entry, MERCHANT};
 use crate::reason::{FIRST, LAST};
@@ -55,7 +55,7 @@ pub fn write_entry(e: &Entry, out: &mut Vec<u8>)
 pub fn read_entry(cut: &mut Cut) -> Result<Entry, EntryFault>
     // The fields in their order, and the first that fails.
     ensures reads { ReadsEntry result (entry_at cut.old.bytes cut.old.place) }
-    ensures moved { cut.new ≡ moved_past cut.old result }
+    ensures moved { cut.new ≡ moved_past_entry cut.old result }
 
     // An entry that is read is spelled so, and one that is spelled so is read.
     ensures spelled { IfOk result (λ e. IsEntry e × StandsAt (entry_bytes e) cut.old.bytes cut.old.place) }
