@@ -13,7 +13,9 @@ use Rattle.nb_vault.specs.Lines.{open_doubt, faults_of}
 use Rattle.nb_vault.specs.Parts.{IsVault, SameButRoom, seen_as}
 use Rattle.nb_vault.specs.Records.{Rests, RestsIn, EitherOf, disk_of}
 use Rattle.nb_vault.specs.Turns.{State, most_faults}
-use Rattle.nb_vault.specs.Vaults.{Keeps, entries_in, doubt_in, state_of, StandsForState}
+use Rattle.nb_book.proofs.Counting.{settled_once}
+use Rattle.nb_book.proofs.Summing.{balances_make_total, none_overdrawn}
+use Rattle.nb_vault.specs.Vaults.{IsBalanced, Keeps, entries_in, doubt_in, state_of, StandsForState}
 use Rattle.nb_vault.proofs.Resting.{rest_images, rest_content, legal_more}
 
 -- the state, by the fields
@@ -73,6 +75,7 @@ module _ {D : Type 0} (content : D → Option (List ℕ)) (allowed : D → List 
     keeps = record {
       legal = rw (entries_seen, doubt_seen) (legal_with p.records.doubt vault.rests.next);
       within = rw (entries_seen, doubt_seen) (count_with p.records.doubt vault.rests.within);
+      money = subst IsBalanced (sym entries_seen) (record { once = settled_once p.records.book.entries vault.rests.legal; sums = balances_make_total p.records.book.entries vault.rests.legal; none_overdrawn = none_overdrawn p.records.book.entries vault.rests.legal });
       terms = vault.rests.terms;
       bytes = told (content (disk_of p.records)) (rest_content content allowed p.records vault.rests);
       images = λ image is. either_seen image (rest_images content allowed p.records vault.rests image is);

@@ -1,8 +1,13 @@
 -- What a vault is seen as, what every vault keeps, and how it answers.
 use Rattle.std.specs.Prelude.{◌≡◌, ◌≢◌, ◌⊎◌, ℕ, ◌≤◌, Bool, true, false, List, [], ◌∷◌, ◌++◌, length, Option, Some, IfSome, if◌then◌else◌}
+use Rattle.std.specs.List.{count_by, sum_by}
 use Rattle.nb_port.specs.Faults.{Rose}
 use Rattle.nb_book.specs.declared.entry.Entry.{Entry}
+use Rattle.nb_units.specs.declared.epoid.Epoid.{Epoid}
+use Rattle.nb_units.specs.declared.ids.AcctId.{AcctId}
 use Rattle.nb_book.specs.Legal.{Legal}
+use Rattle.nb_book.specs.Money.{accounts, balance, credits, debits, total}
+use Rattle.nb_book.specs.Searches.{settles}
 use Rattle.nb_journal.specs.Layout.{AreTerms}
 use Rattle.nb_endorse.specs.declared.refusal.TheConstants.{DISK_FAULT, WORN, NO_MEMORY}
 use Rattle.nb_escrow.specs.Head.{head_of}
@@ -45,11 +50,18 @@ rules_of v = house_rules (head_of v.origin.head) v.origin.cap
 abbrev pub StandsForState : {D : Type 0} → Chronicled D → List ℕ → Type 0
 StandsForState v image = StandsForEither v.origin.head v.origin.cap (entries_in v) (doubt_in v) image
 
+-- a list on which each order is settled once, and money is neither made nor lost
+pub record IsBalanced (entries : List Entry) : Type 0 where
+  pub once : (order : Epoid) → count_by (settles order) entries ≤ 1
+  pub sums : sum_by (balance entries) (accounts entries) ≡ total entries
+  pub none_overdrawn : (account : AcctId) → debits entries account ≤ credits entries account
+
 -- what every vault keeps
 pub record Keeps {D : Type 0} (content : D → Option (List ℕ)) (allowed : D → List ℕ → Type 0) (faults : D → ℕ) (v : Chronicled D) : Type 0 where
   -- its list is legal, also with an entry in doubt, and within the cap
   pub legal : Legal (entries_in v ++ doubt_in v)
   pub within : length (entries_in v ++ doubt_in v) ≤ v.origin.cap
+  pub money : IsBalanced (entries_in v)
   pub terms : AreTerms v.origin.cap v.origin.head
   -- it is what its content stands for, and what a stop leaves
   pub bytes : IfSome (content v.disk) (StandsForState v)
@@ -128,6 +140,12 @@ pub record IsDurable {D : Type 0} (allowed : D → List ℕ → Type 0) (v : Chr
 abbrev pub DurableWhere : {D : Type 0} → (D → List ℕ → Type 0) → Chronicled D → Answer → Type 0
 DurableWhere allowed new (answers.Answered at) = IsDurable allowed new
 DurableWhere allowed new other = Unit {0}
+
+-- where nothing was done the vault is as before, its disk too
+abbrev pub SameWhere : {D : Type 0} → Chronicled D → Chronicled D → Answer → Type 0
+SameWhere old new (answers.Worn faults) = new ≡ old
+SameWhere old new answers.NoMemory = new ≡ old
+SameWhere old new other = Unit {0}
 
 -- a fault lies within the call's counts of faults
 abbrev pub FaultWithin : ℕ → ℕ → Answer → Type 0

@@ -47,9 +47,8 @@ impl<D: Disk> Records<D> {
                 self.doubt = None;
                 Ok(None)
             }
-            Ok(Settled::Kept) => match self.doubt {
+            Ok(Settled::Kept) => match self.doubt.take() {
                 Some(entry) => {
-                    self.doubt = None;
                     self.book.apply(&entry);
                     Ok(Some(entry))
                 }

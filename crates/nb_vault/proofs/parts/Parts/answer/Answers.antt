@@ -28,6 +28,9 @@ returns-then-is_err-clause-any_moment g c =
     leaves_here g.D.Disk.content g.D.Disk.allowed g.D.Disk.faults g.D.Disk.moment g.D.Disk.left c.args.self.now c.reserve.new.self c.requires.vault (g.met.D.Disk.only_now c.args.self.now.records.journal.disk)
     (ap (λ (j : Journal _). j.disk) c.reserve.ensures.same.journal)
 
+pub returns-then-is_err-clause-same : goal.returns-then-is_err-clause-same
+returns-then-is_err-clause-same g c = room_seen g.D.Disk.content g.D.Disk.allowed g.D.Disk.faults c.args.self.now c.reserve.new.self c.reserve.ensures.same
+
 pub ready-requires-clause-vault : goal.ready-requires-clause-vault
 ready-requires-clause-vault g c = room_vault g.D.Disk.content g.D.Disk.allowed g.D.Disk.faults c.args.self.now c.reserve.new.self c.reserve.ensures.same c.requires.vault
 

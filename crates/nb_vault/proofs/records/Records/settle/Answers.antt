@@ -1,4 +1,4 @@
-use Rattle.std.proofs.Common.{refl, subst}
+use Rattle.std.proofs.Common.{refl, sym, subst, ◌∙◌}
 use Rattle.nb_journal.specs.declared.journal.Settled.{Settled}
 use Rattle.std.specs.Prelude.{Ok}
 use Rattle.nb_book.specs.Spelling.{entry_bytes}
@@ -25,5 +25,5 @@ returns-in-Some-clause-rests g c =
     let r = c.args.self.now in
     let rests = c.requires.rests in
     let kept = subst (SettlesAs g.D.Disk.content g.D.Disk.allowed r.journal c.settle.new.self) c.in-Ok-Kept.field-0-is c.in-Ok-Kept.ensures.gives in
-    kept_rests g.D.Disk.content g.D.Disk.allowed r _ c.in-Some.entry rests c.in-Some.is
-    (record { head = refl; cap = c.apply.ensures.cap; most = c.settle.ensures.limits.0; room = c.settle.ensures.limits.1 }) (kept.1 _ rests.items (entry_bytes c.in-Some.entry)) c.apply.ensures.entries refl
+    kept_rests g.D.Disk.content g.D.Disk.allowed r _ c.in-Some.entry rests (sym c.take.ensures.value ∙ c.in-Some.is)
+    (record { head = refl; cap = c.apply.ensures.cap; most = c.settle.ensures.limits.0; room = c.settle.ensures.limits.1 }) (kept.1 _ rests.items (entry_bytes c.in-Some.entry)) c.apply.ensures.entries c.take.ensures.after
