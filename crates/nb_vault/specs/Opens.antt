@@ -24,6 +24,15 @@ pub record IsBadEntry (image : List ℕ) (item : ℕ) : Type 0 where
   pub holds : Holds image cap head items
   pub first : FirstBad cap items item
 
+-- what stands for a list is none of these
+pub record IsGood (image : List ℕ) : Type 0 where
+  pub born : (found : List ℕ) → IsUnborn image found → ⊥
+  pub whole : (item place : ℕ) → IsDamaged image item place → ⊥
+  pub lawful : (item : ℕ) → IsBadEntry image item → ⊥
+
+abbrev pub WholeIsGood : Type 0
+WholeIsGood = (image head : List ℕ) (cap : ℕ) (entries : List Entry) → StandsFor head cap entries image → IsGood image
+
 -- by cases on the fault, for the disk before and after
 abbrev pub OpenFails : {D : Type 0} → (D → Option (List ℕ)) → (D → ℕ) → D → D → VaultFault → Type 0
 OpenFails content faults old new (opens.Unborn found) = IfSome (content old) (λ image. IsUnborn image found)

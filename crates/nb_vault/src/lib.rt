@@ -1,15 +1,23 @@
 //! The house: what it recorded, and how one request is answered over it.
 //!
-//! [`open`] reads the journal on a disk, and says what its content stands for. A [`House`] answers a request by the
-//! decision over its book: the entry is recorded, and then the reply is written. The house as a machine, turn after
-//! turn, stands in `specs/Turns.antt`, over any rules; `specs/House.antt` says that these are the verdict and its
-//! bytes, and `specs/Stands.antt` what an image of the disk stands for.
+//! A [`Vault`] is a book whose entries are durable on a disk, and the chronicle of what was done since it was opened. It is seen
+//! (`specs/Vaults.antt`) as what it was opened with, its [`Line`]s, whether an entry is in doubt, and the disk. [`Vault::open`]
+//! gives the entries that the content of the disk stands for (`specs/Holdings.antt`), or why it stands for none.
+//! [`Vault::answer`] settles what is in doubt, decides, makes the entry of the verdict durable, and then hands the reply out.
+//! What is promised: each answer is one turn of the house (`specs/Turns.antt`); a stop at any moment of it leaves the entries
+//! before it or after it, each time with or without the one in doubt; where a request is answered, every later stop leaves its
+//! entry; and of every vault what `Keeps` says: its list is Legal and is what the disk holds, its lines adopt what was in doubt and
+//! nothing else, its faults are the disk's, and its turns are numbered upwards (`specs/Chronicle.antt`).
 //!
-//! Left to others: the frames of the requests, sending the replies, and the clock. Nothing is written to the disk yet:
-//! the journal that is opened has no entries, and what a house records is in memory.
+//! The program does not stand on the vault yet. It opens a journal without entries by [`open`], and its [`House`] answers a request
+//! by the same decision over a book that is in memory alone; `specs/House.antt` says that its rules are the verdict and its bytes,
+//! and `specs/Stands.antt` what an image of such a journal is.
+//!
+//! Left to others: the frames of the requests, sending the replies, and the clock.
 #![tactic(auto)]
 
 mod house;
+pub mod laws;
 mod line;
 mod opening;
 mod origin;

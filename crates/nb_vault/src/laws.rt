@@ -1,0 +1,14 @@
+//! What holds of every image of a disk. Each function here does nothing: its contract is the law.
+
+ghost use Rattle.nb_vault.specs.Holdings.{OneList};
+ghost use Rattle.nb_vault.specs.Opens.{WholeIsGood};
+
+/// An image stands for one list of entries, with one head and one cap.
+pub fn one_list()
+    ensures { OneList }
+{}
+
+/// An image that stands for a list begins with the magic, is not damaged and has no bad entry.
+pub fn whole_is_good()
+    ensures { WholeIsGood }
+{}
