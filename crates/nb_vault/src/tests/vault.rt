@@ -1,61 +1,30 @@
-// A vault over a disk in memory, of which calls fail, or which stops. Bytes in hexadecimal are another program's.
+// A vault over a disk in memory, of which calls fail, or which stops. The entries and replies are another program's bytes.
 
 use super::*;
 use crate::{Answer, Line, Vault, VaultFault};
 use nb_msgs::REPLY_ROOM;
 use nb_port::{Fill, MemDisk};
-use nb_units::Blob;
 
-// The bytes of an entry, by a letter: consumer 1 with account 1, merchant 2 with account 2, 500 and 1000 for account 1. P and
-// p stand for a payment of 500, before and behind the last byte of its serial number.
-fn entry_bytes(alloc: Global, letter: u8) -> Result<Vec<u8>, Fail> {
-    let digits = match letter {
-        b'C' =>
-            "0100000001010000000100000000000000074444444444444444444444444444444444444444444444444444444444444444",
-        b'M' =>
-            "0100000002020000000200000000000000005555555555555555555555555555555555555555555555555555555555555555",
-        b'F' => "020000000100000000000001f400000000000000000000000000000000",
-        b'G' => "020000000100000000000003e801010101010101010101010101010101",
-        b'P' => {
-            "030e2f23e1d5ff519a0e22d47b3ae3da46f740809489862be085ef39e6d0ddd3a30000000200000000000003e8000000"
-        }
-        b'p' => {
-            "00000001000000020000000700000000000001f4000000010000000200000000000003e8\
-            7777777777777777777777777777777777777777777777777777777777777777"
-        }
-        _ => return Err("it is no letter".into()),
-    };
-    bytes_of(alloc, digits)
-}
+// Entries, by their letters: consumer 1 with account 1, merchant 2 with account 2, 500 and 1000 for account 1, and a payment of
+// 500 in two parts, between which stands the last byte of its serial number.
+const LETTERS: &[u8] = b"CMFGPp";
 
-// The bytes that are spelled in hexadecimal.
-fn bytes_of(alloc: Global, digits: &str) -> Result<Vec<u8>, Fail> {
-    let mut bytes = Vec::new(alloc);
-    let mut high = None;
-    for digit in digits.as_bytes() {
-        let value = match *digit {
-            b'0'..=b'9' => *digit - b'0',
-            b'a'..=b'f' => *digit - b'a' + 10,
-            _ => return Err("it is no digit".into()),
-        };
-        high = match high {
-            None => Some(value << 4),
-            Some(high) => {
-                bytes.push(high | value)?;
-                None
-            }
-        };
-    }
-    Ok(bytes)
-}
+static ENTRIES: [&'static [u8]; 6] = [
+    b"\x01\0\0\0\x01\x01\0\0\0\x01\0\0\0\0\0\0\0\x07DDDDDDDDDDDDDDDDDDDDDDDDDDDDDDDD",
+    b"\x01\0\0\0\x02\x02\0\0\0\x02\0\0\0\0\0\0\0\0UUUUUUUUUUUUUUUUUUUUUUUUUUUUUUUU",
+    b"\x02\0\0\0\x01\0\0\0\0\0\0\x01\xF4\0\0\0\0\0\0\0\0\0\0\0\0\0\0\0\0",
+    b"\x02\0\0\0\x01\0\0\0\0\0\0\x03\xE8\x01\x01\x01\x01\x01\x01\x01\x01\x01\x01\x01\x01\x01\x01\x01\x01",
+    b"\x03\x0E/#\xE1\xD5\xFFQ\x9A\x0E\"\xD4{:\xE3\xDAF\xF7@\x80\x94\x89\x86+\xE0\x85\xEF9\xE6\xD0\xDD\xD3\xA3\0\0\0\x02\0\0\0\0\0\0\x03\xE8\0\0\0",
+    b"\0\0\0\x01\0\0\0\x02\0\0\0\x07\0\0\0\0\0\0\x01\xF4\0\0\0\x01\0\0\0\x02\0\0\0\0\0\0\x03\xE8wwwwwwwwwwwwwwwwwwwwwwwwwwwwwwww",
+];
 
-// The bytes of a journal: the magic, the cap, the keys of house, operator and index, 4 zeros, and then what this shows: items
-// of entries and digits between brackets, round ones where the gate is shut, and a dot for a gate that is shut.
+// The bytes of a journal: the magic, the cap, the keys of house, operator and index, 4 zeros, and then what is shown: items of
+// entries and digits in brackets, in round ones where the gate is shut, and a dot for a gate that is shut.
 pub(super) fn journal(alloc: Global, cap: u32, shown: &str) -> Result<Vec<u8>, Fail> {
     let mut bytes = Vec::from_slice(alloc, b"NBJRNL01")?;
     bytes.extend_from_slice(&cap.to_be_bytes())?;
     for (byte, count) in [(0x11u8, 32usize), (0x22, 32), (0x33, 16), (0, 4)] {
-        bytes.extend_from_slice(Vec::from_elem(alloc, byte, count)?.as_slice())?;
+        bytes.resize(bytes.len().saturating_add(count), byte)?;
     }
     let mut item = Vec::new(alloc);
     for sign in shown.as_bytes() {
@@ -68,7 +37,13 @@ pub(super) fn journal(alloc: Global, cap: u32, shown: &str) -> Result<Vec<u8>, F
             }
             b'.' => bytes.push(0)?,
             b'0'..=b'9' => item.push(*sign - b'0')?,
-            letter => item.extend_from_slice(entry_bytes(alloc, letter)?.as_slice())?,
+            letter => {
+                for (of, entry) in LETTERS.iter().zip(&ENTRIES) {
+                    if *of == letter {
+                        item.extend_from_slice(*entry)?;
+                    }
+                }
+            }
         }
     }
     Ok(bytes)
@@ -79,79 +54,56 @@ pub(super) fn opened(
     alloc: Global,
     content: &[u8],
     fails: &[u64],
-) -> Result<Result<Vault<MemDisk>, VaultFault>, Fail> {
-    match Vault::open(alloc, MemDisk::new(alloc, content, fails)?) {
-        Ok(vault) => Ok(Ok(vault)),
-        Err((fault, _)) => Ok(Err(fault)),
+) -> Result<Vault<MemDisk>, VaultFault> {
+    match MemDisk::new(alloc, content, fails) {
+        Ok(disk) => Vault::open(alloc, disk).map_err(|(fault, _)| fault),
+        Err(_) => Err(VaultFault::NoMemory),
     }
 }
 
-fn vault_over(alloc: Global, content: &[u8], fails: &[u64]) -> Result<Vault<MemDisk>, Fail> {
-    match opened(alloc, content, fails)? {
-        Ok(vault) => Ok(vault),
-        Err(_) => Err("it was not opened".into()),
-    }
-}
-
-// Asks with room for the reply. An append makes four calls: its body's write, a sync, the gate's write, a sync.
-fn ask(
-    vault: &mut Vault<MemDisk>,
-    by: u64,
-    request: &Request,
-    out: &mut Vec<u8>,
-) -> Result<Answer, Fail> {
-    out.reserve(REPLY_ROOM)?;
-    let body = request.body.as_slice();
-    Ok(vault.answer(by, request.kind, body, request.moment, out))
-}
-
-// The lines of the vault are these.
-fn has_lines(rt: &impl Abort, vault: &Vault<MemDisk>, lines: &[Line]) {
-    for i in 0..lines.len() {
-        assert_eq!(rt; vault.line(i as u64), Some(lines[i]), "line {i}");
-    }
-    assert_eq!(rt; vault.line(lines.len() as u64), None);
-    assert_eq!(rt; vault.line(LAST), None);
-}
-
-// The order is consumer 1's, and for the merchant's account.
+// The order is consumer 1's, for the merchant's account.
 const ORDER: [Change; 2] = [Account(1), Credited(2)];
 
-// A request, the lines of its turn by their first letters, and its reply: none where the disk fails. 3 and 5 ask in turn,
-// and turns without lines come last.
-type Step = (Ask, &'static str, &'static str);
+// A request, the lines of its turn by their first letters, and its reply: none where the disk fails. 3 and 5 ask in turn, and
+// turns without lines come last.
+type Step = (Ask, &'static str, &'static [u8]);
 
-const FAILS: Step = (Pay, "DF", "");
+const FAILS: Step = (Pay, "DF", b"");
 
-const FAILS_ON: Step = (Pay, "F", "");
+const FAILS_ON: Step = (Pay, "F", b"");
 
 const PAYS: Step = (Pay, "C", RESULT);
 
 const KEPT: Step = (Pay, "A", RESULT);
 
-const AGAIN: [Step; 3] = [
-    (Pay, "", RESULT),
-    (Enrol(1, 1, 1, 7, 0x44), "", SPENT),
-    (Enrol(2, 2, 2, 0, 0x55), "", EARNED),
-];
-
-const RESULT: &str =
-    "4e42010700000156000000a7552316fff34018a229c5ebc0f29bdd42d16550639a9db30f787964a61fe4a36affd05364c4606a357fd5b0a9d2fcb8\
-    e03b1aa43867dc8c57117eec084a714a642bb5af944d196aa41fbb718eec1efaeee2e1c4f57c738e884b8e0e8197e7716716fde2ba9ec4595261b9\
-    ef996943e9528e3bb3cce1e3da87f5bceffbfcbcd1768e828a72042f422a1ba23d66e30b4c55ea2b770f1a8c4a65e76db9a2e28d9697120d5185e8\
-    b1f9000000a79ffc7c65a196fd7f678372f6e46afc7a362b493342f04cc30fc87bd17aa5345338212fa1a4cf9d486f97c1cb8f7c8920347b014b54\
-    6574b87ac1274ad10d5497f08d8843d3a7fd700ece3722b5d007ed1db18a15f7eb0718d821697057615c572b8f962d3805bb7f751a661a6f954b31\
-    59507bdbb9b86c32db7582f071c422a94e87069f58b8ca75cae02356908ea842bc563dd4b20e8b3930e16227d63c8d009aceda94906e03";
-
 const FUNDS: Step = (Fund(1, 500, 0), "C", FUNDED);
 
-const FUNDED: &str = "4e42010f0000001400000001000000000000000200000000000001f4";
+const FUNDED: &[u8] = b"NB\x01\x0F\0\0\0\x14\0\0\0\x01\0\0\0\0\0\0\0\x02\0\0\0\0\0\0\x01\xF4";
 
-const FUNDED_AGAIN: &str = "4e42010f0000001400000001000000000000000400000000000003e8";
+const RESULT: &[u8] =
+    b"NB\x01\x07\0\0\x01V\0\0\0\xA7U#\x16\xFF\xF3@\x18\xA2)\xC5\xEB\xC0\xF2\x9B\xDDB\xD1ePc\x9A\x9D\xB3\x0Fxyd\xA6\x1F\xE4\
+    \xA3j\xFF\xD0Sd\xC4`j5\x7F\xD5\xB0\xA9\xD2\xFC\xB8\xE0;\x1A\xA48g\xDC\x8CW\x11~\xEC\x08JqJd+\xB5\xAF\x94M\x19j\xA4\x1F\
+    \xBBq\x8E\xEC\x1E\xFA\xEE\xE2\xE1\xC4\xF5|s\x8E\x88K\x8E\x0E\x81\x97\xE7qg\x16\xFD\xE2\xBA\x9E\xC4YRa\xB9\xEF\x99iC\
+    \xE9R\x8E;\xB3\xCC\xE1\xE3\xDA\x87\xF5\xBC\xEF\xFB\xFC\xBC\xD1v\x8E\x82\x8Ar\x04/B*\x1B\xA2=f\xE3\x0BLU\xEA+w\x0F\x1A\
+    \x8CJe\xE7m\xB9\xA2\xE2\x8D\x96\x97\x12\x0DQ\x85\xE8\xB1\xF9\0\0\0\xA7\x9F\xFC|e\xA1\x96\xFD\x7Fg\x83r\xF6\xE4j\xFCz6+\
+    I3B\xF0L\xC3\x0F\xC8{\xD1z\xA54S8!/\xA1\xA4\xCF\x9DHo\x97\xC1\xCB\x8F|\x89\x204{\x01KTet\xB8z\xC1'J\xD1\x0DT\x97\xF0\
+    \x8D\x88C\xD3\xA7\xFDp\x0E\xCE7\"\xB5\xD0\x07\xED\x1D\xB1\x8A\x15\xF7\xEB\x07\x18\xD8!ipWa\\W+\x8F\x96-8\x05\xBB\x7Fu\
+    \x1Af\x1Ao\x95K1YP{\xDB\xB9\xB8l2\xDBu\x82\xF0q\xC4\"\xA9N\x87\x06\x9FX\xB8\xCAu\xCA\xE0#V\x90\x8E\xA8B\xBCV=\xD4\xB2\
+    \x0E\x8B90\xE1b'\xD6<\x8D\0\x9A\xCE\xDA\x94\x90n\x03";
 
-const SPENT: &str = "4e42010f000000140000000100000000000000000000000000000000";
-
-const EARNED: &str = "4e42010f0000001400000002000000000000000100000000000001f4";
+static AGAIN: [Step; 3] = [
+    (Pay, "", RESULT),
+    (
+        Enrol(1, 1, 1, 7, 0x44),
+        "",
+        b"NB\x01\x0F\0\0\0\x14\0\0\0\x01\0\0\0\0\0\0\0\0\0\0\0\0\0\0\0\0",
+    ),
+    (
+        Enrol(2, 2, 2, 0, 0x55),
+        "",
+        b"NB\x01\x0F\0\0\0\x14\0\0\0\x02\0\0\0\0\0\0\0\x01\0\0\0\0\0\0\x01\xF4",
+    ),
+];
 
 // Calls that fail, and what is asked for. Opening makes calls 1 to 9, the append 10 to 13, and settling a sync and a read.
 static RUNS: [(&'static [u64], &'static [Step]); 9] = [
@@ -170,51 +122,34 @@ fn maker(turn: u64) -> u64 {
     3 + turn % 2 * 2
 }
 
-// The entry of a request that is recorded behind three others, or is no order.
-fn entry_for(alloc: Global, ask: &Ask) -> Result<Option<Entry>, Fail> {
-    let request = request_of(alloc, ask, &ORDER)?;
-    Ok(match *ask {
-        Pay => decided(&request, 3, Paid).entry,
-        _ => entry_of(ask),
-    })
-}
-
-fn line_of(letter: u8, turn: u64, own: Option<Entry>, doubt: Option<Entry>) -> Option<Line> {
+fn line_of(letter: u8, turn: u64, entry: Entry) -> Line {
     let by = maker(turn);
-    let (before, after) = (turn, turn.saturating_add(1));
-    Some(match letter {
-        b'F' => Line::Fault {
+    match letter {
+        b'C' => Line::Commit { by, turn, entry },
+        b'A' => Line::Adopted { by, turn, entry },
+        b'D' => Line::Doubt { by, turn, entry },
+        _ => Line::Fault {
             by,
             turn,
-            before,
-            after,
+            before: turn,
+            after: turn.saturating_add(1),
         },
-        b'A' => Line::Adopted {
-            by,
-            turn,
-            entry: doubt?,
-        },
-        b'D' => Line::Doubt {
-            by,
-            turn,
-            entry: own?,
-        },
-        _ => Line::Commit {
-            by,
-            turn,
-            entry: own?,
-        },
-    })
+    }
 }
 
+// The lines of these steps. An order is the fourth entry.
 fn lines_of(alloc: Global, steps: &[Step]) -> Result<Vec<Line>, Fail> {
     let mut lines = Vec::new(alloc);
     let mut doubt = None;
-    for (turn, (ask, letters, _)) in steps.iter().enumerate() {
-        let own = entry_for(alloc, ask)?;
+    for (turn, (next, letters, _)) in steps.iter().enumerate() {
+        let own = match *next {
+            Pay => decided(&request_of(alloc, next, &ORDER)?, 3, Paid).entry,
+            _ => entry_of(next),
+        };
         for letter in letters.as_bytes() {
-            let line = line_of(*letter, turn as u64, own, doubt).ok_or("it has no entry")?;
-            lines.push(line)?;
+            let entry = if *letter == b'A' { doubt } else { own };
+            let entry = entry.ok_or("it has no entry")?;
+            lines.push(line_of(*letter, turn as u64, entry))?;
         }
         doubt = own;
     }
@@ -232,25 +167,25 @@ fn answer_of(letters: &str, turn: u64, entries: u32) -> Answer {
     }
 }
 
-// Takes the steps.
+// Takes one step.
 fn take(
     rt: &impl Abort,
     alloc: Global,
     vault: &mut Vault<MemDisk>,
-    steps: &[Step],
+    turn: u64,
+    step: &Step,
 ) -> Result<(), Fail> {
-    for (turn, (next, letters, reply)) in steps.iter().enumerate() {
-        let turn = turn as u64;
-        let request = request_of(alloc, next, &ORDER)?;
-        let mut out = Vec::new(alloc);
-        let wanted = answer_of(*letters, turn, vault.entries());
-        assert_eq!(rt;
-            ask(vault, maker(turn), &request, &mut out)?,
-            wanted,
-            "{steps:?}"
-        );
-        assert_eq!(rt; out.as_slice(), bytes_of(alloc, *reply)?.as_slice());
-    }
+    let (next, letters, reply) = step;
+    let request = request_of(alloc, next, &ORDER)?;
+    let wanted = answer_of(*letters, turn, vault.entries());
+    let mut out = Vec::from_slice(alloc, b"before")?;
+    out.reserve(REPLY_ROOM)?;
+    let (kind, body) = (request.kind, request.body.as_slice());
+    let said = vault.answer(maker(turn), kind, body, request.moment, &mut out);
+    assert_eq!(rt; said, wanted, "{step:?}");
+    let mut told = Vec::from_slice(alloc, b"before")?;
+    told.extend_from_slice(*reply)?;
+    assert_eq!(rt; out.as_slice(), told.as_slice());
     Ok(())
 }
 
@@ -262,9 +197,16 @@ fn run(
     fails: &[u64],
     steps: &[Step],
 ) -> Result<MemDisk, Fail> {
-    let mut vault = vault_over(alloc, content, fails)?;
-    take(rt, alloc, &mut vault, steps)?;
-    has_lines(rt, &vault, lines_of(alloc, steps)?.as_slice());
+    let mut vault = opened(alloc, content, fails)?;
+    for (turn, step) in steps.iter().enumerate() {
+        take(rt, alloc, &mut vault, turn as u64, step)?;
+    }
+    let lines = lines_of(alloc, steps)?;
+    for i in 0..lines.len() {
+        assert_eq!(rt; vault.line(i as u64), Some(lines[i]), "line {i}");
+    }
+    assert_eq!(rt; vault.line(lines.len() as u64), None);
+    assert_eq!(rt; vault.line(LAST), None);
     Ok(vault.into_disk())
 }
 
@@ -287,10 +229,11 @@ fn an_order_is_paid_once(rt: HostRuntime) -> Result<(), Fail> {
 #[test]
 fn a_turn_adopts_and_goes_on(rt: HostRuntime) -> Result<(), Fail> {
     let alloc = rt.alloc();
+    let last = b"NB\x01\x0F\0\0\0\x14\0\0\0\x01\0\0\0\0\0\0\0\x04\0\0\0\0\0\0\x03\xE8";
     let steps: [Step; 3] = [
-        (Fund(1, 500, 0), "DF", ""),
-        (Pay, "ADF", ""),
-        (Fund(1, 1000, 1), "AC", FUNDED_AGAIN),
+        (Fund(1, 500, 0), "DF", b""),
+        (Pay, "ADF", b""),
+        (Fund(1, 1000, 1), "AC", last),
     ];
     let before = journal(alloc, 5, "[C][M].")?;
     let after = journal(alloc, 5, "[C][M][F][P1p][G].")?;
@@ -299,7 +242,7 @@ fn a_turn_adopts_and_goes_on(rt: HostRuntime) -> Result<(), Fail> {
     Ok(())
 }
 
-// Opening makes calls 1 to 5, and all behind them fail.
+// Opening makes calls 1 to 5, and all behind them fail: 1000 of them, one in each turn.
 #[test]
 fn a_vault_wears_out(rt: HostRuntime) -> Result<(), Fail> {
     let alloc = rt.alloc();
@@ -313,21 +256,16 @@ fn a_vault_wears_out(rt: HostRuntime) -> Result<(), Fail> {
             1..1000 => "F",
             _ => "",
         };
-        steps.push((Fund(1, 500, 0), letters, ""))?;
+        steps.push((Fund(1, 500, 0), letters, [].as_slice()))?;
     }
-    let disk = run(
-        &rt,
-        alloc,
-        before.as_slice(),
-        fails.as_slice(),
-        steps.as_slice(),
-    )?;
+    let (fails, steps) = (fails.as_slice(), steps.as_slice());
+    let disk = run(&rt, alloc, before.as_slice(), fails, steps)?;
     assert_eq!(rt; disk.content(), before.as_slice());
     assert_eq!(rt; disk.calls(), 1005);
     Ok(())
 }
 
-// How many entries the image at a moment has. The same fund again has the same answer, and is then recorded once.
+// How many entries the image at a moment has. The fund once more has the same reply, and then stands there once.
 fn entries_at(
     rt: &impl Abort,
     alloc: Global,
@@ -339,9 +277,9 @@ fn entries_at(
         return Err("the calls do not go that far".into());
     }
     let image = disk.image(alloc, moment, fill)?;
-    let mut vault = vault_over(alloc, image.as_slice(), &[])?;
+    let mut vault = opened(alloc, image.as_slice(), &[])?;
     let entries = vault.entries();
-    take(rt, alloc, &mut vault, &[FUNDS])?;
+    take(rt, alloc, &mut vault, 0, &FUNDS)?;
     assert_eq!(rt; vault.entries(), 3);
     Ok(entries)
 }
