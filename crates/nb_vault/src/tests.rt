@@ -15,6 +15,9 @@ use std::alloc::Global;
 use std::process::Abort;
 use std::test::Fail;
 
+mod opening;
+mod vault;
+
 const ZEROS: [u8; 32] = [0; 32];
 
 const OPERATOR: [u8; 32] = [0x22; 32];
@@ -392,8 +395,8 @@ fn decided(request: &Request, at: u64, comes: Comes) -> Decision {
             merchant: order.merchant,
             product: 7,
             price: order.price,
-            cacct: AcctId(11),
-            macct: AcctId(12),
+            cacct: AcctId(request.account),
+            macct: AcctId(request.credited),
             moment: request.moment,
             key: [request.goods; 32],
         },
