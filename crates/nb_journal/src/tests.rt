@@ -50,15 +50,7 @@ fn journal_of(alloc: Global, behind: &[&[u8]]) -> Result<Vec<u8>, Fail> {
 // Opens a content over a disk whose calls with these numbers fail, for items of up to 64 bytes.
 fn open(alloc: Global, content: &[u8], fails: &[u64]) -> Result<Journal<MemDisk>, Fail> {
     match Journal::open(alloc, MemDisk::new(alloc, content, fails)?, 64) {
-        Ok(opened) => {
-            let Opened {
-                journal,
-                head: _,
-                cap: _,
-                items: _,
-            } = opened;
-            Ok(journal)
-        }
+        Ok(opened) => Ok(opened.journal),
         Err(_) => Err(Fail::new("it was not opened")),
     }
 }
@@ -66,15 +58,7 @@ fn open(alloc: Global, content: &[u8], fails: &[u64]) -> Result<Journal<MemDisk>
 // The items of a content, or why it has none.
 fn items_of(alloc: Global, content: &[u8]) -> Result<Result<Vec<Blob>, OpenFault>, Fail> {
     match Journal::open(alloc, MemDisk::new(alloc, content, &[])?, 0) {
-        Ok(opened) => {
-            let Opened {
-                journal: _,
-                head: _,
-                cap: _,
-                items,
-            } = opened;
-            Ok(Ok(items))
-        }
+        Ok(opened) => Ok(Ok(opened.items)),
         Err((fault, _)) => Ok(Err(fault)),
     }
 }

@@ -1,6 +1,6 @@
 // A journal in a file.
 
-ghost use Rattle.std.specs.Prelude.{◌≡◌, ◌≤◌, false, None};
+ghost use Rattle.std.specs.Prelude.{◌≡◌, ◌≤◌, None};
 ghost use Rattle.nb_port.specs.DiskLaws.{untold};
 ghost use Rattle.nb_port.specs.Faults.{Rose};
 
@@ -19,17 +19,21 @@ struct Stopping {
 }
 
 impl Stopping {
-    // Counts a call, and says whether it is made.
-    fn next(&mut self) -> bool
-        ensures fails { result ≡ false → Rose self.old.faults self.new.faults }
+    // Whether one more call is made.
+    fn goes_on(&mut self) -> bool
+        ensures { self.new.faults ≡ self.old.faults }
+    {
+        let goes_on = self.left > 0;
+        self.left = self.left.saturating_sub(1);
+        goes_on
+    }
+
+    // Counts a call that failed.
+    fn fail(&mut self)
+        ensures fails { Rose self.old.faults self.new.faults }
         ensures count { self.old.faults ≤ self.new.faults }
     {
-        if self.left == 0 {
-            self.faults = self.faults.saturating_add(1);
-            return false;
-        }
-        self.left -= 1;
-        true
+        self.faults = self.faults.saturating_add(1);
     }
 }
 
@@ -55,42 +59,29 @@ impl Disk for Stopping {
     }
 
     fn read(&mut self, place: u64, buf: &mut [u8]) -> DiskRead {
-        if !self.next() {
-            return DiskRead::Failed;
-        }
-        match self.disk.read(place, buf) {
-            DiskRead::Got(n) => DiskRead::Got(n),
-            DiskRead::Failed => {
-                self.faults = self.faults.saturating_add(1);
-                DiskRead::Failed
+        if self.goes_on() {
+            if let DiskRead::Got(n) = self.disk.read(place, buf) {
+                return DiskRead::Got(n);
             }
         }
+        self.fail();
+        DiskRead::Failed
     }
 
     fn write(&mut self, place: u64, piece: &[u8]) -> DiskOut {
-        if !self.next() {
-            return DiskOut::Failed;
+        if self.goes_on() && self.disk.write(place, piece) == DiskOut::Done {
+            return DiskOut::Done;
         }
-        match self.disk.write(place, piece) {
-            DiskOut::Done => DiskOut::Done,
-            DiskOut::Failed => {
-                self.faults = self.faults.saturating_add(1);
-                DiskOut::Failed
-            }
-        }
+        self.fail();
+        DiskOut::Failed
     }
 
     fn sync(&mut self) -> DiskOut {
-        if !self.next() {
-            return DiskOut::Failed;
+        if self.goes_on() && self.disk.sync() == DiskOut::Done {
+            return DiskOut::Done;
         }
-        match self.disk.sync() {
-            DiskOut::Done => DiskOut::Done,
-            DiskOut::Failed => {
-                self.faults = self.faults.saturating_add(1);
-                DiskOut::Failed
-            }
-        }
+        self.fail();
+        DiskOut::Failed
     }
 }
 
