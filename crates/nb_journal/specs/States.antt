@@ -127,10 +127,10 @@ SettleGives content allowed faults old new (Err failed) =
 
 -- ---- for the contracts of private functions alone
 
--- a byte of the content: 0 past its end
-abbrev pub ByteGives : ℕ → ℕ → Option (List ℕ) → ℕ → ByteRead → Type 0
-ByteGives before after content place (bytes.Got byte) = IfSome content (λ image. byte ≡ slice_index_or image place 0)
-ByteGives before after content place bytes.Failed = Rose before after
+-- a byte of the content, 0 past its end; a stop leaves nothing but the content then
+abbrev pub ByteGives : ℕ → ℕ → Option (List ℕ) → (List ℕ → Type 0) → ℕ → ByteRead → Type 0
+ByteGives before after content images place (bytes.Got byte) = IfSome content (λ image. byte ≡ slice_index_or image place 0) × Only content images
+ByteGives before after content images place bytes.Failed = Rose before after
 
 -- a write and a sync, as one call
 abbrev pub PutGives : ℕ → ℕ → Option (List ℕ) → Option (List ℕ) → ℕ → List ℕ → (List ℕ → Type 0) → DiskOut → Type 0
