@@ -1,6 +1,7 @@
 -- The two steps of an append: the body is put behind the closed gate, and then the gate is opened.
 use Rattle.std.proofs.Common.{◌≡◌, refl, inl, ℕ, ◌+◌, ◌<◌, ◌≤◌, false, true, List, [], ◌∷◌, ◌++◌, length, Option, Some, None, IfSome, arith, sym, ap, subst, ◌∙◌, length-append}
 use Rattle.std.proofs.lemmas.List.{length-take}
+use Rattle.nb_units.specs.Fields.{sized}
 use Rattle.nb_port.specs.Disk.{Torn, MayTear, Only, Follows, put_at, wrote_at}
 use Rattle.nb_journal.specs.Layout.{open_gate, item_bytes, body_bytes, up_to_gate}
 use Rattle.nb_journal.specs.Stands.{Stands, BeforeOrAfter}
@@ -11,7 +12,8 @@ use Rattle.nb_journal.proofs.Bytes.{both_put}
 use Rattle.nb_journal.proofs.Images.{stands_torn, Staged, stands_put, staged_open, staged_torn}
 use Rattle.nb_journal.proofs.Layouts.{item_length, up_to_next}
 use Rattle.nb_journal.proofs.Moments.{started, goes_on}
-use Rattle.nb_journal.proofs.Telling.{some_of, some_wrote, some_torn}
+use Rattle.nb_journal.proofs.Tearing.{wrote_tears, tears_wider, tears_twice}
+use Rattle.nb_journal.proofs.Telling.{some_of, some_each, some_wrote, some_torn}
 
 -- the gate behind one item more
 pub next_gate : (front : List ℕ) (items : List (List ℕ)) (item : List ℕ) (gate : ℕ) → gate ≡ length (up_to_gate front items)
@@ -56,6 +58,25 @@ both_wrote old mid new gate byte bytes first second inside = second ∙ ap (λ (
     both : (told : Option (List ℕ)) → IfSome told (λ d. gate < length d) → wrote_at (wrote_at told (gate + 1) bytes) gate (byte ∷ []) ≡ wrote_at told gate (byte ∷ bytes)
     both None inside = refl
     both (Some d) inside = ap Some (both_put d gate byte bytes inside)
+
+-- ---- what a write that failed leaves
+
+-- the body takes five bytes more than the item
+body_length : (item : List ℕ) → length (body_bytes item) ≡ length item + 5
+unfolding body_bytes
+body_length item = omega (arith, length-append (sized item) (0 ∷ []))
+
+-- the body failed
+pub body_tears : (old new : Option (List ℕ)) (gate : ℕ) (item : List ℕ) → MayTear old new (gate + 1) (length (body_bytes item)) → MayTear old new gate (length item + 6)
+body_tears old new gate item torn = tears_wider (gate + 1) (length (body_bytes item)) gate (length item + 6) old new (omega arith) (omega (arith, body_length item)) torn
+
+-- the body was put, and the gate failed
+pub gate_tears : (old mid new : Option (List ℕ)) (gate : ℕ) (item : List ℕ) → mid ≡ wrote_at old (gate + 1) (body_bytes item) → IfSome old (λ d. gate < length d)
+    → MayTear mid new gate 1 → MayTear old new gate (length item + 6)
+gate_tears old mid new gate item wrote inside torn =
+    let body : MayTear old mid (gate + 1) (length (body_bytes item)) =
+    wrote_tears old mid mid (gate + 1) (body_bytes item) wrote refl (some_each old (λ d. gate < length d) (λ d. gate + 1 ≤ length d) (λ d within. omega arith) inside) in
+    tears_twice (gate + 1) (length (body_bytes item)) gate 1 gate (length item + 6) old mid new (omega arith) (omega (arith, body_length item)) (omega arith) (omega arith) body torn
 
 -- ---- journals
 

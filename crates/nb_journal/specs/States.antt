@@ -1,6 +1,6 @@
 -- A journal between its calls, and what its calls make of it. The words take what a disk tells as arguments: its content, its
 -- images, its count of faults.
-use Rattle.std.specs.Prelude.{◌≡◌, ◌≢◌, ℕ, ◌<◌, ◌≤◌, List, [], ◌∷◌, ◌++◌, length, false, true, Option, IfSome, slice_index_or, ⊤, Result, Ok, Err}
+use Rattle.std.specs.Prelude.{◌≡◌, ◌≢◌, ℕ, ◌+◌, ◌<◌, ◌≤◌, List, [], ◌∷◌, ◌++◌, length, false, true, Option, IfSome, slice_index_or, ⊤, Result, Ok, Err}
 use Rattle.nb_port.specs.Disk.{Only, MayTear, wrote_at}
 use Rattle.nb_port.specs.Faults.{Rose}
 use Rattle.nb_port.specs.declared.disk.DiskOut.{DiskOut}
@@ -13,7 +13,7 @@ use Rattle.nb_journal.specs.declared.journal.Settled.TheVariants as settles
 use Rattle.nb_journal.specs.declared.journal.StillStale.{StillStale}
 use Rattle.nb_journal.specs.declared.reading.ByteRead.{ByteRead}
 use Rattle.nb_journal.specs.declared.reading.ByteRead.TheVariants as bytes
-use Rattle.nb_journal.specs.Layout.{open_gate, up_to_gate}
+use Rattle.nb_journal.specs.Layout.{open_gate, item_bytes, up_to_gate}
 use Rattle.nb_journal.specs.Stands.{Stands, BeforeOrAfter}
 
 -- nothing is in doubt: the content stands for the items, and a stop leaves nothing else
@@ -55,6 +55,14 @@ AppendFits old item (Ok done) = HasRoomFor old item
 AppendFits old item (Err (appends.Full cap)) = ⊤
 AppendFits old item (Err (appends.TooBig len room)) = ⊤
 AppendFits old item (Err (appends.DiskFault before after)) = HasRoomFor old item
+
+-- what is written, for the content before and after: where the disk failed bytes from the gate on up to the end of the next gate
+-- may have changed, and no others
+abbrev pub AppendWrites : Option (List ℕ) → Option (List ℕ) → ℕ → List ℕ → Result (Unit {0}) AppendFault → Type 0
+AppendWrites old new gate item (Ok done) = new ≡ wrote_at old gate (item_bytes item ++ 0 ∷ [])
+AppendWrites old new gate item (Err (appends.Full cap)) = new ≡ old
+AppendWrites old new gate item (Err (appends.TooBig len room)) = new ≡ old
+AppendWrites old new gate item (Err (appends.DiskFault before after)) = MayTear old new gate (length item + 6)
 
 -- an item is in doubt then where the disk failed, and nowhere else
 abbrev pub DoubtAfterAppend : {D : Type 0} → Journal D → Result (Unit {0}) AppendFault → Type 0
@@ -119,10 +127,10 @@ SettleGives content allowed faults old new (Err failed) =
 
 -- ---- for the contracts of private functions alone
 
--- a byte of the content: 0 past its end
-abbrev pub ByteGives : ℕ → ℕ → Option (List ℕ) → ℕ → ByteRead → Type 0
-ByteGives before after content place (bytes.Got byte) = IfSome content (λ image. byte ≡ slice_index_or image place 0)
-ByteGives before after content place bytes.Failed = Rose before after
+-- a byte of the content, 0 past its end; a stop leaves nothing but the content then
+abbrev pub ByteGives : ℕ → ℕ → Option (List ℕ) → (List ℕ → Type 0) → ℕ → ByteRead → Type 0
+ByteGives before after content images place (bytes.Got byte) = IfSome content (λ image. byte ≡ slice_index_or image place 0) × Only content images
+ByteGives before after content images place bytes.Failed = Rose before after
 
 -- a write and a sync, as one call
 abbrev pub PutGives : ℕ → ℕ → Option (List ℕ) → Option (List ℕ) → ℕ → List ℕ → (List ℕ → Type 0) → DiskOut → Type 0

@@ -5,6 +5,8 @@ mod appending;
 mod resting;
 mod settling;
 mod state;
+#[cfg(test)]
+mod testing;
 
 /// A journal on a disk.
 #[derive(Drop)]

@@ -3,10 +3,10 @@
 ghost use Rattle.std.specs.Prelude.{◌≡◌, ◌≤◌, ◌↔◌, IsTrue, length};
 ghost use Rattle.std.specs.Int.{w32, from_be_bytes};
 ghost use Rattle.nb_units.specs.Fields.{be4};
-ghost use Rattle.nb_port.specs.Disk.{SameImages, Elapses};
 ghost use Rattle.nb_journal.specs.States.{ByteGives};
+ghost use Rattle.nb_journal.specs.Time.{Unwritten};
 
-use nb_port::{Disk, DiskRead};
+use nb_port::{Disk, DiskOut, DiskRead};
 use nb_units::u32_of;
 
 // What the read of one byte gives.
@@ -16,14 +16,16 @@ pub(crate) enum ByteRead {
     Failed,
 }
 
-// The byte at the place: 0 where the content ends before it.
-pub(crate) fn byte_at<D: Disk>(disk: &mut D, place: u64) -> ByteRead
-    ensures gives { ByteGives (D.faults disk.old) (D.faults disk.new) (D.content disk.old) place result }
-    ensures content { D.content disk.new ≡ D.content disk.old }
-    ensures images { SameImages (D.allowed disk.old) (D.allowed disk.new) }
-    ensures time { Elapses (D.moment disk.old) (D.moment disk.new) (D.left disk.old) (D.left disk.new) (D.allowed disk.new) }
+// Makes all that was written stay, and reads the byte at the place: 0 where the content ends before it.
+pub(crate) fn synced_byte<D: Disk>(disk: &mut D, place: u64) -> ByteRead
+    ensures gives { ByteGives (D.faults disk.old) (D.faults disk.new) (D.content disk.old) (D.allowed disk.new) place result }
+    ensures nothing { Unwritten D.content D.allowed D.moment D.left disk.old disk.new }
     ensures count { D.faults disk.old ≤ D.faults disk.new }
 {
+    match disk.sync() {
+        DiskOut::Failed => return ByteRead::Failed,
+        DiskOut::Done => {}
+    }
     let mut byte = [0u8; 1];
     match disk.read(place, &mut byte) {
         DiskRead::Got(n) => {

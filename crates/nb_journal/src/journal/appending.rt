@@ -1,8 +1,6 @@
-ghost use Rattle.std.specs.Prelude.{ℕ, ◌≡◌, ◌≤◌, List, [], ◌∷◌, ◌++◌, false, OnOk};
-ghost use Rattle.nb_port.specs.Disk.{wrote_at};
-ghost use Rattle.nb_journal.specs.Layout.{item_bytes};
+ghost use Rattle.std.specs.Prelude.{ℕ, ◌≡◌, ◌≤◌, List, false};
 ghost use Rattle.nb_journal.specs.Stands.{BeforeOrAfter};
-ghost use Rattle.nb_journal.specs.States.{AtRest, HasGate, AppendGives, AppendFits, DoubtAfterAppend, SameLimits};
+ghost use Rattle.nb_journal.specs.States.{AtRest, HasGate, AppendGives, AppendWrites, AppendFits, DoubtAfterAppend, SameLimits};
 ghost use Rattle.nb_journal.specs.Time.{LeavesOnly};
 
 use crate::journal::{AppendFault, Journal};
@@ -17,8 +15,7 @@ impl<D: Disk> Journal<D> {
         requires fresh { self.old.stale ≡ false }
         requires gate { HasGate D.content self.old }
         ensures gives { AppendGives D.content D.allowed D.faults self.old self.new item.now result }
-        ensures bytes { OnOk result (D.content self.new.disk
-            ≡ wrote_at (D.content self.old.disk) self.old.gate (item_bytes item.now ++ 0 ∷ [])) }
+        ensures bytes { AppendWrites (D.content self.old.disk) (D.content self.new.disk) self.old.gate item.now result }
         ensures fits { AppendFits self.old item.now result }
         ensures doubt { DoubtAfterAppend self.new result }
         ensures limits { SameLimits self.old self.new }

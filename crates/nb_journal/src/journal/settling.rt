@@ -5,8 +5,8 @@ ghost use Rattle.nb_journal.specs.Time.{LeavesOnly, Unwritten};
 
 use crate::journal::{Journal, Settled, StillStale};
 use crate::limits::OPEN;
-use crate::reading::{ByteRead, byte_at};
-use nb_port::{Disk, DiskOut};
+use crate::reading::{ByteRead, synced_byte};
+use nb_port::Disk;
 
 impl<D: Disk> Journal<D> {
     /// Finds out whether the item that is in doubt is there, so that nothing is in doubt: all that was written is made to
@@ -25,14 +25,7 @@ impl<D: Disk> Journal<D> {
             return Ok(Settled::Nothing);
         }
         let before = self.disk.fault_count();
-        match self.disk.sync() {
-            DiskOut::Failed => {
-                let after = self.disk.fault_count();
-                return Err(StillStale { before, after });
-            }
-            DiskOut::Done => {}
-        }
-        match byte_at(&mut self.disk, self.gate) {
+        match synced_byte(&mut self.disk, self.gate) {
             ByteRead::Failed => {
                 let after = self.disk.fault_count();
                 return Err(StillStale { before, after });

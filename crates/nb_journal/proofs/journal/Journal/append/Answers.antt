@@ -1,6 +1,6 @@
 use Rattle.std.proofs.Common.{arith, refl}
 use Rattle.nb_journal.specs.Layout.{open_gate, item_bytes, body_bytes}
-use Rattle.nb_journal.proofs.Appending.{gate_within, both_wrote, doubt_first, doubt_second, added, run_first, run_second}
+use Rattle.nb_journal.proofs.Appending.{gate_within, both_wrote, body_tears, gate_tears, doubt_first, doubt_second, added, run_first, run_second}
 use Rattle.nb_journal.proofs.journal.Journal.append.Goals as goal
 
 -- the body failed
@@ -11,6 +11,9 @@ returns-in-Failed-clause-gives g c = (
   omega (arith, c.in-Failed.ensures.gives.0, c.fault_count-before.ensures, c.fault_count-after.ensures),
   λ front items rest. doubt_first g.D.Disk.content g.D.Disk.allowed front items c.args.item.now c.args.self.now _ _ rest c.in-Failed.ensures.gives.1 c.in-Failed.ensures.images refl refl refl refl,
 )
+
+pub returns-in-Failed-clause-bytes : goal.returns-in-Failed-clause-bytes
+returns-in-Failed-clause-bytes g c = body_tears (g.D.Disk.content c.args.self.now.disk) _ c.args.self.now.gate c.args.item.now c.in-Failed.ensures.gives.1
 
 pub returns-in-Failed-clause-any_moment : goal.returns-in-Failed-clause-any_moment
 returns-in-Failed-clause-any_moment g c =
@@ -29,6 +32,10 @@ returns-in-Failed-put_synced-clause-gives g c = (
   λ front items rest. doubt_second g.D.Disk.content g.D.Disk.allowed front items c.args.item.now c.args.self.now _ c.put_body.new.disk rest
       (record { wrote = c.in-Done.ensures.gives.0; only = c.in-Done.ensures.gives.1 }) c.in-Failed-put_synced.ensures.gives.1 c.in-Failed-put_synced.ensures.images refl refl refl refl,
 )
+
+pub returns-in-Failed-put_synced-clause-bytes : goal.returns-in-Failed-put_synced-clause-bytes
+returns-in-Failed-put_synced-clause-bytes g c =
+    gate_tears (g.D.Disk.content c.args.self.now.disk) (g.D.Disk.content c.put_body.new.disk) _ c.args.self.now.gate c.args.item.now c.in-Done.ensures.gives.0 c.requires.gate c.in-Failed-put_synced.ensures.gives.1
 
 pub returns-in-Failed-put_synced-clause-any_moment : goal.returns-in-Failed-put_synced-clause-any_moment
 returns-in-Failed-put_synced-clause-any_moment g c =
