@@ -14,10 +14,10 @@ no_zeros bytes rest zeros behind back other = λ cap head are is.
 -- what the first bytes say is so of the content
 pub front_gives : (before after : ℕ) (told : Option (List ℕ)) (bytes : List ℕ) (front : FrontRead) → FrontIs bytes front → IfSome told (λ image. bytes ≡ take 96 image) → FrontGives before after told front
 front_gives before after None bytes (fronts.Is t) says reads = (says.0, tt)
-front_gives before after None bytes (fronts.Unborn found) says reads = tt
+front_gives before after None bytes (fronts.Unborn found) says reads = (says.0, tt)
 front_gives before after None bytes fronts.Missing says reads = tt
 front_gives before after None bytes fronts.Failed says reads = absurd says
 front_gives before after (Some image) bytes (fronts.Is t) says reads = (says.0, sym reads ∙ says.1)
-front_gives before after (Some image) bytes (fronts.Unborn found) says reads = says image reads
+front_gives before after (Some image) bytes (fronts.Unborn found) says reads = (says.0, says.1 image reads)
 front_gives before after (Some image) bytes fronts.Missing says reads = says image reads
 front_gives before after (Some image) bytes fronts.Failed says reads = absurd says

@@ -88,8 +88,8 @@ one_journal image head head' cap cap' items items' first second =
     (caps, same_head cap cap' head head' first.terms second.terms same, cc)
 
 -- and is then not damaged
-pub whole_or_damaged : (image head : List ℕ) (cap item place : ℕ) (items : List (List ℕ)) → Holds image cap head items → IsDamaged image item place → ⊥
-whole_or_damaged image head cap item place items holds damaged = elim damaged.fault [
+pub whole_not_damaged : (image head : List ℕ) (cap item place : ℕ) (items : List (List ℕ)) → Holds image cap head items → IsDamaged image item place → ⊥
+whole_not_damaged image head cap item place items holds damaged = elim damaged.fault [
   | inl none ↦ none.2 cap head holds.terms holds.front
   | inr fault ↦ (
       let caps = same_cap cap fault.cap head fault.head holds.terms fault.terms (sym holds.front ∙ fault.front) in

@@ -29,8 +29,8 @@ OneJournal = (image head head' : List ℕ) (cap cap' : ℕ) (items items' : List
     → (cap ≡ cap') × (head ≡ head') × (items ≡ items')
 
 -- a journal is not damaged
-abbrev pub WholeOrDamaged : Type 0
-WholeOrDamaged = (image head : List ℕ) (cap item place : ℕ) (items : List (List ℕ)) → Holds image cap head items → IsDamaged image item place → ⊥
+abbrev pub WholeNotDamaged : Type 0
+WholeNotDamaged = (image head : List ℕ) (cap item place : ℕ) (items : List (List ℕ)) → Holds image cap head items → IsDamaged image item place → ⊥
 
 -- there is one first fault
 abbrev pub OneFault : Type 0

@@ -10,6 +10,7 @@ use Rattle.nb_journal.specs.declared.limits.TheConstants.{MAX_CAP}
 use Rattle.nb_journal.specs.Layout.{magic, front_bytes}
 use Rattle.nb_journal.specs.Reading.{found_in}
 use Rattle.nb_journal.specs.Stands.{Stands}
+use Rattle.nb_journal.specs.Time.{Untouched}
 
 -- the cap is in its range
 abbrev pub IsCap : ℕ → Type 0
@@ -21,6 +22,10 @@ InitFails content allowed faults old new cap (inits.BadCap given) = (given ≡ c
 InitFails content allowed faults old new cap (inits.Exists found) =
     IsCap cap × (found ≡ magic) × IfSome (content old) (λ image. found_in image ≡ magic) × (content new ≡ content old) × SameImages (allowed old) (allowed new)
 InitFails content allowed faults old new cap (inits.DiskFault before after) = IsCap cap × (before ≡ faults old) × (after ≡ faults new) × Rose before after
+
+-- a journal that is there stays as it is, whatever is answered: nothing is written
+abbrev pub SparesJournal : {D : Type 0} → (D → Option (List ℕ)) → (D → List ℕ → Type 0) → (D → ℕ) → (D → ℕ → List ℕ → Type 0) → D → D → Type 0
+SparesJournal content allowed moment left old new = IfSome (content old) (λ image. found_in image ≡ magic → Untouched content allowed moment left old new)
 
 -- the content and all that a stop leaves stand for no items
 abbrev pub InitGives : {D : Type 0} → (D → Option (List ℕ)) → (D → List ℕ → Type 0) → (D → ℕ) → D → D → List ℕ → ℕ → Result (Unit {0}) InitFault → Type 0

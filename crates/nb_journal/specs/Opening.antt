@@ -1,11 +1,11 @@
 -- What opening a journal gives.
-use Rattle.std.specs.Prelude.{◌≡◌, ℕ, ⊤, List, Option, IfSome, Result, Ok, Err}
+use Rattle.std.specs.Prelude.{◌≡◌, ◌≢◌, ℕ, ⊤, List, Option, IfSome, Result, Ok, Err}
 use Rattle.std.specs.List.{AllByRecursion}
 use Rattle.nb_port.specs.Faults.{Rose}
 use Rattle.nb_journal.specs.declared.opening.Opened.{Opened}
 use Rattle.nb_journal.specs.declared.opening.OpenFault.{OpenFault}
 use Rattle.nb_journal.specs.declared.opening.OpenFault.TheVariants as opens
-use Rattle.nb_journal.specs.Layout.{front_bytes, AreTerms, IsItem}
+use Rattle.nb_journal.specs.Layout.{magic, front_bytes, AreTerms, IsItem}
 use Rattle.nb_journal.specs.Reading.{Holds, IsUnborn, IsDamaged}
 use Rattle.nb_journal.specs.States.{AtRest}
 
@@ -21,7 +21,7 @@ pub record Opens {D : Type 0} (content : D → Option (List ℕ)) (allowed : D �
 
 -- by cases on the fault, for the disk before and after
 abbrev pub OpenFails : {D : Type 0} → (D → Option (List ℕ)) → (D → ℕ) → D → D → OpenFault → Type 0
-OpenFails content faults old new (opens.Unborn found) = IfSome (content old) (λ image. IsUnborn image found)
+OpenFails content faults old new (opens.Unborn found) = (found ≢ magic) × IfSome (content old) (λ image. IsUnborn image found)
 OpenFails content faults old new (opens.Damaged item place) = IfSome (content old) (λ image. IsDamaged image item place)
 OpenFails content faults old new (opens.DiskFault before after) = (before ≡ faults old) × (after ≡ faults new) × Rose before after
 OpenFails content faults old new opens.NoMemory = ⊤

@@ -1,5 +1,5 @@
 -- For the contracts of private functions alone: the steps of an opening.
-use Rattle.std.specs.Prelude.{◌≡◌, ℕ, ◌+◌, ◌-◌, ◌*◌, ◌≤◌, ◌<◌, ⊤, List, [], ◌∷◌, ◌++◌, length, take, drop, Option, IfSome}
+use Rattle.std.specs.Prelude.{◌≡◌, ◌≢◌, ℕ, ◌+◌, ◌-◌, ◌*◌, ◌≤◌, ◌<◌, ⊤, List, [], ◌∷◌, ◌++◌, length, take, drop, Option, IfSome}
 use Rattle.std.specs.List.{flat_map, AllByRecursion}
 use Rattle.nb_units.specs.Fields.{be4}
 use Rattle.nb_port.specs.Disk.{Only}
@@ -92,14 +92,14 @@ pub record TermsAre (bytes : List ℕ) (t : Terms) : Type 0 where
 -- from the first bytes of an image, all of them or ninety-six
 abbrev pub FrontIs : List ℕ → FrontRead → Type 0
 FrontIs bytes (fronts.Is t) = AreTerms t.cap t.head × (bytes ≡ front_bytes t.cap t.head)
-FrontIs bytes (fronts.Unborn found) = (image : List ℕ) → bytes ≡ take FRONT image → IsUnborn image found
+FrontIs bytes (fronts.Unborn found) = (found ≢ magic) × ((image : List ℕ) → bytes ≡ take FRONT image → IsUnborn image found)
 FrontIs bytes fronts.Missing = (image : List ℕ) → bytes ≡ take FRONT image → (found_in image ≡ magic) × NoFront image
 FrontIs bytes fronts.Failed = ⊥
 
 -- the front of a content
 abbrev pub FrontGives : ℕ → ℕ → Option (List ℕ) → FrontRead → Type 0
 FrontGives before after content (fronts.Is t) = AreTerms t.cap t.head × IfSome content (λ image. take FRONT image ≡ front_bytes t.cap t.head)
-FrontGives before after content (fronts.Unborn found) = IfSome content (λ image. IsUnborn image found)
+FrontGives before after content (fronts.Unborn found) = (found ≢ magic) × IfSome content (λ image. IsUnborn image found)
 FrontGives before after content fronts.Missing = IfSome content (λ image. (found_in image ≡ magic) × NoFront image)
 FrontGives before after content fronts.Failed = Rose before after
 
@@ -112,7 +112,7 @@ pub record IsWhole (image : List ℕ) (cap : ℕ) (head : List ℕ) (items : Lis
 abbrev pub ContentsGive : ℕ → ℕ → Option (List ℕ) → (List ℕ → Type 0) → ContentsRead → Type 0
 ContentsGive before after content images (contents.Whole t items place) =
     AreTerms t.cap t.head × AreItems t.cap items.items place × Only content images × IfSome content (λ image. IsWhole image t.cap t.head items.items place)
-ContentsGive before after content images (contents.Unborn found) = IfSome content (λ image. IsUnborn image found)
+ContentsGive before after content images (contents.Unborn found) = (found ≢ magic) × IfSome content (λ image. IsUnborn image found)
 ContentsGive before after content images (contents.Damaged item place) = IfSome content (λ image. IsDamaged image item place)
 ContentsGive before after content images contents.Failed = Rose before after
 ContentsGive before after content images contents.NoMemory = ⊤

@@ -1,6 +1,6 @@
 //! Laws of reading: what each image is read as.
 
-ghost use Rattle.nb_journal.specs.Laws.{StandsIsRead, ReadStands, OneJournal, WholeOrDamaged, OneFault, UnbornIsNeither, JournalLayout};
+ghost use Rattle.nb_journal.specs.Laws.{StandsIsRead, ReadStands, OneJournal, WholeNotDamaged, OneFault, UnbornIsNeither, JournalLayout};
 
 /// A law: an image that stands for items is read as a journal with these items.
 pub fn stands_is_read()
@@ -18,8 +18,8 @@ pub fn one_journal()
 {}
 
 /// A law: a journal is not damaged.
-pub fn whole_or_damaged()
-    ensures { WholeOrDamaged }
+pub fn whole_not_damaged()
+    ensures { WholeNotDamaged }
 {}
 
 /// A law: there is one first fault.

@@ -1,7 +1,7 @@
 ghost use Rattle.std.specs.Prelude.{◌≡◌, ◌≤◌, ◌++◌, ◌∷◌, [], replicate, OnOk};
 ghost use Rattle.nb_port.specs.Disk.{wrote_at};
 ghost use Rattle.nb_journal.specs.Layout.{terms, front_bytes};
-ghost use Rattle.nb_journal.specs.Making.{InitGives, MagicGives};
+ghost use Rattle.nb_journal.specs.Making.{InitGives, SparesJournal, MagicGives};
 ghost use Rattle.nb_journal.specs.Time.{Untouched};
 
 use crate::limits::{CAP, FRONT, HEAD, MAGIC, MAGIC_BYTES, MAX_CAP};
@@ -31,10 +31,11 @@ enum MagicRead {
     Failed,
 }
 
-/// Makes a journal without items on a disk that has none: all of it but the magic is written and synced, and
-/// then the magic.
+/// Makes a journal without items on a disk that has none. A journal that is there stays as it is. All but the magic is written
+/// and synced, and then the magic.
 pub fn init<D: Disk>(disk: &mut D, head: &[u8; HEAD], cap: u32) -> Result<(), InitFault>
     ensures gives { InitGives D.content D.allowed D.faults disk.old disk.new head.now cap result }
+    ensures spares { SparesJournal D.content D.allowed D.moment D.left disk.old disk.new }
     ensures bytes { OnOk result (D.content disk.new ≡ wrote_at (D.content disk.old) 0 (front_bytes cap head.now ++ 0 ∷ [])) }
     ensures count { D.faults disk.old ≤ D.faults disk.new }
 {

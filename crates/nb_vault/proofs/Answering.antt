@@ -1,5 +1,5 @@
 -- A turn, from its steps: settling, and making the entry of the verdict durable.
-use Rattle.std.proofs.Common.{◌≡◌, ◌⊎◌, inl, inr, ℕ, ◌+◌, List, [], ◌∷◌, ◌++◌, length, take, Option, None, Some, Ok, Err, refl, sym, ap, subst, ◌∙◌}
+use Rattle.std.proofs.Common.{◌≡◌, ◌⊎◌, ◌≢◌, inl, inr, ℕ, ◌+◌, List, [], ◌∷◌, ◌++◌, length, take, Option, None, Some, IfSome, Ok, Err, refl, sym, ap, subst, ◌∙◌}
 use Rattle.std.specs.Option.{option_to_list}
 use Rattle.std.proofs.lemmas.List.{append-nil}
 use Rattle.nb_book.specs.declared.entry.Entry.{Entry}
@@ -18,11 +18,11 @@ use Rattle.nb_vault.specs.Lines.{AreOf, entries_of, next_turn}
 use Rattle.nb_vault.specs.Parts.{IsVault, SameOrigin, SameButRoom, CommitGives, seen_as}
 use Rattle.nb_vault.specs.Records.{EitherOf, WithOrWithout, disk_of}
 use Rattle.nb_vault.specs.Turns.{Request, State, Settles, Decides, Doubts}
-use Rattle.nb_vault.specs.Vaults.{Chronicled, state_of, rules_of, StandsForState, adopts, commits, ruled, Decided, Doubted, IsDurable, Adds, LinesOf}
-use Rattle.nb_vault.proofs.Resting.{leaves_more, leaves_then, rest_images}
+use Rattle.nb_vault.specs.Vaults.{Chronicled, state_of, rules_of, StandsForState, adopts, commits, KeptOf, Settled, Decided, Doubted, Unsettled, IsDurable, Adds, LinesOf}
+use Rattle.nb_vault.proofs.Resting.{leaves_more, leaves_then, rest_images, rest_content}
 use Rattle.nb_vault.proofs.Vaulting.{same_opening}
 use Rattle.nb_journal.proofs.Moments.{started}
-use Rattle.nb_vault.proofs.Seeing.{state_at, state_seen, entries_seen, either_seen, settled_fresh, room_seen}
+use Rattle.nb_vault.proofs.Seeing.{state_at, state_seen, entries_seen, doubt_seen, either_seen, settled_fresh, room_seen}
 
 -- what is kept of a doubt: nothing, or all of it
 abbrev pub IsKept : Option Entry → Option Entry → Type 0
@@ -62,16 +62,31 @@ image_behind head cap entries over last rest doubt kept entry image is over_is (
 
 module _ {D : Type 0} (content : D → Option (List ℕ)) (allowed : D → List ℕ → Type 0) (faults : D → ℕ) where
   module _ (old mid : Parts D) (vault : IsVault content allowed faults old) (settled : IsVault content allowed faults mid) (same : SameOrigin old mid) (by turn : ℕ) (kept : Option Entry)
-      (kept_is : IsKept kept old.records.doubt) (entries : mid.records.book.entries ≡ old.records.book.entries ++ option_to_list kept) (lines : mid.lines.items ≡ old.lines.items ++ adopts by turn kept) where
-    -- the entries that the verdict is taken over, as the lines tell them
-    over_lines : entries_of (seen_as old).origin.entries ((seen_as old).lines ++ adopts by turn kept) ≡ mid.records.book.entries
-    over_lines =
-        ap (entries_of (take old.opening old.records.book.entries)) (sym lines)
-        ∙ ap (λ (opening : List Entry). entries_of opening mid.lines.items) (sym (same_opening content allowed faults old mid (option_to_list kept) vault same entries)) ∙ sym settled.tells.listed
+      (kept_is : IsKept kept old.records.doubt) (entries : mid.records.book.entries ≡ old.records.book.entries ++ option_to_list kept) (none : mid.records.doubt ≡ None) (same_content : content (disk_of mid.records) ≡ content (disk_of old.records)) where
+    -- what is kept was in doubt
+    kept_of : (k : Option Entry) → IsKept k old.records.doubt → KeptOf (seen_as old) k
+    kept_of None is = tt
+    kept_of (Some entry) (inl e) = absurd cc
+    kept_of (Some entry) (inr was) = doubt_seen content allowed faults old vault ∙ ap option_to_list (sym was)
 
-    -- what the verdict records
-    pub ruled_is : (request : Request) → ruled (seen_as old) ((seen_as old).lines ++ adopts by turn kept) request ≡ (rules_of (seen_as old) mid.records.book.entries request).entry
-    ruled_is request = ap (λ (es : List Entry). (rules_of (seen_as old) es request).entry) over_lines
+    -- what was in doubt is settled as the disk had it
+    pub settled_as : Settled content (seen_as old) kept mid.records.book.entries
+    settled_as = record {
+      of_doubt = kept_of kept kept_is;
+      over_is = entries ∙ ap (λ (es : List Entry). es ++ option_to_list kept) (sym (entries_seen content allowed faults old vault));
+      told = subst (λ (t : Option (List ℕ)). IfSome t (StandsFor old.records.head old.records.book.cap mid.records.book.entries)) same_content (told (content (disk_of mid.records)) (rest_content content allowed mid.records settled.rests));
+    }
+      where
+        alone : (image : List ℕ) → StandsForEither mid.records.head mid.records.book.cap mid.records.book.entries [] image → StandsFor mid.records.head mid.records.book.cap mid.records.book.entries image
+        alone image (inl is) = is
+        alone image (inr is) = subst (λ (es : List Entry). StandsFor mid.records.head mid.records.book.cap es image) (append-nil mid.records.book.entries) is
+
+        told : (t : Option (List ℕ)) → IfSome t (EitherOf mid.records) → IfSome t (StandsFor old.records.head old.records.book.cap mid.records.book.entries)
+        told None is = tt
+        told (Some image) is =
+            subst (λ (head : List ℕ). StandsFor head old.records.book.cap mid.records.book.entries image) same.terms.head
+            (subst (λ (cap : ℕ). StandsFor mid.records.head cap mid.records.book.entries image) same.terms.cap
+            (alone image (subst (λ (d : Option Entry). StandsForEither mid.records.head mid.records.book.cap mid.records.book.entries (option_to_list d) image) none is)))
 
     pub settles_over : Settles (state_of (seen_as old)) mid.records.book.entries
     settles_over = subst (λ (s : State). Settles s mid.records.book.entries) (sym (state_seen content allowed faults old vault)) (subst (Settles (state_at old)) (sym entries) (settles old.records.book.entries old.records.doubt kept old.faults kept_is))
@@ -89,9 +104,15 @@ module _ {D : Type 0} (content : D → Option (List ℕ)) (allowed : D → List 
     }
 
     -- the lines of it
-    pub decided_lines : (request : Request) (entry : Option Entry) (added : List Line) → entry ≡ (rules_of (seen_as old) mid.records.book.entries request).entry → added ≡ adopts by turn kept ++ commits by turn entry
-        → Decided (seen_as old) by turn request added
-    decided_lines request entry added entry_is is = record { kept = kept; lines = is ∙ ap (λ (o : Option Entry). adopts by turn kept ++ commits by turn o) (entry_is ∙ sym (ruled_is request)) }
+    pub decided_lines : (request : Request) (at : ℕ) (entry : Option Entry) (added : List Line) → at ≡ length mid.records.book.entries → entry ≡ (rules_of (seen_as old) mid.records.book.entries request).entry
+        → added ≡ adopts by turn kept ++ commits by turn entry → Decided content (seen_as old) by turn at request added
+    decided_lines request at entry added at_is entry_is is = record {
+      kept = kept;
+      over = mid.records.book.entries;
+      settled = settled_as;
+      place = at_is;
+      lines = is ∙ ap (λ (o : Option Entry). adopts by turn kept ++ commits by turn o) entry_is;
+    }
 
     -- the entry could not be made durable
     pub doubts : (new : Parts D) → IsVault content allowed faults new → (request : Request) (entry : Entry) → Some entry ≡ (rules_of (seen_as old) mid.records.book.entries request).entry
@@ -104,9 +125,31 @@ module _ {D : Type 0} (content : D → Option (List ℕ)) (allowed : D → List 
       left = state_seen content allowed faults new done ∙ rw (more, doubt, one, vault.faults_are) refl;
     }
 
-    pub doubted_lines : (request : Request) (entry : Entry) (before after : ℕ) (added : List Line) → Some entry ≡ (rules_of (seen_as old) mid.records.book.entries request).entry
-        → added ≡ adopts by turn kept ++ Doubt by turn entry ∷ Fault by turn before after ∷ [] → Doubted (seen_as old) by turn before after request added
-    doubted_lines request entry before after added entry_is is = record { kept = kept; entry = entry; verdict = ruled_is request ∙ sym entry_is; lines = is }
+    pub doubted_lines : (new : Parts D) → IsVault content allowed faults new → (request : Request) (entry : Entry) (before after : ℕ) (added : List Line) → Some entry ≡ (rules_of (seen_as old) mid.records.book.entries request).entry
+        → new.records.doubt ≡ Some entry → added ≡ adopts by turn kept ++ Doubt by turn entry ∷ Fault by turn before after ∷ [] → Doubted content (seen_as old) (seen_as new) by turn before after request added
+    doubted_lines new done request entry before after added entry_is doubt is = record {
+      kept = kept;
+      over = mid.records.book.entries;
+      entry = entry;
+      settled = settled_as;
+      verdict = sym entry_is;
+      lines = is;
+      doubt = doubt_seen content allowed faults new done ∙ ap option_to_list doubt;
+    }
+
+  some_doubt : (d : Option Entry) → d ≢ None → option_to_list d ≢ []
+  some_doubt None some is = some refl
+  some_doubt (Some e) some is = cc
+
+  -- what was in doubt still is
+  pub unsettled_lines : (old new : Parts D) → IsVault content allowed faults old → IsVault content allowed faults new → (by turn before after : ℕ) (added : List Line) → old.records.doubt ≢ None → new.records.doubt ≡ old.records.doubt
+      → new.records.book.entries ≡ old.records.book.entries → added ≡ Fault by turn before after ∷ [] → Unsettled (seen_as old) (seen_as new) by turn before after added
+  unsettled_lines old new vault done by turn before after added some doubt entries is = record {
+    some = λ e. some_doubt old.records.doubt some (sym (doubt_seen content allowed faults old vault) ∙ e);
+    lines = is;
+    entries = entries_seen content allowed faults new done ∙ entries ∙ sym (entries_seen content allowed faults old vault);
+    doubt = doubt_seen content allowed faults new done ∙ ap option_to_list doubt ∙ sym (doubt_seen content allowed faults old vault);
+  }
 
   module _ (moment : D → ℕ) (left : D → ℕ → List ℕ → Type 0) where
     -- nothing was done
@@ -198,12 +241,12 @@ module _ {D : Type 0} (content : D → Option (List ℕ)) (allowed : D → List 
       subst (λ (v : Chronicled D). LeavesOnly moment left v.disk (disk_of new.records) (λ image. StandsForState v image ⊎ StandsForState (seen_as new) image)) (room_seen content allowed faults old start same) leaves
 
   pub adds_from : (old start new : Parts D) → SameButRoom old start → (by turn : ℕ) (request : Request) (answer : Answer) (added : List Line) → turn ≡ next_turn start.lines.items → new.lines.items ≡ start.lines.items ++ added → AreOf by turn added
-      → LinesOf (seen_as start) by turn request added answer → Adds (seen_as old) (seen_as new) by request answer
+      → LinesOf content (seen_as start) (seen_as new) by turn request added answer → Adds content (seen_as old) (seen_as new) by request answer
   adds_from old start new same by turn request answer added turn_is behind made lines =
-      subst (λ (v : Chronicled D). Adds v (seen_as new) by request answer) (room_seen content allowed faults old start same)
+      subst (λ (v : Chronicled D). Adds content v (seen_as new) by request answer) (room_seen content allowed faults old start same)
       (record {
         added = added;
         behind = behind;
         made = subst (λ (n : ℕ). AreOf by n added) turn_is made;
-        lines = subst (λ (n : ℕ). LinesOf (seen_as start) by n request added answer) turn_is lines;
+        lines = subst (λ (n : ℕ). LinesOf content (seen_as start) (seen_as new) by n request added answer) turn_is lines;
       })

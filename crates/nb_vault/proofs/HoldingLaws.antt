@@ -11,7 +11,7 @@ use Rattle.nb_book.proofs.Growing.{front_legal}
 use Rattle.nb_book.proofs.Layouts.{one_spelling, entry_layout}
 use Rattle.nb_journal.specs.Layout.{IsItem}
 use Rattle.nb_journal.specs.Reading.{Holds, IsUnborn, IsDamaged}
-use Rattle.nb_journal.proofs.ReadingLaws.{stands_read, one_journal, whole_or_damaged, unborn_is_neither}
+use Rattle.nb_journal.proofs.ReadingLaws.{stands_read, one_journal, whole_not_damaged, unborn_is_neither}
 use Rattle.nb_vault.specs.Holdings.{Joins, StandsFor, OneList}
 use Rattle.nb_vault.specs.Opens.{IsBadEntry}
 use Rattle.nb_vault.specs.Restoring.{FirstBad}
@@ -65,7 +65,7 @@ pub no_unborn : (head : List ℕ) (cap : ℕ) (entries : List Entry) (image foun
 no_unborn head cap entries image found s unborn = (unborn_is_neither image found head cap 0 0 s.items unborn).0 (holds_of head cap entries image s)
 
 pub no_damage : (head : List ℕ) (cap : ℕ) (entries : List Entry) (image : List ℕ) (item place : ℕ) → StandsFor head cap entries image → IsDamaged image item place → ⊥
-no_damage head cap entries image item place s damaged = whole_or_damaged image head cap item place s.items (holds_of head cap entries image s) damaged
+no_damage head cap entries image item place s damaged = whole_not_damaged image head cap item place s.items (holds_of head cap entries image s) damaged
 
 -- ---- each of its items is good
 

@@ -18,7 +18,7 @@ pub record IsRun (test : Line → Bool) (before run behind : List Line) : Type 0
   pub first : FirstFails test (reverse before)
   pub last : FirstFails test behind
 
--- neighbouring lines that adopt have exactly the entries that were in doubt before them
+-- neighbouring lines that adopt have exactly the entries that were last in doubt before them
 abbrev pub Sound : List Line → Type 0
 Sound lines = (before run behind : List Line) → lines ≡ before ++ (run ++ behind) → IsRun is_adopted before run behind → filter_map adopted run ≡ open_doubt before
 

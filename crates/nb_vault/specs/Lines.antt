@@ -63,7 +63,8 @@ faults_of lines = count_by is_fault lines
 abbrev pub before_faults : List Line → List Line
 before_faults lines = drop (prefix_len is_fault (reverse lines)) (reverse lines)
 
--- the entries in doubt: those of the last neighbouring doubts, where no entry was recorded since
+-- the entries that were last in doubt: those of the last neighbouring doubts, where no entry was recorded since. Settling may have
+-- dropped them: what is in doubt now is known with whether the vault is stale
 abbrev pub open_doubt : List Line → List Entry
 open_doubt lines = reverse (filter_map doubted (take_while is_doubt (before_faults lines)))
 

@@ -1,9 +1,9 @@
 -- What opening a vault gives.
-use Rattle.std.specs.Prelude.{◌≡◌, ℕ, ⊤, List, [], Option, Some, None, IfSome, Result, Ok, Err, length}
+use Rattle.std.specs.Prelude.{◌≡◌, ◌≢◌, ℕ, ⊤, List, [], Option, Some, None, IfSome, Result, Ok, Err, length}
 use Rattle.nb_port.specs.Faults.{Rose}
 use Rattle.nb_book.specs.declared.entry.Entry.{Entry}
 use Rattle.nb_journal.specs.declared.opening.Opened.{Opened}
-use Rattle.nb_journal.specs.Layout.{front_bytes, AreTerms}
+use Rattle.nb_journal.specs.Layout.{magic, front_bytes, AreTerms}
 use Rattle.nb_journal.specs.Reading.{Holds, IsUnborn, IsDamaged}
 use Rattle.nb_journal.specs.States.{AtRest}
 use Rattle.nb_vault.specs.declared.parts.Parts.{Parts}
@@ -35,7 +35,7 @@ WholeIsGood = (image head : List ℕ) (cap : ℕ) (entries : List Entry) → Sta
 
 -- by cases on the fault, for the disk before and after
 abbrev pub OpenFails : {D : Type 0} → (D → Option (List ℕ)) → (D → ℕ) → D → D → VaultFault → Type 0
-OpenFails content faults old new (opens.Unborn found) = IfSome (content old) (λ image. IsUnborn image found)
+OpenFails content faults old new (opens.Unborn found) = (found ≢ magic) × IfSome (content old) (λ image. IsUnborn image found)
 OpenFails content faults old new (opens.Damaged item place) = IfSome (content old) (λ image. IsDamaged image item place)
 OpenFails content faults old new (opens.BadEntry item) = IfSome (content old) (λ image. IsBadEntry image item)
 OpenFails content faults old new (opens.DiskFault before after) = (before ≡ faults old) × (after ≡ faults new) × Rose before after

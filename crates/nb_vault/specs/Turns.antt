@@ -42,7 +42,7 @@ pub record Answered : Type 0 where
   pub mark : Mark
   pub reply : List ℕ
 
--- after so many faults no more is written
+-- after so many faults nothing is read, written or decided any more
 abbrev pub most_faults : ℕ
 most_faults = 1000
 

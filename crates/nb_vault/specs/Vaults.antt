@@ -1,6 +1,7 @@
 -- What a vault is seen as, what every vault keeps, and how it answers.
-use Rattle.std.specs.Prelude.{◌≡◌, ◌≢◌, ◌⊎◌, ℕ, ◌≤◌, Bool, true, false, List, [], ◌∷◌, ◌++◌, length, Option, Some, IfSome, if◌then◌else◌}
+use Rattle.std.specs.Prelude.{◌≡◌, ◌≢◌, ◌⊎◌, ℕ, ◌≤◌, Bool, true, false, List, [], ◌∷◌, ◌++◌, length, Option, None, Some, IfSome, if◌then◌else◌}
 use Rattle.std.specs.List.{count_by, sum_by}
+use Rattle.std.specs.Option.{option_to_list}
 use Rattle.nb_port.specs.Faults.{Rose}
 use Rattle.nb_book.specs.declared.entry.Entry.{Entry}
 use Rattle.nb_units.specs.declared.epoid.Epoid.{Epoid}
@@ -87,7 +88,7 @@ TurnOf old new request out out' (answers.Answered at) =
 TurnOf old new request out out' (answers.DiskFault before after) =
     Turn (rules_of old) (state_of old) request (turns.Fault before after) (refused DISK_FAULT before after) (state_of new) × (out' ≡ out)
 TurnOf old new request out out' (answers.Worn faults) =
-    Turn (rules_of old) (state_of old) request turns.Worn (refused WORN faults 0) (state_of new) × (out' ≡ out)
+    (faults ≡ most_faults) × Turn (rules_of old) (state_of old) request turns.Worn (refused WORN faults 0) (state_of new) × (out' ≡ out)
 TurnOf old new request out out' answers.NoMemory =
     Turn (rules_of old) (state_of old) request turns.NoMemory (refused NO_MEMORY 0 0) (state_of new) × (out' ≡ out)
 
@@ -101,35 +102,56 @@ abbrev pub commits : ℕ → ℕ → Option Entry → List Line
 commits by turn (Some entry) = Commit by turn entry ∷ []
 commits by turn other = []
 
--- what the verdict records, over the entries behind these lines
-abbrev pub ruled : {D : Type 0} → Chronicled D → List Line → Request → Option Entry
-ruled v lines request = (rules_of v (entries_of v.origin.entries lines) request).entry
+-- what is kept of a doubt: nothing, or, where one is in doubt, all of it
+abbrev pub KeptOf : {D : Type 0} → Chronicled D → Option Entry → Type 0
+KeptOf old None = Unit {0}
+KeptOf old (Some entry) = doubt_in old ≡ entry ∷ []
 
--- a turn that decided: at most one line that adopts, and then that of the entry of the verdict over the lines before it
-pub record Decided {D : Type 0} (old : Chronicled D) (by turn : ℕ) (request : Request) (added : List Line) : Type 0 where
-  pub kept : Option Entry
-  pub lines : added ≡ adopts by turn kept ++ commits by turn (ruled old (old.lines ++ adopts by turn kept) request)
+-- what was in doubt is settled as the disk had it: what its content stood for is what the verdict is taken over
+pub record Settled {D : Type 0} (content : D → Option (List ℕ)) (old : Chronicled D) (kept : Option Entry) (over : List Entry) : Type 0 where
+  pub of_doubt : KeptOf old kept
+  pub over_is : over ≡ entries_in old ++ option_to_list kept
+  pub told : IfSome (content old.disk) (StandsFor old.origin.head old.origin.cap over)
 
--- a turn whose entry could not be made durable: at most one line that adopts, the doubt, and the fault
-pub record Doubted {D : Type 0} (old : Chronicled D) (by turn before after : ℕ) (request : Request) (added : List Line) : Type 0 where
+-- a turn that decided over so many entries: at most one line that adopts, and then that of the verdict's entry
+pub record Decided {D : Type 0} (content : D → Option (List ℕ)) (old : Chronicled D) (by turn at : ℕ) (request : Request) (added : List Line) : Type 0 where
   pub kept : Option Entry
+  pub over : List Entry
+  pub settled : Settled content old kept over
+  pub place : at ≡ length over
+  pub lines : added ≡ adopts by turn kept ++ commits by turn (rules_of old over request).entry
+
+-- a turn whose entry could not be made durable: at most one line that adopts, the doubt, and the fault; the entry is in doubt then
+pub record Doubted {D : Type 0} (content : D → Option (List ℕ)) (old new : Chronicled D) (by turn before after : ℕ) (request : Request) (added : List Line) : Type 0 where
+  pub kept : Option Entry
+  pub over : List Entry
   pub entry : Entry
-  pub verdict : ruled old (old.lines ++ adopts by turn kept) request ≡ Some entry
+  pub settled : Settled content old kept over
+  pub verdict : (rules_of old over request).entry ≡ Some entry
   pub lines : added ≡ adopts by turn kept ++ Doubt by turn entry ∷ Fault by turn before after ∷ []
+  pub doubt : doubt_in new ≡ entry ∷ []
+
+-- a turn that could not settle what was in doubt: the fault alone; the same is in doubt then
+pub record Unsettled {D : Type 0} (old new : Chronicled D) (by turn before after : ℕ) (added : List Line) : Type 0 where
+  pub some : doubt_in old ≢ []
+  pub lines : added ≡ Fault by turn before after ∷ []
+  pub entries : entries_in new ≡ entries_in old
+  pub doubt : doubt_in new ≡ doubt_in old
 
 -- the lines of one answer
-abbrev pub LinesOf : {D : Type 0} → Chronicled D → ℕ → ℕ → Request → List Line → Answer → Type 0
-LinesOf old by turn request added (answers.Answered at) = Decided old by turn request added
-LinesOf old by turn request added (answers.DiskFault before after) = (added ≡ Fault by turn before after ∷ []) ⊎ Doubted old by turn before after request added
-LinesOf old by turn request added (answers.Worn faults) = added ≡ []
-LinesOf old by turn request added answers.NoMemory = added ≡ []
+abbrev pub LinesOf : {D : Type 0} → (D → Option (List ℕ)) → Chronicled D → Chronicled D → ℕ → ℕ → Request → List Line → Answer → Type 0
+LinesOf content old new by turn request added (answers.Answered at) = Decided content old by turn at request added
+LinesOf content old new by turn request added (answers.DiskFault before after) =
+    Unsettled old new by turn before after added ⊎ Doubted content old new by turn before after request added
+LinesOf content old new by turn request added (answers.Worn faults) = added ≡ []
+LinesOf content old new by turn request added answers.NoMemory = added ≡ []
 
 -- what an answer adds to the lines
-pub record Adds {D : Type 0} (old new : Chronicled D) (by : ℕ) (request : Request) (answer : Answer) : Type 0 where
+pub record Adds {D : Type 0} (content : D → Option (List ℕ)) (old new : Chronicled D) (by : ℕ) (request : Request) (answer : Answer) : Type 0 where
   pub added : List Line
   pub behind : new.lines ≡ old.lines ++ added
   pub made : AreOf by (next_turn old.lines) added
-  pub lines : LinesOf old by (next_turn old.lines) request added answer
+  pub lines : LinesOf content old new by (next_turn old.lines) request added answer
 
 -- each image that a stop leaves stands for the entries alone, and nothing is in doubt
 pub record IsDurable {D : Type 0} (allowed : D → List ℕ → Type 0) (v : Chronicled D) : Type 0 where

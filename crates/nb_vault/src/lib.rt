@@ -6,8 +6,8 @@
 //! [`Vault::answer`] settles what is in doubt, decides, makes the entry of the verdict durable, and then hands the reply out.
 //! What is promised: each answer is one turn of the house (`specs/Turns.antt`); a stop at any moment of it leaves the entries
 //! before it or after it, each time with or without the one in doubt; where a request is answered, every later stop leaves its
-//! entry; and of every vault what `Keeps` says: its list is Legal and is what the disk holds, its lines adopt what was in doubt and
-//! nothing else, its faults are the disk's, and its turns are numbered upwards (`specs/Chronicle.antt`).
+//! entry; and of every vault what `Keeps` says: its list is Legal and is what the disk holds, its lines adopt what was last in
+//! doubt before them, its faults are the disk's, and its turns are numbered upwards (`specs/Chronicle.antt`).
 //!
 //! The program does not stand on the vault yet. It opens a journal without entries by [`open`], and its [`House`] answers a request
 //! by the same decision over a book that is in memory alone; `specs/House.antt` says that its rules are the verdict and its bytes,

@@ -10,6 +10,6 @@ pub struct Origin {
     pub head: [u8; HEAD],
     /// The most entries that may be held.
     pub cap: u32,
-    /// The disk's count of faults when it was open.
+    /// The disk's count of faults before it was opened, 8 bytes wide.
     pub faults: u64,
 }

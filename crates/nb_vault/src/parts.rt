@@ -55,7 +55,7 @@ impl<D: Disk> Parts<D> {
         requires room { REPLY_ROOM ≤ spare_of out.old }
         ensures vault { IsVault D.content D.allowed D.faults self.new }
         ensures turn { TurnOf (seen_as self.old) (seen_as self.new) (request_of kind body.now moment) out.old.items out.new.items result }
-        ensures lines { Adds (seen_as self.old) (seen_as self.new) by (request_of kind body.now moment) result }
+        ensures lines { Adds D.content (seen_as self.old) (seen_as self.new) by (request_of kind body.now moment) result }
         ensures origin { SameOrigin self.old self.new }
         ensures any_moment { LeavesOnly D.moment D.left (disk_of self.old.records) (disk_of self.new.records)
             (λ image. StandsForState (seen_as self.old) image ⊎ StandsForState (seen_as self.new) image) }
@@ -99,6 +99,7 @@ impl<D: Disk> Parts<D> {
         ensures entries { self.old.records.book.spare ≤ self.new.records.book.spare + 1 }
         ensures lines { OnOk result (vec_len self.new.lines + vec_capacity self.old.lines ≤ vec_capacity self.new.lines + vec_len self.old.lines + 1) }
         ensures turn { MayBeTurn turn self.new.lines.items }
+        ensures content { D.content (disk_of self.new.records) ≡ D.content (disk_of self.old.records) }
         ensures any_moment { LeavesOnly D.moment D.left (disk_of self.old.records) (disk_of self.new.records) (EitherOf self.old.records) }
         ensures count { D.faults (disk_of self.old.records) ≤ D.faults (disk_of self.new.records) }
     {

@@ -37,6 +37,7 @@ impl<D: Disk> Records<D> {
         ensures gives { SettleGives D.faults self.old self.new result }
         ensures terms { SameTerms self.old self.new }
         ensures spare { self.old.book.spare ≤ self.new.book.spare + 1 }
+        ensures content { D.content (disk_of self.new) ≡ D.content (disk_of self.old) }
         ensures any_moment { LeavesOnly D.moment D.left (disk_of self.old) (disk_of self.new) (EitherOf self.old) }
         ensures count { D.faults (disk_of self.old) ≤ D.faults (disk_of self.new) }
     {

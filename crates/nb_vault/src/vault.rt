@@ -26,8 +26,8 @@ pub struct Vault<D: Disk> {
 pub enum Answer {
     /// It was decided over `at` entries, and its reply is handed out: every later stop leaves what it recorded.
     Answered { at: u64 },
-    /// The disk failed between these two counts of its faults. Where the request has an entry it may be in doubt, until the
-    /// next answer settles it.
+    /// The disk failed between these two counts of its faults. An entry may be in doubt then, until a later answer settles it:
+    /// that of this request, or, where it could not be settled, one from before, and then this request was not decided.
     DiskFault { before: u64, after: u64 },
     /// The vault had [`MAX_FAULTS`] faults since it was opened, and nothing was done.
     Worn { faults: u32 },
@@ -60,7 +60,7 @@ impl<D: Disk> Vault<D> {
     ) -> Answer
         requires { REPLY_ROOM ≤ spare_of out.old }
         ensures turn { TurnOf self.old self.new (request_of kind body.now moment) out.old.items out.new.items result }
-        ensures lines { Adds self.old self.new by (request_of kind body.now moment) result }
+        ensures lines { Adds D.content self.old self.new by (request_of kind body.now moment) result }
         ensures origin { self.new.origin ≡ self.old.origin }
         ensures any_moment { LeavesOnly D.moment D.left self.old.disk self.new.disk
             (λ image. StandsForState self.old image ⊎ StandsForState self.new image) }

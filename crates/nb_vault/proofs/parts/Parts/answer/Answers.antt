@@ -13,7 +13,7 @@ use Rattle.nb_vault.specs.Turns.{Decides, Doubts, Unsettled, most_faults, refuse
 use Rattle.nb_vault.specs.Vaults.{StandsForState, adopts, commits, request_of, rules_of, state_of}
 use Rattle.nb_vault.proofs.Lines.{next_may_be}
 use Rattle.nb_vault.proofs.Seeing.{room_vault, room_seen}
-use Rattle.nb_vault.proofs.Answering.{leaves_here, leaves_unsettled, leaves_both, decides, decided_lines, doubts, doubted_lines, adopts_are, commits_are, durable, commit_ok, commit_err, verdict_is, from_start, adds_from, together}
+use Rattle.nb_vault.proofs.Answering.{leaves_here, leaves_unsettled, leaves_both, decides, decided_lines, doubts, doubted_lines, adopts_are, commits_are, durable, commit_ok, commit_err, verdict_is, from_start, adds_from, together, unsettled_lines}
 use Rattle.nb_vault.proofs.parts.Parts.answer.Goals as goal
 
 pub returns-then-self-ge-MAX_FAULTS-clause-any_moment : goal.returns-then-self-ge-MAX_FAULTS-clause-any_moment
@@ -48,6 +48,21 @@ returns-in-Err-clause-any_moment g c =
     from_start g.D.Disk.content g.D.Disk.allowed g.D.Disk.faults g.D.Disk.moment g.D.Disk.left c.args.self.now start new same
     (leaves_unsettled g.D.Disk.content g.D.Disk.allowed g.D.Disk.faults g.D.Disk.moment g.D.Disk.left start (disk_of new.records) (StandsForState (seen_as new)) vault c.ready.ensures.any_moment)
 
+pub returns-in-Err-clause-lines : goal.returns-in-Err-clause-lines
+returns-in-Err-clause-lines g c =
+    let start = c.reserve.new.self in
+    let new = c.ready.new.self in
+    let content = g.D.Disk.content in
+    let allowed = g.D.Disk.allowed in
+    let faults = g.D.Disk.faults in
+    let vault = room_vault content allowed faults c.args.self.now start c.reserve.ensures.same c.requires.vault in
+    let counts = c.in-Err.field-0 in
+    let turn = c.next_turn-turn.result in
+    let gives = c.in-Err.ensures.gives in
+    let added = Fault c.args.by turn counts.before counts.after ∷ [] in
+    adds_from content allowed faults c.args.self.now start new c.reserve.ensures.same c.args.by turn (request_of c.args.kind c.args.body.now c.args.moment) (DiskFault counts.before counts.after) added c.next_turn-turn.ensures gives.2
+    ((refl, refl), tt) (inl (unsettled_lines content allowed faults start new vault c.ready.ensures.vault c.args.by turn counts.before counts.after added gives.0 gives.1 gives.3.entries refl))
+
 pub returns-in-Err-commit-clause-turn : goal.returns-in-Err-commit-clause-turn
 returns-in-Err-commit-clause-turn g c =
     let start = c.reserve.new.self in
@@ -62,7 +77,7 @@ returns-in-Err-commit-clause-turn g c =
     let request = request_of c.args.kind c.args.body.now c.args.moment in
     let commit = commit_err content allowed faults mid new c.args.by c.next_turn-turn.result c.decide-decision.result.entry counts c.in-Err-commit.ensures.gives in
     let is = verdict_is content allowed faults start mid vault c.ready.ensures.origin c.args.kind c.args.moment c.args.body.now c.decide-decision.result c.decide-decision.ensures.verdict in
-    let turn = doubts content allowed faults start mid vault c.ready.ensures.vault c.ready.ensures.origin c.args.by c.next_turn-turn.result ready.0 ready.4 ready.3 ready.2 new c.commit.ensures.vault request commit.0
+    let turn = doubts content allowed faults start mid vault c.ready.ensures.vault c.ready.ensures.origin c.args.by c.next_turn-turn.result ready.0 ready.4 ready.3 ready.1 c.ready.ensures.content new c.commit.ensures.vault request commit.0
     (sym commit.1 ∙ ap (λ (d : Decision). d.entry) is) commit.2 commit.3 (commit.5 ∙ ap (λ n. n + 1) ready.5) in (
       subst (λ v. (faults_of v.lines < most_faults) × (refused DISK_FAULT counts.before counts.after ≡ refused DISK_FAULT counts.before counts.after) × (Unsettled (state_of v) (state_of (seen_as new)) ⊎ Doubts (rules_of v) (state_of v) request (state_of (seen_as new)))) (room_seen content allowed faults c.args.self.now start c.reserve.ensures.same)
           (omega (arith, c.if-self-ge-MAX_FAULTS.false, c.reserve.ensures.same.faults, vault.faults_are), refl, inr turn),
@@ -88,7 +103,7 @@ returns-in-Err-commit-clause-lines g c =
     adds_from content allowed faults c.args.self.now start new c.reserve.ensures.same c.args.by turn request (DiskFault counts.before counts.after) added c.next_turn-turn.ensures
     (commit.4 ∙ ap (λ (xs : List Line). xs ++ Doubt c.args.by turn commit.0 ∷ Fault c.args.by turn counts.before counts.after ∷ []) ready.2 ∙ append_assoc start.lines.items (adopts c.args.by turn ready.0) (Doubt c.args.by turn commit.0 ∷ Fault c.args.by turn counts.before counts.after ∷ []))
     (adopts_are c.args.by turn ready.0 (Doubt c.args.by turn commit.0 ∷ Fault c.args.by turn counts.before counts.after ∷ []) ((refl, refl), ((refl, refl), tt)))
-    (inr (doubted_lines content allowed faults start mid vault c.ready.ensures.vault c.ready.ensures.origin c.args.by turn ready.0 ready.4 ready.3 ready.2 request commit.0 counts.before counts.after added (sym commit.1 ∙ ap (λ (d : Decision). d.entry) is) refl))
+    (inr (doubted_lines content allowed faults start mid vault c.ready.ensures.vault c.ready.ensures.origin c.args.by turn ready.0 ready.4 ready.3 ready.1 c.ready.ensures.content new c.commit.ensures.vault request commit.0 counts.before counts.after added (sym commit.1 ∙ ap (λ (d : Decision). d.entry) is) commit.3 refl))
 
 pub returns-in-Err-commit-clause-any_moment : goal.returns-in-Err-commit-clause-any_moment
 returns-in-Err-commit-clause-any_moment g c =
@@ -122,7 +137,7 @@ returns-clause-turn g c =
     let reply = reply_bytes decision.keys decision.reply in
     let commit = commit_ok content allowed faults mid new c.args.by c.next_turn-turn.result decision.entry ready.1 c.in-Ok-commit.ensures.gives in
     let is = verdict_is content allowed faults start mid vault c.ready.ensures.origin c.args.kind c.args.moment c.args.body.now decision c.decide-decision.ensures.verdict in
-    let turn = decides content allowed faults start mid vault c.ready.ensures.vault c.ready.ensures.origin c.args.by c.next_turn-turn.result ready.0 ready.4 ready.3 ready.2 new c.commit.ensures.vault request c.from-at.result reply decision.entry
+    let turn = decides content allowed faults start mid vault c.ready.ensures.vault c.ready.ensures.origin c.args.by c.next_turn-turn.result ready.0 ready.4 ready.3 ready.1 c.ready.ensures.content new c.commit.ensures.vault request c.from-at.result reply decision.entry
     (c.from-at.ensures ∙ c.len.ensures.len) (ap (λ (d : Decision). d.entry) is) (ap (λ (d : Decision). reply_bytes d.keys d.reply) is) commit.0 commit.1 (commit.3 ∙ ready.5) in
     subst (λ v. (x : List ℕ) × ((faults_of v.lines < most_faults) × Decides (rules_of v) (state_of v) request c.from-at.result x (state_of (seen_as new))) × (c.write_reply.new.out.items ≡ c.args.out.now.items ++ x)) (room_seen content allowed faults c.args.self.now start c.reserve.ensures.same)
     (reply, (omega (arith, c.if-self-ge-MAX_FAULTS.false, c.reserve.ensures.same.faults, vault.faults_are), turn), c.write_reply.ensures.bytes)
@@ -146,7 +161,7 @@ returns-clause-lines g c =
     adds_from content allowed faults c.args.self.now start new c.reserve.ensures.same c.args.by turn request (Answered c.from-at.result) added c.next_turn-turn.ensures
     (commit.2 ∙ ap (λ (xs : List Line). xs ++ commits c.args.by turn entry) ready.2 ∙ append_assoc start.lines.items (adopts c.args.by turn ready.0) (commits c.args.by turn entry))
     (adopts_are c.args.by turn ready.0 (commits c.args.by turn entry) (commits_are c.args.by turn entry))
-    (decided_lines content allowed faults start mid vault c.ready.ensures.vault c.ready.ensures.origin c.args.by turn ready.0 ready.4 ready.3 ready.2 request entry added (ap (λ (d : Decision). d.entry) is) refl)
+    (decided_lines content allowed faults start mid vault c.ready.ensures.vault c.ready.ensures.origin c.args.by turn ready.0 ready.4 ready.3 ready.1 c.ready.ensures.content request c.from-at.result entry added (c.from-at.ensures ∙ c.len.ensures.len) (ap (λ (d : Decision). d.entry) is) refl)
 
 pub returns-clause-any_moment : goal.returns-clause-any_moment
 returns-clause-any_moment g c =
