@@ -91,18 +91,16 @@ const RESULT: &[u8] =
     \x1Af\x1Ao\x95K1YP{\xDB\xB9\xB8l2\xDBu\x82\xF0q\xC4\"\xA9N\x87\x06\x9FX\xB8\xCAu\xCA\xE0#V\x90\x8E\xA8B\xBCV=\xD4\xB2\
     \x0E\x8B90\xE1b'\xD6<\x8D\0\x9A\xCE\xDA\x94\x90n\x03";
 
+const ENROLS: Step = (Enrol(1, 1, 1, 7, 0x44), "C", SPENT);
+
+const SPENT: &[u8] = b"NB\x01\x0F\0\0\0\x14\0\0\0\x01\0\0\0\0\0\0\0\0\0\0\0\0\0\0\0\0";
+
+const EARNED: &[u8] = b"NB\x01\x0F\0\0\0\x14\0\0\0\x02\0\0\0\0\0\0\0\x01\0\0\0\0\0\0\x01\xF4";
+
 static AGAIN: [Step; 3] = [
     (Pay, "", RESULT),
-    (
-        Enrol(1, 1, 1, 7, 0x44),
-        "",
-        b"NB\x01\x0F\0\0\0\x14\0\0\0\x01\0\0\0\0\0\0\0\0\0\0\0\0\0\0\0\0",
-    ),
-    (
-        Enrol(2, 2, 2, 0, 0x55),
-        "",
-        b"NB\x01\x0F\0\0\0\x14\0\0\0\x02\0\0\0\0\0\0\0\x01\0\0\0\0\0\0\x01\xF4",
-    ),
+    (Enrol(1, 1, 1, 7, 0x44), "", SPENT),
+    (Enrol(2, 2, 2, 0, 0x55), "", EARNED),
 ];
 
 // Calls that fail, and what is asked for. Opening makes calls 1 to 9, the append 10 to 13, and settling a sync and a read.
@@ -265,7 +263,18 @@ fn a_vault_wears_out(rt: HostRuntime) -> Result<(), Fail> {
     Ok(())
 }
 
-// How many entries the image at a moment has. The fund once more has the same reply, and then stands there once.
+#[test]
+fn a_file_has_these_bytes(rt: HostRuntime) -> Result<(), Fail> {
+    let alloc = rt.alloc();
+    let empty = journal(alloc, 4, ".")?;
+    let one = journal(alloc, 4, "[C].")?;
+    let disk = run(&rt, alloc, empty.as_slice(), &[], &[ENROLS])?;
+    assert_eq!(rt; disk.content(), one.as_slice());
+    assert_eq!(rt; one.len(), 96 + 5 + 50 + 1);
+    Ok(())
+}
+
+// How many entries the image at a moment has. The fund once more has the same reply, and is there once.
 fn entries_at(
     rt: &impl Abort,
     alloc: Global,
@@ -280,29 +289,34 @@ fn entries_at(
     let mut vault = opened(alloc, image.as_slice(), &[])?;
     let entries = vault.entries();
     take(rt, alloc, &mut vault, 0, &FUNDS)?;
-    assert_eq!(rt; vault.entries(), 3);
+    assert_eq!(rt; vault.entries(), entries.max(3));
     Ok(entries)
 }
 
-// Opening makes calls 1 to 7. The fund's gate is written by call 10, from moment 19 on, and synced by call 11, up to moment 22.
+// Opening makes calls 1 to 7. The fund's gate is written by call 10, from moment 19 on, and synced by call 11, up to moment 22;
+// that of the enrolment behind it by calls 14 and 15, from moment 27 to 30.
 #[test]
 fn a_stop_leaves_an_entry_or_not(rt: HostRuntime) -> Result<(), Fail> {
     let alloc = rt.alloc();
     let before = journal(alloc, 4, "[C][M].")?;
-    let disk = run(&rt, alloc, before.as_slice(), &[], &[FUNDS])?;
-    assert_eq!(rt; disk.calls(), 11);
+    let last = b"NB\x01\x0F\0\0\0\x14\0\0\0\x0D\0\0\0\0\0\0\0\x03\0\0\0\0\0\0\0\0";
+    let steps: [Step; 2] = [FUNDS, (Enrol(3, 1, 13, 0, 0x88), "C", last)];
+    let disk = run(&rt, alloc, before.as_slice(), &[], &steps)?;
+    assert_eq!(rt; disk.calls(), 15);
     for (fill, pending) in [
-        (Fill::Old, 2),
-        (Fill::New, 3),
-        (Fill::Byte(0), 2),
-        (Fill::Byte(0xA5), 3),
-        (Fill::Byte(0xFF), 2),
+        (Fill::Old, 0),
+        (Fill::New, 1),
+        (Fill::Byte(0), 0),
+        (Fill::Byte(0xA5), 1),
+        (Fill::Byte(0xFF), 0),
     ] {
-        for moment in 14..23u64 {
+        for moment in 14..31u64 {
             let wanted = match moment {
                 14..19 => 2,
-                22 => 3,
-                _ => pending,
+                19..22 => 2 + pending,
+                22..27 => 3,
+                27..30 => 3 + pending,
+                _ => 4,
             };
             let entries = entries_at(&rt, alloc, &disk, moment, fill)?;
             assert_eq!(rt; entries, wanted, "{moment} {fill:?}");
