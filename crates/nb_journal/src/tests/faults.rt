@@ -4,11 +4,13 @@
 use super::*;
 
 struct Case<'a> {
+    // The calls that fail.
     fails: &'a [u64],
-    // How many calls there were behind the append, and what settling answers then, time after time.
+    // How many calls there were behind the append.
     calls: u64,
+    // What settling answers, time after time, and how many calls there were behind it.
     settles: &'a [(Result<Settled, StillStale>, u64)],
-    // What stands behind the front then, and how many items there are.
+    // What stands behind the front then, and the items that it holds.
     content: &'a [&'a [u8]],
     items: &'a [&'a [u8]],
     // The same behind an append of a shorter item.
