@@ -1,7 +1,7 @@
 -- A turn, from its steps: settling, and making the entry of the verdict durable.
-use Rattle.std.proofs.Common.{◌≡◌, ◌⊎◌, ◌≢◌, inl, inr, ℕ, ◌+◌, List, [], ◌∷◌, ◌++◌, length, take, Option, None, Some, IfSome, Ok, Err, refl, sym, ap, subst, ◌∙◌}
+use Rattle.std.proofs.Common.{◌≡◌, ◌⊎◌, ◌≢◌, inl, inr, ℕ, ◌+◌, List, [], ◌∷◌, ◌++◌, length, Option, None, Some, IfSome, Ok, Err, refl, sym, ap, subst, ◌∙◌, arith}
 use Rattle.std.specs.Option.{option_to_list}
-use Rattle.std.proofs.lemmas.List.{append-nil}
+use Rattle.std.proofs.lemmas.List.{append-nil, length-append}
 use Rattle.nb_book.specs.declared.entry.Entry.{Entry}
 use Rattle.nb_journal.specs.Time.{LeavesOnly}
 use Rattle.nb_escrow.specs.declared.decision.Decision.{Decision}
@@ -14,13 +14,12 @@ use Rattle.nb_vault.specs.declared.parts.Parts.{Parts}
 use Rattle.nb_vault.specs.declared.records.Counts.{Counts}
 use Rattle.nb_vault.specs.Holdings.{StandsFor, StandsForEither}
 use Rattle.nb_vault.specs.declared.vault.Answer.{Answer}
-use Rattle.nb_vault.specs.Lines.{AreOf, entries_of, next_turn}
+use Rattle.nb_vault.specs.Lines.{AreOf, next_turn}
 use Rattle.nb_vault.specs.Parts.{IsVault, SameOrigin, SameButRoom, CommitGives, seen_as}
 use Rattle.nb_vault.specs.Records.{EitherOf, WithOrWithout, disk_of}
 use Rattle.nb_vault.specs.Turns.{Request, State, Settles, Decides, Doubts}
 use Rattle.nb_vault.specs.Vaults.{Chronicled, state_of, rules_of, StandsForState, adopts, commits, KeptOf, Settled, Decided, Doubted, Unsettled, IsDurable, Adds, LinesOf}
 use Rattle.nb_vault.proofs.Resting.{leaves_more, leaves_then, rest_images, rest_content}
-use Rattle.nb_vault.proofs.Vaulting.{same_opening}
 use Rattle.nb_journal.proofs.Moments.{started}
 use Rattle.nb_vault.proofs.Seeing.{state_at, state_seen, entries_seen, doubt_seen, either_seen, settled_fresh, room_seen}
 
@@ -250,3 +249,21 @@ module _ {D : Type 0} (content : D → Option (List ℕ)) (allowed : D → List 
         made = subst (λ (n : ℕ). AreOf by n added) turn_is made;
         lines = subst (λ (n : ℕ). LinesOf content (seen_as start) (seen_as new) by n request added answer) turn_is lines;
       })
+
+-- ---- where the state stays as it was
+
+module _ {D : Type 0} (content : D → Option (List ℕ)) (allowed : D → List ℕ → Type 0) (faults : D → ℕ) where
+  -- the state, from the fields
+  same_state : (old new : Parts D) → IsVault content allowed faults old → IsVault content allowed faults new → state_of (seen_as new) ≡ state_of (seen_as old) → state_at new ≡ state_at old
+  same_state old new before after same = sym (state_seen content allowed faults new after) ∙ same ∙ state_seen content allowed faults old before
+
+  -- then nothing was recorded, and so nothing was written
+  pub quiet_ok : (old mid new : Parts D) (by turn : ℕ) (kept entry : Option Entry) → IsVault content allowed faults old → IsVault content allowed faults new → mid.records.book.entries ≡ old.records.book.entries ++ option_to_list kept
+      → CommitGives faults mid new by turn entry (Ok tt) → content (disk_of mid.records) ≡ content (disk_of old.records) → state_of (seen_as new) ≡ state_of (seen_as old) → content (disk_of new.records) ≡ content (disk_of old.records)
+  quiet_ok old mid new by turn kept None before after is gives unwritten same = ap (λ (p : Parts D). content (disk_of p.records)) gives.0 ∙ unwritten
+  quiet_ok old mid new by turn kept (Some e) before after is gives unwritten same =
+      absurd (omega (arith, ap length gives.2, length-append mid.records.book.entries (e ∷ []), ap length is, length-append old.records.book.entries (option_to_list kept), ap (λ (s : State). length s.entries) (same_state old new before after same)))
+
+  -- and none failed
+  pub quiet_err : (old new : Parts D) → IsVault content allowed faults old → IsVault content allowed faults new → new.faults ≡ old.faults + 1 → state_of (seen_as new) ≡ state_of (seen_as old) → content (disk_of new.records) ≡ content (disk_of old.records)
+  quiet_err old new before after more same = absurd (omega (arith, more, ap (λ (s : State). s.faults) (same_state old new before after same)))

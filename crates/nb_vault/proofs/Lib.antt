@@ -1,4 +1,3 @@
-pub mod OpeningLaws
 pub mod Lines
 pub mod Resting
 pub mod Vaulting

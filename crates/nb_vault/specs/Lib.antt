@@ -1,6 +1,5 @@
-pub mod Stands
 pub mod Turns
-pub mod House
+pub mod Rules
 pub mod Lines
 pub mod Chronicle
 pub mod Holdings

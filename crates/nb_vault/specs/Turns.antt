@@ -1,5 +1,5 @@
 -- The house as a machine: a turn takes a request and a state, and gives a reply and a state.
-use Rattle.std.specs.Prelude.{◌≡◌, ◌≢◌, ℕ, ◌+◌, ◌<◌, ◌≤◌, ◌⊎◌, List, [], ◌∷◌, ◌++◌, Option, Some, length}
+use Rattle.std.specs.Prelude.{◌≡◌, ◌≢◌, ℕ, ◌+◌, ◌<◌, ◌≤◌, ◌⊎◌, List, [], ◌∷◌, ◌++◌, Option, Some, length, Contains}
 use Rattle.std.specs.List.{flat_map, AllByRecursion}
 use Rattle.std.specs.Option.{option_to_list}
 use Rattle.nb_port.specs.Faults.{Rose}
@@ -82,10 +82,21 @@ Turn rules old request (Fault before after) reply new =
     (old.faults < most_faults) × (reply ≡ refused DISK_FAULT before after) × (Unsettled old new ⊎ Doubts rules old request new)
 Turn rules old request NoMemory reply new = (old.faults < most_faults) × (reply ≡ refused NO_MEMORY 0 0) × (new ≡ old)
 
--- these requests were answered one turn after another
-abbrev pub Run : (List Entry → Request → Ruling) → State → List Answered → State → Type 0
-Run rules old [] new = new ≡ old
-Run rules old (a ∷ more) new = (mid : State) × Turn rules old a.request a.mark a.reply mid × Run rules mid more new
+-- from a first state these requests were answered one turn after another, and the house came to these states
+abbrev pub Run : (List Entry → Request → Ruling) → State → List Answered → List State → Type 0
+Run rules first [] [] = Unit {0}
+Run rules first (a ∷ more) (next ∷ states) = Turn rules first a.request a.mark a.reply next × Run rules next more states
+Run rules first [] (next ∷ states) = ⊥
+Run rules first (a ∷ more) [] = ⊥
+
+-- the last state of a run
+abbrev pub last_state : State → List State → State
+last_state first [] = first
+last_state first (next ∷ states) = last_state next states
+
+-- it is the first state of a run or one that the house came to
+abbrev pub IsStateOf : State → List State → State → Type 0
+IsStateOf first states state = Contains (first ∷ states) state
 
 -- the replies, one after another
 abbrev pub replies : List Answered → List ℕ

@@ -19,7 +19,7 @@ use Rattle.nb_vault.specs.declared.vault.Answer.{Answer}
 use Rattle.nb_vault.specs.declared.vault.Answer.TheVariants as answers
 use Rattle.nb_vault.specs.Chronicle.{Sound, Backed, NeverFall}
 use Rattle.nb_vault.specs.Holdings.{StandsFor, StandsForEither}
-use Rattle.nb_vault.specs.House.{house_rules}
+use Rattle.nb_vault.specs.Rules.{house_rules}
 use Rattle.nb_vault.specs.Lines.{entries_of, faults_of, open_doubt, next_turn, AreOf}
 use Rattle.nb_vault.specs.Turns.{Request, Ruling, State, Mark, At, Turn, most_faults, refused}
 use Rattle.nb_vault.specs.Turns as turns

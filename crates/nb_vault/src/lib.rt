@@ -2,33 +2,25 @@
 //!
 //! A [`Vault`] is a book whose entries are durable on a disk, and the chronicle of what was done since it was opened. It is seen
 //! (`specs/Vaults.antt`) as what it was opened with, its [`Line`]s, whether an entry is in doubt, and the disk. [`Vault::open`]
-//! gives the entries that the content of the disk stands for (`specs/Holdings.antt`), or why it stands for none.
+//! gives the entries that the content of the disk stands for (`specs/Holdings.antt`), or why there are none to give.
 //! [`Vault::answer`] settles what is in doubt, decides, makes the entry of the verdict durable, and then hands the reply out.
 //! What is promised: each answer is one turn of the house (`specs/Turns.antt`); a stop at any moment of it leaves the entries
 //! before it or after it, each time with or without the one in doubt; where a request is answered, every later stop leaves its
 //! entry; and of every vault what `Keeps` says: its list is Legal and is what the disk holds, its lines adopt what was last in
 //! doubt before them, its faults are the disk's, and its turns are numbered upwards (`specs/Chronicle.antt`).
 //!
-//! The program does not stand on the vault yet. It opens a journal without entries by [`open`], and its [`House`] answers a request
-//! by the same decision over a book that is in memory alone; `specs/House.antt` says that its rules are the verdict and its bytes,
-//! and `specs/Stands.antt` what an image of such a journal is.
-//!
 //! Left to others: the frames of the requests, sending the replies, and the clock.
 #![tactic(auto)]
 
-mod house;
 pub mod laws;
 mod line;
-mod opening;
 mod origin;
 mod parts;
 mod records;
 mod restore;
 mod vault;
 
-pub use house::{House, HouseAnswer};
 pub use line::Line;
-pub use opening::{Opened, Opening, layout, open};
 pub use origin::Origin;
 pub use vault::{Answer, MAX_FAULTS, Vault, VaultFault};
 

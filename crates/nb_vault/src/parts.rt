@@ -11,7 +11,7 @@ ghost use Rattle.nb_vault.specs.Parts.{IsVault, SameButRoom, MayBeTurn, SameOrig
 ghost use Rattle.nb_vault.specs.Records.{disk_of, EitherOf, WithOrWithout};
 ghost use Rattle.std.specs.Option.{option_to_list};
 ghost use Rattle.nb_vault.specs.Turns.{most_faults};
-ghost use Rattle.nb_vault.specs.Vaults.{TurnOf, Adds, DurableWhere, SameWhere, FaultWithin, StandsForState, request_of};
+ghost use Rattle.nb_vault.specs.Vaults.{TurnOf, Adds, DurableWhere, SameWhere, FaultWithin, StandsForState, request_of, state_of};
 
 use crate::line::Line;
 use crate::records::{Counts, Records};
@@ -60,6 +60,7 @@ impl<D: Disk> Parts<D> {
         ensures any_moment { LeavesOnly D.moment D.left (disk_of self.old.records) (disk_of self.new.records)
             (λ image. StandsForState (seen_as self.old) image ⊎ StandsForState (seen_as self.new) image) }
         ensures durable { DurableWhere D.allowed (seen_as self.new) result }
+        ensures quiet { state_of (seen_as self.new) ≡ state_of (seen_as self.old) → D.content (disk_of self.new.records) ≡ D.content (disk_of self.old.records) }
         ensures same { SameWhere (seen_as self.old) (seen_as self.new) result }
         ensures fault { FaultWithin (D.faults (disk_of self.old.records)) (D.faults (disk_of self.new.records)) result }
         ensures count { D.faults (disk_of self.old.records) ≤ D.faults (disk_of self.new.records) }

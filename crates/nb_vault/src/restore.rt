@@ -40,7 +40,7 @@ pub(crate) fn restore(book: &mut Book, items: &[Blob]) -> ItemsRead
     ItemsRead::Whole
 }
 
-// Applies the entries of one item.
+// Applies the entries of one item. Of every book it is told what its list is.
 fn restore_item(book: &mut Book, item: &[u8]) -> ItemRead
     ensures gives { ItemGives book.old.cap item.now book.old.entries book.new.entries result }
     ensures list { IsList book.old.cap book.old.entries }

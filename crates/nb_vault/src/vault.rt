@@ -2,7 +2,7 @@ ghost use Rattle.std.specs.Prelude.{◌≡◌, ◌⊎◌, ◌≤◌, length, sli
 ghost use Rattle.nb_journal.specs.Time.{LeavesOnly};
 ghost use Rattle.nb_msgs.specs.declared.reply.TheConstants.{REPLY_ROOM};
 ghost use Rattle.nb_units.specs.Room.{spare_of};
-ghost use Rattle.nb_vault.specs.Vaults.{Keeps, TurnOf, Adds, DurableWhere, SameWhere, FaultWithin, StandsForState, request_of, entries_in};
+ghost use Rattle.nb_vault.specs.Vaults.{Keeps, TurnOf, Adds, DurableWhere, SameWhere, FaultWithin, StandsForState, request_of, state_of, entries_in};
 
 mod opening;
 
@@ -65,6 +65,7 @@ impl<D: Disk> Vault<D> {
         ensures any_moment { LeavesOnly D.moment D.left self.old.disk self.new.disk
             (λ image. StandsForState self.old image ⊎ StandsForState self.new image) }
         ensures durable { DurableWhere D.allowed self.new result }
+        ensures quiet { state_of self.new ≡ state_of self.old → D.content self.new.disk ≡ D.content self.old.disk }
         ensures same { SameWhere self.old self.new result }
         ensures fault { FaultWithin (D.faults self.old.disk) (D.faults self.new.disk) result }
         ensures keeps { Keeps D.content D.allowed D.faults self.new }

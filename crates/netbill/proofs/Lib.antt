@@ -3,3 +3,5 @@ pub mod Serving
 pub mod Stepping
 pub mod Running
 pub mod Completeness
+pub mod Numerals
+pub mod Heads

@@ -1,4 +1,6 @@
 use Rattle.std.proofs.Common.{◌≡◌, ◌⊎◌, inl, inr, ◌+◌, ◌<◌, ℕ, List, [], ◌∷◌, ◌++◌, refl, sym, ap, subst, ◌∙◌, append_assoc, arith}
+use Rattle.std.specs.Option.{option_to_list}
+use Rattle.nb_book.specs.declared.entry.Entry.{Entry}
 use Rattle.nb_journal.specs.declared.journal.Journal.{Journal}
 use Rattle.nb_escrow.specs.declared.decision.Decision.{Decision}
 use Rattle.nb_vault.specs.declared.line.Line.{Line}
@@ -13,7 +15,7 @@ use Rattle.nb_vault.specs.Turns.{Decides, Doubts, Unsettled, most_faults, refuse
 use Rattle.nb_vault.specs.Vaults.{StandsForState, adopts, commits, request_of, rules_of, state_of}
 use Rattle.nb_vault.proofs.Lines.{next_may_be}
 use Rattle.nb_vault.proofs.Seeing.{room_vault, room_seen}
-use Rattle.nb_vault.proofs.Answering.{leaves_here, leaves_unsettled, leaves_both, decides, decided_lines, doubts, doubted_lines, adopts_are, commits_are, durable, commit_ok, commit_err, verdict_is, from_start, adds_from, together, unsettled_lines}
+use Rattle.nb_vault.proofs.Answering.{leaves_here, leaves_unsettled, leaves_both, decides, decided_lines, doubts, doubted_lines, adopts_are, commits_are, durable, commit_ok, commit_err, verdict_is, from_start, adds_from, together, unsettled_lines, quiet_ok, quiet_err}
 use Rattle.nb_vault.proofs.parts.Parts.answer.Goals as goal
 
 pub returns-then-self-ge-MAX_FAULTS-clause-any_moment : goal.returns-then-self-ge-MAX_FAULTS-clause-any_moment
@@ -184,3 +186,24 @@ returns-clause-durable g c =
     let ready = c.in-Ok.ensures.gives in
     let commit = commit_ok g.D.Disk.content g.D.Disk.allowed g.D.Disk.faults c.ready.new.self c.commit.new.self c.args.by c.next_turn-turn.result c.decide-decision.result.entry ready.1 c.in-Ok-commit.ensures.gives in
     durable g.D.Disk.content g.D.Disk.allowed g.D.Disk.faults c.commit.new.self c.commit.ensures.vault commit.1
+
+pub returns-then-is_err-clause-quiet : goal.returns-then-is_err-clause-quiet
+returns-then-is_err-clause-quiet g c = λ same. ap (λ (j : Journal _). g.D.Disk.content j.disk) c.reserve.ensures.same.journal
+
+pub returns-in-Err-clause-quiet : goal.returns-in-Err-clause-quiet
+returns-in-Err-clause-quiet g c = λ same. c.ready.ensures.content ∙ ap (λ (j : Journal _). g.D.Disk.content j.disk) c.reserve.ensures.same.journal
+
+pub returns-in-Err-commit-clause-quiet : goal.returns-in-Err-commit-clause-quiet
+returns-in-Err-commit-clause-quiet g c = λ same.
+    let content = g.D.Disk.content in
+    let allowed = g.D.Disk.allowed in
+    let faults = g.D.Disk.faults in
+    let commit = commit_err content allowed faults c.ready.new.self c.commit.new.self c.args.by c.next_turn-turn.result c.decide-decision.result.entry c.in-Err-commit.field-0 c.in-Err-commit.ensures.gives in
+    quiet_err content allowed faults c.args.self.now c.commit.new.self c.requires.vault c.commit.ensures.vault (commit.5 ∙ ap (λ n. n + 1) (c.in-Ok.ensures.gives.5 ∙ c.reserve.ensures.same.faults)) same
+
+pub returns-clause-quiet : goal.returns-clause-quiet
+returns-clause-quiet g c = λ same.
+    let room = c.reserve.ensures.same in
+    let ready = c.in-Ok.ensures.gives in
+    quiet_ok g.D.Disk.content g.D.Disk.allowed g.D.Disk.faults c.args.self.now c.ready.new.self c.commit.new.self c.args.by c.next_turn-turn.result ready.0 c.decide-decision.result.entry c.requires.vault c.commit.ensures.vault
+    (ready.3 ∙ ap (λ (entries : List Entry). entries ++ option_to_list ready.0) room.entries) c.in-Ok-commit.ensures.gives (c.ready.ensures.content ∙ ap (λ (j : Journal _). g.D.Disk.content j.disk) room.journal) same

@@ -1,0 +1,242 @@
+"""The layouts of docs/FORMATS.md, with Python's standard library alone: the frames that a house is sent, the entries that it
+records, its journal, and the replies that its entries give. A key is its bytes; so is an entry."""
+
+import hashlib
+import hmac
+import struct
+import typing
+
+ENDORSED, RESULT, STATUS, TOLD, ENROL, FUND, DONE, REFUSAL = 0x06, 0x07, 0x09, 0x0A, 0x0D, 0x0E, 0x0F, 0x10
+CONSUMER, MERCHANT = 1, 2
+ENROLLED, FUNDED, PAID, REFUSED = 1, 2, 3, 4
+
+OPEN, CLOSED = b"\xa5", b"\x00"
+WORD = 0xFFFFFFFF
+
+# The words of a block that are mixed with each other: columns, then diagonals.
+QUARTERS = (
+    (0, 4, 8, 12),
+    (1, 5, 9, 13),
+    (2, 6, 10, 14),
+    (3, 7, 11, 15),
+    (0, 5, 10, 15),
+    (1, 6, 11, 12),
+    (2, 7, 8, 13),
+    (3, 4, 9, 14),
+)
+
+# Who is shown the numbers behind a refusal that is recorded.
+SHOWN = {
+    31: (CONSUMER,),
+    32: (MERCHANT,),
+    33: (CONSUMER, MERCHANT),
+    34: (CONSUMER, MERCHANT),
+    35: (CONSUMER, MERCHANT),
+    36: (CONSUMER,),
+    37: (CONSUMER,),
+}
+
+
+def code(key, text):
+    """HMAC-SHA-256."""
+    return hmac.digest(key, text, "sha256")
+
+
+def block(key, place):
+    """The block of the ChaCha20 keystream at this place: RFC 8439, with a counter of 64 bits and a nonce of 8 zeros."""
+    start = struct.unpack("<16I", b"expand 32-byte k" + key + struct.pack("<QQ", place, 0))
+    words = list(start)
+    for _ in range(10):
+        for a, b, c, d in QUARTERS:
+            for x, y, z, turn in (a, b, d, 16), (c, d, b, 12), (a, b, d, 8), (c, d, b, 7):
+                words[x] = words[x] + words[y] & WORD
+                mixed = words[z] ^ words[x]
+                words[z] = (mixed << turn | mixed >> 32 - turn) & WORD
+    return struct.pack("<16I", *(a + b & WORD for a, b in zip(start, words)))
+
+
+def seal(key, label, text):
+    """The seal of a text."""
+    iv = code(key, label + text)
+    stream_key = code(key, b"enc" + iv)
+    stream = b"".join(block(stream_key, place) for place in range(len(text) // 64 + 1))
+    return iv + bytes(a ^ b for a, b in zip(text, stream))
+
+
+def sized(text):
+    """A text behind its length."""
+    return struct.pack(">I", len(text)) + text
+
+
+def frame(kind, body):
+    """A frame."""
+    return b"NB\x01" + struct.pack(">B", kind) + sized(body)
+
+
+def signed(kind, label, key, text):
+    """A frame whose body ends with its tag."""
+    return frame(kind, text + code(key, label + text))
+
+
+def epoid(merchant, moment, serial):
+    """The identifier of an order."""
+    return struct.pack(">IQI", merchant, moment, serial)
+
+
+class Party(typing.NamedTuple):
+    """A party as it is enrolled."""
+
+    id: int
+    role: int
+    account: int
+    nonce: int
+    key: bytes
+
+    def entry(self):
+        """The entry that enrols it."""
+        return struct.pack(">BIBIQ", ENROLLED, self.id, self.role, self.account, self.nonce) + self.key
+
+    def frame(self, operator):
+        """The frame that enrols it."""
+        return signed(ENROL, b"enro", operator, self.entry()[1:])
+
+
+class Fund(typing.NamedTuple):
+    """Money for an account."""
+
+    account: int
+    amount: int
+    reference: int
+
+    def entry(self):
+        """The entry that puts it in."""
+        return struct.pack(">BIQ", FUNDED, self.account, self.amount) + self.reference.to_bytes(16, "big")
+
+    def frame(self, operator):
+        """The frame that puts it in."""
+        return signed(FUND, b"fund", operator, self.entry()[1:])
+
+
+class Order(typing.NamedTuple):
+    """An order, and the merchant's endorsement. Its three digests, at which no house looks, are zeros."""
+
+    consumer: Party
+    merchant: Party
+    product: int
+    price: int
+    moment: int
+    serial: int
+    key: bytes
+    memo: bytes = b""
+    merchant_memo: bytes = b""
+
+    def epoid(self):
+        """Its identifier."""
+        return epoid(self.merchant.id, self.moment, self.serial)
+
+    def terms(self):
+        """Who buys what from whom, and the price."""
+        return struct.pack(">IIIQ", self.consumer.id, self.merchant.id, self.product, self.price)
+
+    def endorsement(self):
+        """The endorsement before it is sealed."""
+        hidden = struct.pack(">IQ", self.consumer.account, self.consumer.nonce) + sized(self.memo)
+        order = self.terms() + self.epoid() + bytes(96) + sized(seal(self.consumer.key, b"hide", hidden))
+        order += code(self.consumer.key, b"ordr" + order)
+        return sized(order) + struct.pack(">I", self.merchant.account) + sized(self.merchant_memo) + self.key
+
+    def frame(self):
+        """The frame that presents it."""
+        endorsed = seal(self.merchant.key, b"endo", self.endorsement())
+        return frame(ENDORSED, struct.pack(">I", self.merchant.id) + sized(endorsed))
+
+    def front(self, kind):
+        """What the two entries that may be recorded of it begin with."""
+        return bytes([kind]) + hashlib.sha256(self.endorsement()).digest() + self.epoid() + self.terms()
+
+    def paid(self, moment):
+        """The entry that pays it."""
+        accounts = struct.pack(">IIQ", self.consumer.account, self.merchant.account, moment)
+        return self.front(PAID) + accounts + self.key
+
+    def refused(self, why, a, b, moment):
+        """The entry that refuses it."""
+        return self.front(REFUSED) + struct.pack(">BQQQ", why, a, b, moment)
+
+
+def status(asker, key, epoid, least):
+    """The frame by which a party asks what became of an order."""
+    return signed(STATUS, b"stat", key, struct.pack(">I", asker) + epoid + struct.pack(">Q", least))
+
+
+def head(house, operator, index):
+    """A house's head."""
+    return house + operator + index
+
+
+def journal(head, cap, entries):
+    """A journal of these entries, one in an item."""
+    items = b"".join(OPEN + sized(entry) for entry in entries)
+    return b"NBJRNL01" + struct.pack(">I", cap) + head + bytes(4) + items + CLOSED
+
+
+def number(field):
+    """The number that a field spells."""
+    return int.from_bytes(field, "big")
+
+
+def balance(entries, account):
+    """What is in an account, which is given as its four bytes."""
+    total = 0
+    for entry in entries:
+        if entry[0] == FUNDED and entry[1:5] == account:
+            total += number(entry[5:13])
+        if entry[0] == PAID:
+            total += number(entry[61:69]) * ((entry[73:77] == account) - (entry[69:73] == account))
+    return total
+
+
+def key_of(entries, id):
+    """The key of a party, which is given as the four bytes of its id."""
+    return next(entry[18:50] for entry in entries if entry[0] == ENROLLED and entry[1:5] == id)
+
+
+def receipt(house, entry, place, role):
+    """The receipt that a party of an order gets where the order's entry stands at a place."""
+    key, shown = bytes(33), bytes(17)
+    if entry[0] == PAID:
+        why, moment, key = 0, entry[77:85], b"\x01" + entry[85:117]
+    else:
+        why, moment = entry[69], entry[86:94]
+        if role in SHOWN[why]:
+            shown = b"\x01" + entry[70:86]
+    text = bytes([why]) + entry[49:69] + entry[33:49] + struct.pack(">Q", place) + moment + key + shown
+    return text + code(house, b"rcpt" + text)
+
+
+def reply(house, entries, place):
+    """The reply of a house with these entries to the request whose entry stands at a place."""
+    entry = entries[place]
+    if entry[0] in (ENROLLED, FUNDED):
+        account = entry[6:10] if entry[0] == ENROLLED else entry[1:5]
+        return frame(DONE, account + struct.pack(">QQ", place, balance(entries, account)))
+    parts = (entry[53:57], MERCHANT), (entry[49:53], CONSUMER)
+    sealed = (seal(key_of(entries, id), b"rcpt", receipt(house, entry, place, role)) for id, role in parts)
+    return frame(RESULT, b"".join(map(sized, sealed)))
+
+
+def told(house, entries, asker, epoid):
+    """The reply of a house with these entries to a status query. The one who asks is given as the four bytes of its id."""
+    found = b"\x00"
+    for place, entry in enumerate(entries):
+        if entry[0] in (PAID, REFUSED) and entry[33:49] == epoid and asker in (entry[49:53], entry[53:57]):
+            role = CONSUMER if asker == entry[49:53] else MERCHANT
+            found = b"\x01" + receipt(house, entry, place, role)
+            break
+    text = struct.pack(">Q", len(entries)) + epoid + found
+    return frame(TOLD, seal(key_of(entries, asker), b"stat", text))
+
+
+def refusal(why, a, b, x):
+    """The reply that refuses a request and records nothing."""
+    return frame(REFUSAL, struct.pack(">BQQ", why, a, b) + x)
