@@ -15,6 +15,7 @@ A kill leaves what the program gave to the system. What a failure of power leave
 import functools
 import pathlib
 import random
+import select
 import signal
 import subprocess
 import sys
@@ -30,6 +31,10 @@ PROGRAM = TOP / "crates/netbill/out/netbill"
 HOUSE, OPERATOR, GOODS = (bytes([byte]) * 32 for byte in (0x11, 0x22, 0x77))
 HEAD = formats.head(HOUSE, OPERATOR, bytes([0x33]) * 16)
 FRAMES, KILLS, CONSUMERS, SECONDS = 300, 50, 20, 60
+
+# A run is given so many frames beyond those that it has answered, and, before a kill, so many beyond the one that the kill
+# waits for: so each kill comes before the input ends, however fast the disk is.
+AHEAD, SLACK = 8, 3
 
 
 def fail(why):
@@ -121,21 +126,39 @@ def take(stream):
     return head + body if len(head) == 8 and len(body) == formats.number(head[4:8]) else None
 
 
-def run(journal, frames, stop=None):
+def is_silent(stream, due):
+    """Waits for a stream's next bytes: whether there were none before that time."""
+    return not select.select([stream], [], [], max(0, due - time.monotonic()))[0]
+
+
+def run(journal, sent, stop=None):
     """Runs a batch, and kills it so many seconds after so many replies where `stop` says so. Gives the replies that were handed
     out whole, and the program's status, which is below zero where it was killed."""
-    with frames.open("rb") as source:
-        process = start(["batch", journal], stdin=source, stdout=subprocess.PIPE)
-    replies = []
+    process = start(["batch", journal], stdin=subprocess.PIPE, stdout=subprocess.PIPE, bufsize=0)
+    most = stop[0] + SLACK if stop else FRAMES
+    replies, given, due = [], 0, None
     try:
-        while reply := take(process.stdout):
+        while True:
+            ahead = min(most, len(replies) + AHEAD)
+            if given < ahead:
+                process.stdin.write(b"".join(sent[given:ahead]))
+                given = ahead
+                if given == FRAMES:
+                    process.stdin.close()
+            if stop and len(replies) >= stop[0]:
+                due = due or time.monotonic() + stop[1]
+                if is_silent(process.stdout, due):
+                    process.kill()
+            reply = take(process.stdout)
+            if not reply:
+                break
             replies.append(reply)
-            if stop and len(replies) == stop[0]:
-                time.sleep(stop[1])
-                process.kill()
+    except BrokenPipeError:
+        fail("the program ended before its input")
     finally:
         process.kill()
         process.wait()
+        process.stdin.close()
         process.stdout.close()
     return replies, process.returncode
 
@@ -187,14 +210,14 @@ def see_replies(asked, entries, runs):
             place += recorded
 
 
-def kill_often(draw, journal, frames, asked, pace):
+def kill_often(draw, journal, sent, asked, pace):
     """Kills the program in its batch. Gives the runs, the entries that each left, and how many kills fell within the batch, and
     how many of these left an entry without its reply, or bytes of an entry behind the last gate."""
     runs, lists, within, open_ends, done = [], [read_journal(journal)[0]], 0, 0, 0
     for kill in range(KILLS):
-        fresh = draw.randint(0, 2 * (FRAMES - done) // (KILLS - kill))
-        stop = min(max(1, done + fresh), FRAMES - 1), draw.random() * 2 * pace
-        replies, status = run(journal, frames, stop)
+        fresh = draw.randint(0, max(0, 2 * (FRAMES - done) // (KILLS - kill) - 2))
+        stop = min(max(1, done + fresh), FRAMES - SLACK - 1), draw.random() * 2 * pace
+        replies, status = run(journal, sent, stop)
         entries, gate = read_journal(journal)
         told = sum(not callable(it) for it in asked[: len(replies)])
         if told > len(entries):
@@ -210,10 +233,10 @@ def kill_often(draw, journal, frames, asked, pace):
     return runs, lists, within, open_ends
 
 
-def run_whole(journal, frames):
+def run_whole(journal, sent):
     """Runs a batch to its end. Gives the number of entries at its start, and the replies."""
     held = len(read_journal(journal)[0])
-    replies, status = run(journal, frames)
+    replies, status = run(journal, sent)
     if status != 0 or len(replies) != FRAMES:
         fail(f"a run that was left alone ended with status {status} after {len(replies)} replies")
     return held, replies
@@ -223,18 +246,16 @@ def test(seed, folder):
     """The test."""
     draw, first = random.Random(seed), int(time.time())
     sent, asked = zip(*requests(draw, first))
-    frames = folder / "frames"
-    frames.write_bytes(b"".join(sent))
 
     # How long a frame takes here, from a run that is left alone.
     quiet = make_journal(folder / "quiet.journal")
     began = time.monotonic()
-    alone = [run_whole(quiet, frames)]
+    alone = [run_whole(quiet, sent)]
     pace = (time.monotonic() - began) / FRAMES
 
     journal = make_journal(folder / "house.journal")
-    runs, lists, within, open_ends = kill_often(draw, journal, frames, asked, pace)
-    runs += [run_whole(journal, frames), run_whole(journal, frames)]
+    runs, lists, within, open_ends = kill_often(draw, journal, sent, asked, pace)
+    runs += [run_whole(journal, sent), run_whole(journal, sent)]
     runs.append((len(read_journal(journal)[0]), see_lock(journal, sent[0])))
 
     last = int(time.time())

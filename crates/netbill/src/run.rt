@@ -51,7 +51,7 @@ pub fn run<S: Source, K: Sink, D: Disk, C: Clock>(
         (record { left = S.left source.old; sent = K.sent sink.old; moments = C.moments clock.old })
         (record { left = S.left source.new; sent = K.sent sink.new; moments = C.moments clock.new }) (ending result.0) }
 
-    // Nothing is taken, sent or asked for where the words are bad or a batch could not open its journal.
+    // Nothing is taken, sent or asked for where the words are bad or a batch ends with 7 or 8.
     ensures closed { (status result.0 ≡ BAD_WORDS) ⊎ (status result.0 ≡ NO_JOURNAL) ⊎ ((status result.0 ≡ DISK_FAILED) × IsBatch (map string_bytes words.now))
         → (source.new ≡ source.old) × (sink.new ≡ sink.old) × (clock.new ≡ clock.old) }
 

@@ -2,19 +2,26 @@
 
 ghost use Rattle.std.specs.Prelude.{Some};
 
+mod again;
+mod cuts;
+mod faults;
 mod frames;
+mod making;
+mod stops;
 
 use crate::ending::{Ending, Outcome};
 use crate::run::run;
 use frames::*;
-use nb_port::{MemClock, MemDisk, MemSink, MemSource, Sink, WriteOut};
+use nb_port::{
+    Clock, Disk, Fill, MemClock, MemDisk, MemSink, MemSource, ReadOut, Sink, Source, WriteOut,
+};
+use nb_units::Blob;
 use std::alloc::Global;
 use std::process::Abort;
 use std::test::Fail;
 
 struct Case<'a> {
     name: &'a str,
-    words: &'a [&'a str],
     // a journal, and frames or parts of frames, in hexadecimal
     journal: &'a str,
     input: &'a [&'a str],
@@ -24,22 +31,19 @@ struct Case<'a> {
     step: usize,
     source_fails: &'a [u64],
     sink_fails: &'a [u64],
-    disk_fails: &'a [u64],
     status: u8,
     output: &'a [&'a str],
 }
 
-// What a case has where it says nothing else: the words of a batch, and an end that is good.
+// What a case has where it says nothing else.
 const BATCH: Case<'static> = Case {
     name: "",
-    words: &["batch", "house.journal"],
     journal: JOURNAL,
     input: &[],
     moments: &[1000],
     step: 1000,
     source_fails: &[],
     sink_fails: &[],
-    disk_fails: &[],
     status: 0,
     output: &[],
 };
@@ -276,7 +280,7 @@ static INPUTS: [Case<'static>; 9] = [
     },
 ];
 
-static FAULTS: [Case<'static>; 4] = [
+static FAULTS: [Case<'static>; 3] = [
     Case {
         name: "a source that fails within a frame",
         input: &[ENROL_1, ENROL_2],
@@ -302,113 +306,26 @@ static FAULTS: [Case<'static>; 4] = [
         output: &[DONE_1],
         ..BATCH
     },
-    Case {
-        name: "a disk that fails",
-        input: &[ENROL_1],
-        disk_fails: &[1],
-        status: 7,
-        ..BATCH
-    },
 ];
 
-static JOURNALS: [Case<'static>; 8] = [
-    Case {
-        name: "an empty file",
-        journal: "",
-        input: &[ENROL_1],
-        status: 8,
-        ..BATCH
-    },
-    Case {
-        name: "a journal cut before its first gate",
-        journal: JOURNAL_CUT,
-        input: &[ENROL_1],
-        status: 8,
-        ..BATCH
-    },
-    Case {
-        name: "another magic",
-        journal: OTHER_MAGIC,
-        input: &[ENROL_1],
-        status: 8,
-        ..BATCH
-    },
-    Case {
-        name: "cap 0",
-        journal: CAP_ZERO,
-        status: 8,
-        ..BATCH
-    },
-    Case {
-        name: "cap 1,000,001",
-        journal: CAP_TOO_BIG,
-        status: 8,
-        ..BATCH
-    },
-    Case {
-        name: "no zeros behind the head",
-        journal: NO_ZEROS,
-        status: 8,
-        ..BATCH
-    },
-    Case {
-        name: "an open first gate",
-        journal: OPEN_GATE,
-        status: 8,
-        ..BATCH
-    },
-    Case {
-        name: "bytes behind a gate that is not open",
-        journal: BYTES_BEHIND,
-        input: &[ENROL_1],
-        output: &[DONE_1],
-        ..BATCH
-    },
-];
-
-static WORDS: [Case<'static>; 6] = [
-    Case {
-        name: "a word that is no command",
-        words: &["fly"],
-        input: &[ENROL_1],
-        status: 2,
-        ..BATCH
-    },
-    Case {
-        name: "no words",
-        words: &[],
-        input: &[ENROL_1],
-        status: 2,
-        ..BATCH
-    },
-    Case {
-        name: "a journal that is not named",
-        words: &["batch"],
-        input: &[ENROL_1],
-        status: 2,
-        ..BATCH
-    },
-    Case {
-        name: "a name that begins with a minus",
-        words: &["batch", "--x"],
-        input: &[ENROL_1],
-        status: 2,
-        ..BATCH
-    },
-    Case {
-        name: "an empty name",
-        words: &["batch", ""],
-        input: &[ENROL_1],
-        status: 2,
-        ..BATCH
-    },
-    Case {
-        name: "a word too many",
-        words: &["batch", "house.journal", "x"],
-        input: &[ENROL_1],
-        status: 2,
-        ..BATCH
-    },
+// Words that are no command.
+static WORDS: [&'static [&'static str]; 16] = [
+    &[],
+    &["fly"],
+    &["fly", "house.journal"],
+    &["Batch", "house.journal"],
+    &["batch"],
+    &["batch", ""],
+    &["batch", "-"],
+    &["batch", "--x"],
+    &["batch", "house.journal", "4"],
+    &["init"],
+    &["init", "house.journal"],
+    &["init", "", "4"],
+    &["init", "-", "4"],
+    &["init", "-j", "4"],
+    &["init", "4", "house.journal"],
+    &["init", "house.journal", "4", "x"],
 ];
 
 // The bytes of these pieces, one behind the other.
@@ -421,36 +338,142 @@ fn bytes(alloc: Global, pieces: &[&str]) -> Result<Vec<u8>, Fail> {
     Ok(all)
 }
 
-// The status that a case ends with, and what was written.
-fn outcome(alloc: Global, case: &Case<'_>) -> Result<(u8, Vec<u8>), Fail> {
-    let mut words = Vec::new(alloc);
-    for word in case.words {
-        words.push(String::from_str(alloc, *word)?)?;
+// Runs the program on these words.
+fn run_on<S: Source, K: Sink, D: Disk + Drop, C: Clock>(
+    alloc: Global,
+    words: &[&str],
+    source: &mut S,
+    sink: &mut K,
+    disk: D,
+    clock: &mut C,
+) -> Result<(Ending, D), Fail> {
+    let mut spelled = Vec::new(alloc);
+    for word in words {
+        spelled.push(String::from_str(alloc, *word)?)?;
     }
+    let (Outcome::Done(ending), disk) = run(alloc, spelled.as_slice(), source, sink, disk, clock);
+    Ok((ending, disk))
+}
+
+// The words of a batch.
+const WORDS_OF_BATCH: &[&str] = &["batch", "house.journal"];
+
+const GOOD: Ending = Ending {
+    status: 0,
+    place: 0,
+};
+
+// What a batch came to.
+#[derive(Drop)]
+struct Ran {
+    ending: Ending,
+    sent: Vec<u8>,
+    disk: MemDisk,
+}
+
+// Answers the frames of the input at moment 1000, over a disk with this content, of whose calls some fail.
+fn answer_over(alloc: Global, content: &[u8], fails: &[u64], input: &[u8]) -> Result<Ran, Fail> {
+    answer_at(alloc, content, fails, 1000, input)
+}
+
+// Answers them at another moment.
+fn answer_at(
+    alloc: Global,
+    content: &[u8],
+    fails: &[u64],
+    moment: u64,
+    input: &[u8],
+) -> Result<Ran, Fail> {
+    let disk = MemDisk::new(alloc, content, fails)?;
+    let mut source = MemSource::new(alloc, input, 1000, &[])?;
+    let mut sink = MemSink::new(alloc, &[])?;
+    let mut clock = MemClock::new(alloc, &[moment])?;
+    let words = WORDS_OF_BATCH;
+    let (ending, disk) = run_on(alloc, words, &mut source, &mut sink, disk, &mut clock)?;
+    Ok(Ran {
+        ending,
+        sent: Vec::from_slice(alloc, sink.sent())?,
+        disk,
+    })
+}
+
+// What may stand where it is not sure what stays.
+const FILLS: [Fill; 5] = [
+    Fill::Old,
+    Fill::New,
+    Fill::Byte(0),
+    Fill::Byte(0xA5),
+    Fill::Byte(0xFF),
+];
+
+// The image at a moment, where the calls go that far.
+fn image_at(alloc: Global, disk: &MemDisk, moment: u64, fill: Fill) -> Result<Blob, Fail> {
+    if moment / 2 + moment % 2 > disk.calls() {
+        return Err(Fail::new("the calls do not go that far"));
+    }
+    Ok(disk.image(alloc, moment, fill)?)
+}
+
+// Answers frames in hexadecimal over this content.
+fn frames_over(alloc: Global, content: &[u8], frames: &[&str]) -> Result<Ran, Fail> {
+    let input = bytes(alloc, frames)?;
+    answer_over(alloc, content, &[], input.as_slice())
+}
+
+// What a run came to is this.
+fn expect(
+    rt: &impl Abort,
+    case: u64,
+    ran: &Ran,
+    (status, place): (u8, u64),
+    sent: &[u8],
+    content: &[u8],
+) {
+    assert_eq!(rt; ran.ending, Ending { status, place }, "case {case}");
+    assert_eq!(rt; ran.sent.as_slice(), sent, "case {case}");
+    assert_eq!(rt; ran.disk.content(), content, "case {case}");
+}
+
+// All that is on the disk stays if it stops now.
+fn stays(rt: &impl Abort, alloc: Global, case: u64, disk: &MemDisk) -> Result<(), Fail> {
+    let image = image_at(alloc, disk, disk.calls().min(10_000) * 2, Fill::Byte(0xEE))?;
+    assert_eq!(rt; image.as_slice(), disk.content(), "case {case}");
+    Ok(())
+}
+
+// An empty batch over this content ends so, and neither sends nor writes anything.
+fn opens(
+    rt: &impl Abort,
+    alloc: Global,
+    case: u64,
+    content: &[u8],
+    ends: (u8, u64),
+) -> Result<(), Fail> {
+    let ran = answer_over(alloc, content, &[], &[])?;
+    expect(rt, case, &ran, ends, &[], content);
+    stays(rt, alloc, case, &ran.disk)
+}
+
+// How a case ends, and what was written.
+fn outcome(alloc: Global, case: &Case<'_>) -> Result<(Ending, Vec<u8>), Fail> {
     let journal = bytes(alloc, &[case.journal])?;
     let input = bytes(alloc, case.input)?;
     let mut source = MemSource::new(alloc, input.as_slice(), case.step.max(1), case.source_fails)?;
     let mut sink = MemSink::new(alloc, case.sink_fails)?;
-    let disk = MemDisk::new(alloc, journal.as_slice(), case.disk_fails)?;
+    let disk = MemDisk::new(alloc, journal.as_slice(), &[])?;
     let mut clock = MemClock::new(alloc, case.moments)?;
-    let (ended, _disk) = run(
-        alloc,
-        words.as_slice(),
-        &mut source,
-        &mut sink,
-        disk,
-        &mut clock,
-    );
-    let Outcome::Done(Ending { status, place: _ }) = ended;
-    Ok((status, Vec::from_slice(alloc, sink.sent())?))
+    let words = WORDS_OF_BATCH;
+    let (ending, _disk) = run_on(alloc, words, &mut source, &mut sink, disk, &mut clock)?;
+    Ok((ending, Vec::from_slice(alloc, sink.sent())?))
 }
 
 // Each case ends as it should, and writes what it should.
 fn hold(rt: &impl Abort, alloc: Global, cases: &[Case<'_>]) -> Result<(), Fail> {
     for case in cases {
-        let (status, written) = outcome(alloc, case)?;
+        let (ending, written) = outcome(alloc, case)?;
         let wanted = bytes(alloc, case.output)?;
-        assert_eq!(rt; status, case.status, "{}", case.name);
+        let status = case.status;
+        assert_eq!(rt; ending, Ending { status, place: 0 }, "{}", case.name);
         assert_eq!(rt; written.as_slice(), wanted.as_slice(), "{}", case.name);
     }
     Ok(())
@@ -476,9 +499,6 @@ impl Sink for Slow {
 #[test]
 fn slow_sink_fails_within_a_reply(rt: HostRuntime) -> Result<(), Fail> {
     let alloc = rt.alloc();
-    let mut words = Vec::new(alloc);
-    words.push(String::from_str(alloc, "batch")?)?;
-    words.push(String::from_str(alloc, "house.journal")?)?;
     let journal = bytes(alloc, &[JOURNAL])?;
     let input = bytes(alloc, &[ENROL_1, ENROL_2])?;
     let replies = bytes(alloc, &[DONE_1, DONE_2])?;
@@ -488,16 +508,15 @@ fn slow_sink_fails_within_a_reply(rt: HostRuntime) -> Result<(), Fail> {
     };
     let disk = MemDisk::new(alloc, journal.as_slice(), &[])?;
     let mut clock = MemClock::new(alloc, &[])?;
-    let (ended, _disk) = run(
-        alloc,
-        words.as_slice(),
-        &mut source,
-        &mut sink,
-        disk,
-        &mut clock,
+    let words = WORDS_OF_BATCH;
+    let (ending, _disk) = run_on(alloc, words, &mut source, &mut sink, disk, &mut clock)?;
+    assert_eq!(rt;
+        ending,
+        Ending {
+            status: 4,
+            place: 0
+        }
     );
-    let Outcome::Done(Ending { status, place: _ }) = ended;
-    assert_eq!(rt; status, 4);
     assert!(rt; replies.len() == 56);
     assert_eq!(rt; sink.to.sent(), replies.as_slice().split_at(39).0);
     Ok(())
@@ -533,12 +552,28 @@ fn faults_end_a_batch(rt: HostRuntime) -> Result<(), Fail> {
     hold(&rt, rt.alloc(), &FAULTS)
 }
 
-#[test]
-fn journals_are_read(rt: HostRuntime) -> Result<(), Fail> {
-    hold(&rt, rt.alloc(), &JOURNALS)
-}
-
+// Nothing is read, written or asked for.
 #[test]
 fn words_are_read(rt: HostRuntime) -> Result<(), Fail> {
-    hold(&rt, rt.alloc(), &WORDS)
+    let alloc = rt.alloc();
+    for words in &WORDS {
+        let mut source = MemSource::new(alloc, b"x", 1, &[1])?;
+        let mut sink = MemSink::new(alloc, &[])?;
+        let disk = MemDisk::new(alloc, &[], &[])?;
+        let mut clock = MemClock::new(alloc, &[7, 8])?;
+        let (ending, disk) = run_on(alloc, *words, &mut source, &mut sink, disk, &mut clock)?;
+        assert_eq!(rt;
+            ending,
+            Ending {
+                status: 2,
+                place: 0
+            },
+            "{words:?}"
+        );
+        assert_eq!(rt; source.read(&mut [0]), ReadOut::Failed, "{words:?}");
+        assert_eq!(rt; sink.sent().len(), 0, "{words:?}");
+        assert_eq!(rt; disk.calls(), 0, "{words:?}");
+        assert_eq!(rt; clock.now(), 7, "{words:?}");
+    }
+    Ok(())
 }
