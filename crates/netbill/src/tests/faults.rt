@@ -1,6 +1,8 @@
 // Calls of the disk that fail. An append makes four calls: the body's write, a sync, the gate's write, a sync. Where one of them
 // failed, the next request first settles it, by a sync and a read of the gate.
 
+ghost use Rattle.std.specs.Prelude.{◌≤◌, IfOk};
+
 use super::*;
 
 // Five of these are recorded, one behind the other.
@@ -34,8 +36,11 @@ pub(super) fn frames(alloc: Global, times: usize) -> Result<Vec<u8>, Fail> {
 }
 
 // How many calls opening this content makes.
-pub(super) fn opening(alloc: Global, content: &[u8]) -> Result<u64, Fail> {
-    Ok(answer_over(alloc, content, &[], &[])?.disk.calls().min(100))
+pub(super) fn opening(alloc: Global, content: &[u8]) -> Result<u64, Fail>
+    ensures { IfOk result (λ calls. calls ≤ 100) }
+{
+    let ran = answer_over(alloc, content, &[], &[])?;
+    Ok(ran.disk.calls().min(100))
 }
 
 // Appends the refusal with this code that shows two numbers.

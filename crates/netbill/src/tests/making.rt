@@ -2,227 +2,63 @@
 
 use super::*;
 
-struct Making<'a> {
-    cap: &'a str,
-    // how many bytes the input has, the most that one read gives, and the numbers of its reads that fail
-    input: usize,
-    step: usize,
-    source_fails: &'a [u64],
-    // what the disk has before and after, in hexadecimal, and how many calls it was asked for
-    before: &'a [&'a str],
-    after: &'a [&'a str],
-    calls: u64,
-    // the status and the place
-    ends: (u8, u64),
-}
+// What is given: a cap, how many bytes the input has, the most that one read gives, and the numbers of the reads that fail.
+type Given = (&'static str, usize, usize, &'static [u64]);
 
-// A journal that is made on an empty disk: the disk is asked for its first bytes, and then all but the magic is written and
-// synced, and then the magic.
-const MADE: Making<'static> = Making {
-    cap: "4",
-    input: 80,
-    step: 1000,
-    source_fails: &[],
-    before: &[],
-    after: &[JOURNAL_CAP_4],
-    calls: 5,
-    ends: (0, 0),
-};
-
-// One that is not, since the words, the cap or the input are bad.
-const NOT_MADE: Making<'static> = Making {
-    after: &[],
-    calls: 0,
-    ..MADE
-};
+// What that comes to: the status and the place, and what is made on an empty disk.
+type Comes = ((u8, u64), &'static [&'static str]);
 
 const MAGIC: &str = "4e424a524e4c3031";
 
-const FUND: &str = ITEM_500;
+const MADE: Comes = ((0, 0), &[JOURNAL_CAP_4]);
 
-static CAPS: [Making<'static>; 14] = [
-    MADE,
-    Making {
-        cap: "1000000",
-        after: &[MAGIC, "000f4240", HEAD, "00000000", SHUT],
-        ..MADE
-    },
-    // nothing is read, neither from the source nor from the disk
-    Making {
-        cap: "0",
-        source_fails: &[1],
-        ends: (9, 0),
-        ..NOT_MADE
-    },
-    Making {
-        cap: "1000001",
-        source_fails: &[1],
-        ends: (9, 0),
-        ..NOT_MADE
-    },
-    Making {
-        cap: "2000000",
-        input: 79,
-        ends: (9, 0),
-        ..NOT_MADE
-    },
-    Making {
-        cap: "4294967295",
-        ends: (9, 0),
-        ..NOT_MADE
-    },
-    Making {
-        cap: "4294967296",
-        ends: (2, 0),
-        ..NOT_MADE
-    },
-    Making {
-        cap: "04",
-        ends: (2, 0),
-        ..NOT_MADE
-    },
-    Making {
-        cap: "00",
-        ends: (2, 0),
-        ..NOT_MADE
-    },
-    Making {
-        cap: "+4",
-        ends: (2, 0),
-        ..NOT_MADE
-    },
-    Making {
-        cap: "-4",
-        ends: (2, 0),
-        ..NOT_MADE
-    },
-    Making {
-        cap: "",
-        ends: (2, 0),
-        ..NOT_MADE
-    },
-    Making {
-        cap: "4x",
-        ends: (2, 0),
-        ..NOT_MADE
-    },
-    Making {
-        cap: " 4",
-        ends: (2, 0),
-        ..NOT_MADE
-    },
+const BAD_WORDS: Comes = ((2, 0), &[]);
+
+const BAD_CAP: Comes = ((9, 0), &[]);
+
+const READ_FAILS: Comes = ((3, 0), &[]);
+
+static GIVEN: [(Given, Comes); 23] = [
+    (("4", 80, 1000, &[]), MADE),
+    (("4", 80, 1, &[]), MADE),
+    (
+        ("1000000", 80, 1000, &[]),
+        ((0, 0), &[MAGIC, "000f4240", HEAD, "00000000", SHUT]),
+    ),
+    // where the cap is bad the source is not read
+    (("0", 80, 1000, &[1]), BAD_CAP),
+    (("1000001", 80, 1000, &[1]), BAD_CAP),
+    (("2000000", 79, 1000, &[]), BAD_CAP),
+    (("4294967295", 80, 1000, &[]), BAD_CAP),
+    (("4294967296", 80, 1000, &[]), BAD_WORDS),
+    (("04", 79, 1000, &[]), BAD_WORDS),
+    (("00", 80, 1000, &[]), BAD_WORDS),
+    (("+4", 80, 1000, &[]), BAD_WORDS),
+    (("-4", 80, 1000, &[]), BAD_WORDS),
+    (("", 80, 1000, &[]), BAD_WORDS),
+    (("4x", 80, 1000, &[]), BAD_WORDS),
+    (("4 ", 80, 1000, &[]), BAD_WORDS),
+    (("4", 0, 1000, &[]), ((5, 0), &[])),
+    (("4", 79, 1000, &[]), ((5, 79), &[])),
+    (("4", 81, 1, &[]), ((5, 81), &[])),
+    (("4", 81, 1000, &[]), ((5, 81), &[])),
+    (("4", 200, 1000, &[]), ((5, 81), &[])),
+    // before the head, within it, and behind it, where it is not known whether more comes
+    (("4", 80, 1000, &[1]), READ_FAILS),
+    (("4", 80, 40, &[2]), READ_FAILS),
+    (("4", 80, 1000, &[2]), READ_FAILS),
 ];
 
-static HEADS: [Making<'static>; 9] = [
-    Making { step: 1, ..MADE },
-    Making {
-        input: 0,
-        ends: (5, 0),
-        ..NOT_MADE
-    },
-    Making {
-        input: 79,
-        ends: (5, 79),
-        ..NOT_MADE
-    },
-    Making {
-        input: 81,
-        ends: (5, 81),
-        ..NOT_MADE
-    },
-    Making {
-        input: 81,
-        step: 1,
-        ends: (5, 81),
-        ..NOT_MADE
-    },
-    Making {
-        input: 200,
-        ends: (5, 81),
-        ..NOT_MADE
-    },
-    Making {
-        source_fails: &[1],
-        ends: (3, 0),
-        ..NOT_MADE
-    },
-    // within the head
-    Making {
-        step: 40,
-        source_fails: &[2],
-        ends: (3, 0),
-        ..NOT_MADE
-    },
-    // behind the head, where it is not known whether more comes
-    Making {
-        source_fails: &[2],
-        ends: (3, 0),
-        ..NOT_MADE
-    },
-];
+// What is on a disk before and behind, the status, and how many calls the disk is asked for: for its first bytes, and then all
+// but the magic is written and synced, and then the magic.
+type Over = (&'static [&'static str], &'static [&'static str], u8, u64);
 
-static DISKS: [Making<'static>; 9] = [
-    // a journal, with entries and without, and what only begins with its magic
-    Making {
-        before: &[JOURNAL],
-        after: &[JOURNAL],
-        calls: 1,
-        ends: (9, 0),
-        ..MADE
-    },
-    Making {
-        before: &[FRONT, ITEM_1, FUND, SHUT],
-        after: &[FRONT, ITEM_1, FUND, SHUT],
-        calls: 1,
-        ends: (9, 0),
-        ..MADE
-    },
-    Making {
-        before: &[MAGIC],
-        after: &[MAGIC],
-        calls: 1,
-        ends: (9, 0),
-        ..MADE
-    },
-    // other bytes
-    Making {
-        before: &["4e424a524e4c30"],
-        ..MADE
-    },
-    Making {
-        before: &[OTHER_MAGIC, "ffffff"],
-        after: &[JOURNAL_CAP_4, "ffffff"],
-        ..MADE
-    },
-    // what comes first of what is bad is told
-    Making {
-        input: 79,
-        before: &[JOURNAL],
-        after: &[JOURNAL],
-        ends: (5, 79),
-        ..NOT_MADE
-    },
-    Making {
-        source_fails: &[1],
-        before: &[JOURNAL],
-        after: &[JOURNAL],
-        ends: (3, 0),
-        ..NOT_MADE
-    },
-    Making {
-        cap: "0",
-        before: &[JOURNAL],
-        after: &[JOURNAL],
-        ends: (9, 0),
-        ..NOT_MADE
-    },
-    Making {
-        cap: "04",
-        before: &[JOURNAL],
-        after: &[JOURNAL],
-        ends: (2, 0),
-        ..NOT_MADE
-    },
+static DISKS: [Over; 5] = [
+    (&[JOURNAL], &[JOURNAL], 9, 1),
+    (&[FRONT, ITEM_1, SHUT], &[FRONT, ITEM_1, SHUT], 9, 1),
+    (&[MAGIC], &[MAGIC], 9, 1),
+    (&["4e424a524e4c30"], &[JOURNAL_CAP_4], 0, 5),
+    (&[OTHER_MAGIC, "ffffff"], &[JOURNAL_CAP_4, "ffffff"], 0, 5),
 ];
 
 // So many bytes, which begin with the keys of house and operator and the index key.
@@ -252,43 +88,77 @@ fn init(
     })
 }
 
-fn make(alloc: Global, making: &Making<'_>) -> Result<Ran, Fail> {
-    let before = bytes(alloc, making.before)?;
-    let input = input_of(alloc, making.input)?;
-    let (input, step, fails) = (input.as_slice(), making.step.max(1), making.source_fails);
-    let mut source = MemSource::new(alloc, input, step, fails)?;
-    init(alloc, making.cap, &mut source, before.as_slice(), &[])
+// Runs `init` on what is given.
+fn make(alloc: Global, given: &Given, content: &[u8]) -> Result<Ran, Fail> {
+    let (cap, len, step, fails) = *given;
+    let input = input_of(alloc, len)?;
+    let mut source = MemSource::new(alloc, input.as_slice(), step.max(1), fails)?;
+    init(alloc, cap, &mut source, content, &[])
 }
 
-// Each ends as it should and leaves what it should, also after a stop. What is made is opened.
-fn hold(rt: &impl Abort, alloc: Global, makings: &[Making<'_>]) -> Result<(), Fail> {
-    for (case, making) in makings.iter().enumerate() {
-        let case = case as u64;
-        let after = bytes(alloc, making.after)?;
-        let ran = make(alloc, making)?;
-        expect(rt, case, &ran, making.ends, &[], after.as_slice());
-        assert_eq!(rt; ran.disk.calls(), making.calls, "case {case}");
-        stays(rt, alloc, case, &ran.disk)?;
-        if making.ends == (0, 0) {
-            opens(rt, alloc, case, after.as_slice(), (0, 0))?;
+// It ends as it should and leaves what it should, also after a stop.
+fn makes(
+    rt: &impl Abort,
+    alloc: Global,
+    case: u64,
+    ran: &Ran,
+    ends: (u8, u64),
+    after: &[u8],
+) -> Result<(), Fail> {
+    expect(rt, case, ran, ends, &[], after);
+    let calls = match ends {
+        (0, _) => 5,
+        _ => 0,
+    };
+    assert_eq!(rt; ran.disk.calls(), calls, "case {case}");
+    stays(rt, alloc, case, &ran.disk)
+}
+
+// On an empty disk. What is made is opened.
+#[test]
+fn a_journal_is_made(rt: HostRuntime) -> Result<(), Fail> {
+    let alloc = rt.alloc();
+    for (case, (given, (ends, after))) in GIVEN.iter().enumerate() {
+        let after = bytes(alloc, *after)?;
+        let ran = make(alloc, given, &[])?;
+        makes(&rt, alloc, case as u64, &ran, *ends, after.as_slice())?;
+        if *ends == (0, 0) {
+            opens(&rt, alloc, case as u64, after.as_slice(), (0, 0))?;
         }
     }
     Ok(())
 }
 
-#[test]
-fn caps_are_read(rt: HostRuntime) -> Result<(), Fail> {
-    hold(&rt, rt.alloc(), &CAPS)
-}
-
-#[test]
-fn heads_are_read(rt: HostRuntime) -> Result<(), Fail> {
-    hold(&rt, rt.alloc(), &HEADS)
-}
-
+// On a disk that has a journal, which is told where nothing else is bad.
 #[test]
 fn a_journal_is_spared(rt: HostRuntime) -> Result<(), Fail> {
-    hold(&rt, rt.alloc(), &DISKS)
+    let alloc = rt.alloc();
+    let there = bytes(alloc, &[JOURNAL])?;
+    for (case, (given, (ends, _))) in GIVEN.iter().enumerate() {
+        let ran = make(alloc, given, there.as_slice())?;
+        let ends = match *ends {
+            (0, _) => (9, 0),
+            bad => bad,
+        };
+        expect(&rt, case as u64, &ran, ends, &[], there.as_slice());
+        assert!(rt; ran.disk.calls() < 2, "case {case}");
+        stays(&rt, alloc, case as u64, &ran.disk)?;
+    }
+    Ok(())
+}
+
+#[test]
+fn a_disk_has_other_bytes(rt: HostRuntime) -> Result<(), Fail> {
+    let alloc = rt.alloc();
+    for (case, (before, after, status, calls)) in DISKS.iter().enumerate() {
+        let before = bytes(alloc, *before)?;
+        let after = bytes(alloc, *after)?;
+        let ran = make_over(alloc, before.as_slice(), &[])?;
+        expect(&rt, case as u64, &ran, (*status, 0), &[], after.as_slice());
+        assert_eq!(rt; ran.disk.calls(), *calls, "case {case}");
+        stays(&rt, alloc, case as u64, &ran.disk)?;
+    }
+    Ok(())
 }
 
 // Whether a content begins with these bytes, if it begins with the magic.
