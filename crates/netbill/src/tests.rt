@@ -371,30 +371,30 @@ struct Ran {
     disk: MemDisk,
 }
 
-// Answers the frames of the input at moment 1000, over a disk with this content, of whose calls some fail.
-fn answer_over(alloc: Global, content: &[u8], fails: &[u64], input: &[u8]) -> Result<Ran, Fail> {
-    answer_at(alloc, content, fails, 1000, input)
-}
-
-// Answers them at another moment.
-fn answer_at(
+// Runs the program on these words at this moment, over a disk with this content, of whose calls some fail.
+fn words_over(
     alloc: Global,
+    words: &[&str],
+    source: &mut MemSource,
+    moment: u64,
     content: &[u8],
     fails: &[u64],
-    moment: u64,
-    input: &[u8],
 ) -> Result<Ran, Fail> {
     let disk = MemDisk::new(alloc, content, fails)?;
-    let mut source = MemSource::new(alloc, input, 1000, &[])?;
     let mut sink = MemSink::new(alloc, &[])?;
     let mut clock = MemClock::new(alloc, &[moment])?;
-    let words = WORDS_OF_BATCH;
-    let (ending, disk) = run_on(alloc, words, &mut source, &mut sink, disk, &mut clock)?;
+    let (ending, disk) = run_on(alloc, words, source, &mut sink, disk, &mut clock)?;
     Ok(Ran {
         ending,
         sent: Vec::from_slice(alloc, sink.sent())?,
         disk,
     })
+}
+
+// Answers the frames of the input at moment 1000.
+fn answer_over(alloc: Global, content: &[u8], fails: &[u64], input: &[u8]) -> Result<Ran, Fail> {
+    let mut source = MemSource::new(alloc, input, 1000, &[])?;
+    words_over(alloc, WORDS_OF_BATCH, &mut source, 1000, content, fails)
 }
 
 // What may stand where it is not sure what stays.
@@ -454,13 +454,28 @@ fn opens(
     stays(rt, alloc, case, &ran.disk)
 }
 
+// A source of these pieces.
+fn source_of(
+    alloc: Global,
+    pieces: &[&str],
+    step: usize,
+    fails: &[u64],
+) -> Result<MemSource, Fail> {
+    let input = bytes(alloc, pieces)?;
+    Ok(MemSource::new(alloc, input.as_slice(), step.max(1), fails)?)
+}
+
+// A disk with this content, which never fails.
+fn disk_of(alloc: Global, content: &str) -> Result<MemDisk, Fail> {
+    let content = bytes(alloc, &[content])?;
+    Ok(MemDisk::new(alloc, content.as_slice(), &[])?)
+}
+
 // How a case ends, and what was written.
 fn outcome(alloc: Global, case: &Case<'_>) -> Result<(Ending, Vec<u8>), Fail> {
-    let journal = bytes(alloc, &[case.journal])?;
-    let input = bytes(alloc, case.input)?;
-    let mut source = MemSource::new(alloc, input.as_slice(), case.step.max(1), case.source_fails)?;
+    let disk = disk_of(alloc, case.journal)?;
+    let mut source = source_of(alloc, case.input, case.step, case.source_fails)?;
     let mut sink = MemSink::new(alloc, case.sink_fails)?;
-    let disk = MemDisk::new(alloc, journal.as_slice(), &[])?;
     let mut clock = MemClock::new(alloc, case.moments)?;
     let words = WORDS_OF_BATCH;
     let (ending, _disk) = run_on(alloc, words, &mut source, &mut sink, disk, &mut clock)?;
@@ -495,28 +510,29 @@ impl Sink for Slow {
     }
 }
 
+// What comes of two enrolments where this call of a slow sink fails.
+fn slow_run(alloc: Global, call: u64) -> Result<(Ending, Slow), Fail> {
+    let disk = disk_of(alloc, JOURNAL)?;
+    let mut source = source_of(alloc, &[ENROL_1, ENROL_2], 7, &[])?;
+    let mut clock = MemClock::new(alloc, &[])?;
+    let to = MemSink::new(alloc, &[call])?;
+    let mut sink = Slow { to };
+    let words = WORDS_OF_BATCH;
+    let (ending, _disk) = run_on(alloc, words, &mut source, &mut sink, disk, &mut clock)?;
+    Ok((ending, sink))
+}
+
 // A slow sink fails within the second reply: the first one was written whole, and a part of the second.
 #[test]
 fn slow_sink_fails_within_a_reply(rt: HostRuntime) -> Result<(), Fail> {
     let alloc = rt.alloc();
-    let journal = bytes(alloc, &[JOURNAL])?;
-    let input = bytes(alloc, &[ENROL_1, ENROL_2])?;
     let replies = bytes(alloc, &[DONE_1, DONE_2])?;
-    let mut source = MemSource::new(alloc, input.as_slice(), 7, &[])?;
-    let mut sink = Slow {
-        to: MemSink::new(alloc, &[40])?,
+    let (ending, sink) = slow_run(alloc, 40)?;
+    let wanted = Ending {
+        status: 4,
+        place: 0,
     };
-    let disk = MemDisk::new(alloc, journal.as_slice(), &[])?;
-    let mut clock = MemClock::new(alloc, &[])?;
-    let words = WORDS_OF_BATCH;
-    let (ending, _disk) = run_on(alloc, words, &mut source, &mut sink, disk, &mut clock)?;
-    assert_eq!(rt;
-        ending,
-        Ending {
-            status: 4,
-            place: 0
-        }
-    );
+    assert_eq!(rt; ending, wanted);
     assert!(rt; replies.len() == 56);
     assert_eq!(rt; sink.to.sent(), replies.as_slice().split_at(39).0);
     Ok(())
@@ -556,24 +572,12 @@ fn faults_end_a_batch(rt: HostRuntime) -> Result<(), Fail> {
 #[test]
 fn words_are_read(rt: HostRuntime) -> Result<(), Fail> {
     let alloc = rt.alloc();
-    for words in &WORDS {
+    for (case, words) in WORDS.iter().enumerate() {
         let mut source = MemSource::new(alloc, b"x", 1, &[1])?;
-        let mut sink = MemSink::new(alloc, &[])?;
-        let disk = MemDisk::new(alloc, &[], &[])?;
-        let mut clock = MemClock::new(alloc, &[7, 8])?;
-        let (ending, disk) = run_on(alloc, *words, &mut source, &mut sink, disk, &mut clock)?;
-        assert_eq!(rt;
-            ending,
-            Ending {
-                status: 2,
-                place: 0
-            },
-            "{words:?}"
-        );
+        let ran = words_over(alloc, *words, &mut source, 0, &[], &[])?;
+        expect(&rt, case as u64, &ran, (2, 0), &[], &[]);
+        assert_eq!(rt; ran.disk.calls(), 0, "{words:?}");
         assert_eq!(rt; source.read(&mut [0]), ReadOut::Failed, "{words:?}");
-        assert_eq!(rt; sink.sent().len(), 0, "{words:?}");
-        assert_eq!(rt; disk.calls(), 0, "{words:?}");
-        assert_eq!(rt; clock.now(), 7, "{words:?}");
     }
     Ok(())
 }

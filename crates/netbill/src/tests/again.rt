@@ -103,6 +103,12 @@ fn runs_go_on(rt: HostRuntime) -> Result<(), Fail> {
     Ok(())
 }
 
+// Answers these frames at moment 87,400.
+fn a_day_later(alloc: Global, content: &[u8], frames: &[&str]) -> Result<Ran, Fail> {
+    let mut source = source_of(alloc, frames, 1000, &[])?;
+    words_over(alloc, WORDS_OF_BATCH, &mut source, 87_400, content, &[])
+}
+
 // A day later the same frames are told what is recorded, and nothing is written.
 #[test]
 fn frames_are_told_again(rt: HostRuntime) -> Result<(), Fail> {
@@ -110,9 +116,8 @@ fn frames_are_told_again(rt: HostRuntime) -> Result<(), Fail> {
     for (at, case) in FRAMES.iter().enumerate() {
         let content = journal(alloc, case.front, case.items)?;
         let replies = bytes(alloc, case.again)?;
-        let frames = bytes(alloc, case.frames)?;
         let opening = opening(alloc, content.as_slice())?;
-        let ran = answer_at(alloc, content.as_slice(), &[], 87_400, frames.as_slice())?;
+        let ran = a_day_later(alloc, content.as_slice(), case.frames)?;
         expect(
             &rt,
             at as u64,

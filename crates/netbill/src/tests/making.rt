@@ -68,32 +68,13 @@ fn input_of(alloc: Global, len: usize) -> Result<Vec<u8>, Fail> {
     Ok(input)
 }
 
-// Runs `init` with this cap, over a disk with this content.
-fn init(
-    alloc: Global,
-    cap: &str,
-    source: &mut MemSource,
-    content: &[u8],
-    fails: &[u64],
-) -> Result<Ran, Fail> {
-    let disk = MemDisk::new(alloc, content, fails)?;
-    let mut sink = MemSink::new(alloc, &[])?;
-    let mut clock = MemClock::new(alloc, &[])?;
-    let words = ["init", "house.journal", cap];
-    let (ending, disk) = run_on(alloc, &words, source, &mut sink, disk, &mut clock)?;
-    Ok(Ran {
-        ending,
-        sent: Vec::from_slice(alloc, sink.sent())?,
-        disk,
-    })
-}
-
 // Runs `init` on what is given.
 fn make(alloc: Global, given: &Given, content: &[u8]) -> Result<Ran, Fail> {
     let (cap, len, step, fails) = *given;
     let input = input_of(alloc, len)?;
     let mut source = MemSource::new(alloc, input.as_slice(), step.max(1), fails)?;
-    init(alloc, cap, &mut source, content, &[])
+    let words = ["init", "house.journal", cap];
+    words_over(alloc, &words, &mut source, 1000, content, &[])
 }
 
 // It ends as it should and leaves what it should, also after a stop.
@@ -184,7 +165,8 @@ fn are_begun(alloc: Global, disk: &MemDisk, whole: &[u8]) -> Result<bool, Fail> 
 fn make_over(alloc: Global, content: &[u8], fails: &[u64]) -> Result<Ran, Fail> {
     let input = input_of(alloc, 80)?;
     let mut source = MemSource::new(alloc, input.as_slice(), 1000, &[])?;
-    init(alloc, "4", &mut source, content, fails)
+    let words = ["init", "house.journal", "4"];
+    words_over(alloc, &words, &mut source, 1000, content, fails)
 }
 
 // The call of this number fails: no journal stands, or a whole one. Then it is made, if it is not there.
