@@ -12,10 +12,10 @@ use Rattle.nb_vault.specs.declared.line.Line.{Line}
 use Rattle.nb_vault.specs.declared.line.Line.TheVariants.{Doubt, Fault}
 use Rattle.nb_vault.specs.declared.parts.Parts.{Parts}
 use Rattle.nb_vault.specs.declared.records.Counts.{Counts}
-use Rattle.nb_vault.specs.Holdings.{StandsFor, StandsForEither}
+use Rattle.nb_vault.specs.Holdings.{StandsFor, StandsForEither, Writes, Tears}
 use Rattle.nb_vault.specs.declared.vault.Answer.{Answer}
 use Rattle.nb_vault.specs.Lines.{AreOf, next_turn}
-use Rattle.nb_vault.specs.Parts.{IsVault, SameOrigin, SameButRoom, CommitGives, seen_as}
+use Rattle.nb_vault.specs.Parts.{IsVault, SameOrigin, SameButRoom, CommitGives, CommitWrites, seen_as}
 use Rattle.nb_vault.specs.Records.{EitherOf, WithOrWithout, disk_of}
 use Rattle.nb_vault.specs.Turns.{Request, State, Settles, Decides, Doubts}
 use Rattle.nb_vault.specs.Vaults.{Chronicled, state_of, rules_of, StandsForState, adopts, commits, KeptOf, Settled, Decided, Doubted, Unsettled, IsDurable, Adds, LinesOf}
@@ -90,6 +90,21 @@ module _ {D : Type 0} (content : D → Option (List ℕ)) (allowed : D → List 
     pub settles_over : Settles (state_of (seen_as old)) mid.records.book.entries
     settles_over = subst (λ (s : State). Settles s mid.records.book.entries) (sym (state_seen content allowed faults old vault)) (subst (Settles (state_at old)) (sym entries) (settles old.records.book.entries old.records.doubt kept old.faults kept_is))
 
+    -- what is written, by what the vault was before
+    writes_from : (entry : Option Entry) (new : Option (List ℕ)) → Writes mid.records.head mid.records.book.cap mid.records.book.entries entry (content (disk_of mid.records)) new
+        → Writes old.records.head old.records.book.cap mid.records.book.entries entry (content (disk_of old.records)) new
+    writes_from entry new is =
+        subst (λ (t : Option (List ℕ)). Writes old.records.head old.records.book.cap mid.records.book.entries entry t new) same_content
+        (subst (λ (cap : ℕ). Writes old.records.head cap mid.records.book.entries entry (content (disk_of mid.records)) new) same.terms.cap
+        (subst (λ (head : List ℕ). Writes head mid.records.book.cap mid.records.book.entries entry (content (disk_of mid.records)) new) same.terms.head is))
+
+    tears_from : (entry : Entry) (new : Option (List ℕ)) → Tears mid.records.head mid.records.book.cap mid.records.book.entries entry (content (disk_of mid.records)) new
+        → Tears old.records.head old.records.book.cap mid.records.book.entries entry (content (disk_of old.records)) new
+    tears_from entry new is =
+        subst (λ (t : Option (List ℕ)). Tears old.records.head old.records.book.cap mid.records.book.entries entry t new) same_content
+        (subst (λ (cap : ℕ). Tears old.records.head cap mid.records.book.entries entry (content (disk_of mid.records)) new) same.terms.cap
+        (subst (λ (head : List ℕ). Tears head mid.records.book.cap mid.records.book.entries entry (content (disk_of mid.records)) new) same.terms.head is))
+
     -- the turn decided
     pub decides : (new : Parts D) → IsVault content allowed faults new → (request : Request) (at : ℕ) (reply : List ℕ) (entry : Option Entry) → at ≡ length mid.records.book.entries → entry ≡ (rules_of (seen_as old) mid.records.book.entries request).entry
         → reply ≡ (rules_of (seen_as old) mid.records.book.entries request).reply → new.records.book.entries ≡ mid.records.book.entries ++ option_to_list entry → new.records.doubt ≡ None → new.faults ≡ old.faults
@@ -103,14 +118,17 @@ module _ {D : Type 0} (content : D → Option (List ℕ)) (allowed : D → List 
     }
 
     -- the lines of it
-    pub decided_lines : (request : Request) (at : ℕ) (entry : Option Entry) (added : List Line) → at ≡ length mid.records.book.entries → entry ≡ (rules_of (seen_as old) mid.records.book.entries request).entry
-        → added ≡ adopts by turn kept ++ commits by turn entry → Decided content (seen_as old) by turn at request added
-    decided_lines request at entry added at_is entry_is is = record {
+    pub decided_lines : (new : Parts D) (request : Request) (at : ℕ) (entry : Option Entry) (added : List Line) → at ≡ length mid.records.book.entries → entry ≡ (rules_of (seen_as old) mid.records.book.entries request).entry
+        → added ≡ adopts by turn kept ++ commits by turn entry → Writes mid.records.head mid.records.book.cap mid.records.book.entries entry (content (disk_of mid.records)) (content (disk_of new.records))
+        → Decided content (seen_as old) (seen_as new) by turn at request added
+    decided_lines new request at entry added at_is entry_is is wrote = record {
       kept = kept;
       over = mid.records.book.entries;
       settled = settled_as;
       place = at_is;
       lines = is ∙ ap (λ (o : Option Entry). adopts by turn kept ++ commits by turn o) entry_is;
+      written = subst (λ (o : Option Entry). Writes old.records.head old.records.book.cap mid.records.book.entries o (content (disk_of old.records)) (content (disk_of new.records))) entry_is
+          (writes_from entry (content (disk_of new.records)) wrote);
     }
 
     -- the entry could not be made durable
@@ -125,14 +143,16 @@ module _ {D : Type 0} (content : D → Option (List ℕ)) (allowed : D → List 
     }
 
     pub doubted_lines : (new : Parts D) → IsVault content allowed faults new → (request : Request) (entry : Entry) (before after : ℕ) (added : List Line) → Some entry ≡ (rules_of (seen_as old) mid.records.book.entries request).entry
-        → new.records.doubt ≡ Some entry → added ≡ adopts by turn kept ++ Doubt by turn entry ∷ Fault by turn before after ∷ [] → Doubted content (seen_as old) (seen_as new) by turn before after request added
-    doubted_lines new done request entry before after added entry_is doubt is = record {
+        → new.records.doubt ≡ Some entry → added ≡ adopts by turn kept ++ Doubt by turn entry ∷ Fault by turn before after ∷ []
+        → Tears mid.records.head mid.records.book.cap mid.records.book.entries entry (content (disk_of mid.records)) (content (disk_of new.records)) → Doubted content (seen_as old) (seen_as new) by turn before after request added
+    doubted_lines new done request entry before after added entry_is doubt is torn = record {
       kept = kept;
       over = mid.records.book.entries;
       entry = entry;
       settled = settled_as;
       verdict = sym entry_is;
       lines = is;
+      written = tears_from entry (content (disk_of new.records)) torn;
       doubt = doubt_seen content allowed faults new done ∙ ap option_to_list doubt;
     }
 
@@ -142,10 +162,11 @@ module _ {D : Type 0} (content : D → Option (List ℕ)) (allowed : D → List 
 
   -- what was in doubt still is
   pub unsettled_lines : (old new : Parts D) → IsVault content allowed faults old → IsVault content allowed faults new → (by turn before after : ℕ) (added : List Line) → old.records.doubt ≢ None → new.records.doubt ≡ old.records.doubt
-      → new.records.book.entries ≡ old.records.book.entries → added ≡ Fault by turn before after ∷ [] → Unsettled (seen_as old) (seen_as new) by turn before after added
-  unsettled_lines old new vault done by turn before after added some doubt entries is = record {
+      → new.records.book.entries ≡ old.records.book.entries → added ≡ Fault by turn before after ∷ [] → content (disk_of new.records) ≡ content (disk_of old.records) → Unsettled content (seen_as old) (seen_as new) by turn before after added
+  unsettled_lines old new vault done by turn before after added some doubt entries is unwritten = record {
     some = λ e. some_doubt old.records.doubt some (sym (doubt_seen content allowed faults old vault) ∙ e);
     lines = is;
+    written = unwritten;
     entries = entries_seen content allowed faults new done ∙ entries ∙ sym (entries_seen content allowed faults old vault);
     doubt = doubt_seen content allowed faults new done ∙ ap option_to_list doubt ∙ sym (doubt_seen content allowed faults old vault);
   }
@@ -222,6 +243,11 @@ module _ {D : Type 0} (content : D → Option (List ℕ)) (allowed : D → List 
     count = second.count ∙ first.count;
     head = second.head ∙ first.head;
   }
+
+  -- an entry that failed was torn
+  pub tears_err : (old : Parts D) (entry : Option Entry) (e : Entry) (counts : Counts) (before after : Option (List ℕ)) → entry ≡ Some e → CommitWrites old entry before after (Err counts)
+      → Tears old.records.head old.records.book.cap old.records.book.entries e before after
+  tears_err old entry e counts before after is writes = subst (λ (o : Option Entry). CommitWrites old o before after (Err counts)) is writes
 
   -- ---- the verdict
 

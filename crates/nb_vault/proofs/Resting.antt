@@ -10,12 +10,13 @@ use Rattle.std.proofs.lemmas.Grind.{flat_map-append}
 use Rattle.nb_book.specs.declared.entry.Entry.{Entry}
 use Rattle.nb_book.specs.Legal.{LegalAfter, Legal}
 use Rattle.nb_book.specs.Spelling.{entry_bytes, entries_bytes, IsEntry, Spells}
-use Rattle.nb_journal.specs.Layout.{front_bytes, AreTerms}
+use Rattle.nb_journal.specs.Layout.{front_bytes, item_bytes, AreTerms}
 use Rattle.nb_journal.specs.Stands.{Stands, BeforeOrAfter}
 use Rattle.nb_journal.specs.States.{AtRest, InDoubt}
 use Rattle.nb_journal.specs.Time.{LeavesOnly}
 use Rattle.nb_journal.proofs.Appending.{stands_now}
-use Rattle.nb_vault.specs.Holdings.{Joins, StandsFor, StandsForEither}
+use Rattle.nb_port.specs.Disk.{wrote_at, MayTear}
+use Rattle.nb_vault.specs.Holdings.{Joins, StandsFor, StandsForEither, IsGate, Writes, Tears}
 use Rattle.nb_vault.specs.Records.{Rests, RestsIn, WithOrWithout, EitherOf, disk_of}
 use Rattle.nb_vault.specs.declared.records.Records.{Records}
 
@@ -234,3 +235,18 @@ module _ {D : Type 0} (content : D → Option (List ℕ)) (allowed : D → List 
         (λ c stands. stands_either r.head r.book.cap rests.items r.book.entries rests.terms rests.joins rests.legal e fits next within c
         (subst (λ (x : List ℕ). BeforeOrAfter (front_bytes r.book.cap r.head) rests.items x c) spells stands))
         (each _ rests.items (subst (λ (doubt : Option Entry). RestsIn content allowed (front_bytes r.book.cap r.head) rests.items doubt r.journal) settled rests.journal))
+
+-- ---- what is written
+
+module _ {D : Type 0} (content : D → Option (List ℕ)) (allowed : D → List ℕ → Type 0) (r : Records D) (rests : Rests content allowed r) (settled : r.doubt ≡ None) (e : Entry) (item : List ℕ) (new : Option (List ℕ)) (is : item ≡ entry_bytes e) where
+  -- the journal's gate stands behind the items
+  gate_at : IsGate r.head r.book.cap r.book.entries (content (disk_of r)) r.journal.gate
+  gate_at =
+      let rest = at_rest content allowed r rests settled in
+      record { items = rests.items; joins = rests.joins; stands = rest.bytes; place = rest.place }
+
+  pub writes_at : new ≡ wrote_at (content (disk_of r)) r.journal.gate (item_bytes item ++ 0 ∷ []) → Writes r.head r.book.cap r.book.entries (Some e) (content (disk_of r)) new
+  writes_at wrote = (r.journal.gate, gate_at, wrote ∙ ap (λ (bytes : List ℕ). wrote_at (content (disk_of r)) r.journal.gate (item_bytes bytes ++ 0 ∷ [])) is)
+
+  pub tears_at : MayTear (content (disk_of r)) new r.journal.gate (length item + 6) → Tears r.head r.book.cap r.book.entries e (content (disk_of r)) new
+  tears_at torn = (r.journal.gate, gate_at, subst (λ (bytes : List ℕ). MayTear (content (disk_of r)) new r.journal.gate (length bytes + 6)) is torn)

@@ -1,10 +1,11 @@
 -- What an image of the disk stands for: a journal with a head and a cap, whose items spell a Legal list of entries.
-use Rattle.std.specs.Prelude.{◌≡◌, ◌⊎◌, ℕ, ◌≤◌, List, ◌++◌, length, map}
+use Rattle.std.specs.Prelude.{◌≡◌, ◌⊎◌, ℕ, ◌+◌, ◌≤◌, List, [], ◌∷◌, ◌++◌, length, map, Option, None, Some, IfSome}
 use Rattle.std.specs.List.{flat_map, AllByRecursion}
 use Rattle.nb_book.specs.declared.entry.Entry.{Entry}
 use Rattle.nb_book.specs.Legal.{Legal}
-use Rattle.nb_book.specs.Spelling.{entries_bytes, Spells}
-use Rattle.nb_journal.specs.Layout.{front_bytes, AreTerms}
+use Rattle.nb_book.specs.Spelling.{entry_bytes, entries_bytes, Spells}
+use Rattle.nb_port.specs.Disk.{wrote_at, MayTear}
+use Rattle.nb_journal.specs.Layout.{front_bytes, item_bytes, up_to_gate, AreTerms}
 use Rattle.nb_journal.specs.Stands.{Stands}
 
 -- the items spell these entries, from 1 to 32 each
@@ -26,6 +27,23 @@ pub record StandsFor (head : List ℕ) (cap : ℕ) (entries : List Entry) (image
 -- it stands for the entries alone, or for these and those in doubt
 abbrev pub StandsForEither : List ℕ → ℕ → List Entry → List Entry → List ℕ → Type 0
 StandsForEither head cap entries doubt image = StandsFor head cap entries image ⊎ StandsFor head cap (entries ++ doubt) image
+
+-- where one more entry is written: at the gate behind the items that the content stands for
+pub record IsGate (head : List ℕ) (cap : ℕ) (entries : List Entry) (content : Option (List ℕ)) (gate : ℕ) : Type 0 where
+  pub items : List (List ℕ)
+  pub joins : Joins items entries
+  pub stands : IfSome content (Stands (front_bytes cap head) items)
+  pub place : gate ≡ length (up_to_gate (front_bytes cap head) items)
+
+-- what is written to record an entry, for the content before and after: nothing where there is none, or its item behind an open
+-- gate, and a closed gate
+abbrev pub Writes : List ℕ → ℕ → List Entry → Option Entry → Option (List ℕ) → Option (List ℕ) → Type 0
+Writes head cap entries None old new = new ≡ old
+Writes head cap entries (Some entry) old new = (gate : ℕ) × IsGate head cap entries old gate × (new ≡ wrote_at old gate (item_bytes (entry_bytes entry) ++ 0 ∷ []))
+
+-- what was written where the disk failed: bytes of that range may have changed, and no others
+abbrev pub Tears : List ℕ → ℕ → List Entry → Entry → Option (List ℕ) → Option (List ℕ) → Type 0
+Tears head cap entries entry old new = (gate : ℕ) × IsGate head cap entries old gate × MayTear old new gate (length (entry_bytes entry) + 6)
 
 -- an image stands for one list
 abbrev pub OneList : Type 0

@@ -9,6 +9,7 @@ use Rattle.nb_vault.specs.declared.line.Line.TheVariants.{Doubt, Fault}
 use Rattle.nb_vault.specs.declared.parts.Parts.{Parts}
 use Rattle.nb_vault.specs.declared.records.Counts.{Counts}
 use Rattle.nb_vault.specs.Chronicle.{FirstFails, Sound, Backed, NeverFall}
+use Rattle.nb_vault.specs.Holdings.{Writes, Tears}
 use Rattle.nb_vault.specs.Lines.{entries_of, faults_of, open_doubt, is_doubt, next_turn, turn_of}
 use Rattle.nb_vault.specs.Records.{Rests, disk_of, SameTerms, Failed}
 use Rattle.nb_vault.specs.Turns.{most_faults}
@@ -84,3 +85,9 @@ CommitGives faults old new by turn (Some entry) (Ok done) =
 CommitGives faults old new by turn (Some entry) (Err counts) =
     (new.records.doubt ≡ Some entry) × (new.lines.items ≡ old.lines.items ++ Doubt by turn entry ∷ Fault by turn counts.before counts.after ∷ [])
     × Failed faults old.records new.records counts × (new.faults ≡ old.faults + 1)
+
+-- what was written of it, for the content before and after
+abbrev pub CommitWrites : {D : Type 0} → Parts D → Option Entry → Option (List ℕ) → Option (List ℕ) → Result (Unit {0}) Counts → Type 0
+CommitWrites old entry before after (Ok done) = Writes old.records.head old.records.book.cap old.records.book.entries entry before after
+CommitWrites old (Some entry) before after (Err counts) = Tears old.records.head old.records.book.cap old.records.book.entries entry before after
+CommitWrites old None before after (Err counts) = ⊥

@@ -12,7 +12,7 @@ use Rattle.nb_journal.specs.States.{AtRest, InDoubt}
 use Rattle.nb_vault.specs.declared.records.Records.{Records}
 use Rattle.nb_vault.specs.declared.records.Counts.{Counts}
 use Rattle.nb_vault.specs.declared.records.TheConstants.{ROOM}
-use Rattle.nb_vault.specs.Holdings.{Joins, StandsForEither}
+use Rattle.nb_vault.specs.Holdings.{Joins, StandsForEither, Writes, Tears}
 
 -- a journal with these items, at rest where nothing is in doubt
 abbrev pub RestsIn : {D : Type 0} → (D → Option (List ℕ)) → (D → List ℕ → Type 0) → List ℕ → List (List ℕ) → Option Entry → Journal D → Type 0
@@ -66,3 +66,8 @@ SettleGives faults old new (Err counts) = (new.doubt ≡ old.doubt) × (old.doub
 abbrev pub AddGives : {D : Type 0} → (D → ℕ) → Records D → Records D → Entry → Result (Unit {0}) Counts → Type 0
 AddGives faults old new entry (Ok done) = (new.doubt ≡ None) × (new.book.entries ≡ old.book.entries ++ entry ∷ [])
 AddGives faults old new entry (Err counts) = (new.doubt ≡ Some entry) × Failed faults old new counts
+
+-- what was written of it, for the content before and after
+abbrev pub AddWrites : {D : Type 0} → Records D → Entry → Option (List ℕ) → Option (List ℕ) → Result (Unit {0}) Counts → Type 0
+AddWrites old entry before after (Ok done) = Writes old.head old.book.cap old.book.entries (Some entry) before after
+AddWrites old entry before after (Err counts) = Tears old.head old.book.cap old.book.entries entry before after

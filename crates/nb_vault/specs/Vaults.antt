@@ -18,7 +18,7 @@ use Rattle.nb_vault.specs.declared.origin.Origin.{Origin}
 use Rattle.nb_vault.specs.declared.vault.Answer.{Answer}
 use Rattle.nb_vault.specs.declared.vault.Answer.TheVariants as answers
 use Rattle.nb_vault.specs.Chronicle.{Sound, Backed, NeverFall}
-use Rattle.nb_vault.specs.Holdings.{StandsFor, StandsForEither}
+use Rattle.nb_vault.specs.Holdings.{StandsFor, StandsForEither, Writes, Tears}
 use Rattle.nb_vault.specs.Rules.{house_rules}
 use Rattle.nb_vault.specs.Lines.{entries_of, faults_of, open_doubt, next_turn, AreOf}
 use Rattle.nb_vault.specs.Turns.{Request, Ruling, State, Mark, At, Turn, most_faults, refused}
@@ -113,13 +113,14 @@ pub record Settled {D : Type 0} (content : D → Option (List ℕ)) (old : Chron
   pub over_is : over ≡ entries_in old ++ option_to_list kept
   pub told : IfSome (content old.disk) (StandsFor old.origin.head old.origin.cap over)
 
--- a turn that decided over so many entries: at most one line that adopts, and then that of the verdict's entry
-pub record Decided {D : Type 0} (content : D → Option (List ℕ)) (old : Chronicled D) (by turn at : ℕ) (request : Request) (added : List Line) : Type 0 where
+-- a turn that decided over so many entries: at most one line that adopts, and then that of the verdict's entry, which alone is written
+pub record Decided {D : Type 0} (content : D → Option (List ℕ)) (old new : Chronicled D) (by turn at : ℕ) (request : Request) (added : List Line) : Type 0 where
   pub kept : Option Entry
   pub over : List Entry
   pub settled : Settled content old kept over
   pub place : at ≡ length over
   pub lines : added ≡ adopts by turn kept ++ commits by turn (rules_of old over request).entry
+  pub written : Writes old.origin.head old.origin.cap over (rules_of old over request).entry (content old.disk) (content new.disk)
 
 -- a turn whose entry could not be made durable: at most one line that adopts, the doubt, and the fault; the entry is in doubt then
 pub record Doubted {D : Type 0} (content : D → Option (List ℕ)) (old new : Chronicled D) (by turn before after : ℕ) (request : Request) (added : List Line) : Type 0 where
@@ -129,20 +130,22 @@ pub record Doubted {D : Type 0} (content : D → Option (List ℕ)) (old new : C
   pub settled : Settled content old kept over
   pub verdict : (rules_of old over request).entry ≡ Some entry
   pub lines : added ≡ adopts by turn kept ++ Doubt by turn entry ∷ Fault by turn before after ∷ []
+  pub written : Tears old.origin.head old.origin.cap over entry (content old.disk) (content new.disk)
   pub doubt : doubt_in new ≡ entry ∷ []
 
--- a turn that could not settle what was in doubt: the fault alone; the same is in doubt then
-pub record Unsettled {D : Type 0} (old new : Chronicled D) (by turn before after : ℕ) (added : List Line) : Type 0 where
+-- a turn that could not settle what was in doubt: the fault alone, and nothing is written; the same is in doubt then
+pub record Unsettled {D : Type 0} (content : D → Option (List ℕ)) (old new : Chronicled D) (by turn before after : ℕ) (added : List Line) : Type 0 where
   pub some : doubt_in old ≢ []
   pub lines : added ≡ Fault by turn before after ∷ []
+  pub written : content new.disk ≡ content old.disk
   pub entries : entries_in new ≡ entries_in old
   pub doubt : doubt_in new ≡ doubt_in old
 
 -- the lines of one answer
 abbrev pub LinesOf : {D : Type 0} → (D → Option (List ℕ)) → Chronicled D → Chronicled D → ℕ → ℕ → Request → List Line → Answer → Type 0
-LinesOf content old new by turn request added (answers.Answered at) = Decided content old by turn at request added
+LinesOf content old new by turn request added (answers.Answered at) = Decided content old new by turn at request added
 LinesOf content old new by turn request added (answers.DiskFault before after) =
-    Unsettled old new by turn before after added ⊎ Doubted content old new by turn before after request added
+    Unsettled content old new by turn before after added ⊎ Doubted content old new by turn before after request added
 LinesOf content old new by turn request added (answers.Worn faults) = added ≡ []
 LinesOf content old new by turn request added answers.NoMemory = added ≡ []
 

@@ -7,7 +7,7 @@ ghost use Rattle.nb_msgs.specs.declared.reply.TheConstants.{REPLY_ROOM};
 ghost use Rattle.nb_units.specs.Room.{spare_of};
 ghost use Rattle.nb_vault.specs.Lines.{next_turn};
 ghost use Rattle.nb_vault.specs.declared.parts.TheConstants.{TURN_ENTRIES, TURN_LINES};
-ghost use Rattle.nb_vault.specs.Parts.{IsVault, SameButRoom, MayBeTurn, SameOrigin, ReadyGives, CommitGives, seen_as};
+ghost use Rattle.nb_vault.specs.Parts.{IsVault, SameButRoom, MayBeTurn, SameOrigin, ReadyGives, CommitGives, CommitWrites, seen_as};
 ghost use Rattle.nb_vault.specs.Records.{disk_of, EitherOf, WithOrWithout};
 ghost use Rattle.std.specs.Option.{option_to_list};
 ghost use Rattle.nb_vault.specs.Turns.{most_faults};
@@ -129,6 +129,7 @@ impl<D: Disk> Parts<D> {
         requires lines { vec_len self.old.lines + 2 ≤ vec_capacity self.old.lines }
         ensures vault { IsVault D.content D.allowed D.faults self.new }
         ensures gives { CommitGives D.faults self.old self.new by turn entry.now result }
+        ensures writes { CommitWrites self.old entry.now (D.content (disk_of self.old.records)) (D.content (disk_of self.new.records)) result }
         ensures origin { SameOrigin self.old self.new }
         ensures any_moment { LeavesOnly D.moment D.left (disk_of self.old.records) (disk_of self.new.records) (WithOrWithout self.old.records (option_to_list entry.now)) }
         ensures count { D.faults (disk_of self.old.records) ≤ D.faults (disk_of self.new.records) }

@@ -2,7 +2,7 @@
 
 ghost use Rattle.std.specs.Prelude.{◌≡◌, ◌≤◌, ◌<◌, ◌+◌, [], ◌∷◌, length, None};
 ghost use Rattle.nb_book.specs.Legal.{LegalAfter};
-ghost use Rattle.nb_vault.specs.Records.{Rests, SettleGives, AddGives, SameTerms, disk_of, EitherOf, WithOrWithout};
+ghost use Rattle.nb_vault.specs.Records.{Rests, SettleGives, AddGives, AddWrites, SameTerms, disk_of, EitherOf, WithOrWithout};
 ghost use Rattle.nb_journal.specs.Time.{LeavesOnly};
 
 use nb_book::{Book, Entry, MAX_ENTRY, MAX_ITEM_ENTRIES};
@@ -67,6 +67,7 @@ impl<D: Disk> Records<D> {
         requires spare { 1 ≤ self.old.book.spare }
         ensures rests { Rests D.content D.allowed self.new }
         ensures gives { AddGives D.faults self.old self.new entry.now result }
+        ensures writes { AddWrites self.old entry.now (D.content (disk_of self.old)) (D.content (disk_of self.new)) result }
         ensures terms { SameTerms self.old self.new }
         ensures any_moment { LeavesOnly D.moment D.left (disk_of self.old) (disk_of self.new) (WithOrWithout self.old (entry.now ∷ [])) }
         ensures count { D.faults (disk_of self.old) ≤ D.faults (disk_of self.new) }

@@ -15,7 +15,7 @@ use Rattle.nb_vault.specs.Turns.{Decides, Doubts, Unsettled, most_faults, refuse
 use Rattle.nb_vault.specs.Vaults.{StandsForState, adopts, commits, request_of, rules_of, state_of}
 use Rattle.nb_vault.proofs.Lines.{next_may_be}
 use Rattle.nb_vault.proofs.Seeing.{room_vault, room_seen}
-use Rattle.nb_vault.proofs.Answering.{leaves_here, leaves_unsettled, leaves_both, decides, decided_lines, doubts, doubted_lines, adopts_are, commits_are, durable, commit_ok, commit_err, verdict_is, from_start, adds_from, together, unsettled_lines, quiet_ok, quiet_err}
+use Rattle.nb_vault.proofs.Answering.{leaves_here, leaves_unsettled, leaves_both, decides, decided_lines, doubts, doubted_lines, adopts_are, commits_are, durable, commit_ok, commit_err, verdict_is, from_start, adds_from, together, unsettled_lines, tears_err, quiet_ok, quiet_err}
 use Rattle.nb_vault.proofs.parts.Parts.answer.Goals as goal
 
 pub returns-then-self-ge-MAX_FAULTS-clause-any_moment : goal.returns-then-self-ge-MAX_FAULTS-clause-any_moment
@@ -63,7 +63,7 @@ returns-in-Err-clause-lines g c =
     let gives = c.in-Err.ensures.gives in
     let added = Fault c.args.by turn counts.before counts.after ∷ [] in
     adds_from content allowed faults c.args.self.now start new c.reserve.ensures.same c.args.by turn (request_of c.args.kind c.args.body.now c.args.moment) (DiskFault counts.before counts.after) added c.next_turn-turn.ensures gives.2
-    ((refl, refl), tt) (inl (unsettled_lines content allowed faults start new vault c.ready.ensures.vault c.args.by turn counts.before counts.after added gives.0 gives.1 gives.3.entries refl))
+    ((refl, refl), tt) (inl (unsettled_lines content allowed faults start new vault c.ready.ensures.vault c.args.by turn counts.before counts.after added gives.0 gives.1 gives.3.entries refl c.ready.ensures.content))
 
 pub returns-in-Err-commit-clause-turn : goal.returns-in-Err-commit-clause-turn
 returns-in-Err-commit-clause-turn g c =
@@ -105,7 +105,8 @@ returns-in-Err-commit-clause-lines g c =
     adds_from content allowed faults c.args.self.now start new c.reserve.ensures.same c.args.by turn request (DiskFault counts.before counts.after) added c.next_turn-turn.ensures
     (commit.4 ∙ ap (λ (xs : List Line). xs ++ Doubt c.args.by turn commit.0 ∷ Fault c.args.by turn counts.before counts.after ∷ []) ready.2 ∙ append_assoc start.lines.items (adopts c.args.by turn ready.0) (Doubt c.args.by turn commit.0 ∷ Fault c.args.by turn counts.before counts.after ∷ []))
     (adopts_are c.args.by turn ready.0 (Doubt c.args.by turn commit.0 ∷ Fault c.args.by turn counts.before counts.after ∷ []) ((refl, refl), ((refl, refl), tt)))
-    (inr (doubted_lines content allowed faults start mid vault c.ready.ensures.vault c.ready.ensures.origin c.args.by turn ready.0 ready.4 ready.3 ready.1 c.ready.ensures.content new c.commit.ensures.vault request commit.0 counts.before counts.after added (sym commit.1 ∙ ap (λ (d : Decision). d.entry) is) commit.3 refl))
+    (inr (doubted_lines content allowed faults start mid vault c.ready.ensures.vault c.ready.ensures.origin c.args.by turn ready.0 ready.4 ready.3 ready.1 c.ready.ensures.content new c.commit.ensures.vault request commit.0 counts.before counts.after added (sym commit.1 ∙ ap (λ (d : Decision). d.entry) is) commit.3 refl
+    (tears_err content allowed faults mid c.decide-decision.result.entry commit.0 counts (content (disk_of mid.records)) (content (disk_of new.records)) commit.1 c.in-Err-commit.ensures.writes)))
 
 pub returns-in-Err-commit-clause-any_moment : goal.returns-in-Err-commit-clause-any_moment
 returns-in-Err-commit-clause-any_moment g c =
@@ -163,7 +164,7 @@ returns-clause-lines g c =
     adds_from content allowed faults c.args.self.now start new c.reserve.ensures.same c.args.by turn request (Answered c.from-at.result) added c.next_turn-turn.ensures
     (commit.2 ∙ ap (λ (xs : List Line). xs ++ commits c.args.by turn entry) ready.2 ∙ append_assoc start.lines.items (adopts c.args.by turn ready.0) (commits c.args.by turn entry))
     (adopts_are c.args.by turn ready.0 (commits c.args.by turn entry) (commits_are c.args.by turn entry))
-    (decided_lines content allowed faults start mid vault c.ready.ensures.vault c.ready.ensures.origin c.args.by turn ready.0 ready.4 ready.3 ready.1 c.ready.ensures.content request c.from-at.result entry added (c.from-at.ensures ∙ c.len.ensures.len) (ap (λ (d : Decision). d.entry) is) refl)
+    (decided_lines content allowed faults start mid vault c.ready.ensures.vault c.ready.ensures.origin c.args.by turn ready.0 ready.4 ready.3 ready.1 c.ready.ensures.content new request c.from-at.result entry added (c.from-at.ensures ∙ c.len.ensures.len) (ap (λ (d : Decision). d.entry) is) refl c.in-Ok-commit.ensures.writes)
 
 pub returns-clause-any_moment : goal.returns-clause-any_moment
 returns-clause-any_moment g c =

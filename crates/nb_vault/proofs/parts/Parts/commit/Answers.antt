@@ -1,4 +1,7 @@
-use Rattle.std.proofs.Common.{◌∷◌, [], ◌++◌, refl, ap, ◌∙◌, arith}
+use Rattle.std.proofs.Common.{ℕ, List, Option, Err, ◌∷◌, [], ◌++◌, refl, sym, ap, subst, ◌∙◌, arith}
+use Rattle.nb_book.specs.declared.entry.Entry.{Entry}
+use Rattle.nb_vault.specs.Holdings.{Tears}
+use Rattle.nb_vault.specs.Parts.{CommitWrites}
 use Rattle.nb_vault.specs.declared.records.Records.{Records}
 use Rattle.nb_vault.specs.declared.line.Line.TheVariants.{Fault}
 use Rattle.nb_vault.proofs.Vaulting.{commit_done, doubt_done, fault_origin, fault_rests, fault_disk}
@@ -23,3 +26,11 @@ returns-in-Err-clause-vault g c =
     c.in-Some.entry c.in-Err.counts.before c.in-Err.counts.after c.requires.few (omega (arith, failed.before)) failed.rose (fault_disk content allowed faults old new c.add.new.self same.0 c.in-Err.counts.after failed.after)
     (ap (λ (r : Records _). r.book.entries) same.0 ∙ failed.entries) (ap (λ (r : Records _). r.doubt) same.0 ∙ c.in-Err.ensures.gives.0)
     (c.fail.ensures.lines ∙ ap (λ xs. xs ++ Fault c.args.by c.args.turn c.in-Err.counts.before c.in-Err.counts.after ∷ []) c.push_reserved-in-Err.ensures.items) c.fail.ensures.faults
+
+pub returns-in-Err-clause-writes : goal.returns-in-Err-clause-writes
+returns-in-Err-clause-writes g c =
+    let old = c.args.self.now in
+    let new = g.D.Disk.content c.fail.new.self.records.journal.disk in
+    subst (λ (entry : Option Entry). CommitWrites old entry (g.D.Disk.content old.records.journal.disk) new (Err c.in-Err.counts)) (sym c.in-Some.is)
+    (subst (λ (t : Option (List ℕ)). Tears old.records.head old.records.book.cap old.records.book.entries c.in-Some.entry (g.D.Disk.content old.records.journal.disk) t) (sym (ap (λ (r : Records _). g.D.Disk.content r.journal.disk) c.fail.ensures.rest.0))
+    c.in-Err.ensures.writes)

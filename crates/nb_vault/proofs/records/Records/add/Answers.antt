@@ -1,6 +1,7 @@
-use Rattle.std.proofs.Common.{refl, ap, subst, ◌∙◌, length, arith}
-use Rattle.nb_journal.specs.States.{AppendFails}
-use Rattle.nb_vault.proofs.Resting.{at_rest, few_items, append_leaves, added_rests, doubt_rests}
+use Rattle.std.proofs.Common.{refl, ap, subst, ◌∙◌, length, Err, arith}
+use Rattle.nb_journal.specs.States.{AppendFails, AppendWrites}
+use Rattle.nb_journal.specs.declared.journal.AppendFault.{AppendFault}
+use Rattle.nb_vault.proofs.Resting.{at_rest, few_items, append_leaves, added_rests, doubt_rests, writes_at, tears_at}
 use Rattle.nb_vault.proofs.records.Records.add.Goals as goal
 
 -- there are fewer items than entries, and fewer entries than the cap
@@ -42,3 +43,13 @@ pub returns-in-Err-DiskFault-clause-any_moment : goal.returns-in-Err-DiskFault-c
 returns-in-Err-DiskFault-clause-any_moment g c =
     append_leaves g.D.Disk.content g.D.Disk.allowed g.D.Disk.moment g.D.Disk.left c.args.self.now c.append.new.self.disk c.args.entry.now c.as_slice.result.now c.requires.rests c.requires.settled
     (c.as_slice.ensures.value ∙ c.spelled-item.ensures.bytes) c.spelled-item.ensures.fits c.requires.legal c.requires.within c.append.ensures.any_moment
+
+pub returns-in-Ok-clause-writes : goal.returns-in-Ok-clause-writes
+returns-in-Ok-clause-writes g c =
+    let rests = c.requires.rests in
+    writes_at g.D.Disk.content g.D.Disk.allowed c.args.self.now rests c.requires.settled c.args.entry.now c.as_slice.result.now (g.D.Disk.content c.append.new.self.disk) (c.as_slice.ensures.value ∙ c.spelled-item.ensures.bytes) c.in-Ok.ensures.bytes
+
+pub returns-in-Err-DiskFault-clause-writes : goal.returns-in-Err-DiskFault-clause-writes
+returns-in-Err-DiskFault-clause-writes g c =
+    tears_at g.D.Disk.content g.D.Disk.allowed c.args.self.now c.requires.rests c.requires.settled c.args.entry.now c.as_slice.result.now (g.D.Disk.content c.append.new.self.disk) (c.as_slice.ensures.value ∙ c.spelled-item.ensures.bytes)
+    (subst (λ (f : AppendFault). AppendWrites (g.D.Disk.content c.args.self.now.journal.disk) (g.D.Disk.content c.append.new.self.disk) c.args.self.now.journal.gate c.as_slice.result.now (Err f)) c.in-Err-DiskFault.field-0-is c.in-Err-DiskFault.ensures.bytes)
