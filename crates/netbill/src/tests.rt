@@ -1,20 +1,18 @@
-//! Worked cases of `run`. Keys are one byte repeated.
+//! Worked cases of `run`.
 
 ghost use Rattle.std.specs.Prelude.{Some};
 
 mod again;
 mod cuts;
 mod faults;
-mod frames;
 mod making;
 mod stops;
 
-use crate::ending::{Ending, Outcome};
-use crate::run::run;
-use frames::*;
 use nb_port::{
     Clock, Disk, Fill, MemClock, MemDisk, MemSink, MemSource, ReadOut, Sink, Source, WriteOut,
 };
+use nb_run::{Ending, Outcome, run};
+use nb_samples::*;
 use nb_units::Blob;
 use std::alloc::Global;
 use std::process::Abort;

@@ -1,0 +1,282 @@
+-- A batch step by step: what ran so far goes on by one frame, and ends.
+use Rattle.std.proofs.Common.{◌≡◌, ℕ, ◌+◌, ◌<◌, ◌≤◌, ◌⊎◌, ⊎_elim, List, [], ◌∷◌, ◌++◌, length, take, Option, None, Some, refl, sym, ap, subst, ◌∙◌, append_assoc, append-nil, arith}
+use Rattle.std.specs.Prelude.{map}
+use Rattle.std.specs.List.{flat_map, AllByRecursion}
+use Rattle.std.specs.Io.KnownBytes.{Consumes, Appends}
+use Rattle.std.proofs.KnownBytes.{Consumes-trans, Consumes-nil, Appends-trans, Appends-nil}
+use Rattle.std.proofs.lemmas.List.{map-append, length-append}
+use Rattle.std.proofs.lemmas.List.Elements.{Contains-append_left, Contains-append_right, Contains-push}
+use Rattle.std.proofs.lemmas.Grind.{flat_map-append}
+use Rattle.nb_port.specs.Clock.{Gives}
+use Rattle.nb_units.specs.Frames.{Frame, frame, IsFrame, front_of, IsWhole}
+use Rattle.nb_book.specs.declared.entry.Entry.{Entry}
+use Rattle.nb_frame.proofs.Reading.{nothing_bad}
+use Rattle.nb_journal.specs.Time.{LeavesOnly}
+use Rattle.nb_vault.proofs.Lines.{all_more}
+use Rattle.nb_vault.proofs.Resting.{leaves_more, leaves_then}
+use Rattle.nb_vault.specs.declared.origin.Origin.{Origin}
+use Rattle.nb_vault.specs.Holdings.{StandsForEither}
+use Rattle.nb_vault.specs.Rules.{house_rules}
+use Rattle.nb_vault.specs.Turns.{Request, Ruling, State, Mark, At, Fault, Worn, NoMemory as Starved, Answered, Turn, Run, last_state, IsStateOf, replies, BackedBy, Backed}
+use Rattle.nb_vault.specs.Vaults.{Chronicled, state_of, rules_of, entries_in, doubt_in, StandsForState as StandsForVault}
+use Rattle.nb_escrow.specs.Head.{head_of}
+use Rattle.nb_batch.specs.declared.batch.TheConstants.{MOST_FRAMES}
+use Rattle.nb_batch.specs.declared.batch.BatchEnd.{BatchEnd}
+use Rattle.nb_batch.specs.declared.batch.BatchEnd.TheVariants.{Clean, ReadFault, WriteFault, BadInput, NoMemory, FrameLimit}
+use Rattle.nb_batch.specs.declared.batch.Step.TheVariants as step
+use Rattle.nb_batch.specs.Send.{SentPart}
+use Rattle.nb_batch.specs.Batch.{frame_of, moment_of, Outside, Gave, Stepped, Stopped, StepIs, EndsAs, CountsAs, Wrote, Served, StandsInRun}
+
+-- these requests were answered, and the house came to these states
+pub record Went {D : Type 0} (content : D → Option (List ℕ)) (faults : D → ℕ) (moment : D → ℕ) (left : D → ℕ → List ℕ → Type 0) (old new : Chronicled D) (before after : Outside) (answered : List Answered) (states : List State) : Type 0 where
+  pub turns : Run (rules_of old) (state_of old) answered states
+  pub last : state_of new ≡ last_state (state_of old) states
+  pub origin : new.origin ≡ old.origin
+  pub backed : Backed (faults old.disk) answered (faults new.disk)
+  pub stops : LeavesOnly moment left old.disk new.disk (StandsInRun old.origin.head old.origin.cap (state_of old) states)
+  pub quiet : AllByRecursion (λ (state : State). state ≡ state_of old) states → content new.disk ≡ content old.disk
+  pub lawful : AllByRecursion IsFrame (map frame_of answered)
+  pub took : Consumes before.left after.left (flat_map frame (map frame_of answered))
+  pub asked : Gave before.moments after.moments (map moment_of answered)
+
+-- the replies so far were sent, and there are so many
+pub record Ran {D : Type 0} (content : D → Option (List ℕ)) (faults : D → ℕ) (moment : D → ℕ) (left : D → ℕ → List ℕ → Type 0) (old new : Chronicled D) (before after : Outside) (count : ℕ) : Type 0 where
+  pub answered : List Answered
+  pub states : List State
+  pub went : Went content faults moment left old new before after answered states
+  pub wrote : Appends before.sent after.sent (replies answered)
+  pub counted : length answered ≡ count
+
+pub nothing_whole : IsWhole (front_of []) → ⊥
+unfolding front_of
+nothing_whole is = is
+
+-- ---- one more
+
+run_more : (rules : List Entry → Request → Ruling) (first next : State) (done : List Answered) (states : List State) (a : Answered) → Run rules first done states → Turn rules (last_state first states) a.request a.mark a.reply next
+    → Run rules first (done ++ a ∷ []) (states ++ next ∷ [])
+run_more rules first next [] [] a run turn = (turn, tt)
+run_more rules first next (x ∷ done) (s ∷ states) a run turn = (run.0, run_more rules s next done states a run.1 turn)
+run_more rules first next [] (s ∷ states) a run turn = absurd run
+run_more rules first next (x ∷ done) [] a run turn = absurd run
+
+last_more : (first next : State) (states : List State) → next ≡ last_state first (states ++ next ∷ [])
+last_more first next [] = refl
+last_more first next (s ∷ states) = last_more s next states
+
+last_is_one : (first : State) (states : List State) → IsStateOf first states (last_state first states)
+last_is_one first [] = (0, omega arith, refl)
+last_is_one first (s ∷ states) = Contains-append_right (first ∷ []) (s ∷ states) (last_state s states) (last_is_one s states)
+
+under : (mark : Mark) (from : ℕ) (P Q : ℕ → Type 0) → ((n : ℕ) → P n → Q n) → BackedBy from mark P → BackedBy from mark Q
+under (At place) from P Q more is = more from is
+under Starved from P Q more is = more from is
+under Worn from P Q more is = more from is
+under (Fault before after) from P Q more is = (is.0, is.1, more after is.2)
+
+-- a count that does not fall is begun with
+begun : (mark : Mark) (from mid to : ℕ) → from ≤ mid → BackedBy mid mark (λ (next : ℕ). next ≤ to) → BackedBy from mark (λ (next : ℕ). next ≤ to)
+begun (At place) from mid to le is = omega (arith, le, is)
+begun Starved from mid to le is = omega (arith, le, is)
+begun Worn from mid to le is = omega (arith, le, is)
+begun (Fault before after) from mid to le is = (omega (arith, le, is.0), is.1, is.2)
+
+backed_more : (done : List Answered) (a : Answered) (from mid to : ℕ) → Backed from done mid → BackedBy mid a.mark (λ (next : ℕ). next ≤ to) → Backed from (done ++ a ∷ []) to
+backed_more [] a from mid to backed one = begun a.mark from mid to backed one
+backed_more (x ∷ done) a from mid to backed one =
+    under x.mark from (λ (next : ℕ). Backed next done mid) (λ (next : ℕ). Backed next (done ++ a ∷ []) to) (λ next is. backed_more done a next mid to is one) backed
+
+all_less : {A : Type 0} (P : A → Type 0) (xs : List A) (x : A) → AllByRecursion P (xs ++ x ∷ []) → AllByRecursion P xs × P x
+all_less P [] x all = (tt, all.0)
+all_less P (y ∷ xs) x all = (let rest = all_less P xs x all.1 in ((all.0, rest.0), rest.1))
+
+-- where each state is the first, the last one is
+last_same : (first now : State) (states : List State) → now ≡ first → AllByRecursion (λ (state : State). state ≡ first) states → last_state now states ≡ first
+last_same first now [] is all = is
+last_same first now (s ∷ states) is all = last_same first s states all.0 all.1
+
+replies_more : (done : List Answered) (a : Answered) → replies (done ++ a ∷ []) ≡ replies done ++ a.reply
+replies_more done a =
+    flat_map-append (λ (b : Answered). b.reply) done (a ∷ []) ∙ ap (λ (bytes : List ℕ). replies done ++ bytes) (append-nil a.reply)
+
+gave_none : (given : Option (List ℕ)) → Gave given given []
+gave_none None = tt
+gave_none (Some given) = sym (append-nil given)
+
+gave_more : (a b c : Option (List ℕ)) (moments : List ℕ) (moment : ℕ) → Gave a b moments → Gives b c moment → Gave a c (moments ++ moment ∷ [])
+gave_more a b None moments moment before now = tt
+gave_more a None (Some c) moments moment before now = absurd now
+gave_more None (Some b) (Some c) moments moment before now = absurd before
+gave_more (Some a) (Some b) (Some c) moments moment before now =
+    now ∙ ap (λ (xs : List ℕ). xs ++ moment ∷ []) before ∙ append_assoc a moments (moment ∷ [])
+
+bytes_more : (done : List Answered) (a : Answered) → flat_map frame (map frame_of (done ++ a ∷ [])) ≡ flat_map frame (map frame_of done) ++ frame (frame_of a)
+bytes_more done a =
+    ap (flat_map frame) (map-append frame_of done (a ∷ [])) ∙ flat_map-append frame (map frame_of done) (frame_of a ∷ [])
+    ∙ ap (λ (xs : List ℕ). flat_map frame (map frame_of done) ++ xs) (append-nil (frame (frame_of a)))
+
+-- ---- what a stop leaves
+
+-- as in the run so far
+stands_before : (head : List ℕ) (cap : ℕ) (first next : State) (states : List State) (image : List ℕ) → StandsInRun head cap first states image → StandsInRun head cap first (states ++ next ∷ []) image
+stands_before head cap first next states image is =
+    record { state = is.state; is = Contains-append_left (first ∷ states) (next ∷ []) is.state is.is; stands = is.stands }
+
+-- as before the step or after it
+stands_now : {D : Type 0} (old mid new : Chronicled D) (states : List State) (image : List ℕ) → mid.origin ≡ old.origin → new.origin ≡ mid.origin → state_of mid ≡ last_state (state_of old) states
+    → StandsForVault mid image ⊎ StandsForVault new image → StandsInRun old.origin.head old.origin.cap (state_of old) (states ++ state_of new ∷ []) image
+stands_now old mid new states image same_mid same_new last is = ⊎_elim
+    (λ before. record {
+      state = state_of mid;
+      is = Contains-append_left (state_of old ∷ states) (state_of new ∷ []) (state_of mid) (subst (IsStateOf (state_of old) states) (sym last) (last_is_one (state_of old) states));
+      stands = subst (λ (o : Origin). StandsForEither o.head o.cap (entries_in mid) (doubt_in mid) image) same_mid before;
+    })
+    (λ after. record {
+      state = state_of new;
+      is = Contains-push (state_of old ∷ states) (state_of new);
+      stands = subst (λ (o : Origin). StandsForEither o.head o.cap (entries_in new) (doubt_in new) image) (same_new ∙ same_mid) after;
+    })
+    is
+
+-- ---- a batch, so far
+
+module _ {D : Type 0} (content : D → Option (List ℕ)) (faults : D → ℕ) (moment : D → ℕ) (left : D → ℕ → List ℕ → Type 0) where
+  went_none : (house : Chronicled D) (start : Outside) → LeavesOnly moment left house.disk house.disk (StandsForVault house) → Went content faults moment left house house start start [] []
+  went_none house start images = record {
+    turns = tt;
+    last = refl;
+    origin = refl;
+    backed = omega arith;
+    stops = leaves_more moment left house.disk house.disk (StandsForVault house) (StandsInRun house.origin.head house.origin.cap (state_of house) [])
+        (λ c is. record { state = state_of house; is = (0, omega arith, refl); stands = is }) images;
+    quiet = λ all. refl;
+    lawful = tt;
+    took = Consumes-nil start.left;
+    asked = gave_none start.moments;
+  }
+
+  went_more : (old mid new : Chronicled D) (before between after : Outside) (answered : List Answered) (states : List State) → Went content faults moment left old mid before between answered states
+      → (more : Stepped faults mid new between after) → new.origin ≡ mid.origin → LeavesOnly moment left mid.disk new.disk (λ (image : List ℕ). StandsForVault mid image ⊎ StandsForVault new image) → (state_of new ≡ state_of mid → content new.disk ≡ content mid.disk)
+      → Went content faults moment left old new before after (answered ++ more.one ∷ []) (states ++ state_of new ∷ [])
+  went_more old mid new before between after answered states went more origin leaves quiet =
+      let P : List ℕ → Type 0 = λ bytes. Consumes before.left after.left bytes in
+      let Q : List ℕ → Type 0 = λ moments. Gave before.moments after.moments moments in
+      let L : List Frame → Type 0 = λ fs. AllByRecursion IsFrame fs in
+      let T : (List Entry → Request → Ruling) → Type 0 = λ rules. Turn rules (state_of mid) more.one.request more.one.mark more.one.reply (state_of new) in
+      let S : State → Type 0 = λ state. Turn (rules_of old) state more.one.request more.one.mark more.one.reply (state_of new) in
+      let same_rules : rules_of mid ≡ rules_of old = ap (λ (o : Origin). house_rules (head_of o.head) o.cap) went.origin in
+      record {
+        turns = run_more (rules_of old) (state_of old) (state_of new) answered states more.one went.turns (subst S went.last (subst T same_rules more.turn));
+        last = last_more (state_of old) (state_of new) states;
+        origin = origin ∙ went.origin;
+        backed = backed_more answered more.one (faults old.disk) (faults mid.disk) (faults new.disk) went.backed more.backed;
+        stops = leaves_then moment left old.disk mid.disk new.disk (StandsInRun old.origin.head old.origin.cap (state_of old) states) (λ (image : List ℕ). StandsForVault mid image ⊎ StandsForVault new image)
+            (StandsInRun old.origin.head old.origin.cap (state_of old) (states ++ state_of new ∷ [])) went.stops leaves
+            (λ c is. stands_before old.origin.head old.origin.cap (state_of old) (state_of new) states c is)
+            (λ c is. stands_now old mid new states c went.origin origin went.last is);
+        quiet = λ all.
+            let each = all_less (λ (state : State). state ≡ state_of old) states (state_of new) all in
+            let here : state_of mid ≡ state_of old = went.last ∙ last_same (state_of old) (state_of old) states refl each.0 in
+            quiet (each.1 ∙ sym here) ∙ went.quiet each.0;
+        lawful = subst L (sym (map-append frame_of answered (more.one ∷ []))) (all_more IsFrame (map frame_of answered) (frame_of more.one) went.lawful more.lawful);
+        took = subst P (sym (bytes_more answered more.one)) (Consumes-trans before.left between.left after.left (flat_map frame (map frame_of answered)) (frame (frame_of more.one)) went.took more.took);
+        asked = subst Q (sym (map-append moment_of answered (more.one ∷ []))) (gave_more before.moments between.moments after.moments (map moment_of answered) more.one.request.moment went.asked more.asked);
+      }
+
+  pub ran_none : (house : Chronicled D) (start : Outside) → LeavesOnly moment left house.disk house.disk (StandsForVault house) → Ran content faults moment left house house start start 0
+  ran_none house start images = record { answered = []; states = []; went = went_none house start images; wrote = Appends-nil start.sent; counted = refl }
+
+  pub ran_more : (old mid new : Chronicled D) (before between after : Outside) (n : ℕ) → Ran content faults moment left old mid before between n → (more : Stepped faults mid new between after)
+      → new.origin ≡ mid.origin → LeavesOnly moment left mid.disk new.disk (λ (image : List ℕ). StandsForVault mid image ⊎ StandsForVault new image) → (state_of new ≡ state_of mid → content new.disk ≡ content mid.disk)
+      → Appends between.sent after.sent more.one.reply → Ran content faults moment left old new before after (n + 1)
+  ran_more old mid new before between after n ran more origin leaves quiet sent =
+      let P : List ℕ → Type 0 = λ bytes. Appends before.sent after.sent bytes in
+      record {
+        answered = ran.answered ++ more.one ∷ [];
+        states = ran.states ++ state_of new ∷ [];
+        went = went_more old mid new before between after ran.answered ran.states ran.went more origin leaves quiet;
+        wrote = subst P (sym (replies_more ran.answered more.one)) (Appends-trans before.sent between.sent after.sent (replies ran.answered) more.one.reply ran.wrote sent);
+        counted = omega (arith, ran.counted, length-append ran.answered (more.one ∷ []));
+      }
+
+  -- ---- endings
+
+  -- the batch ended behind bytes that are no frame
+  served : (end : BatchEnd) (old new : Chronicled D) (before between after : Outside) (answered : List Answered) (states : List State) (rest : List ℕ)
+      → Went content faults moment left old new before between answered states → Consumes between.left after.left rest → after.moments ≡ between.moments → (IsWhole (front_of rest) → ⊥) → EndsAs end rest after.left
+      → CountsAs end (length answered) → Wrote end before after answered → Served content faults moment left old new before after end
+  served end old new before between after answered states rest went took unasked none ends counted wrote =
+      let P : Option (List ℕ) → Type 0 = λ given. Gave before.moments given (map moment_of answered) in
+      let L : List Frame → Type 0 = λ fs. AllByRecursion IsFrame fs in
+      let fs : List Frame = map frame_of answered in
+      record {
+        answered = answered;
+        states = states;
+        unanswered = [];
+        rest = rest;
+        taken = flat_map frame fs ++ rest;
+        took = Consumes-trans before.left between.left after.left (flat_map frame fs) rest went.took took;
+        frames = record {
+          bytes = ap (λ (gs : List Frame). flat_map frame gs ++ rest) (sym (append-nil fs));
+          lawful = subst L (sym (append-nil fs)) went.lawful;
+          ends = none;
+        };
+        all = λ is. refl;
+        ends = ends;
+        counted = counted;
+        asked = subst P (sym unasked) went.asked;
+        turns = went.turns;
+        last = went.last;
+        backed = went.backed;
+        stops = went.stops;
+        quiet = went.quiet;
+        wrote = wrote;
+      }
+
+  -- with nothing behind the last frame that was answered
+  pub spent : (old new : Chronicled D) (before after : Outside) (n : ℕ) → n ≡ MOST_FRAMES → Ran content faults moment left old new before after n → Served content faults moment left old new before after FrameLimit
+  spent old new before after n all ran =
+      served FrameLimit old new before after after ran.answered ran.states [] ran.went (Consumes-nil after.left) refl nothing_whole refl (ran.counted ∙ all) ran.wrote
+
+  -- without memory nothing was begun
+  pub unbegun : (house : Chronicled D) (start : Outside) → LeavesOnly moment left house.disk house.disk (StandsForVault house) → Served content faults moment left house house start start NoMemory
+  unbegun house start images =
+      served NoMemory house house start start start [] [] [] (went_none house start images) (Consumes-nil start.left) refl nothing_whole (nothing_bad [] refl) (omega arith) (Appends-nil start.sent)
+
+  -- what ended the batch within the next frame
+  stop_with : (end : BatchEnd) (old mid new : Chronicled D) (before between after : Outside) (n : ℕ) → (ran : Ran content faults moment left old mid before between n) → n < MOST_FRAMES → (stop : Stopped mid new between after)
+      → (Appends before.sent after.sent (replies ran.answered) → Wrote end before after ran.answered) → EndsAs end stop.rest after.left → (length ran.answered < MOST_FRAMES → CountsAs end (length ran.answered))
+      → Served content faults moment left old new before after end
+  stop_with end old mid new before between after n ran few stop wrote ends counts =
+      let P : Option (List ℕ) → Type 0 = λ sent. Appends before.sent sent (replies ran.answered) in
+      let W : Chronicled D → Type 0 = λ house. Went content faults moment left old house before between ran.answered ran.states in
+      served end old new before between after ran.answered ran.states stop.rest (subst W (sym stop.same) ran.went) stop.took stop.unasked stop.none ends (counts (omega (arith, ran.counted, few)))
+      (wrote (subst P (sym stop.unsent) ran.wrote))
+
+  -- the sink failed within the reply to the next frame
+  stop_short : (old mid new : Chronicled D) (before between after : Outside) (n : ℕ) → Ran content faults moment left old mid before between n → n < MOST_FRAMES → (more : Stepped faults mid new between after)
+      → new.origin ≡ mid.origin → LeavesOnly moment left mid.disk new.disk (λ (image : List ℕ). StandsForVault mid image ⊎ StandsForVault new image) → (state_of new ≡ state_of mid → content new.disk ≡ content mid.disk)
+      → SentPart between.sent after.sent more.one.reply → Served content faults moment left old new before after WriteFault
+  stop_short old mid new before between after n ran few more origin leaves quiet part =
+      served WriteFault old new before after after (ran.answered ++ more.one ∷ []) (ran.states ++ state_of new ∷ []) [] (went_more old mid new before between after ran.answered ran.states ran.went more origin leaves quiet)
+      (Consumes-nil after.left) refl nothing_whole refl
+      (omega (arith, ran.counted, few, length-append ran.answered (more.one ∷ [])))
+      (record {
+        whole = ran.answered;
+        last = more.one;
+        split = refl;
+        count = part.count;
+        less = part.less;
+        appends = Appends-trans before.sent between.sent after.sent (replies ran.answered) (take part.count more.one.reply) ran.wrote part.appends;
+      })
+
+  -- the batch ends as its last step does
+  pub ended : (end : BatchEnd) (old mid new : Chronicled D) (before between after : Outside) (n : ℕ) → Ran content faults moment left old mid before between n → n < MOST_FRAMES
+      → new.origin ≡ mid.origin → LeavesOnly moment left mid.disk new.disk (λ (image : List ℕ). StandsForVault mid image ⊎ StandsForVault new image) → (state_of new ≡ state_of mid → content new.disk ≡ content mid.disk)
+      → StepIs faults mid new between after (step.Ended end) → Served content faults moment left old new before after end
+  ended Clean old mid new before between after n ran few origin leaves quiet is = stop_with Clean old mid new before between after n ran few is.0 (λ wrote. wrote) (is.1, is.2) (λ fewer. fewer)
+  ended ReadFault old mid new before between after n ran few origin leaves quiet is = stop_with ReadFault old mid new before between after n ran few is (λ wrote. wrote) tt (λ fewer. fewer)
+  ended WriteFault old mid new before between after n ran few origin leaves quiet is = stop_short old mid new before between after n ran few is.0 origin leaves quiet is.1
+  ended BadInput old mid new before between after n ran few origin leaves quiet is = stop_with BadInput old mid new before between after n ran few is.0 (λ wrote. wrote) is.1 (λ fewer. fewer)
+  ended NoMemory old mid new before between after n ran few origin leaves quiet is = stop_with NoMemory old mid new before between after n ran few is.0 (λ wrote. wrote) is.1 (λ fewer. fewer)
+  ended FrameLimit old mid new before between after n ran few origin leaves quiet is = absurd is

@@ -1,0 +1,105 @@
+-- One step of a batch, from what its calls ensure.
+use Rattle.std.proofs.Common.{◌≡◌, ◌⊎◌, ℕ, ◌≤◌, List, [], ◌++◌, length, drop, Option, refl, sym, ap, subst, ◌∙◌, inl, inr}
+use Rattle.std.specs.Prelude.{slice_index}
+use Rattle.std.specs.Io.KnownBytes.{Consumes, IsAtEnd}
+use Rattle.nb_port.specs.Clock.{Gives}
+use Rattle.nb_units.specs.Frames.{Front, Whole, Empty, Partial, Bad, Frame, frame, IsFrame, front_of, IsWhole, IsBad}
+use Rattle.nb_units.specs.declared.frames.TheConstants.{HEADER}
+use Rattle.nb_endorse.specs.declared.refusal.TheConstants.{DISK_FAULT, WORN, NO_MEMORY}
+use Rattle.nb_frame.proofs.Reading.{partial_not_whole}
+use Rattle.nb_frame.specs.Reader.{HoldsFrame}
+use Rattle.nb_vault.specs.declared.vault.Answer.TheVariants as answers
+use Rattle.nb_vault.specs.Turns.{Request, Mark, At, Fault, Worn, NoMemory, Turn, BackedBy, refused}
+use Rattle.nb_journal.proofs.Moments.{started}
+use Rattle.nb_journal.specs.Time.{LeavesOnly}
+use Rattle.nb_vault.proofs.Resting.{leaves_more}
+use Rattle.nb_vault.specs.Vaults.{Chronicled, Keeps, StandsForState, state_of, rules_of, request_of, TurnOf, FaultWithin}
+use Rattle.nb_batch.proofs.Serving.{nothing_whole}
+use Rattle.nb_batch.specs.Batch.{AnswersWith, Outside, Stepped, Stopped, EndsBadly}
+
+-- the frame that is held, by what the reader says of it
+pub holds_frame : (held body : List ℕ) (kind : ℕ) → HoldsFrame held → kind ≡ slice_index held 3 → body ≡ drop HEADER held
+    → let f : Frame = record { kind = kind; body = body } in IsFrame f × (held ≡ frame f)
+holds_frame held body kind h k b =
+    let first : kind ≡ h.one.kind = k ∙ ap (λ (xs : List ℕ). slice_index xs 3) h.is in
+    let second : body ≡ h.one.body = b ∙ ap (drop HEADER) h.is in
+    let P : Frame → Type 0 = λ f. IsFrame f × (held ≡ frame f) in
+    let same : h.one ≡ record { kind = kind; body = body } = sym (ap (λ (n : ℕ). let f : Frame = record { kind = n; body = body } in f) first ∙ ap (λ (xs : List ℕ). let f : Frame = record { kind = h.one.kind; body = xs } in f) second) in
+    subst P same (h.lawful, h.is)
+
+-- ---- where nothing is done
+
+module _ {D : Type 0} (content : D → Option (List ℕ)) (allowed : D → List ℕ → Type 0) (faults : D → ℕ) (moment : D → ℕ) (left : D → ℕ → List ℕ → Type 0) (only_now : (d : D) (c : List ℕ) → left d (moment d) c → allowed d c) (house : Chronicled D) (keeps : Keeps content allowed faults house) where
+  -- a stop leaves what every vault keeps
+  pub leaves_now : LeavesOnly moment left house.disk house.disk (StandsForState house)
+  leaves_now = started moment left house.disk (StandsForState house) (λ c is. keeps.images c (only_now house.disk c is))
+
+  pub leaves_either : LeavesOnly moment left house.disk house.disk (λ (image : List ℕ). StandsForState house image ⊎ StandsForState house image)
+  leaves_either = leaves_more moment left house.disk house.disk (StandsForState house) (λ (image : List ℕ). StandsForState house image ⊎ StandsForState house image) (λ c is. inl is) leaves_now
+
+-- ---- one answer
+
+module _ {D : Type 0} (faults : D → ℕ) (old new : Chronicled D) (request : Request) where
+  -- the mark's reply is what is sent
+  answers_with : (mark : Mark) (told sent : List ℕ) → Turn (rules_of old) (state_of old) request mark told (state_of new) → BackedBy (faults old.disk) mark (λ (next : ℕ). next ≤ faults new.disk) → sent ≡ told
+      → AnswersWith faults old new request sent
+  answers_with mark told sent turn backed is =
+      record { mark = mark; turn = subst (λ (bytes : List ℕ). Turn (rules_of old) (state_of old) request mark bytes (state_of new)) (sym is) turn; backed = backed }
+
+  pub answered : (out sent : List ℕ) (place : ℕ) → out ≡ [] → TurnOf old new request out sent (answers.Answered place) → faults old.disk ≤ faults new.disk → AnswersWith faults old new request sent
+  answered out sent place none is count = answers_with (At place) is.0 sent is.1 count (is.2 ∙ ap (λ (xs : List ℕ). xs ++ is.0) none)
+
+  pub failed : (out out' sent : List ℕ) (before after : ℕ) → out ≡ [] → TurnOf old new request out out' (answers.DiskFault before after) → FaultWithin (faults old.disk) (faults new.disk) (answers.DiskFault before after)
+      → sent ≡ out' ++ refused DISK_FAULT before after → AnswersWith faults old new request sent
+  failed out out' sent before after none is within put =
+      answers_with (Fault before after) (refused DISK_FAULT before after) sent is.0 within (put ∙ ap (λ (xs : List ℕ). xs ++ refused DISK_FAULT before after) (is.1 ∙ none))
+
+  pub worn : (out out' sent : List ℕ) (count : ℕ) → out ≡ [] → TurnOf old new request out out' (answers.Worn count) → faults old.disk ≤ faults new.disk → sent ≡ out' ++ refused WORN count 0 → AnswersWith faults old new request sent
+  worn out out' sent count none is rises put =
+      answers_with Worn (refused WORN count 0) sent is.1 rises (put ∙ ap (λ (xs : List ℕ). xs ++ refused WORN count 0) (is.2 ∙ none))
+
+  pub starved : (out out' sent : List ℕ) → out ≡ [] → TurnOf old new request out out' answers.NoMemory → faults old.disk ≤ faults new.disk → sent ≡ out' ++ refused NO_MEMORY 0 0 → AnswersWith faults old new request sent
+  starved out out' sent none is rises put =
+      answers_with NoMemory (refused NO_MEMORY 0 0) sent is.0 rises (put ∙ ap (λ (xs : List ℕ). xs ++ refused NO_MEMORY 0 0) (is.1 ∙ none))
+
+-- ---- one step
+
+pub stepped_with : {D : Type 0} (faults : D → ℕ) (old new : Chronicled D) (kind moment : ℕ) (held body reply : List ℕ) (before after : Outside)
+    → HoldsFrame held → kind ≡ slice_index held 3 → body ≡ drop HEADER held → Consumes before.left after.left held → Gives before.moments after.moments moment
+    → AnswersWith faults old new (request_of kind body moment) reply → (done : List ℕ → Type 0) → done reply → (s : Stepped faults old new before after) × done s.one.reply
+stepped_with faults old new kind moment held body reply before after h k b took now answer done sent =
+    let f = holds_frame held body kind h k b in
+    let P : List ℕ → Type 0 = λ bytes. Consumes before.left after.left bytes in (
+      record {
+        one = record { request = request_of kind body moment; mark = answer.mark; reply = reply };
+        turn = answer.turn;
+        backed = answer.backed;
+        lawful = f.0;
+        took = subst P f.1 took;
+        asked = now;
+      },
+      sent,
+    )
+
+module _ {D : Type 0} (house : Chronicled D) (held : List ℕ) (before : Outside) (left : Option (List ℕ)) (took : Consumes before.left left held) where
+  -- nothing was done but taking bytes that are no frame
+  abbrev pub stop : (IsWhole (front_of held) → ⊥) → Stopped house house before (record before { left = left })
+  stop none = record { rest = held; took = took; none = none; same = refl; unsent = refl; unasked = refl }
+
+  pub stop_end : held ≡ [] → IsAtEnd left → (s : Stopped house house before (record before { left = left })) × (s.rest ≡ []) × IsAtEnd left
+  stop_end is end = (stop (λ whole. nothing_whole (subst (λ (xs : List ℕ). IsWhole (front_of xs)) is whole)), is, end)
+
+  pub stop_cut : front_of held ≡ Partial → IsAtEnd left → (s : Stopped house house before (record before { left = left })) × EndsBadly s.rest left
+  stop_cut is end = (stop (partial_not_whole (front_of held) is), inl (is, end))
+
+  pub stop_bad : IsBad (front_of held) → length held ≤ HEADER → (s : Stopped house house before (record before { left = left })) × EndsBadly s.rest left
+  stop_bad bad little = (stop (λ whole. bad_not_whole (front_of held) bad whole), inr (bad, little))
+    where
+      bad_not_whole : (front : Front) → IsBad front → IsWhole front → ⊥
+      bad_not_whole (Whole f rest) bad whole = bad
+      bad_not_whole Empty bad whole = bad
+      bad_not_whole Partial bad whole = bad
+      bad_not_whole (Bad fault) bad whole = whole
+
+  pub stop_memory : (IsWhole (front_of held) → ⊥) → (IsBad (front_of held) → ⊥) → (s : Stopped house house before (record before { left = left })) × (IsBad (front_of s.rest) → ⊥)
+  stop_memory none good = (stop none, good)

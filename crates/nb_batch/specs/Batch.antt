@@ -1,0 +1,165 @@
+-- What a batch does: the frames of the input are answered in order, one turn after another.
+use Rattle.std.specs.Prelude.{◌≡◌, ℕ, ◌<◌, ◌≤◌, ◌⊎◌, List, [], ◌∷◌, ◌++◌, Option, None, Some, ⊤, length, map, take}
+use Rattle.std.specs.List.{AllByRecursion}
+use Rattle.std.specs.Io.KnownBytes.{Consumes, Appends, IsAtEnd}
+use Rattle.nb_port.specs.Faults.{Rose}
+use Rattle.nb_port.specs.Clock.{Gives}
+use Rattle.nb_units.specs.Frames.{Frame, frame, IsFrame, Partial, front_of, IsWhole, IsBad, Splits}
+use Rattle.nb_units.specs.declared.frames.TheConstants.{HEADER}
+use Rattle.nb_journal.specs.Time.{LeavesOnly}
+use Rattle.nb_book.specs.declared.entry.Entry.{Entry}
+use Rattle.nb_vault.specs.Holdings.{StandsForEither}
+use Rattle.nb_vault.specs.Turns.{Request, State, Mark, Answered, Turn, Run, last_state, IsStateOf, replies, BackedBy, Backed}
+use Rattle.nb_vault.specs.Vaults.{Chronicled, state_of, rules_of}
+use Rattle.nb_batch.specs.declared.batch.TheConstants.{MOST_FRAMES}
+use Rattle.nb_batch.specs.declared.batch.BatchEnd.{BatchEnd}
+use Rattle.nb_batch.specs.declared.batch.BatchEnd.TheVariants.{Clean, ReadFault, WriteFault, BadInput, NoMemory, FrameLimit}
+use Rattle.nb_batch.specs.declared.batch.Step.{Step}
+use Rattle.nb_batch.specs.declared.batch.Step.TheVariants as step
+use Rattle.nb_batch.specs.Send.{SentPart}
+
+-- a house with nothing in doubt and no faults
+abbrev pub at_rest : List Entry → State
+at_rest entries = record { entries = entries; doubt = []; faults = 0 }
+
+-- the frame that a request came in
+abbrev pub frame_of : Answered → Frame
+frame_of a = record { kind = a.request.kind; body = a.request.body }
+
+-- the moment at which it was answered
+abbrev pub moment_of : Answered → ℕ
+moment_of a = a.request.moment
+
+-- what the source, the sink and the clock tell: the bytes left, the bytes sent, the moments given
+pub record Outside : Type 0 where
+  pub left : Option (List ℕ)
+  pub sent : Option (List ℕ)
+  pub moments : Option (List ℕ)
+
+-- a clock gave these moments
+abbrev pub Gave : Option (List ℕ) → Option (List ℕ) → List ℕ → Type 0
+Gave old None moments = ⊤
+Gave None (Some given) moments = ⊥
+Gave (Some before) (Some given) moments = given ≡ before ++ moments
+
+-- the image stands for the entries of one of the states of a run, without those in doubt in it or with them
+pub record StandsInRun (head : List ℕ) (cap : ℕ) (first : State) (states : List State) (image : List ℕ) : Type 0 where
+  pub state : State
+  pub is : IsStateOf first states state
+  pub stands : StandsForEither head cap state.entries state.doubt image
+
+-- ---- one step
+
+-- a request was answered so: by a turn, whose fault lies between the disk's counts before it and after
+pub record AnswersWith {D : Type 0} (faults : D → ℕ) (old new : Chronicled D) (request : Request) (reply : List ℕ) : Type 0 where
+  pub mark : Mark
+  pub turn : Turn (rules_of old) (state_of old) request mark reply (state_of new)
+  pub backed : BackedBy (faults old.disk) mark (λ next. next ≤ faults new.disk)
+
+-- a frame was taken, the clock was asked, and a turn answered it
+pub record Stepped {D : Type 0} (faults : D → ℕ) (old new : Chronicled D) (before after : Outside) : Type 0 where
+  pub one : Answered
+  pub turn : Turn (rules_of old) (state_of old) one.request one.mark one.reply (state_of new)
+  pub backed : BackedBy (faults old.disk) one.mark (λ next. next ≤ faults new.disk)
+  pub lawful : IsFrame (frame_of one)
+  pub took : Consumes before.left after.left (frame (frame_of one))
+  pub asked : Gives before.moments after.moments one.request.moment
+
+-- bytes were taken that are no frame, and nothing else was done
+pub record Stopped {D : Type 0} (old new : Chronicled D) (before after : Outside) : Type 0 where
+  pub rest : List ℕ
+  pub took : Consumes before.left after.left rest
+  pub none : IsWhole (front_of rest) → ⊥
+  pub same : new ≡ old
+  pub unsent : after.sent ≡ before.sent
+  pub unasked : after.moments ≡ before.moments
+
+-- the input ended within a frame, or no frame begins so, and no more than a header was read of that
+abbrev pub EndsBadly : List ℕ → Option (List ℕ) → Type 0
+EndsBadly rest left = ((front_of rest ≡ Partial) × IsAtEnd left) ⊎ (IsBad (front_of rest) × (length rest ≤ HEADER))
+
+-- what one step of a batch did, by how it went
+abbrev pub StepIs : {D : Type 0} → (D → ℕ) → Chronicled D → Chronicled D → Outside → Outside → Step → Type 0
+StepIs faults old new before after step.Answered =
+    (s : Stepped faults old new before after) × Appends before.sent after.sent s.one.reply
+StepIs faults old new before after (step.Ended WriteFault) =
+    (s : Stepped faults old new before after) × SentPart before.sent after.sent s.one.reply
+StepIs faults old new before after (step.Ended Clean) =
+    (s : Stopped old new before after) × (s.rest ≡ []) × IsAtEnd after.left
+StepIs faults old new before after (step.Ended BadInput) =
+    (s : Stopped old new before after) × EndsBadly s.rest after.left
+StepIs faults old new before after (step.Ended ReadFault) = Stopped old new before after
+StepIs faults old new before after (step.Ended NoMemory) =
+    (s : Stopped old new before after) × (IsBad (front_of s.rest) → ⊥)
+StepIs faults old new before after (step.Ended FrameLimit) = ⊥
+
+-- ---- the whole batch
+
+-- all replies were sent, or, where the sink failed, all before the last and a part of the last
+pub record WroteShort (before after : Outside) (answered : List Answered) : Type 0 where
+  pub whole : List Answered
+  pub last : Answered
+  pub split : answered ≡ whole ++ last ∷ []
+  pub count : ℕ
+  pub less : count < length last.reply
+  pub appends : Appends before.sent after.sent (replies whole ++ take count last.reply)
+
+-- the replies were written, the last one in part after a failed write
+abbrev pub Wrote : BatchEnd → Outside → Outside → List Answered → Type 0
+Wrote WriteFault before after answered = WroteShort before after answered
+Wrote other before after answered = Appends before.sent after.sent (replies answered)
+
+-- the frames of all bytes that were taken are answered
+abbrev pub AnswersAll : BatchEnd → Type 0
+AnswersAll Clean = ⊤
+AnswersAll BadInput = ⊤
+AnswersAll ReadFault = ⊤
+AnswersAll other = ⊥
+
+-- how the input stands where the batch ended so
+abbrev pub EndsAs : BatchEnd → List ℕ → Option (List ℕ) → Type 0
+EndsAs Clean rest left = (rest ≡ []) × IsAtEnd left
+EndsAs BadInput rest left = EndsBadly rest left
+EndsAs ReadFault rest left = ⊤
+EndsAs NoMemory rest left = IsBad (front_of rest) → ⊥
+EndsAs WriteFault rest left = rest ≡ []
+EndsAs FrameLimit rest left = rest ≡ []
+
+-- how many were answered where the batch ended so
+abbrev pub CountsAs : BatchEnd → ℕ → Type 0
+CountsAs FrameLimit count = count ≡ MOST_FRAMES
+CountsAs WriteFault count = count ≤ MOST_FRAMES
+CountsAs other count = count < MOST_FRAMES
+
+-- What a batch did over a house, by how it ended
+pub record Served {D : Type 0} (content : D → Option (List ℕ)) (faults : D → ℕ) (moment : D → ℕ) (left : D → ℕ → List ℕ → Type 0) (old new : Chronicled D) (before after : Outside) (end : BatchEnd) : Type 0 where
+  -- the requests that were answered and the states that the house came to, frames that were taken and not answered, and what
+  -- follows them
+  pub answered : List Answered
+  pub states : List State
+  pub unanswered : List Frame
+  pub rest : List ℕ
+  pub taken : List ℕ
+  pub took : Consumes before.left after.left taken
+  pub frames : Splits taken (map frame_of answered ++ unanswered) rest
+  pub all : AnswersAll end → unanswered ≡ []
+  pub ends : EndsAs end rest after.left
+  pub counted : CountsAs end (length answered)
+  pub asked : Gave before.moments after.moments (map moment_of answered)
+  pub turns : Run (rules_of old) (state_of old) answered states
+  pub last : state_of new ≡ last_state (state_of old) states
+  pub backed : Backed (faults old.disk) answered (faults new.disk)
+  pub stops : LeavesOnly moment left old.disk new.disk (StandsInRun old.origin.head old.origin.cap (state_of old) states)
+  pub quiet : AllByRecursion (λ state. state ≡ state_of old) states → content new.disk ≡ content old.disk
+  pub wrote : Wrote end before after answered
+
+-- which count of faults rose
+abbrev pub FaultOf : ℕ → ℕ → ℕ → ℕ → BatchEnd → Type 0
+FaultOf source source' sink sink' ReadFault = Rose source source'
+FaultOf source source' sink sink' WriteFault = Rose sink sink'
+FaultOf source source' sink sink' other = ⊤
+
+-- which count of faults rose in one step
+abbrev pub StepFaultOf : ℕ → ℕ → ℕ → ℕ → Step → Type 0
+StepFaultOf source source' sink sink' step.Answered = ⊤
+StepFaultOf source source' sink sink' (step.Ended end) = FaultOf source source' sink sink' end

@@ -1,0 +1,15 @@
+//! One batch: the frames of a source are answered in order over a house whose entries are durable.
+//!
+//! [`serve`] takes one frame after another, asks the clock, lets the vault answer, and sends the reply. Where the vault answers
+//! none, the reply is the refusal that says why. What is promised (`specs/Batch.antt`, `Served`): the frames that were answered are
+//! the first of the bytes that were taken; they were answered by a run of turns (`Run` of nb_vault), whose replies are what was
+//! sent; a stop at any moment leaves the entries of one of the states of that run, without what is in doubt in it or with it; and
+//! how the batch ended says what is left of the input and what failed.
+//!
+//! Left to others: opening the vault, what of a batch's end is told outside, and the words of the program.
+#![tactic(auto)]
+
+mod batch;
+mod send;
+
+pub use batch::{BatchEnd, MOST_FRAMES, limit, serve};

@@ -1,0 +1,112 @@
+-- An input of whole frames alone ends a batch well, unless something failed or memory was wanting.
+use Rattle.std.proofs.Common.{◌≡◌, ℕ, ◌⊎◌, List, [], ◌∷◌, ◌++◌, length, Option, None, Some, Err, refl, sym, ap, subst, ◌∙◌, append_assoc, append-nil, arith, inl, inr}
+use Rattle.std.specs.Prelude.{map}
+use Rattle.std.specs.List.{flat_map, AllByRecursion}
+use Rattle.std.specs.Io.KnownBytes.{Consumes}
+use Rattle.std.proofs.lemmas.List.{length-append, length-map}
+use Rattle.std.proofs.lemmas.Option.{same_Some}
+use Rattle.nb_port.specs.Faults.{Rose}
+use Rattle.nb_units.specs.Frames.{Front, Whole, Empty, Partial, Bad, HeaderFault, Frame, frame, IsFrame, front_of, IsBad, Splits}
+use Rattle.nb_units.proofs.FrameLaws.{longest, whole_front, bad_stays}
+use Rattle.nb_frame.proofs.Reading.{nothing_bad}
+use Rattle.nb_run.specs.declared.ending.TheConstants.{CLEAN, OUT_OF_MEMORY}
+use Rattle.nb_batch.specs.declared.batch.BatchEnd.{BatchEnd}
+use Rattle.nb_batch.specs.declared.batch.BatchEnd.TheVariants.{Clean, ReadFault, WriteFault, BadInput, NoMemory, FrameLimit}
+use Rattle.nb_vault.specs.declared.vault.opening.VaultFault.{VaultFault}
+use Rattle.nb_vault.specs.declared.vault.opening.VaultFault.TheVariants.{Unborn, Damaged, BadEntry, DiskFault, NoMemory as Starved}
+use Rattle.nb_vault.specs.Opens.{WholeOpens, OpenFails}
+use Rattle.nb_vault.specs.Vaults.{Chronicled}
+use Rattle.nb_batch.specs.Batch.{frame_of, Outside, EndsBadly, Served, FaultOf}
+use Rattle.nb_run.specs.Ending.{status_of}
+use Rattle.nb_run.specs.Run.{IsWholeInput, IsJournal, unopened}
+use Rattle.nb_batch.proofs.Serving.{nothing_whole}
+
+nothing_partial : front_of [] ≡ Partial → ⊥
+unfolding front_of
+nothing_partial e = empty_partial e
+  where
+    empty_partial : Empty ≡ Partial → ⊥
+    empty_partial e = cc
+
+partial_whole : (f : Frame) (rest : List ℕ) → Partial ≡ Whole f rest → ⊥
+partial_whole f rest e = cc
+
+bad_whole : (fault : HeaderFault) (f : Frame) (rest : List ℕ) → Bad fault ≡ Whole f rest → ⊥
+bad_whole fault f rest e = cc
+
+bad_parts : (front : Front) → IsBad front → (fault : HeaderFault) × (front ≡ Bad fault)
+bad_parts (Bad fault) is = (fault, refl)
+bad_parts (Whole f rest) is = absurd is
+bad_parts Empty is = absurd is
+bad_parts Partial is = absurd is
+
+-- what is left of whole frames begins with a frame, or is nothing
+no_bad_rest : (rest left : List ℕ) (more : List Frame) → AllByRecursion IsFrame more → rest ++ left ≡ flat_map frame more ++ [] → EndsBadly rest (Some left) → ⊥
+no_bad_rest rest left [] lawful is bad =
+    let none : rest ≡ [] = nothing rest left is in
+    elim bad [
+      | inl p ↦ nothing_partial (ap front_of (sym none) ∙ p.0)
+      | inr b ↦ nothing_bad rest (ap length none) b.0
+    ]
+  where
+    nothing : (a b : List ℕ) → a ++ b ≡ [] → a ≡ []
+    nothing [] b e = refl
+    nothing (x ∷ a) b e = absurd cc
+no_bad_rest rest left (m ∷ more) lawful is bad =
+    let front = ap front_of (is ∙ ap (λ (xs : List ℕ). xs) (append_assoc (frame m) (flat_map frame more) [])) ∙ whole_front m (flat_map frame more ++ []) lawful.0 in
+    elim bad [
+      | inl p ↦ partial_whole m _ (sym (ap front_of (ap (λ (xs : List ℕ). rest ++ xs) p.1 ∙ append-nil rest) ∙ p.0) ∙ front)
+      | inr b ↦ (let parts = bad_parts (front_of rest) b.0 in bad_whole parts.0 m _ (sym (bad_stays rest left parts.0 parts.1) ∙ front))
+    ]
+
+-- how whole frames were split
+pub record Parts (left' : Option (List ℕ)) (frames gs : List Frame) (rest : List ℕ) : Type 0 where
+  pub left : List ℕ
+  pub known : left' ≡ Some left
+  pub more : List Frame
+  pub all : frames ≡ gs ++ more
+  pub after : rest ++ left ≡ flat_map frame more ++ []
+
+parts : (frames gs : List Frame) (rest taken : List ℕ) (left left' : Option (List ℕ)) → left ≡ Some (flat_map frame frames) → AllByRecursion IsFrame frames → Consumes left left' taken → Splits taken gs rest
+    → Parts left' frames gs rest
+parts frames gs rest taken None left' is lawful took s = absurd cc
+parts frames gs rest taken (Some bytes) None is lawful took s = absurd took
+parts frames gs rest taken (Some bytes) (Some left) is lawful took s =
+    let bytes_are : bytes ≡ flat_map frame frames = same_Some bytes (flat_map frame frames) is in
+    let whole : flat_map frame frames ++ [] ≡ flat_map frame gs ++ (rest ++ left) =
+    append-nil (flat_map frame frames) ∙ sym bytes_are ∙ took ∙ ap (λ (xs : List ℕ). xs ++ left) s.bytes ∙ append_assoc (flat_map frame gs) rest left in
+    let l = longest frames gs [] (rest ++ left) whole lawful s.lawful nothing_whole in
+    record { left = left; known = refl; more = l.0; all = l.1; after = l.2 }
+
+lawful_rest : (gs more : List Frame) → AllByRecursion IsFrame (gs ++ more) → AllByRecursion IsFrame more
+lawful_rest [] more all = all
+lawful_rest (g ∷ gs) more all = lawful_rest gs more all.1
+
+pub complete_end : {D : Type 0} (content : D → Option (List ℕ)) (faults : D → ℕ) (moment : D → ℕ) (left : D → ℕ → List ℕ → Type 0) (old new : Chronicled D) (end : BatchEnd) (before after : Outside) (source source' sink sink' : ℕ)
+    → Served content faults moment left old new before after end → FaultOf source source' sink sink' end → IsWholeInput before.left → (Rose source source' → ⊥) → (Rose sink sink' → ⊥)
+    → (status_of end ≡ CLEAN) ⊎ (status_of end ≡ OUT_OF_MEMORY)
+complete_end content faults moment left old new Clean before after source source' sink sink' s fault input no_source no_sink = inl refl
+complete_end content faults moment left old new NoMemory before after source source' sink sink' s fault input no_source no_sink = inr refl
+complete_end content faults moment left old new ReadFault before after source source' sink sink' s fault input no_source no_sink = absurd (no_source fault)
+complete_end content faults moment left old new WriteFault before after source source' sink sink' s fault input no_source no_sink = absurd (no_sink fault)
+complete_end content faults moment left old new BadInput before after source source' sink sink' s fault input no_source no_sink =
+    let gs : List Frame = map frame_of s.answered ++ s.unanswered in
+    let p = parts input.frames gs s.rest s.taken before.left after.left input.is input.lawful s.took s.frames in
+    let P : List Frame → Type 0 = λ fs. AllByRecursion IsFrame fs in
+    let Q : Option (List ℕ) → Type 0 = λ o. EndsBadly s.rest o in
+    absurd (no_bad_rest s.rest p.left p.more (lawful_rest gs p.more (subst P p.all input.lawful)) p.after (subst Q p.known s.ends))
+complete_end content faults moment left old new FrameLimit before after source source' sink sink' s fault input no_source no_sink =
+    let gs : List Frame = map frame_of s.answered ++ s.unanswered in
+    let p = parts input.frames gs s.rest s.taken before.left after.left input.is input.lawful s.took s.frames in
+    absurd (omega (arith, input.few, s.counted, ap length p.all, length-append gs p.more, length-append (map frame_of s.answered) s.unanswered, length-map s.answered frame_of))
+
+-- a content that stands for entries is opened, unless the disk failed or memory was wanting
+pub unopened_end : {D : Type 0} (content : D → Option (List ℕ)) (faults : D → ℕ) (disk : D) (fault : VaultFault) (new : D) → WholeOpens (content disk) (Err (fault, new)) → OpenFails content faults disk new fault → IsJournal (content disk)
+    → (Rose (faults disk) (faults new) → ⊥) → ((unopened fault).status ≡ CLEAN) ⊎ ((unopened fault).status ≡ OUT_OF_MEMORY)
+unopened_end content faults disk (Unborn found) new whole why j no_disk = absurd (whole j.image j.head j.cap j.entries j.is j.stands)
+unopened_end content faults disk (Damaged item place) new whole why j no_disk = absurd (whole j.image j.head j.cap j.entries j.is j.stands)
+unopened_end content faults disk (BadEntry item) new whole why j no_disk = absurd (whole j.image j.head j.cap j.entries j.is j.stands)
+unopened_end content faults disk (DiskFault before after) new whole why j no_disk =
+    let P : ℕ → ℕ → Type 0 = λ a b. Rose a b in
+    absurd (no_disk (subst (λ (b : ℕ). P (faults disk) b) why.1 (subst (λ (a : ℕ). P a after) why.0 why.2)))
+unopened_end content faults disk Starved new whole why j no_disk = inr refl

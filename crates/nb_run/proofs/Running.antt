@@ -1,0 +1,243 @@
+-- What a batch served, told as a run of the program.
+use Rattle.std.proofs.Common.{◌≡◌, ◌≢◌, ℕ, ◌≤◌, ◌⊎◌, Bool, false, List, [], ◌∷◌, ◌++◌, length, Option, IfSome, min, refl, sym, ap, subst, ◌∙◌, append-nil, arith, inl, inr, ⊎_elim}
+use Rattle.std.specs.List.{AllByRecursion}
+use Rattle.std.specs.Option.{option_to_list}
+use Rattle.std.specs.Io.KnownBytes.{Appends, IsAtEnd}
+use Rattle.nb_port.specs.Faults.{Rose, last_count}
+use Rattle.nb_units.specs.Frames.{front_of, IsBad}
+use Rattle.nb_book.specs.declared.entry.Entry.{Entry}
+use Rattle.nb_escrow.specs.Head.{head_of}
+use Rattle.nb_frame.proofs.Reading.{nothing_bad}
+use Rattle.nb_journal.specs.Time.{Unwritten}
+use Rattle.nb_vault.specs.declared.line.Line.{Line}
+use Rattle.nb_vault.specs.declared.origin.Origin.{Origin}
+use Rattle.nb_vault.specs.Holdings.{StandsForEither}
+use Rattle.nb_vault.specs.Opens.{OpensAs}
+use Rattle.nb_vault.specs.Rules.{house_rules}
+use Rattle.nb_vault.specs.Turns.{Request, Ruling, State, Mark, At, Fault, Worn, NoMemory as Starved, Answered, Turn, Run, last_state, replies, decided, AllDecided, IsDecided, IsFaultless, NoneFaulty, Backed, BackedBy}
+use Rattle.nb_vault.specs.Vaults.{Chronicled, state_of, entries_in, doubt_in, Keeps}
+use Rattle.nb_run.specs.declared.ending.TheConstants.{CLEAN, SOURCE_FAILED, SINK_FAILED, BAD_INPUT, OUT_OF_MEMORY, FRAME_LIMIT}
+use Rattle.nb_batch.specs.declared.batch.TheConstants.{MOST_FRAMES}
+use Rattle.nb_batch.specs.declared.batch.BatchEnd.{BatchEnd}
+use Rattle.nb_batch.specs.declared.batch.BatchEnd.TheVariants.{Clean, ReadFault, WriteFault, BadInput, NoMemory, FrameLimit}
+use Rattle.nb_batch.specs.Batch.{at_rest, Outside, EndsAs, EndsBadly, CountsAs, AnswersAll, Wrote, WroteShort, Served, StandsInRun}
+use Rattle.nb_run.specs.Ending.{at_no_place, status_of}
+use Rattle.nb_run.specs.Run.{Batch}
+
+-- ---- where each turn decides
+
+decides_on : (rules : List Entry → Request → Ruling) (entries : List Entry) (request : Request) (mark : Mark) (reply : List ℕ) (new : State) → Turn rules (at_rest entries) request mark reply new → IsDecided mark
+    → (reply ≡ (rules entries request).reply) × (new ≡ at_rest (entries ++ option_to_list (rules entries request).entry))
+decides_on rules entries request (At place) reply new turn is = on turn.1.over (over_is turn.1.settled) turn.1.told turn.1.left
+  where
+    over_is : (turn.1.over ≡ entries) ⊎ (turn.1.over ≡ entries ++ []) → turn.1.over ≡ entries
+    over_is settled = elim settled [ inl e ↦ e | inr e ↦ e ∙ append-nil entries ]
+
+    on : (over : List Entry) → over ≡ entries → reply ≡ (rules over request).reply → new ≡ at_rest (over ++ option_to_list (rules over request).entry)
+        → (reply ≡ (rules entries request).reply) × (new ≡ at_rest (entries ++ option_to_list (rules entries request).entry))
+    on over e told left =
+        (told ∙ ap (λ (H : List Entry). (rules H request).reply) e, left ∙ ap (λ (H : List Entry). at_rest (H ++ option_to_list (rules H request).entry)) e)
+decides_on rules entries request Starved reply new turn is = absurd is
+decides_on rules entries request (Fault before after) reply new turn is = absurd is
+decides_on rules entries request Worn reply new turn is = absurd is
+
+-- a turn from rest that decides goes on to rest, over the entries
+replies-decided : (rules : List Entry → Request → Ruling) (entries : List Entry) (answered : List Answered) (states : List State) → Run rules (at_rest entries) answered states → AllDecided answered
+    → replies answered ≡ decided rules entries answered
+replies-decided rules entries [] [] run all = refl
+replies-decided rules entries (a ∷ more) (s ∷ states) run all =
+    let next = decides_on rules entries a.request a.mark a.reply s run.0 all.0 in
+    let P : State → Type 0 = λ state. Run rules state more states in
+    let rest = replies-decided rules (entries ++ option_to_list (rules entries a.request).entry) more states (subst P next.1 run.1) all.1 in
+    ap (λ (bytes : List ℕ). bytes ++ replies more) next.0 ∙ ap (λ (bytes : List ℕ). (rules entries a.request).reply ++ bytes) rest
+replies-decided rules entries [] (s ∷ states) run all = absurd run
+replies-decided rules entries (a ∷ more) [] run all = absurd run
+
+-- ---- the counts of faults
+
+-- faults lie also between an earlier count and the last
+backed_earlier : (answered : List Answered) (from mid to : ℕ) → from ≤ mid → Backed mid answered to → Backed from answered to
+backed_earlier [] from mid to le is = omega (arith, le, is)
+backed_earlier (a ∷ more) from mid to le is = by_mark a.mark (backed_earlier more from mid to le) is
+  where
+    by_mark : (mark : Mark) → (Backed mid more to → Backed from more to) → BackedBy mid mark (λ (next : ℕ). Backed next more to) → BackedBy from mark (λ (next : ℕ). Backed next more to)
+    by_mark (At place) again is = again is
+    by_mark Starved again is = again is
+    by_mark Worn again is = again is
+    by_mark (Fault before after) again is = (omega (arith, le, is.0), is.1, is.2)
+
+-- a count goes on, up to its last value
+backed_grows : (answered : List Answered) (from to : ℕ) → Backed from answered to → min from last_count ≤ to
+backed_grows [] from to is = omega (arith, is)
+backed_grows (a ∷ more) from to is = by_mark a.mark (λ n. backed_grows more n to) is
+  where
+    by_mark : (mark : Mark) → ((n : ℕ) → Backed n more to → min n last_count ≤ to) → BackedBy from mark (λ (next : ℕ). Backed next more to) → min from last_count ≤ to
+    by_mark (At place) again is = again from is
+    by_mark Starved again is = again from is
+    by_mark Worn again is = again from is
+    by_mark (Fault before after) again is = omega (arith, is.0, is.1, again after is.2)
+
+-- a house that had no fault has none where the count does not rise
+none_faulty : (rules : List Entry → Request → Ruling) (first : State) (answered : List Answered) (states : List State) (from to : ℕ) → first.faults ≡ 0 → Run rules first answered states → Backed from answered to → (Rose from to → ⊥)
+    → NoneFaulty answered
+none_faulty rules first [] states from to none run backed calm = tt
+none_faulty rules first (a ∷ more) [] from to none run backed calm = absurd run
+none_faulty rules first (a ∷ more) (s ∷ states) from to none run backed calm = by_mark a.mark (λ still is. none_faulty rules s more states from to still run.1 is calm) run.0 backed
+  where
+    by_mark : (mark : Mark) → (s.faults ≡ 0 → Backed from more to → NoneFaulty more) → Turn rules first a.request mark a.reply s → BackedBy from mark (λ (next : ℕ). Backed next more to) → IsFaultless mark × NoneFaulty more
+    by_mark (At place) again turn is = (tt, again (ap (λ (state : State). state.faults) turn.1.left ∙ none) is)
+    by_mark Starved again turn is = (tt, again (ap (λ (state : State). state.faults) turn.2 ∙ none) is)
+    by_mark Worn again turn is = absurd (omega (arith, none, turn.0))
+    by_mark (Fault before after) again turn is = absurd (calm (omega (arith, is.0, is.1, backed_grows more after to is.2)))
+
+-- ---- by how the batch ended
+
+answers_all : (end : BatchEnd) → (status_of end ≡ CLEAN) ⊎ (status_of end ≡ BAD_INPUT) ⊎ (status_of end ≡ SOURCE_FAILED) → AnswersAll end
+answers_all Clean is = tt
+answers_all BadInput is = tt
+answers_all ReadFault is = tt
+answers_all WriteFault is = elim is [ inl e ↦ absurd (omega arith) | inr o ↦ elim o [ inl e ↦ absurd (omega arith) | inr e ↦ absurd (omega arith) ] ]
+answers_all NoMemory is = elim is [ inl e ↦ absurd (omega arith) | inr o ↦ elim o [ inl e ↦ absurd (omega arith) | inr e ↦ absurd (omega arith) ] ]
+answers_all FrameLimit is = elim is [ inl e ↦ absurd (omega arith) | inr o ↦ elim o [ inl e ↦ absurd (omega arith) | inr e ↦ absurd (omega arith) ] ]
+
+wrote_all : (end : BatchEnd) (before after : Outside) (answered : List Answered) → Wrote end before after answered → status_of end ≢ SINK_FAILED → Appends before.sent after.sent (replies answered)
+wrote_all Clean before after answered wrote other = wrote
+wrote_all BadInput before after answered wrote other = wrote
+wrote_all ReadFault before after answered wrote other = wrote
+wrote_all WriteFault before after answered wrote other = absurd (other refl)
+wrote_all NoMemory before after answered wrote other = wrote
+wrote_all FrameLimit before after answered wrote other = wrote
+
+wrote_part : (end : BatchEnd) (before after : Outside) (answered : List Answered) → Wrote end before after answered → status_of end ≡ SINK_FAILED → WroteShort before after answered
+wrote_part Clean before after answered wrote is = absurd (omega arith)
+wrote_part BadInput before after answered wrote is = absurd (omega arith)
+wrote_part ReadFault before after answered wrote is = absurd (omega arith)
+wrote_part WriteFault before after answered wrote is = wrote
+wrote_part NoMemory before after answered wrote is = absurd (omega arith)
+wrote_part FrameLimit before after answered wrote is = absurd (omega arith)
+
+ends_clean : (end : BatchEnd) (rest : List ℕ) (left : Option (List ℕ)) → EndsAs end rest left → status_of end ≡ CLEAN → (rest ≡ []) × IsAtEnd left
+ends_clean Clean rest left ends is = ends
+ends_clean BadInput rest left ends is = absurd (omega arith)
+ends_clean ReadFault rest left ends is = absurd (omega arith)
+ends_clean WriteFault rest left ends is = absurd (omega arith)
+ends_clean NoMemory rest left ends is = absurd (omega arith)
+ends_clean FrameLimit rest left ends is = absurd (omega arith)
+
+ends_bad : (end : BatchEnd) (rest : List ℕ) (left : Option (List ℕ)) → EndsAs end rest left → status_of end ≡ BAD_INPUT → EndsBadly rest left
+ends_bad Clean rest left ends is = absurd (omega arith)
+ends_bad BadInput rest left ends is = ends
+ends_bad ReadFault rest left ends is = absurd (omega arith)
+ends_bad WriteFault rest left ends is = absurd (omega arith)
+ends_bad NoMemory rest left ends is = absurd (omega arith)
+ends_bad FrameLimit rest left ends is = absurd (omega arith)
+
+bad_ends : (end : BatchEnd) (rest : List ℕ) (left : Option (List ℕ)) → EndsAs end rest left → IsBad (front_of rest) → (status_of end ≡ BAD_INPUT) ⊎ (status_of end ≡ SOURCE_FAILED)
+bad_ends Clean rest left ends bad = absurd (nothing_bad rest (ap length ends.0) bad)
+bad_ends BadInput rest left ends bad = inl refl
+bad_ends ReadFault rest left ends bad = inr refl
+bad_ends WriteFault rest left ends bad = absurd (nothing_bad rest (ap length ends) bad)
+bad_ends NoMemory rest left ends bad = absurd (ends bad)
+bad_ends FrameLimit rest left ends bad = absurd (nothing_bad rest (ap length ends) bad)
+
+cut_ends : (end : BatchEnd) (rest : List ℕ) (left : Option (List ℕ)) → EndsAs end rest left → rest ≢ [] → (status_of end ≡ BAD_INPUT) ⊎ (status_of end ≡ SOURCE_FAILED) ⊎ (status_of end ≡ OUT_OF_MEMORY)
+cut_ends Clean rest left ends some = absurd (some ends.0)
+cut_ends BadInput rest left ends some = inl refl
+cut_ends ReadFault rest left ends some = inr (inl refl)
+cut_ends WriteFault rest left ends some = absurd (some ends)
+cut_ends NoMemory rest left ends some = inr (inr refl)
+cut_ends FrameLimit rest left ends some = absurd (some ends)
+
+counts_few : (end : BatchEnd) (count : ℕ) → CountsAs end count → count ≤ MOST_FRAMES
+counts_few Clean count is = omega arith
+counts_few BadInput count is = omega arith
+counts_few ReadFault count is = omega arith
+counts_few WriteFault count is = is
+counts_few NoMemory count is = omega arith
+counts_few FrameLimit count is = omega arith
+
+counts_spent : (end : BatchEnd) (count : ℕ) → CountsAs end count → status_of end ≡ FRAME_LIMIT → count ≡ MOST_FRAMES
+counts_spent Clean count is e = absurd (omega arith)
+counts_spent BadInput count is e = absurd (omega arith)
+counts_spent ReadFault count is e = absurd (omega arith)
+counts_spent WriteFault count is e = absurd (omega arith)
+counts_spent NoMemory count is e = absurd (omega arith)
+counts_spent FrameLimit count is e = is
+
+counts_most : (end : BatchEnd) (count : ℕ) → CountsAs end count → count ≡ MOST_FRAMES → (status_of end ≡ FRAME_LIMIT) ⊎ (status_of end ≡ SINK_FAILED)
+counts_most Clean count is e = absurd (omega arith)
+counts_most BadInput count is e = absurd (omega arith)
+counts_most ReadFault count is e = absurd (omega arith)
+counts_most WriteFault count is e = inr refl
+counts_most NoMemory count is e = absurd (omega arith)
+counts_most FrameLimit count is e = inl refl
+
+ends_as : (end : BatchEnd) → (status_of end ≡ CLEAN) ⊎ (status_of end ≡ SOURCE_FAILED) ⊎ (status_of end ≡ SINK_FAILED) ⊎ (status_of end ≡ BAD_INPUT) ⊎ (status_of end ≡ OUT_OF_MEMORY) ⊎ (status_of end ≡ FRAME_LIMIT)
+ends_as Clean = inl refl
+ends_as ReadFault = inr (inl refl)
+ends_as WriteFault = inr (inr (inl refl))
+ends_as BadInput = inr (inr (inr (inl refl)))
+ends_as NoMemory = inr (inr (inr (inr (inl refl))))
+ends_as FrameLimit = inr (inr (inr (inr (inr refl))))
+
+-- ---- all of it
+
+-- a vault that was just opened is at rest
+opened_rests : {D : Type 0} (v : Chronicled D) → v.lines ≡ [] → v.stale ≡ false → state_of v ≡ at_rest v.origin.entries
+opened_rests {D} v lines fresh =
+    let P : List Line → Bool → Type 0 = λ ls stale. (let house : Chronicled D = record { origin = v.origin; lines = ls; stale = stale; disk = v.disk } in state_of house) ≡ at_rest v.origin.entries in
+    subst (λ (ls : List Line). P ls v.stale) (sym lines) (subst (P []) (sym fresh) (ap (λ (entries : List Entry). at_rest entries) (append-nil v.origin.entries)))
+
+module _ {D : Type 0} (content : D → Option (List ℕ)) (allowed : D → List ℕ → Type 0) (faults : D → ℕ) (moment : D → ℕ) (left : D → ℕ → List ℕ → Type 0) where
+  pub batch_of : ((d : D) (c : List ℕ) → left d (moment d) c → allowed d c) → (end : BatchEnd) (disk : D) (opened house : Chronicled D) (before after : Outside)
+      → OpensAs content allowed faults disk opened → Unwritten content allowed moment left disk opened.disk → faults disk ≤ faults opened.disk
+      → Served content faults moment left opened house before after end → Keeps content allowed faults house → house.origin ≡ opened.origin
+      → Batch content allowed faults moment left disk house.disk before after (at_no_place (status_of end))
+  batch_of only_now end disk opened house before after opens unwritten count s keeps same =
+      let rest : state_of opened ≡ at_rest opened.origin.entries = opened_rests opened opens.lines opens.durable.fresh in
+      let R : State → Type 0 = λ state. Run (house_rules (head_of opened.origin.head) opened.origin.cap) state s.answered s.states in
+      let turns = subst R rest s.turns in
+      let backed = backed_earlier s.answered (faults disk) (faults opened.disk) (faults house.disk) count s.backed in
+      record {
+        head = opened.origin.head;
+        cap = opened.origin.cap;
+        opening = opened.origin.entries;
+        answered = s.answered;
+        states = s.states;
+        last = state_of house;
+        taken = s.taken;
+        unanswered = s.unanswered;
+        rest = s.rest;
+        stands = opens.stands;
+        took = s.took;
+        frames = s.frames;
+        all = λ is. s.all (answers_all end is);
+        asked = s.asked;
+        turns = turns;
+        last_is = s.last ∙ ap (λ (state : State). last_state state s.states) rest;
+        wrote = wrote_all end before after s.answered s.wrote;
+        wrote_short = wrote_part end before after s.answered s.wrote;
+        backed = backed;
+        steady = none_faulty (house_rules (head_of opened.origin.head) opened.origin.cap) (at_rest opened.origin.entries) s.answered s.states (faults disk) (faults house.disk) refl turns backed;
+        alone = replies-decided (house_rules (head_of opened.origin.head) opened.origin.cap) opened.origin.entries s.answered s.states turns;
+        content_rests = subst (λ (o : Origin). IfSome (content house.disk) (λ (image : List ℕ). StandsForEither o.head o.cap (entries_in house) (doubt_in house) image)) same keeps.bytes;
+        images_rest = λ image is. subst (λ (o : Origin). StandsForEither o.head o.cap (entries_in house) (doubt_in house) image) same (keeps.images image is);
+        quiet = λ all. s.quiet (subst (λ (state : State). AllByRecursion (λ (other : State). other ≡ state) s.states) (sym rest) all) ∙ unwritten.same;
+        later = omega (arith, unwritten.time.later, s.stops.later);
+        stops = λ image is. ⊎_elim
+            (λ earlier. inl (⊎_elim (only_now disk image) (λ now. now) (unwritten.time.each (moment disk) image (omega arith) earlier)))
+            (λ here. inr (subst (λ (state : State). StandsInRun opened.origin.head opened.origin.cap state s.states image) rest here))
+            (s.stops.before (moment disk) image unwritten.time.later is);
+        legal = keeps.legal;
+        within = subst (λ (o : Origin). length (entries_in house ++ doubt_in house) ≤ o.cap) same keeps.within;
+        money = keeps.money;
+        clean = ends_clean end s.rest after.left s.ends;
+        bad = ends_bad end s.rest after.left s.ends;
+        bad_frame = bad_ends end s.rest after.left s.ends;
+        any_rest = cut_ends end s.rest after.left s.ends;
+        few = counts_few end (length s.answered) s.counted;
+        spent = counts_spent end (length s.answered) s.counted;
+        most = counts_most end (length s.answered) s.counted;
+        nowhere = refl;
+        ends = ends_as end;
+      }

@@ -1,0 +1,87 @@
+-- What making a journal comes to.
+use Rattle.std.specs.Prelude.{◌≡◌, ◌≢◌, ◌⊎◌, ℕ, ◌+◌, ◌<◌, ◌≤◌, List, [], ◌∷◌, ◌++◌, length, take, Option, IfSome}
+use Rattle.std.specs.Io.KnownBytes.{Consumes, IsAtEnd}
+use Rattle.nb_port.specs.Disk.{SameImages, wrote_at}
+use Rattle.nb_port.specs.Faults.{Rose}
+use Rattle.nb_journal.specs.declared.limits.TheConstants.{HEAD}
+use Rattle.nb_journal.specs.Layout.{magic, front_bytes}
+use Rattle.nb_journal.specs.Making.{IsCap}
+use Rattle.nb_journal.specs.Reading.{found_in}
+use Rattle.nb_vault.specs.Holdings.{StandsFor}
+use Rattle.nb_run.specs.declared.ending.Ending.{Ending}
+use Rattle.nb_run.specs.declared.ending.TheConstants.{CLEAN, SOURCE_FAILED, BAD_INPUT, DISK_FAILED, NOT_MADE}
+use Rattle.nb_run.specs.declared.init.InitEnd.{InitEnd}
+use Rattle.nb_run.specs.declared.init.InitEnd.TheVariants.{Made, BadCap, ReadFault, BadInput, Exists, DiskFault}
+use Rattle.nb_run.specs.declared.init.HeadRead.{HeadRead}
+use Rattle.nb_run.specs.declared.init.HeadRead.TheVariants as reads
+use Rattle.nb_run.specs.Ending.{at_no_place}
+
+-- how it ends the program
+abbrev pub ending_of : InitEnd → Ending
+ending_of Made = at_no_place CLEAN
+ending_of BadCap = at_no_place NOT_MADE
+ending_of ReadFault = at_no_place SOURCE_FAILED
+ending_of (BadInput bytes) = record { status = BAD_INPUT; place = bytes }
+ending_of Exists = at_no_place NOT_MADE
+ending_of DiskFault = at_no_place DISK_FAILED
+
+-- ---- the input, by what was left of it before and after
+
+-- all of it is a head
+pub record TookHead (left left' : Option (List ℕ)) (head : List ℕ) : Type 0 where
+  pub whole : length head ≡ HEAD
+  pub took : Consumes left left' head
+  pub ended : IsAtEnd left'
+
+-- it is not: so many bytes were read, up to its end or up to one more than a head has
+pub record TookOther (left left' : Option (List ℕ)) (count : ℕ) : Type 0 where
+  pub taken : List ℕ
+  pub counted : count ≡ length taken
+  pub took : Consumes left left' taken
+  pub other : ((length taken < HEAD) × IsAtEnd left') ⊎ (length taken ≡ HEAD + 1)
+
+-- a part of it was read, at most as long as a head
+pub record TookPart (left left' : Option (List ℕ)) : Type 0 where
+  pub taken : List ℕ
+  pub short : length taken ≤ HEAD
+  pub took : Consumes left left' taken
+
+-- ---- the disk, before and after
+
+-- it had no journal, and has one without entries with this head and cap; a stop leaves that and nothing else
+pub record IsMade {D : Type 0} (content : D → Option (List ℕ)) (allowed : D → List ℕ → Type 0) (old new : D) (head : List ℕ) (cap : ℕ) : Type 0 where
+  pub unborn : IfSome (content old) (λ image. found_in image ≢ magic)
+  pub bytes : content new ≡ wrote_at (content old) 0 (front_bytes cap head ++ 0 ∷ [])
+  pub stands : IfSome (content new) (StandsFor head cap [])
+  pub images : (image : List ℕ) → allowed new image → StandsFor head cap [] image
+
+-- it has a journal, and nothing was written
+pub record IsSpared {D : Type 0} (content : D → Option (List ℕ)) (allowed : D → List ℕ → Type 0) (old new : D) : Type 0 where
+  pub born : IfSome (content old) (λ image. found_in image ≡ magic)
+  pub same : content new ≡ content old
+  pub images : SameImages (allowed old) (allowed new)
+
+-- ---- all of it
+
+-- by cases on the end: the cap is tested before the input is read, and the input before the disk is touched
+abbrev pub MakesAs : {D : Type 0} → (D → Option (List ℕ)) → (D → List ℕ → Type 0) → (D → ℕ) → Option (List ℕ) → Option (List ℕ) → ℕ → ℕ → D → D → ℕ → InitEnd → Type 0
+MakesAs content allowed faults left left' source source' old new cap BadCap = (IsCap cap → ⊥) × (left' ≡ left) × (new ≡ old)
+MakesAs content allowed faults left left' source source' old new cap ReadFault = IsCap cap × Rose source source' × TookPart left left' × (new ≡ old)
+MakesAs content allowed faults left left' source source' old new cap (BadInput bytes) = IsCap cap × TookOther left left' bytes × (new ≡ old)
+MakesAs content allowed faults left left' source source' old new cap Exists = IsCap cap × ((head : List ℕ) × TookHead left left' head) × IsSpared content allowed old new
+MakesAs content allowed faults left left' source source' old new cap DiskFault = IsCap cap × ((head : List ℕ) × TookHead left left' head) × Rose (faults old) (faults new)
+MakesAs content allowed faults left left' source source' old new cap Made = (head : List ℕ) × IsCap cap × TookHead left left' head × IsMade content allowed old new head cap
+
+-- ---- for the contracts of private functions alone
+
+-- by cases on what was read, for the counts of faults and what was left
+abbrev pub HeadGives : ℕ → ℕ → Option (List ℕ) → Option (List ℕ) → HeadRead → Type 0
+HeadGives before after left left' (reads.Whole head) = TookHead left left' head
+HeadGives before after left left' (reads.Other bytes) = TookOther left left' bytes
+HeadGives before after left left' reads.Failed = Rose before after × TookPart left left'
+
+-- the first bytes are a head, or there are fewer or more of them
+abbrev pub CountedAs : List ℕ → ℕ → HeadRead → Type 0
+CountedAs bytes count (reads.Whole head) = (count ≡ HEAD) × (head ≡ take HEAD bytes) × (length head ≡ HEAD)
+CountedAs bytes count (reads.Other n) = (count ≢ HEAD) × (n ≡ count)
+CountedAs bytes count reads.Failed = ⊥

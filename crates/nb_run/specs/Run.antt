@@ -1,0 +1,138 @@
+-- What a run of the program does.
+use Rattle.std.specs.Prelude.{◌≡◌, ◌≢◌, ℕ, ◌≤◌, ◌<◌, ◌⊎◌, List, [], ◌++◌, Option, Some, length, map, IfSome}
+use Rattle.std.specs.List.{flat_map, AllByRecursion}
+use Rattle.std.specs.Io.KnownBytes.{Consumes, Appends, IsAtEnd}
+use Rattle.nb_port.specs.Faults.{Rose}
+use Rattle.nb_units.specs.Frames.{Frame, frame, IsFrame, front_of, IsBad, Splits}
+use Rattle.nb_book.specs.declared.entry.Entry.{Entry}
+use Rattle.nb_book.specs.Legal.{Legal}
+use Rattle.nb_escrow.specs.Head.{head_of}
+use Rattle.nb_journal.specs.Time.{Unwritten}
+use Rattle.nb_vault.specs.declared.vault.opening.VaultFault.{VaultFault}
+use Rattle.nb_vault.specs.declared.vault.opening.VaultFault.TheVariants.{Unborn, Damaged, BadEntry, DiskFault, NoMemory}
+use Rattle.nb_vault.specs.Holdings.{StandsFor, StandsForEither}
+use Rattle.nb_vault.specs.Opens.{OpenFails}
+use Rattle.nb_vault.specs.Rules.{house_rules}
+use Rattle.nb_vault.specs.Turns.{State, Answered, Run, last_state, replies, decided, AllDecided, NoneFaulty, Backed}
+use Rattle.nb_vault.specs.Vaults.{IsBalanced}
+use Rattle.nb_batch.specs.declared.batch.TheConstants.{MOST_FRAMES}
+use Rattle.nb_run.specs.declared.ending.Ending.{Ending}
+use Rattle.nb_run.specs.declared.ending.TheConstants.{CLEAN, BAD_WORDS, SOURCE_FAILED, SINK_FAILED, BAD_INPUT, OUT_OF_MEMORY, DISK_FAILED, NO_JOURNAL, NOT_MADE, FRAME_LIMIT}
+use Rattle.nb_run.specs.declared.init.InitEnd.{InitEnd}
+use Rattle.nb_run.specs.Ending.{at_no_place}
+use Rattle.nb_run.specs.Init.{MakesAs, ending_of}
+use Rattle.nb_batch.specs.Batch.{at_rest, frame_of, moment_of, Outside, Gave, EndsBadly, WroteShort, StandsInRun}
+
+-- the statuses that a run can end with
+abbrev pub IsStatus : ℕ → Type 0
+IsStatus n =
+    (n ≡ CLEAN) ⊎ (n ≡ BAD_WORDS) ⊎ (n ≡ SOURCE_FAILED) ⊎ (n ≡ SINK_FAILED) ⊎ (n ≡ BAD_INPUT) ⊎ (n ≡ OUT_OF_MEMORY) ⊎ (n ≡ DISK_FAILED) ⊎ (n ≡ NO_JOURNAL) ⊎ (n ≡ NOT_MADE) ⊎ (n ≡ FRAME_LIMIT)
+
+-- ---- init
+
+-- making a journal came to one of its ends, which says how the run ends
+abbrev pub InitIs : {D : Type 0} → (D → Option (List ℕ)) → (D → List ℕ → Type 0) → (D → ℕ) → Option (List ℕ) → Option (List ℕ) → ℕ → ℕ → D → D → ℕ → Ending → Type 0
+InitIs content allowed faults left left' source source' old new cap ending = (end : InitEnd) × (ending ≡ ending_of end) × MakesAs content allowed faults left left' source source' old new cap end
+
+-- ---- batch, over a journal that was not opened
+
+-- how the run ends, by why it was not opened: a place is shown of damage alone
+abbrev pub unopened : VaultFault → Ending
+unopened (Unborn found) = at_no_place NO_JOURNAL
+unopened (Damaged item place) = record { status = NO_JOURNAL; place = place }
+unopened (BadEntry item) = at_no_place NO_JOURNAL
+unopened (DiskFault before after) = at_no_place DISK_FAILED
+unopened NoMemory = at_no_place OUT_OF_MEMORY
+
+-- it was not opened, and nothing was taken, sent, asked for or written
+pub record NotOpened {D : Type 0} (content : D → Option (List ℕ)) (allowed : D → List ℕ → Type 0) (faults : D → ℕ) (moment : D → ℕ) (left : D → ℕ → List ℕ → Type 0) (old new : D) (before after : Outside) (ending : Ending) : Type 0 where
+  pub fault : VaultFault
+  pub ends : ending ≡ unopened fault
+  pub why : OpenFails content faults old new fault
+  pub nothing : after ≡ before
+  pub unwritten : Unwritten content allowed moment left old new
+
+-- ---- batch, over a journal that was opened
+
+-- What a batch did, by the status that it ended with.
+pub record Batch {D : Type 0} (content : D → Option (List ℕ)) (allowed : D → List ℕ → Type 0) (faults : D → ℕ) (moment : D → ℕ) (left : D → ℕ → List ℕ → Type 0) (old new : D) (before after : Outside) (ending : Ending) : Type 0 where
+  -- the journal's head, its cap and its entries; the requests that were answered, and the states that the house came to; the
+  -- bytes taken from the source are the frames of these requests, further frames, and a rest that begins with none
+  pub head : List ℕ
+  pub cap : ℕ
+  pub opening : List Entry
+  pub answered : List Answered
+  pub states : List State
+  pub last : State
+  pub taken : List ℕ
+  pub unanswered : List Frame
+  pub rest : List ℕ
+  -- the content at entry stands for these entries
+  pub stands : IfSome (content old) (StandsFor head cap opening)
+  -- the requests that were answered are the first frames of the bytes taken
+  pub took : Consumes before.left after.left taken
+  pub frames : Splits taken (map frame_of answered ++ unanswered) rest
+  -- they are all of them where the input ended, held what is no frame, or failed
+  pub all : (ending.status ≡ CLEAN) ⊎ (ending.status ≡ BAD_INPUT) ⊎ (ending.status ≡ SOURCE_FAILED) → unanswered ≡ []
+  -- one answer of the clock for each
+  pub asked : Gave before.moments after.moments (map moment_of answered)
+  -- there is a run of turns over them, from the entries with nothing in doubt
+  pub turns : Run (house_rules (head_of head) cap) (at_rest opening) answered states
+  pub last_is : last ≡ last_state (at_rest opening) states
+  -- their replies are what was written
+  pub wrote : ending.status ≢ SINK_FAILED → Appends before.sent after.sent (replies answered)
+  -- after a failed write: all replies before the last one, and a part of that
+  pub wrote_short : ending.status ≡ SINK_FAILED → WroteShort before after answered
+  -- the faults of turns lie one after another between the disk's counts; where these did not rise, no turn failed
+  pub backed : Backed (faults old) answered (faults new)
+  pub steady : (Rose (faults old) (faults new) → ⊥) → NoneFaulty answered
+  -- where each turn decides, the replies are a function of the entries, the head, the cap and the requests alone
+  pub alone : AllDecided answered → replies answered ≡ decided (house_rules (head_of head) cap) opening answered
+  -- the disk is at rest in the last state: its content, and all that a stop now leaves, stands for its entries, without what is in
+  -- doubt or with it
+  pub content_rests : IfSome (content new) (StandsForEither head cap last.entries last.doubt)
+  pub images_rest : (image : List ℕ) → allowed new image → StandsForEither head cap last.entries last.doubt image
+  -- where the house never left the state that it was opened in, nothing was written
+  pub quiet : AllByRecursion (λ state. state ≡ at_rest opening) states → content new ≡ content old
+  -- a stop at any moment since the start left what might have been left at the start, or what stands so for one of the states
+  pub later : moment old ≤ moment new
+  pub stops : (image : List ℕ) → left new (moment old) image → allowed old image ⊎ StandsInRun head cap (at_rest opening) states image
+  -- what is recorded is legal, with what is in doubt too; each order is settled at most once, and money is neither made nor lost
+  pub legal : Legal (last.entries ++ last.doubt)
+  pub within : length (last.entries ++ last.doubt) ≤ cap
+  pub money : IsBalanced last.entries
+  -- after status 0 no byte is over and nothing is left of the source
+  pub clean : ending.status ≡ CLEAN → (rest ≡ []) × IsAtEnd after.left
+  -- after status 5 the rest is a cut frame and nothing is left, or no frame begins so, and little was read of that
+  pub bad : ending.status ≡ BAD_INPUT → EndsBadly rest after.left
+  -- where no frame begins like the rest, the status is 5, or 3; where there is a rest at all it is one of these, or 6
+  pub bad_frame : IsBad (front_of rest) → (ending.status ≡ BAD_INPUT) ⊎ (ending.status ≡ SOURCE_FAILED)
+  pub any_rest : rest ≢ [] → (ending.status ≡ BAD_INPUT) ⊎ (ending.status ≡ SOURCE_FAILED) ⊎ (ending.status ≡ OUT_OF_MEMORY)
+  -- at most so many frames are answered
+  pub few : length answered ≤ MOST_FRAMES
+  pub spent : ending.status ≡ FRAME_LIMIT → length answered ≡ MOST_FRAMES
+  pub most : length answered ≡ MOST_FRAMES → (ending.status ≡ FRAME_LIMIT) ⊎ (ending.status ≡ SINK_FAILED)
+  -- no place is shown
+  pub nowhere : ending.place ≡ 0
+  pub ends : (ending.status ≡ CLEAN) ⊎ (ending.status ≡ SOURCE_FAILED) ⊎ (ending.status ≡ SINK_FAILED) ⊎ (ending.status ≡ BAD_INPUT) ⊎ (ending.status ≡ OUT_OF_MEMORY) ⊎ (ending.status ≡ FRAME_LIMIT)
+
+-- the journal was not opened, or the frames were answered
+abbrev pub BatchIs : {D : Type 0} → (D → Option (List ℕ)) → (D → List ℕ → Type 0) → (D → ℕ) → (D → ℕ) → (D → ℕ → List ℕ → Type 0) → D → D → Outside → Outside → Ending → Type 0
+BatchIs content allowed faults moment left old new before after ending =
+    NotOpened content allowed faults moment left old new before after ending ⊎ Batch content allowed faults moment left old new before after ending
+
+-- the input is fewer than so many whole frames and nothing else
+pub record IsWholeInput (left : Option (List ℕ)) : Type 0 where
+  pub frames : List Frame
+  pub lawful : AllByRecursion IsFrame frames
+  pub few : length frames < MOST_FRAMES
+  pub is : left ≡ Some (flat_map frame frames)
+
+-- the content stands for a list of entries
+pub record IsJournal (content : Option (List ℕ)) : Type 0 where
+  pub image : List ℕ
+  pub head : List ℕ
+  pub cap : ℕ
+  pub entries : List Entry
+  pub is : content ≡ Some image
+  pub stands : StandsFor head cap entries image

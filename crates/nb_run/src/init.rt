@@ -1,0 +1,105 @@
+ghost use Rattle.std.specs.Prelude.{◌≡◌, ◌≤◌};
+ghost use Rattle.nb_journal.specs.Making.{SparesJournal};
+ghost use Rattle.nb_run.specs.Init.{MakesAs, HeadGives, CountedAs, ending_of};
+
+use crate::ending::{BAD_INPUT, CLEAN, DISK_FAILED, Ending, NOT_MADE, SOURCE_FAILED};
+use nb_journal::{HEAD, InitFault, MAX_CAP, init};
+use nb_port::{Disk, ReadOut, Source};
+
+/// How making a journal ended.
+#[derive(Clone, Copy, PartialEq, Eq, Debug)]
+pub enum InitEnd {
+    /// It was made.
+    Made,
+    /// The cap is 0 or above [`MAX_CAP`](nb_journal::MAX_CAP). Nothing was read.
+    BadCap,
+    /// The source failed.
+    ReadFault,
+    /// The input is not as long as a head. So many bytes were read, at most one more than a head has.
+    BadInput { bytes: u64 },
+    /// The disk has a journal, which stays as it is.
+    Exists,
+    /// The disk failed.
+    DiskFault,
+}
+
+impl InitEnd {
+    /// How it ends the program.
+    pub fn ending(self) -> Ending
+        ensures { result ≡ ending_of self }
+    {
+        match self {
+            InitEnd::Made => Ending::at_no_place(CLEAN),
+            InitEnd::BadCap => Ending::at_no_place(NOT_MADE),
+            InitEnd::ReadFault => Ending::at_no_place(SOURCE_FAILED),
+            InitEnd::BadInput { bytes } => Ending {
+                status: BAD_INPUT,
+                place: bytes,
+            },
+            InitEnd::Exists => Ending::at_no_place(NOT_MADE),
+            InitEnd::DiskFault => Ending::at_no_place(DISK_FAILED),
+        }
+    }
+}
+
+// What the source gave of a head.
+#[derive(Drop)]
+enum HeadRead {
+    Whole([u8; HEAD]),
+    Other { bytes: u64 },
+    Failed,
+}
+
+/// Makes a journal without entries on the disk. Its head is the whole input, and it holds at most `cap` entries.
+pub fn make_journal<S: Source, D: Disk>(source: &mut S, disk: &mut D, cap: u32) -> InitEnd
+    ensures made { MakesAs D.content D.allowed D.faults (S.left source.old) (S.left source.new) (S.faults source.old) (S.faults source.new) disk.old disk.new cap result }
+    ensures spares { SparesJournal D.content D.allowed D.moment D.left disk.old disk.new }
+    ensures source { S.faults source.old ≤ S.faults source.new }
+    ensures disk { D.faults disk.old ≤ D.faults disk.new }
+{
+    if cap < 1 || cap > MAX_CAP {
+        return InitEnd::BadCap;
+    }
+    let head = match read_head(source) {
+        HeadRead::Whole(head) => head,
+        HeadRead::Other { bytes } => return InitEnd::BadInput { bytes },
+        HeadRead::Failed => return InitEnd::ReadFault,
+    };
+    match init(disk, &head, cap) {
+        Ok(()) => InitEnd::Made,
+        Err(InitFault::Exists { .. }) => InitEnd::Exists,
+        Err(InitFault::DiskFault { .. }) => InitEnd::DiskFault,
+        Err(InitFault::BadCap { .. }) => unreachable!(),
+    }
+}
+
+// Reads the source up to its end, or up to one byte more than a head has.
+fn read_head<S: Source>(source: &mut S) -> HeadRead
+    ensures gives { HeadGives (S.faults source.old) (S.faults source.new) (S.left source.old) (S.left source.new) result }
+    ensures count { S.faults source.old ≤ S.faults source.new }
+{
+    let mut bytes = [0u8; HEAD + 1];
+    let mut at = 0;
+    'reading: while at < HEAD + 1 {
+        match source.read(bytes.split_at_mut(at).1) {
+            ReadOut::Bytes(n) => at += n,
+            ReadOut::End => return head_in(&bytes, at),
+            ReadOut::Failed => return HeadRead::Failed,
+        }
+    }
+    HeadRead::Other { bytes: at as u64 }
+}
+
+// The first bytes, of which there are so many.
+fn head_in(bytes: &[u8; HEAD + 1], count: usize) -> HeadRead
+    ensures { CountedAs bytes.now count result }
+{
+    if count != HEAD {
+        return HeadRead::Other {
+            bytes: count as u64,
+        };
+    }
+    let mut head = [0u8; HEAD];
+    head.copy_from_slice(bytes.split_at(HEAD).0);
+    HeadRead::Whole(head)
+}
