@@ -7,6 +7,7 @@ use Rattle.std.proofs.KnownBytes.{Consumes-trans, Consumes-nil, Appends-trans, A
 use Rattle.std.proofs.lemmas.List.{map-append, length-append}
 use Rattle.std.proofs.lemmas.List.Elements.{Contains-append_left, Contains-append_right, Contains-push}
 use Rattle.std.proofs.lemmas.Grind.{flat_map-append}
+use Rattle.nb_port.specs.Tells.{DiskTells}
 use Rattle.nb_port.specs.Clock.{Gives}
 use Rattle.nb_units.specs.Frames.{Frame, frame, IsFrame, front_of, IsWhole}
 use Rattle.nb_book.specs.declared.entry.Entry.{Entry}
@@ -28,22 +29,22 @@ use Rattle.nb_batch.specs.Send.{SentPart}
 use Rattle.nb_batch.specs.Batch.{frame_of, moment_of, Outside, Gave, Stepped, Stopped, StepIs, EndsAs, CountsAs, Wrote, Served, StandsInRun}
 
 -- these requests were answered, and the house came to these states
-pub record Went {D : Type 0} (content : D → Option (List ℕ)) (faults : D → ℕ) (moment : D → ℕ) (left : D → ℕ → List ℕ → Type 0) (old new : Chronicled D) (before after : Outside) (answered : List Answered) (states : List State) : Type 0 where
+pub record Went {D : Type 0} (tells : DiskTells D) (old new : Chronicled D) (before after : Outside) (answered : List Answered) (states : List State) : Type 0 where
   pub turns : Run (rules_of old) (state_of old) answered states
   pub last : state_of new ≡ last_state (state_of old) states
   pub origin : new.origin ≡ old.origin
-  pub backed : Backed (faults old.disk) answered (faults new.disk)
-  pub stops : LeavesOnly moment left old.disk new.disk (StandsInRun old.origin.head old.origin.cap (state_of old) states)
-  pub quiet : AllByRecursion (λ (state : State). state ≡ state_of old) states → content new.disk ≡ content old.disk
+  pub backed : Backed (tells.faults old.disk) answered (tells.faults new.disk)
+  pub stops : LeavesOnly tells old.disk new.disk (StandsInRun old.origin.head old.origin.cap (state_of old) states)
+  pub quiet : AllByRecursion (λ (state : State). state ≡ state_of old) states → tells.content new.disk ≡ tells.content old.disk
   pub lawful : AllByRecursion IsFrame (map frame_of answered)
   pub took : Consumes before.left after.left (flat_map frame (map frame_of answered))
   pub asked : Gave before.moments after.moments (map moment_of answered)
 
 -- the replies so far were sent, and there are so many
-pub record Ran {D : Type 0} (content : D → Option (List ℕ)) (faults : D → ℕ) (moment : D → ℕ) (left : D → ℕ → List ℕ → Type 0) (old new : Chronicled D) (before after : Outside) (count : ℕ) : Type 0 where
+pub record Ran {D : Type 0} (tells : DiskTells D) (old new : Chronicled D) (before after : Outside) (count : ℕ) : Type 0 where
   pub answered : List Answered
   pub states : List State
-  pub went : Went content faults moment left old new before after answered states
+  pub went : Went tells old new before after answered states
   pub wrote : Appends before.sent after.sent (replies answered)
   pub counted : length answered ≡ count
 
@@ -140,14 +141,14 @@ stands_now old mid new states image same_mid same_new last is = ⊎_elim
 
 -- ---- a batch, so far
 
-module _ {D : Type 0} (content : D → Option (List ℕ)) (faults : D → ℕ) (moment : D → ℕ) (left : D → ℕ → List ℕ → Type 0) where
-  went_none : (house : Chronicled D) (start : Outside) → LeavesOnly moment left house.disk house.disk (StandsForVault house) → Went content faults moment left house house start start [] []
+module _ {D : Type 0} (tells : DiskTells D) where
+  went_none : (house : Chronicled D) (start : Outside) → LeavesOnly tells house.disk house.disk (StandsForVault house) → Went tells house house start start [] []
   went_none house start images = record {
     turns = tt;
     last = refl;
     origin = refl;
     backed = omega arith;
-    stops = leaves_more moment left house.disk house.disk (StandsForVault house) (StandsInRun house.origin.head house.origin.cap (state_of house) [])
+    stops = leaves_more tells house.disk house.disk (StandsForVault house) (StandsInRun house.origin.head house.origin.cap (state_of house) [])
         (λ c is. record { state = state_of house; is = (0, omega arith, refl); stands = is }) images;
     quiet = λ all. refl;
     lawful = tt;
@@ -155,9 +156,9 @@ module _ {D : Type 0} (content : D → Option (List ℕ)) (faults : D → ℕ) (
     asked = gave_none start.moments;
   }
 
-  went_more : (old mid new : Chronicled D) (before between after : Outside) (answered : List Answered) (states : List State) → Went content faults moment left old mid before between answered states
-      → (more : Stepped faults mid new between after) → new.origin ≡ mid.origin → LeavesOnly moment left mid.disk new.disk (λ (image : List ℕ). StandsForVault mid image ⊎ StandsForVault new image) → (state_of new ≡ state_of mid → content new.disk ≡ content mid.disk)
-      → Went content faults moment left old new before after (answered ++ more.one ∷ []) (states ++ state_of new ∷ [])
+  went_more : (old mid new : Chronicled D) (before between after : Outside) (answered : List Answered) (states : List State) → Went tells old mid before between answered states
+      → (more : Stepped tells mid new between after) → new.origin ≡ mid.origin → LeavesOnly tells mid.disk new.disk (λ (image : List ℕ). StandsForVault mid image ⊎ StandsForVault new image) → (state_of new ≡ state_of mid → tells.content new.disk ≡ tells.content mid.disk)
+      → Went tells old new before after (answered ++ more.one ∷ []) (states ++ state_of new ∷ [])
   went_more old mid new before between after answered states went more origin leaves quiet =
       let P : List ℕ → Type 0 = λ bytes. Consumes before.left after.left bytes in
       let Q : List ℕ → Type 0 = λ moments. Gave before.moments after.moments moments in
@@ -169,8 +170,8 @@ module _ {D : Type 0} (content : D → Option (List ℕ)) (faults : D → ℕ) (
         turns = run_more (rules_of old) (state_of old) (state_of new) answered states more.one went.turns (subst S went.last (subst T same_rules more.turn));
         last = last_more (state_of old) (state_of new) states;
         origin = origin ∙ went.origin;
-        backed = backed_more answered more.one (faults old.disk) (faults mid.disk) (faults new.disk) went.backed more.backed;
-        stops = leaves_then moment left old.disk mid.disk new.disk (StandsInRun old.origin.head old.origin.cap (state_of old) states) (λ (image : List ℕ). StandsForVault mid image ⊎ StandsForVault new image)
+        backed = backed_more answered more.one (tells.faults old.disk) (tells.faults mid.disk) (tells.faults new.disk) went.backed more.backed;
+        stops = leaves_then tells old.disk mid.disk new.disk (StandsInRun old.origin.head old.origin.cap (state_of old) states) (λ (image : List ℕ). StandsForVault mid image ⊎ StandsForVault new image)
             (StandsInRun old.origin.head old.origin.cap (state_of old) (states ++ state_of new ∷ [])) went.stops leaves
             (λ c is. stands_before old.origin.head old.origin.cap (state_of old) (state_of new) states c is)
             (λ c is. stands_now old mid new states c went.origin origin went.last is);
@@ -183,12 +184,12 @@ module _ {D : Type 0} (content : D → Option (List ℕ)) (faults : D → ℕ) (
         asked = subst Q (sym (map-append moment_of answered (more.one ∷ []))) (gave_more before.moments between.moments after.moments (map moment_of answered) more.one.request.moment went.asked more.asked);
       }
 
-  pub ran_none : (house : Chronicled D) (start : Outside) → LeavesOnly moment left house.disk house.disk (StandsForVault house) → Ran content faults moment left house house start start 0
+  pub ran_none : (house : Chronicled D) (start : Outside) → LeavesOnly tells house.disk house.disk (StandsForVault house) → Ran tells house house start start 0
   ran_none house start images = record { answered = []; states = []; went = went_none house start images; wrote = Appends-nil start.sent; counted = refl }
 
-  pub ran_more : (old mid new : Chronicled D) (before between after : Outside) (n : ℕ) → Ran content faults moment left old mid before between n → (more : Stepped faults mid new between after)
-      → new.origin ≡ mid.origin → LeavesOnly moment left mid.disk new.disk (λ (image : List ℕ). StandsForVault mid image ⊎ StandsForVault new image) → (state_of new ≡ state_of mid → content new.disk ≡ content mid.disk)
-      → Appends between.sent after.sent more.one.reply → Ran content faults moment left old new before after (n + 1)
+  pub ran_more : (old mid new : Chronicled D) (before between after : Outside) (n : ℕ) → Ran tells old mid before between n → (more : Stepped tells mid new between after)
+      → new.origin ≡ mid.origin → LeavesOnly tells mid.disk new.disk (λ (image : List ℕ). StandsForVault mid image ⊎ StandsForVault new image) → (state_of new ≡ state_of mid → tells.content new.disk ≡ tells.content mid.disk)
+      → Appends between.sent after.sent more.one.reply → Ran tells old new before after (n + 1)
   ran_more old mid new before between after n ran more origin leaves quiet sent =
       let P : List ℕ → Type 0 = λ bytes. Appends before.sent after.sent bytes in
       record {
@@ -203,8 +204,8 @@ module _ {D : Type 0} (content : D → Option (List ℕ)) (faults : D → ℕ) (
 
   -- the batch ended behind bytes that are no frame
   served : (end : BatchEnd) (old new : Chronicled D) (before between after : Outside) (answered : List Answered) (states : List State) (rest : List ℕ)
-      → Went content faults moment left old new before between answered states → Consumes between.left after.left rest → after.moments ≡ between.moments → (IsWhole (front_of rest) → ⊥) → EndsAs end rest after.left
-      → CountsAs end (length answered) → Wrote end before after answered → Served content faults moment left old new before after end
+      → Went tells old new before between answered states → Consumes between.left after.left rest → after.moments ≡ between.moments → (IsWhole (front_of rest) → ⊥) → EndsAs end rest after.left
+      → CountsAs end (length answered) → Wrote end before after answered → Served tells old new before after end
   served end old new before between after answered states rest went took unasked none ends counted wrote =
       let P : Option (List ℕ) → Type 0 = λ given. Gave before.moments given (map moment_of answered) in
       let L : List Frame → Type 0 = λ fs. AllByRecursion IsFrame fs in
@@ -234,29 +235,29 @@ module _ {D : Type 0} (content : D → Option (List ℕ)) (faults : D → ℕ) (
       }
 
   -- with nothing behind the last frame that was answered
-  pub spent : (old new : Chronicled D) (before after : Outside) (n : ℕ) → n ≡ MOST_FRAMES → Ran content faults moment left old new before after n → Served content faults moment left old new before after FrameLimit
+  pub spent : (old new : Chronicled D) (before after : Outside) (n : ℕ) → n ≡ MOST_FRAMES → Ran tells old new before after n → Served tells old new before after FrameLimit
   spent old new before after n all ran =
       served FrameLimit old new before after after ran.answered ran.states [] ran.went (Consumes-nil after.left) refl nothing_whole refl (ran.counted ∙ all) ran.wrote
 
   -- without memory nothing was begun
-  pub unbegun : (house : Chronicled D) (start : Outside) → LeavesOnly moment left house.disk house.disk (StandsForVault house) → Served content faults moment left house house start start NoMemory
+  pub unbegun : (house : Chronicled D) (start : Outside) → LeavesOnly tells house.disk house.disk (StandsForVault house) → Served tells house house start start NoMemory
   unbegun house start images =
       served NoMemory house house start start start [] [] [] (went_none house start images) (Consumes-nil start.left) refl nothing_whole (nothing_bad [] refl) (omega arith) (Appends-nil start.sent)
 
   -- what ended the batch within the next frame
-  stop_with : (end : BatchEnd) (old mid new : Chronicled D) (before between after : Outside) (n : ℕ) → (ran : Ran content faults moment left old mid before between n) → n < MOST_FRAMES → (stop : Stopped mid new between after)
+  stop_with : (end : BatchEnd) (old mid new : Chronicled D) (before between after : Outside) (n : ℕ) → (ran : Ran tells old mid before between n) → n < MOST_FRAMES → (stop : Stopped mid new between after)
       → (Appends before.sent after.sent (replies ran.answered) → Wrote end before after ran.answered) → EndsAs end stop.rest after.left → (length ran.answered < MOST_FRAMES → CountsAs end (length ran.answered))
-      → Served content faults moment left old new before after end
+      → Served tells old new before after end
   stop_with end old mid new before between after n ran few stop wrote ends counts =
       let P : Option (List ℕ) → Type 0 = λ sent. Appends before.sent sent (replies ran.answered) in
-      let W : Chronicled D → Type 0 = λ house. Went content faults moment left old house before between ran.answered ran.states in
+      let W : Chronicled D → Type 0 = λ house. Went tells old house before between ran.answered ran.states in
       served end old new before between after ran.answered ran.states stop.rest (subst W (sym stop.same) ran.went) stop.took stop.unasked stop.none ends (counts (omega (arith, ran.counted, few)))
       (wrote (subst P (sym stop.unsent) ran.wrote))
 
   -- the sink failed within the reply to the next frame
-  stop_short : (old mid new : Chronicled D) (before between after : Outside) (n : ℕ) → Ran content faults moment left old mid before between n → n < MOST_FRAMES → (more : Stepped faults mid new between after)
-      → new.origin ≡ mid.origin → LeavesOnly moment left mid.disk new.disk (λ (image : List ℕ). StandsForVault mid image ⊎ StandsForVault new image) → (state_of new ≡ state_of mid → content new.disk ≡ content mid.disk)
-      → SentPart between.sent after.sent more.one.reply → Served content faults moment left old new before after WriteFault
+  stop_short : (old mid new : Chronicled D) (before between after : Outside) (n : ℕ) → Ran tells old mid before between n → n < MOST_FRAMES → (more : Stepped tells mid new between after)
+      → new.origin ≡ mid.origin → LeavesOnly tells mid.disk new.disk (λ (image : List ℕ). StandsForVault mid image ⊎ StandsForVault new image) → (state_of new ≡ state_of mid → tells.content new.disk ≡ tells.content mid.disk)
+      → SentPart between.sent after.sent more.one.reply → Served tells old new before after WriteFault
   stop_short old mid new before between after n ran few more origin leaves quiet part =
       served WriteFault old new before after after (ran.answered ++ more.one ∷ []) (ran.states ++ state_of new ∷ []) [] (went_more old mid new before between after ran.answered ran.states ran.went more origin leaves quiet)
       (Consumes-nil after.left) refl nothing_whole refl
@@ -271,9 +272,9 @@ module _ {D : Type 0} (content : D → Option (List ℕ)) (faults : D → ℕ) (
       })
 
   -- the batch ends as its last step does
-  pub ended : (end : BatchEnd) (old mid new : Chronicled D) (before between after : Outside) (n : ℕ) → Ran content faults moment left old mid before between n → n < MOST_FRAMES
-      → new.origin ≡ mid.origin → LeavesOnly moment left mid.disk new.disk (λ (image : List ℕ). StandsForVault mid image ⊎ StandsForVault new image) → (state_of new ≡ state_of mid → content new.disk ≡ content mid.disk)
-      → StepIs faults mid new between after (step.Ended end) → Served content faults moment left old new before after end
+  pub ended : (end : BatchEnd) (old mid new : Chronicled D) (before between after : Outside) (n : ℕ) → Ran tells old mid before between n → n < MOST_FRAMES
+      → new.origin ≡ mid.origin → LeavesOnly tells mid.disk new.disk (λ (image : List ℕ). StandsForVault mid image ⊎ StandsForVault new image) → (state_of new ≡ state_of mid → tells.content new.disk ≡ tells.content mid.disk)
+      → StepIs tells mid new between after (step.Ended end) → Served tells old new before after end
   ended Clean old mid new before between after n ran few origin leaves quiet is = stop_with Clean old mid new before between after n ran few is.0 (λ wrote. wrote) (is.1, is.2) (λ fewer. fewer)
   ended ReadFault old mid new before between after n ran few origin leaves quiet is = stop_with ReadFault old mid new before between after n ran few is (λ wrote. wrote) tt (λ fewer. fewer)
   ended WriteFault old mid new before between after n ran few origin leaves quiet is = stop_short old mid new before between after n ran few is.0 origin leaves quiet is.1

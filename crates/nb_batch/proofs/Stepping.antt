@@ -2,6 +2,7 @@
 use Rattle.std.proofs.Common.{◌≡◌, ◌⊎◌, ℕ, ◌≤◌, List, [], ◌++◌, length, drop, Option, refl, sym, ap, subst, ◌∙◌, inl, inr}
 use Rattle.std.specs.Prelude.{slice_index}
 use Rattle.std.specs.Io.KnownBytes.{Consumes, IsAtEnd}
+use Rattle.nb_port.specs.Tells.{DiskTells}
 use Rattle.nb_port.specs.Clock.{Gives}
 use Rattle.nb_units.specs.Frames.{Front, Whole, Empty, Partial, Bad, Frame, frame, IsFrame, front_of, IsWhole, IsBad}
 use Rattle.nb_units.specs.declared.frames.TheConstants.{HEADER}
@@ -29,45 +30,45 @@ holds_frame held body kind h k b =
 
 -- ---- where nothing is done
 
-module _ {D : Type 0} (content : D → Option (List ℕ)) (allowed : D → List ℕ → Type 0) (faults : D → ℕ) (moment : D → ℕ) (left : D → ℕ → List ℕ → Type 0) (only_now : (d : D) (c : List ℕ) → left d (moment d) c → allowed d c) (house : Chronicled D) (keeps : Keeps content allowed faults house) where
+module _ {D : Type 0} (tells : DiskTells D) (only_now : (d : D) (c : List ℕ) → tells.left d (tells.moment d) c → tells.allowed d c) (house : Chronicled D) (keeps : Keeps tells house) where
   -- a stop leaves what every vault keeps
-  pub leaves_now : LeavesOnly moment left house.disk house.disk (StandsForState house)
-  leaves_now = started moment left house.disk (StandsForState house) (λ c is. keeps.images c (only_now house.disk c is))
+  pub leaves_now : LeavesOnly tells house.disk house.disk (StandsForState house)
+  leaves_now = started tells house.disk (StandsForState house) (λ c is. keeps.images c (only_now house.disk c is))
 
-  pub leaves_either : LeavesOnly moment left house.disk house.disk (λ (image : List ℕ). StandsForState house image ⊎ StandsForState house image)
-  leaves_either = leaves_more moment left house.disk house.disk (StandsForState house) (λ (image : List ℕ). StandsForState house image ⊎ StandsForState house image) (λ c is. inl is) leaves_now
+  pub leaves_either : LeavesOnly tells house.disk house.disk (λ (image : List ℕ). StandsForState house image ⊎ StandsForState house image)
+  leaves_either = leaves_more tells house.disk house.disk (StandsForState house) (λ (image : List ℕ). StandsForState house image ⊎ StandsForState house image) (λ c is. inl is) leaves_now
 
 -- ---- one answer
 
-module _ {D : Type 0} (faults : D → ℕ) (old new : Chronicled D) (request : Request) where
+module _ {D : Type 0} (tells : DiskTells D) (old new : Chronicled D) (request : Request) where
   -- the mark's reply is what is sent
-  answers_with : (mark : Mark) (told sent : List ℕ) → Turn (rules_of old) (state_of old) request mark told (state_of new) → BackedBy (faults old.disk) mark (λ (next : ℕ). next ≤ faults new.disk) → sent ≡ told
-      → AnswersWith faults old new request sent
+  answers_with : (mark : Mark) (told sent : List ℕ) → Turn (rules_of old) (state_of old) request mark told (state_of new) → BackedBy (tells.faults old.disk) mark (λ (next : ℕ). next ≤ tells.faults new.disk) → sent ≡ told
+      → AnswersWith tells old new request sent
   answers_with mark told sent turn backed is =
       record { mark = mark; turn = subst (λ (bytes : List ℕ). Turn (rules_of old) (state_of old) request mark bytes (state_of new)) (sym is) turn; backed = backed }
 
-  pub answered : (out sent : List ℕ) (place : ℕ) → out ≡ [] → TurnOf old new request out sent (answers.Answered place) → faults old.disk ≤ faults new.disk → AnswersWith faults old new request sent
+  pub answered : (out sent : List ℕ) (place : ℕ) → out ≡ [] → TurnOf old new request out sent (answers.Answered place) → tells.faults old.disk ≤ tells.faults new.disk → AnswersWith tells old new request sent
   answered out sent place none is count = answers_with (At place) is.0 sent is.1 count (is.2 ∙ ap (λ (xs : List ℕ). xs ++ is.0) none)
 
-  pub failed : (out out' sent : List ℕ) (before after : ℕ) → out ≡ [] → TurnOf old new request out out' (answers.DiskFault before after) → FaultWithin (faults old.disk) (faults new.disk) (answers.DiskFault before after)
-      → sent ≡ out' ++ refused DISK_FAULT before after → AnswersWith faults old new request sent
+  pub failed : (out out' sent : List ℕ) (before after : ℕ) → out ≡ [] → TurnOf old new request out out' (answers.DiskFault before after) → FaultWithin (tells.faults old.disk) (tells.faults new.disk) (answers.DiskFault before after)
+      → sent ≡ out' ++ refused DISK_FAULT before after → AnswersWith tells old new request sent
   failed out out' sent before after none is within put =
       answers_with (Fault before after) (refused DISK_FAULT before after) sent is.0 within (put ∙ ap (λ (xs : List ℕ). xs ++ refused DISK_FAULT before after) (is.1 ∙ none))
 
-  pub worn : (out out' sent : List ℕ) (count : ℕ) → out ≡ [] → TurnOf old new request out out' (answers.Worn count) → faults old.disk ≤ faults new.disk → sent ≡ out' ++ refused WORN count 0 → AnswersWith faults old new request sent
+  pub worn : (out out' sent : List ℕ) (count : ℕ) → out ≡ [] → TurnOf old new request out out' (answers.Worn count) → tells.faults old.disk ≤ tells.faults new.disk → sent ≡ out' ++ refused WORN count 0 → AnswersWith tells old new request sent
   worn out out' sent count none is rises put =
       answers_with Worn (refused WORN count 0) sent is.1 rises (put ∙ ap (λ (xs : List ℕ). xs ++ refused WORN count 0) (is.2 ∙ none))
 
-  pub starved : (out out' sent : List ℕ) → out ≡ [] → TurnOf old new request out out' answers.NoMemory → faults old.disk ≤ faults new.disk → sent ≡ out' ++ refused NO_MEMORY 0 0 → AnswersWith faults old new request sent
+  pub starved : (out out' sent : List ℕ) → out ≡ [] → TurnOf old new request out out' answers.NoMemory → tells.faults old.disk ≤ tells.faults new.disk → sent ≡ out' ++ refused NO_MEMORY 0 0 → AnswersWith tells old new request sent
   starved out out' sent none is rises put =
       answers_with NoMemory (refused NO_MEMORY 0 0) sent is.0 rises (put ∙ ap (λ (xs : List ℕ). xs ++ refused NO_MEMORY 0 0) (is.1 ∙ none))
 
 -- ---- one step
 
-pub stepped_with : {D : Type 0} (faults : D → ℕ) (old new : Chronicled D) (kind moment : ℕ) (held body reply : List ℕ) (before after : Outside)
+pub stepped_with : {D : Type 0} (tells : DiskTells D) (old new : Chronicled D) (kind moment : ℕ) (held body reply : List ℕ) (before after : Outside)
     → HoldsFrame held → kind ≡ slice_index held 3 → body ≡ drop HEADER held → Consumes before.left after.left held → Gives before.moments after.moments moment
-    → AnswersWith faults old new (request_of kind body moment) reply → (done : List ℕ → Type 0) → done reply → (s : Stepped faults old new before after) × done s.one.reply
-stepped_with faults old new kind moment held body reply before after h k b took now answer done sent =
+    → AnswersWith tells old new (request_of kind body moment) reply → (done : List ℕ → Type 0) → done reply → (s : Stepped tells old new before after) × done s.one.reply
+stepped_with tells old new kind moment held body reply before after h k b took now answer done sent =
     let f = holds_frame held body kind h k b in
     let P : List ℕ → Type 0 = λ bytes. Consumes before.left after.left bytes in (
       record {

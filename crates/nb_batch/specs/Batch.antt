@@ -2,6 +2,7 @@
 use Rattle.std.specs.Prelude.{◌≡◌, ℕ, ◌<◌, ◌≤◌, ◌⊎◌, List, [], ◌∷◌, ◌++◌, Option, None, Some, ⊤, length, map, take}
 use Rattle.std.specs.List.{AllByRecursion}
 use Rattle.std.specs.Io.KnownBytes.{Consumes, Appends, IsAtEnd}
+use Rattle.nb_port.specs.Tells.{DiskTells}
 use Rattle.nb_port.specs.Faults.{Rose}
 use Rattle.nb_port.specs.Clock.{Gives}
 use Rattle.nb_units.specs.Frames.{Frame, frame, IsFrame, Partial, front_of, IsWhole, IsBad, Splits}
@@ -51,16 +52,16 @@ pub record StandsInRun (head : List ℕ) (cap : ℕ) (first : State) (states : L
 -- ---- one step
 
 -- a request was answered so: by a turn, whose fault lies between the disk's counts before it and after
-pub record AnswersWith {D : Type 0} (faults : D → ℕ) (old new : Chronicled D) (request : Request) (reply : List ℕ) : Type 0 where
+pub record AnswersWith {D : Type 0} (tells : DiskTells D) (old new : Chronicled D) (request : Request) (reply : List ℕ) : Type 0 where
   pub mark : Mark
   pub turn : Turn (rules_of old) (state_of old) request mark reply (state_of new)
-  pub backed : BackedBy (faults old.disk) mark (λ next. next ≤ faults new.disk)
+  pub backed : BackedBy (tells.faults old.disk) mark (λ next. next ≤ tells.faults new.disk)
 
 -- a frame was taken, the clock was asked, and a turn answered it
-pub record Stepped {D : Type 0} (faults : D → ℕ) (old new : Chronicled D) (before after : Outside) : Type 0 where
+pub record Stepped {D : Type 0} (tells : DiskTells D) (old new : Chronicled D) (before after : Outside) : Type 0 where
   pub one : Answered
   pub turn : Turn (rules_of old) (state_of old) one.request one.mark one.reply (state_of new)
-  pub backed : BackedBy (faults old.disk) one.mark (λ next. next ≤ faults new.disk)
+  pub backed : BackedBy (tells.faults old.disk) one.mark (λ next. next ≤ tells.faults new.disk)
   pub lawful : IsFrame (frame_of one)
   pub took : Consumes before.left after.left (frame (frame_of one))
   pub asked : Gives before.moments after.moments one.request.moment
@@ -79,19 +80,19 @@ abbrev pub EndsBadly : List ℕ → Option (List ℕ) → Type 0
 EndsBadly rest left = ((front_of rest ≡ Partial) × IsAtEnd left) ⊎ (IsBad (front_of rest) × (length rest ≤ HEADER))
 
 -- what one step of a batch did, by how it went
-abbrev pub StepIs : {D : Type 0} → (D → ℕ) → Chronicled D → Chronicled D → Outside → Outside → Step → Type 0
-StepIs faults old new before after step.Answered =
-    (s : Stepped faults old new before after) × Appends before.sent after.sent s.one.reply
-StepIs faults old new before after (step.Ended WriteFault) =
-    (s : Stepped faults old new before after) × SentPart before.sent after.sent s.one.reply
-StepIs faults old new before after (step.Ended Clean) =
+abbrev pub StepIs : {D : Type 0} → DiskTells D → Chronicled D → Chronicled D → Outside → Outside → Step → Type 0
+StepIs tells old new before after step.Answered =
+    (s : Stepped tells old new before after) × Appends before.sent after.sent s.one.reply
+StepIs tells old new before after (step.Ended WriteFault) =
+    (s : Stepped tells old new before after) × SentPart before.sent after.sent s.one.reply
+StepIs tells old new before after (step.Ended Clean) =
     (s : Stopped old new before after) × (s.rest ≡ []) × IsAtEnd after.left
-StepIs faults old new before after (step.Ended BadInput) =
+StepIs tells old new before after (step.Ended BadInput) =
     (s : Stopped old new before after) × EndsBadly s.rest after.left
-StepIs faults old new before after (step.Ended ReadFault) = Stopped old new before after
-StepIs faults old new before after (step.Ended NoMemory) =
+StepIs tells old new before after (step.Ended ReadFault) = Stopped old new before after
+StepIs tells old new before after (step.Ended NoMemory) =
     (s : Stopped old new before after) × (IsBad (front_of s.rest) → ⊥)
-StepIs faults old new before after (step.Ended FrameLimit) = ⊥
+StepIs tells old new before after (step.Ended FrameLimit) = ⊥
 
 -- ---- the whole batch
 
@@ -132,7 +133,7 @@ CountsAs WriteFault count = count ≤ MOST_FRAMES
 CountsAs other count = count < MOST_FRAMES
 
 -- What a batch did over a house, by how it ended
-pub record Served {D : Type 0} (content : D → Option (List ℕ)) (faults : D → ℕ) (moment : D → ℕ) (left : D → ℕ → List ℕ → Type 0) (old new : Chronicled D) (before after : Outside) (end : BatchEnd) : Type 0 where
+pub record Served {D : Type 0} (tells : DiskTells D) (old new : Chronicled D) (before after : Outside) (end : BatchEnd) : Type 0 where
   -- the requests that were answered and the states that the house came to, frames that were taken and not answered, and what
   -- follows them
   pub answered : List Answered
@@ -148,9 +149,9 @@ pub record Served {D : Type 0} (content : D → Option (List ℕ)) (faults : D �
   pub asked : Gave before.moments after.moments (map moment_of answered)
   pub turns : Run (rules_of old) (state_of old) answered states
   pub last : state_of new ≡ last_state (state_of old) states
-  pub backed : Backed (faults old.disk) answered (faults new.disk)
-  pub stops : LeavesOnly moment left old.disk new.disk (StandsInRun old.origin.head old.origin.cap (state_of old) states)
-  pub quiet : AllByRecursion (λ state. state ≡ state_of old) states → content new.disk ≡ content old.disk
+  pub backed : Backed (tells.faults old.disk) answered (tells.faults new.disk)
+  pub stops : LeavesOnly tells old.disk new.disk (StandsInRun old.origin.head old.origin.cap (state_of old) states)
+  pub quiet : AllByRecursion (λ state. state ≡ state_of old) states → tells.content new.disk ≡ tells.content old.disk
   pub wrote : Wrote end before after answered
 
 -- which count of faults rose

@@ -54,11 +54,11 @@ pub fn serve<D: Disk, S: Source, K: Sink, C: Clock>(
     sink: &mut K,
     clock: &mut C,
 ) -> BatchEnd
-    ensures served { Served D.content D.faults D.moment D.left house.old house.new
+    ensures served { Served D.tells house.old house.new
         (record { left = S.left source.old; sent = K.sent sink.old; moments = C.moments clock.old })
         (record { left = S.left source.new; sent = K.sent sink.new; moments = C.moments clock.new }) result }
     ensures origin { house.new.origin ≡ house.old.origin }
-    ensures disk { D.faults house.old.disk ≤ D.faults house.new.disk }
+    ensures disk { D.tells.faults house.old.disk ≤ D.tells.faults house.new.disk }
     ensures source { S.faults source.old ≤ S.faults source.new }
     ensures sink { K.faults sink.old ≤ K.faults sink.new }
     ensures fault { FaultOf (S.faults source.old) (S.faults source.new) (K.faults sink.old) (K.faults sink.new) result }
@@ -88,15 +88,15 @@ fn answer_next<D: Disk, S: Source, K: Sink, C: Clock>(
     clock: &mut C,
 ) -> Step
     requires { REPLY_ROOM ≤ vec_capacity reply.old }
-    ensures step { StepIs D.faults house.old house.new
+    ensures step { StepIs D.tells house.old house.new
         (record { left = S.left source.old; sent = K.sent sink.old; moments = C.moments clock.old })
         (record { left = S.left source.new; sent = K.sent sink.new; moments = C.moments clock.new }) result }
     ensures origin { house.new.origin ≡ house.old.origin }
-    ensures any_moment { LeavesOnly D.moment D.left house.old.disk house.new.disk
+    ensures any_moment { LeavesOnly D.tells house.old.disk house.new.disk
         (λ image. StandsForState house.old image ⊎ StandsForState house.new image) }
-    ensures quiet { state_of house.new ≡ state_of house.old → D.content house.new.disk ≡ D.content house.old.disk }
+    ensures quiet { state_of house.new ≡ state_of house.old → D.tells.content house.new.disk ≡ D.tells.content house.old.disk }
     ensures room { vec_capacity reply.old ≤ vec_capacity reply.new }
-    ensures disk { D.faults house.old.disk ≤ D.faults house.new.disk }
+    ensures disk { D.tells.faults house.old.disk ≤ D.tells.faults house.new.disk }
     ensures source { S.faults source.old ≤ S.faults source.new }
     ensures sink { K.faults sink.old ≤ K.faults sink.new }
     ensures fault { StepFaultOf (S.faults source.old) (S.faults source.new) (K.faults sink.old) (K.faults sink.new) result }
@@ -130,13 +130,13 @@ fn answer_with<D: Disk>(
 )
     requires empty { reply.old.items ≡ [] }
     requires room { REPLY_ROOM ≤ spare_of reply.old }
-    ensures answers { AnswersWith D.faults house.old house.new (request_of kind body.now moment) reply.new.items }
+    ensures answers { AnswersWith D.tells house.old house.new (request_of kind body.now moment) reply.new.items }
     ensures origin { house.new.origin ≡ house.old.origin }
-    ensures any_moment { LeavesOnly D.moment D.left house.old.disk house.new.disk
+    ensures any_moment { LeavesOnly D.tells house.old.disk house.new.disk
         (λ image. StandsForState house.old image ⊎ StandsForState house.new image) }
-    ensures quiet { state_of house.new ≡ state_of house.old → D.content house.new.disk ≡ D.content house.old.disk }
+    ensures quiet { state_of house.new ≡ state_of house.old → D.tells.content house.new.disk ≡ D.tells.content house.old.disk }
     ensures room { vec_capacity reply.new ≡ vec_capacity reply.old }
-    ensures disk { D.faults house.old.disk ≤ D.faults house.new.disk }
+    ensures disk { D.tells.faults house.old.disk ≤ D.tells.faults house.new.disk }
 {
     match house.answer(ASKER, kind, body, moment, reply) {
         Answer::Answered { .. } => {}

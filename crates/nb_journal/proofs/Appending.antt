@@ -2,6 +2,7 @@
 use Rattle.std.proofs.Common.{◌≡◌, refl, inl, ℕ, ◌+◌, ◌<◌, ◌≤◌, false, true, List, [], ◌∷◌, ◌++◌, length, Option, Some, None, IfSome, arith, sym, ap, subst, ◌∙◌, length-append}
 use Rattle.std.proofs.lemmas.List.{length-take}
 use Rattle.nb_units.specs.Fields.{sized}
+use Rattle.nb_port.specs.Tells.{DiskTells}
 use Rattle.nb_port.specs.Disk.{Torn, MayTear, Only, Follows, put_at, wrote_at}
 use Rattle.nb_journal.specs.Layout.{open_gate, item_bytes, body_bytes, up_to_gate}
 use Rattle.nb_journal.specs.Stands.{Stands, BeforeOrAfter}
@@ -81,86 +82,85 @@ gate_tears old mid new gate item wrote inside torn =
 -- ---- journals
 
 -- at rest the gate is there
-pub rest_gate : {D : Type 0} (content : D → Option (List ℕ)) (allowed : D → List ℕ → Type 0) (front : List ℕ) (items : List (List ℕ)) (j : Journal D) → AtRest content allowed front items j → HasGate content j
-rest_gate content allowed front items j rest = told (content j.disk) rest.bytes
+pub rest_gate : {D : Type 0} (tells : DiskTells D) (front : List ℕ) (items : List (List ℕ)) (j : Journal D) → AtRest tells front items j → HasGate tells j
+rest_gate tells front items j rest = told (tells.content j.disk) rest.bytes
   where
     told : (o : Option (List ℕ)) → IfSome o (Stands front items) → IfSome o (λ bytes. j.gate < length bytes)
     told None stands = tt
     told (Some bytes) stands = omega (arith, rest.place, ap length stands.bytes, length-append (up_to_gate front items) (stands.gate ∷ stands.rest))
 
 -- each image that a stop leaves at rest
-pub stands_now : {D : Type 0} (content : D → Option (List ℕ)) (allowed : D → List ℕ → Type 0) (front : List ℕ) (items : List (List ℕ)) (j : Journal D) → AtRest content allowed front items j → (c : List ℕ) → allowed j.disk c → Stands front items c
-stands_now content allowed front items j rest c is = some_of (content j.disk) (Stands front items) c (rest.only c is) rest.bytes
+pub stands_now : {D : Type 0} (tells : DiskTells D) (front : List ℕ) (items : List (List ℕ)) (j : Journal D) → AtRest tells front items j → (c : List ℕ) → tells.allowed j.disk c → Stands front items c
+stands_now tells front items j rest c is = some_of (tells.content j.disk) (Stands front items) c (rest.only c is) rest.bytes
 
-module _ {D : Type 0} (content : D → Option (List ℕ)) (allowed : D → List ℕ → Type 0) (front : List ℕ) (items : List (List ℕ)) (item : List ℕ) where
+module _ {D : Type 0} (tells : DiskTells D) (front : List ℕ) (items : List (List ℕ)) (item : List ℕ) where
   -- the body was put and synced
   pub record HasBody (old : Journal D) (mid : D) : Type 0 where
-    pub wrote : content mid ≡ wrote_at (content old.disk) (old.gate + 1) (body_bytes item)
-    pub only : Only (content mid) (allowed mid)
+    pub wrote : tells.content mid ≡ wrote_at (tells.content old.disk) (old.gate + 1) (body_bytes item)
+    pub only : Only (tells.content mid) (tells.allowed mid)
 
   -- the content then
-  staged_content : (old : Journal D) (mid : D) → AtRest content allowed front items old → HasBody old mid → IfSome (content mid) (Staged front items item)
+  staged_content : (old : Journal D) (mid : D) → AtRest tells front items old → HasBody old mid → IfSome (tells.content mid) (Staged front items item)
   staged_content old mid rest body =
-      some_wrote (content old.disk) (content mid) (old.gate + 1) (body_bytes item) (Stands front items) (Staged front items item) body.wrote (λ d stands. body_put front items item old.gate d rest.place stands) rest.bytes
+      some_wrote (tells.content old.disk) (tells.content mid) (old.gate + 1) (body_bytes item) (Stands front items) (Staged front items item) body.wrote (λ d stands. body_put front items item old.gate d rest.place stands) rest.bytes
 
   -- each image then
-  staged_now : (old : Journal D) (mid : D) → AtRest content allowed front items old → HasBody old mid → (c : List ℕ) → allowed mid c → Staged front items item c
-  staged_now old mid rest body c is = some_of (content mid) (Staged front items item) c (body.only c is) (staged_content old mid rest body)
+  staged_now : (old : Journal D) (mid : D) → AtRest tells front items old → HasBody old mid → (c : List ℕ) → tells.allowed mid c → Staged front items item c
+  staged_now old mid rest body c is = some_of (tells.content mid) (Staged front items item) c (body.only c is) (staged_content old mid rest body)
 
   -- what a torn body leaves
-  first_leaves : (old : Journal D) (n : ℕ) → AtRest content allowed front items old → (c : List ℕ) → TornOf (allowed old.disk) (old.gate + 1) n c → BeforeOrAfter front items item c
-  first_leaves old n rest c of = inl (behind_gate front items old.gate n of.0 c rest.place (stands_now content allowed front items old rest of.0 of.1) of.2)
+  first_leaves : (old : Journal D) (n : ℕ) → AtRest tells front items old → (c : List ℕ) → TornOf (tells.allowed old.disk) (old.gate + 1) n c → BeforeOrAfter front items item c
+  first_leaves old n rest c of = inl (behind_gate front items old.gate n of.0 c rest.place (stands_now tells front items old rest of.0 of.1) of.2)
 
   -- what a torn gate leaves
-  second_leaves : (old : Journal D) (mid : D) → AtRest content allowed front items old → HasBody old mid → (c : List ℕ) → TornOf (allowed mid) old.gate 1 c → BeforeOrAfter front items item c
+  second_leaves : (old : Journal D) (mid : D) → AtRest tells front items old → HasBody old mid → (c : List ℕ) → TornOf (tells.allowed mid) old.gate 1 c → BeforeOrAfter front items item c
   second_leaves old mid rest body c of = at_gate front items item old.gate of.0 c rest.place (staged_now old mid rest body of.0 of.1) of.2
 
   -- the body failed
-  pub doubt_first : (old new : Journal D) (n : ℕ) → AtRest content allowed front items old → MayTear (content old.disk) (content new.disk) (old.gate + 1) n
-      → Follows (Torn (old.gate + 1) n) (allowed old.disk) (allowed new.disk) → new.stale ≡ true → new.gate ≡ old.gate → new.next ≡ old.gate + (length item + 5) → new.len ≡ old.len → InDoubt content allowed front items item new
+  pub doubt_first : (old new : Journal D) (n : ℕ) → AtRest tells front items old → MayTear (tells.content old.disk) (tells.content new.disk) (old.gate + 1) n
+      → Follows (Torn (old.gate + 1) n) (tells.allowed old.disk) (tells.allowed new.disk) → new.stale ≡ true → new.gate ≡ old.gate → new.next ≡ old.gate + (length item + 5) → new.len ≡ old.len → InDoubt tells front items item new
   doubt_first old new n rest torn follows stale gate next count = record {
     stale = stale;
     place = gate ∙ rest.place;
     next = next ∙ next_gate front items item old.gate rest.place;
     count = count ∙ rest.count;
-    bytes = some_torn (content old.disk) (content new.disk) (old.gate + 1) n (Stands front items) (BeforeOrAfter front items item) torn (λ d c stands tears. inl (behind_gate front items old.gate n d c rest.place stands tears)) rest.bytes;
+    bytes = some_torn (tells.content old.disk) (tells.content new.disk) (old.gate + 1) n (Stands front items) (BeforeOrAfter front items item) torn (λ d c stands tears. inl (behind_gate front items old.gate n d c rest.place stands tears)) rest.bytes;
     images = λ c is. first_leaves old n rest c (follows c is);
   }
 
   -- the gate failed
-  pub doubt_second : (old new : Journal D) (mid : D) → AtRest content allowed front items old → HasBody old mid → MayTear (content mid) (content new.disk) old.gate 1
-      → Follows (Torn old.gate 1) (allowed mid) (allowed new.disk) → new.stale ≡ true → new.gate ≡ old.gate → new.next ≡ old.gate + (length item + 5) → new.len ≡ old.len → InDoubt content allowed front items item new
+  pub doubt_second : (old new : Journal D) (mid : D) → AtRest tells front items old → HasBody old mid → MayTear (tells.content mid) (tells.content new.disk) old.gate 1
+      → Follows (Torn old.gate 1) (tells.allowed mid) (tells.allowed new.disk) → new.stale ≡ true → new.gate ≡ old.gate → new.next ≡ old.gate + (length item + 5) → new.len ≡ old.len → InDoubt tells front items item new
   doubt_second old new mid rest body torn follows stale gate next count = record {
     stale = stale;
     place = gate ∙ rest.place;
     next = next ∙ next_gate front items item old.gate rest.place;
     count = count ∙ rest.count;
-    bytes = some_torn (content mid) (content new.disk) old.gate 1 (Staged front items item) (BeforeOrAfter front items item) torn (λ d c staged tears. at_gate front items item old.gate d c rest.place staged tears) (staged_content old mid rest body);
+    bytes = some_torn (tells.content mid) (tells.content new.disk) old.gate 1 (Staged front items item) (BeforeOrAfter front items item) torn (λ d c staged tears. at_gate front items item old.gate d c rest.place staged tears) (staged_content old mid rest body);
     images = λ c is. second_leaves old mid rest body c (follows c is);
   }
 
   -- the gate was opened and synced
-  pub added : (old new : Journal D) (mid : D) → AtRest content allowed front items old → HasBody old mid → content new.disk ≡ wrote_at (content mid) old.gate (open_gate ∷ [])
-      → Only (content new.disk) (allowed new.disk) → new.stale ≡ false → new.gate ≡ old.gate + (length item + 5) → new.len ≡ old.len + 1 → AtRest content allowed front (items ++ item ∷ []) new
+  pub added : (old new : Journal D) (mid : D) → AtRest tells front items old → HasBody old mid → tells.content new.disk ≡ wrote_at (tells.content mid) old.gate (open_gate ∷ [])
+      → Only (tells.content new.disk) (tells.allowed new.disk) → new.stale ≡ false → new.gate ≡ old.gate + (length item + 5) → new.len ≡ old.len + 1 → AtRest tells front (items ++ item ∷ []) new
   added old new mid rest body wrote only fresh gate count = record {
     fresh = fresh;
     place = gate ∙ next_gate front items item old.gate rest.place;
     count = omega (arith, count, rest.count, length-append items (item ∷ []));
-    bytes = some_wrote (content mid) (content new.disk) old.gate (open_gate ∷ []) (Staged front items item) (Stands front (items ++ item ∷ [])) wrote (λ d staged. gate_opened front items item old.gate d rest.place staged) (staged_content old mid rest body);
+    bytes = some_wrote (tells.content mid) (tells.content new.disk) old.gate (open_gate ∷ []) (Staged front items item) (Stands front (items ++ item ∷ [])) wrote (λ d staged. gate_opened front items item old.gate d rest.place staged) (staged_content old mid rest body);
     only = only;
   }
 
-  module _ (moment : D → ℕ) (left : D → ℕ → List ℕ → Type 0) where
-    -- a stop within the first step or behind it
-    pub run_first : (old : Journal D) (mid : D) (n : ℕ) → AtRest content allowed front items old → ((c : List ℕ) → left old.disk (moment old.disk) c → allowed old.disk c)
-        → Since (TornOf (allowed old.disk) (old.gate + 1) n) (moment old.disk) (moment mid) (left old.disk) (left mid) → LeavesOnly moment left old.disk mid (BeforeOrAfter front items item)
-    run_first old mid n rest only_now time =
-        let before = started moment left old.disk (BeforeOrAfter front items item) (λ c is. inl (stands_now content allowed front items old rest c (only_now c is))) in
-        goes_on moment left old.disk old.disk mid (BeforeOrAfter front items item) (TornOf (allowed old.disk) (old.gate + 1) n) before time (λ c of. first_leaves old n rest c of)
+  -- a stop within the first step or behind it
+  pub run_first : (old : Journal D) (mid : D) (n : ℕ) → AtRest tells front items old → ((c : List ℕ) → tells.left old.disk (tells.moment old.disk) c → tells.allowed old.disk c)
+      → Since (TornOf (tells.allowed old.disk) (old.gate + 1) n) (tells.moment old.disk) (tells.moment mid) (tells.left old.disk) (tells.left mid) → LeavesOnly tells old.disk mid (BeforeOrAfter front items item)
+  run_first old mid n rest only_now time =
+      let before = started tells old.disk (BeforeOrAfter front items item) (λ c is. inl (stands_now tells front items old rest c (only_now c is))) in
+      goes_on tells old.disk old.disk mid (BeforeOrAfter front items item) (TornOf (tells.allowed old.disk) (old.gate + 1) n) before time (λ c of. first_leaves old n rest c of)
 
-    -- a stop within the second step or behind it
-    pub run_second : (old : Journal D) (mid new : D) (n : ℕ) → AtRest content allowed front items old → ((c : List ℕ) → left old.disk (moment old.disk) c → allowed old.disk c)
-        → Since (TornOf (allowed old.disk) (old.gate + 1) n) (moment old.disk) (moment mid) (left old.disk) (left mid) → HasBody old mid
-        → Since (TornOf (allowed mid) old.gate 1) (moment mid) (moment new) (left mid) (left new) → LeavesOnly moment left old.disk new (BeforeOrAfter front items item)
-    run_second old mid new n rest only_now first body second =
-        goes_on moment left old.disk mid new (BeforeOrAfter front items item) (TornOf (allowed mid) old.gate 1) (run_first old mid n rest only_now first) second (λ c of. second_leaves old mid rest body c of)
+  -- a stop within the second step or behind it
+  pub run_second : (old : Journal D) (mid new : D) (n : ℕ) → AtRest tells front items old → ((c : List ℕ) → tells.left old.disk (tells.moment old.disk) c → tells.allowed old.disk c)
+      → Since (TornOf (tells.allowed old.disk) (old.gate + 1) n) (tells.moment old.disk) (tells.moment mid) (tells.left old.disk) (tells.left mid) → HasBody old mid
+      → Since (TornOf (tells.allowed mid) old.gate 1) (tells.moment mid) (tells.moment new) (tells.left mid) (tells.left new) → LeavesOnly tells old.disk new (BeforeOrAfter front items item)
+  run_second old mid new n rest only_now first body second =
+      goes_on tells old.disk mid new (BeforeOrAfter front items item) (TornOf (tells.allowed mid) old.gate 1) (run_first old mid n rest only_now first) second (λ c of. second_leaves old mid rest body c of)

@@ -5,6 +5,7 @@ use Rattle.std.specs.Int.{w32, from_be_bytes}
 use Rattle.std.specs.List.{flat_map}
 use Rattle.std.proofs.lemmas.Bool.{eqb-false}
 use Rattle.std.proofs.lemmas.List.{append_assoc, take-append-drop}
+use Rattle.nb_port.specs.Tells.{DiskTells}
 use Rattle.nb_port.specs.Disk.{Only}
 use Rattle.nb_journal.specs.Layout.{open_gate, front_bytes, AreTerms, item_bytes, up_to_gate}
 use Rattle.nb_journal.specs.Stands.{Stands}
@@ -67,11 +68,11 @@ pub front_length : (cap : ℕ) (head : List ℕ) → AreTerms cap head → lengt
 front_length cap head are = omega (arith, are.whole, length-append head (replicate 4 0))
 
 -- the journal over what was read
-pub opens : {D : Type 0} (content : D → Option (List ℕ)) (allowed : D → List ℕ → Type 0) (disk mid : D) (most place count : ℕ) (o : Opened D) → AreTerms o.cap o.head → AreItems o.cap o.items.items place
-    → IfSome (content disk) (λ image. IsWhole image o.cap o.head o.items.items place) → content mid ≡ content disk → Only (content disk) (allowed mid) → count ≡ length o.items.items → IsOver mid place count o.cap most o.journal
-    → Opens content allowed disk most o
-opens content allowed disk mid most place count o terms items whole same only counts over =
-    let told : content o.journal.disk ≡ content disk = ap content over.disk ∙ same in
+pub opens : {D : Type 0} (tells : DiskTells D) (disk mid : D) (most place count : ℕ) (o : Opened D) → AreTerms o.cap o.head → AreItems o.cap o.items.items place
+    → IfSome (tells.content disk) (λ image. IsWhole image o.cap o.head o.items.items place) → tells.content mid ≡ tells.content disk → Only (tells.content disk) (tells.allowed mid) → count ≡ length o.items.items → IsOver mid place count o.cap most o.journal
+    → Opens tells disk most o
+opens tells disk mid most place count o terms items whole same only counts over =
+    let told : tells.content o.journal.disk ≡ tells.content disk = ap tells.content over.disk ∙ same in
     record {
       terms = terms;
       fit = items.fit;
@@ -80,12 +81,12 @@ opens content allowed disk mid most place count o terms items whole same only co
         place = over.gate ∙ gate;
         count = over.len ∙ counts;
         bytes = subst (λ (t : Option (List ℕ)). IfSome t (Stands (front_bytes o.cap o.head) o.items.items)) (sym told)
-            (some_each (content disk) (λ image. IsWhole image o.cap o.head o.items.items place) (Stands (front_bytes o.cap o.head) o.items.items) (λ image is. whole_stands image o.cap o.head o.items.items place is) whole);
-        only = λ image is. told ∙ only image (subst (λ d. allowed d image) over.disk is);
+            (some_each (tells.content disk) (λ image. IsWhole image o.cap o.head o.items.items place) (Stands (front_bytes o.cap o.head) o.items.items) (λ image is. whole_stands image o.cap o.head o.items.items place is) whole);
+        only = λ image is. told ∙ only image (subst (λ d. tells.allowed d image) over.disk is);
       };
       cap = over.cap;
       room = over.room;
-      holds = some_each (content disk) (λ image. IsWhole image o.cap o.head o.items.items place) (λ image. Holds image o.cap o.head o.items.items) (λ image is. record { terms = terms; front = is.front; found = is.read.found }) whole;
+      holds = some_each (tells.content disk) (λ image. IsWhole image o.cap o.head o.items.items place) (λ image. Holds image o.cap o.head o.items.items) (λ image is. record { terms = terms; front = is.front; found = is.read.found }) whole;
     }
   where
     gate : place ≡ length (up_to_gate (front_bytes o.cap o.head) o.items.items)

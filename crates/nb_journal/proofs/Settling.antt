@@ -1,6 +1,7 @@
 -- What the byte at the gate tells of an item in doubt.
 use Rattle.std.proofs.Common.{◌≡◌, ◌≢◌, inl, inr, ℕ, ◌+◌, ◌<◌, false, List, [], ◌∷◌, ◌++◌, length, Option, Some, None, IfSome, get_or, arith, sym, ap, subst, ◌∙◌, length-append}
 use Rattle.std.proofs.lemmas.List.{append_assoc, get_or_at}
+use Rattle.nb_port.specs.Tells.{DiskTells}
 use Rattle.nb_port.specs.Disk.{Only}
 use Rattle.nb_units.specs.Fields.{sized}
 use Rattle.nb_journal.specs.Layout.{open_gate, item_bytes, up_to_gate}
@@ -42,25 +43,25 @@ pub gate_is : (told : Option (List ℕ)) (gate byte : ℕ) (P : ℕ → Type 0) 
 gate_is None gate byte P is read = tt
 gate_is (Some image) gate byte P is read = λ within. subst P read is
 
-module _ {D : Type 0} (content : D → Option (List ℕ)) (allowed : D → List ℕ → Type 0) (front : List ℕ) (items : List (List ℕ)) (item : List ℕ) where
+module _ {D : Type 0} (tells : DiskTells D) (front : List ℕ) (items : List (List ℕ)) (item : List ℕ) where
   -- the journal behind an item that is there
-  pub kept : (old new : Journal D) (byte : ℕ) → InDoubt content allowed front items item old → IfSome (content old.disk) (λ image. byte ≡ get_or image old.gate 0) → byte ≡ open_gate
-      → content new.disk ≡ content old.disk → Only (content new.disk) (allowed new.disk) → new.stale ≡ false → new.gate ≡ old.next → new.len ≡ old.len + 1 → AtRest content allowed front (items ++ item ∷ []) new
+  pub kept : (old new : Journal D) (byte : ℕ) → InDoubt tells front items item old → IfSome (tells.content old.disk) (λ image. byte ≡ get_or image old.gate 0) → byte ≡ open_gate
+      → tells.content new.disk ≡ tells.content old.disk → Only (tells.content new.disk) (tells.allowed new.disk) → new.stale ≡ false → new.gate ≡ old.next → new.len ≡ old.len + 1 → AtRest tells front (items ++ item ∷ []) new
   kept old new byte doubt read is same only fresh gate count = record {
     fresh = fresh;
     place = gate ∙ doubt.next;
     count = omega (arith, count, doubt.count, length-append items (item ∷ []));
-    bytes = subst (λ (told : Option (List ℕ)). IfSome told (Stands front (items ++ item ∷ []))) (sym same) (with_item (content old.disk) front items item old.gate byte doubt.place read is doubt.bytes);
+    bytes = subst (λ (told : Option (List ℕ)). IfSome told (Stands front (items ++ item ∷ []))) (sym same) (with_item (tells.content old.disk) front items item old.gate byte doubt.place read is doubt.bytes);
     only = only;
   }
 
   -- the journal behind one that is not
-  pub dropped : (old new : Journal D) (byte : ℕ) → InDoubt content allowed front items item old → IfSome (content old.disk) (λ image. byte ≡ get_or image old.gate 0) → byte ≢ open_gate
-      → content new.disk ≡ content old.disk → Only (content new.disk) (allowed new.disk) → new.stale ≡ false → new.gate ≡ old.gate → new.len ≡ old.len → AtRest content allowed front items new
+  pub dropped : (old new : Journal D) (byte : ℕ) → InDoubt tells front items item old → IfSome (tells.content old.disk) (λ image. byte ≡ get_or image old.gate 0) → byte ≢ open_gate
+      → tells.content new.disk ≡ tells.content old.disk → Only (tells.content new.disk) (tells.allowed new.disk) → new.stale ≡ false → new.gate ≡ old.gate → new.len ≡ old.len → AtRest tells front items new
   dropped old new byte doubt read is same only fresh gate count = record {
     fresh = fresh;
     place = gate ∙ doubt.place;
     count = count ∙ doubt.count;
-    bytes = subst (λ (told : Option (List ℕ)). IfSome told (Stands front items)) (sym same) (without_item (content old.disk) front items item old.gate byte doubt.place read is doubt.bytes);
+    bytes = subst (λ (told : Option (List ℕ)). IfSome told (Stands front items)) (sym same) (without_item (tells.content old.disk) front items item old.gate byte doubt.place read is doubt.bytes);
     only = only;
   }

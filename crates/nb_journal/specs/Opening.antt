@@ -1,6 +1,7 @@
 -- What opening a journal gives.
 use Rattle.std.specs.Prelude.{◌≡◌, ◌≢◌, ℕ, ⊤, List, Option, IfSome, Result, Ok, Err}
 use Rattle.std.specs.List.{AllByRecursion}
+use Rattle.nb_port.specs.Tells.{DiskTells}
 use Rattle.nb_port.specs.Faults.{Rose}
 use Rattle.nb_journal.specs.declared.opening.Opened.{Opened}
 use Rattle.nb_journal.specs.declared.opening.OpenFault.{OpenFault}
@@ -10,26 +11,26 @@ use Rattle.nb_journal.specs.Reading.{Holds, IsUnborn, IsDamaged}
 use Rattle.nb_journal.specs.States.{AtRest}
 
 -- the journal is at rest with the items of the content, and these are what the content holds
-pub record Opens {D : Type 0} (content : D → Option (List ℕ)) (allowed : D → List ℕ → Type 0)
+pub record Opens {D : Type 0} (tells : DiskTells D)
     (disk : D) (max_bytes : ℕ) (o : Opened D) : Type 0 where
   pub terms : AreTerms o.cap o.head
   pub fit : AllByRecursion IsItem o.items.items
-  pub rest : AtRest content allowed (front_bytes o.cap o.head) o.items.items o.journal
+  pub rest : AtRest tells (front_bytes o.cap o.head) o.items.items o.journal
   pub cap : o.journal.cap ≡ o.cap
   pub room : o.journal.room ≡ max_bytes
-  pub holds : IfSome (content disk) (λ image. Holds image o.cap o.head o.items.items)
+  pub holds : IfSome (tells.content disk) (λ image. Holds image o.cap o.head o.items.items)
 
 -- by cases on the fault, for the disk before and after
-abbrev pub OpenFails : {D : Type 0} → (D → Option (List ℕ)) → (D → ℕ) → D → D → OpenFault → Type 0
-OpenFails content faults old new (opens.Unborn found) = (found ≢ magic) × IfSome (content old) (λ image. IsUnborn image found)
-OpenFails content faults old new (opens.Damaged item place) = IfSome (content old) (λ image. IsDamaged image item place)
-OpenFails content faults old new (opens.DiskFault before after) = (before ≡ faults old) × (after ≡ faults new) × Rose before after
-OpenFails content faults old new opens.NoMemory = ⊤
+abbrev pub OpenFails : {D : Type 0} → DiskTells D → D → D → OpenFault → Type 0
+OpenFails tells old new (opens.Unborn found) = (found ≢ magic) × IfSome (tells.content old) (λ image. IsUnborn image found)
+OpenFails tells old new (opens.Damaged item place) = IfSome (tells.content old) (λ image. IsDamaged image item place)
+OpenFails tells old new (opens.DiskFault before after) = (before ≡ tells.faults old) × (after ≡ tells.faults new) × Rose before after
+OpenFails tells old new opens.NoMemory = ⊤
 
 -- by cases on the result
-abbrev pub OpenGives : {D : Type 0} → (D → Option (List ℕ)) → (D → List ℕ → Type 0) → (D → ℕ) → D → ℕ → Result (Opened D) (OpenFault × D) → Type 0
-OpenGives content allowed faults disk room (Ok o) = Opens content allowed disk room o
-OpenGives content allowed faults disk room (Err e) = OpenFails content faults disk e.1 e.0
+abbrev pub OpenGives : {D : Type 0} → DiskTells D → D → ℕ → Result (Opened D) (OpenFault × D) → Type 0
+OpenGives tells disk room (Ok o) = Opens tells disk room o
+OpenGives tells disk room (Err e) = OpenFails tells disk e.1 e.0
 
 -- the disk, in the journal or given back
 abbrev pub disk_of : {D : Type 0} → Result (Opened D) (OpenFault × D) → D

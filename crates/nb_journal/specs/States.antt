@@ -1,6 +1,6 @@
--- A journal between its calls, and what its calls make of it. The words take what a disk tells as arguments: its content, its
--- images, its count of faults.
+-- A journal between its calls, and what its calls make of it, over what a disk tells.
 use Rattle.std.specs.Prelude.{◌≡◌, ◌≢◌, ℕ, ◌+◌, ◌<◌, ◌≤◌, List, [], ◌∷◌, ◌++◌, length, false, true, Option, IfSome, slice_index_or, ⊤, Result, Ok, Err}
+use Rattle.nb_port.specs.Tells.{DiskTells}
 use Rattle.nb_port.specs.Disk.{Only, MayTear, wrote_at}
 use Rattle.nb_port.specs.Faults.{Rose}
 use Rattle.nb_port.specs.declared.disk.DiskOut.{DiskOut}
@@ -17,27 +17,27 @@ use Rattle.nb_journal.specs.Layout.{open_gate, item_bytes, up_to_gate}
 use Rattle.nb_journal.specs.Stands.{Stands, BeforeOrAfter}
 
 -- nothing is in doubt: the content stands for the items, and a stop leaves nothing else
-pub record AtRest {D : Type 0} (content : D → Option (List ℕ)) (allowed : D → List ℕ → Type 0)
+pub record AtRest {D : Type 0} (tells : DiskTells D)
     (front : List ℕ) (items : List (List ℕ)) (j : Journal D) : Type 0 where
   pub fresh : j.stale ≡ false
   pub place : j.gate ≡ length (up_to_gate front items)
   pub count : j.len ≡ length items
-  pub bytes : IfSome (content j.disk) (Stands front items)
-  pub only : Only (content j.disk) (allowed j.disk)
+  pub bytes : IfSome (tells.content j.disk) (Stands front items)
+  pub only : Only (tells.content j.disk) (tells.allowed j.disk)
 
 -- an item is in doubt: the content, and what a stop leaves, stands for the items without it or with it
-pub record InDoubt {D : Type 0} (content : D → Option (List ℕ)) (allowed : D → List ℕ → Type 0)
+pub record InDoubt {D : Type 0} (tells : DiskTells D)
     (front : List ℕ) (items : List (List ℕ)) (item : List ℕ) (j : Journal D) : Type 0 where
   pub stale : j.stale ≡ true
   pub place : j.gate ≡ length (up_to_gate front items)
   pub next : j.next ≡ length (up_to_gate front (items ++ item ∷ []))
   pub count : j.len ≡ length items
-  pub bytes : IfSome (content j.disk) (BeforeOrAfter front items item)
-  pub images : (c : List ℕ) → allowed j.disk c → BeforeOrAfter front items item c
+  pub bytes : IfSome (tells.content j.disk) (BeforeOrAfter front items item)
+  pub images : (c : List ℕ) → tells.allowed j.disk c → BeforeOrAfter front items item c
 
 -- the gate's place is within the content
-abbrev pub HasGate : {D : Type 0} → (D → Option (List ℕ)) → Journal D → Type 0
-HasGate content j = IfSome (content j.disk) (λ bytes. j.gate < length bytes)
+abbrev pub HasGate : {D : Type 0} → DiskTells D → Journal D → Type 0
+HasGate tells j = IfSome (tells.content j.disk) (λ bytes. j.gate < length bytes)
 
 -- the limits stay
 abbrev pub SameLimits : {D : Type 0} → Journal D → Journal D → Type 0
@@ -72,27 +72,25 @@ DoubtAfterAppend new (Err (appends.TooBig len room)) = new.stale ≡ false
 DoubtAfterAppend new (Err (appends.DiskFault before after)) = new.stale ≡ true
 
 -- by cases on the fault, for the journal before and after
-abbrev pub AppendFails : {D : Type 0} → (D → Option (List ℕ)) → (D → List ℕ → Type 0) → (D → ℕ)
-    → Journal D → Journal D → List ℕ → AppendFault → Type 0
-AppendFails content allowed faults old new item (appends.Full cap) = (new ≡ old) × (cap ≡ old.cap) × (old.cap ≤ old.len)
-AppendFails content allowed faults old new item (appends.TooBig len room) =
+abbrev pub AppendFails : {D : Type 0} → DiskTells D → Journal D → Journal D → List ℕ → AppendFault → Type 0
+AppendFails tells old new item (appends.Full cap) = (new ≡ old) × (cap ≡ old.cap) × (old.cap ≤ old.len)
+AppendFails tells old new item (appends.TooBig len room) =
     (new ≡ old) × (len ≡ length item) × (room ≡ old.room) × (old.len < old.cap) × (old.room < length item)
-AppendFails content allowed faults old new item (appends.DiskFault before after) =
-    (before ≡ faults old.disk) × (after ≡ faults new.disk) × Rose before after
-    × ((front : List ℕ) (items : List (List ℕ)) → AtRest content allowed front items old → InDoubt content allowed front items item new)
+AppendFails tells old new item (appends.DiskFault before after) =
+    (before ≡ tells.faults old.disk) × (after ≡ tells.faults new.disk) × Rose before after
+    × ((front : List ℕ) (items : List (List ℕ)) → AtRest tells front items old → InDoubt tells front items item new)
 
 -- the item stands behind the others
-abbrev pub AppendGives : {D : Type 0} → (D → Option (List ℕ)) → (D → List ℕ → Type 0) → (D → ℕ)
-    → Journal D → Journal D → List ℕ → Result (Unit {0}) AppendFault → Type 0
-AppendGives content allowed faults old new item (Ok done) =
-    (front : List ℕ) (items : List (List ℕ)) → AtRest content allowed front items old → AtRest content allowed front (items ++ item ∷ []) new
-AppendGives content allowed faults old new item (Err fault) = AppendFails content allowed faults old new item fault
+abbrev pub AppendGives : {D : Type 0} → DiskTells D → Journal D → Journal D → List ℕ → Result (Unit {0}) AppendFault → Type 0
+AppendGives tells old new item (Ok done) =
+    (front : List ℕ) (items : List (List ℕ)) → AtRest tells front items old → AtRest tells front (items ++ item ∷ []) new
+AppendGives tells old new item (Err fault) = AppendFails tells old new item fault
 
 -- ---- settle
 
 -- the byte at the gate has P, where the disk tells
-abbrev pub GateIs : {D : Type 0} → (D → Option (List ℕ)) → Journal D → (ℕ → Type 0) → Type 0
-GateIs content j P = IfSome (content j.disk) (λ bytes. j.gate < length bytes → P (slice_index_or bytes j.gate 0))
+abbrev pub GateIs : {D : Type 0} → DiskTells D → Journal D → (ℕ → Type 0) → Type 0
+GateIs tells j P = IfSome (tells.content j.disk) (λ bytes. j.gate < length bytes → P (slice_index_or bytes j.gate 0))
 
 -- whether an item was in doubt
 abbrev pub DoubtBeforeSettle : {D : Type 0} → Journal D → Result Settled StillStale → Type 0
@@ -107,23 +105,22 @@ DoubtAfterSettle new (Ok settled) = new.stale ≡ false
 DoubtAfterSettle new (Err failed) = new.stale ≡ true
 
 -- by cases on what was found out, for the journal before and after
-abbrev pub SettlesAs : {D : Type 0} → (D → Option (List ℕ)) → (D → List ℕ → Type 0) → Journal D → Journal D → Settled → Type 0
-SettlesAs content allowed old new settles.Nothing = new ≡ old
-SettlesAs content allowed old new settles.Kept =
-    GateIs content old (λ byte. byte ≡ open_gate)
+abbrev pub SettlesAs : {D : Type 0} → DiskTells D → Journal D → Journal D → Settled → Type 0
+SettlesAs tells old new settles.Nothing = new ≡ old
+SettlesAs tells old new settles.Kept =
+    GateIs tells old (λ byte. byte ≡ open_gate)
     × ((front : List ℕ) (items : List (List ℕ)) (item : List ℕ)
-    → InDoubt content allowed front items item old → AtRest content allowed front (items ++ item ∷ []) new)
-SettlesAs content allowed old new settles.Dropped =
-    GateIs content old (λ byte. byte ≢ open_gate)
-    × ((front : List ℕ) (items : List (List ℕ)) (item : List ℕ) → InDoubt content allowed front items item old → AtRest content allowed front items new)
+    → InDoubt tells front items item old → AtRest tells front (items ++ item ∷ []) new)
+SettlesAs tells old new settles.Dropped =
+    GateIs tells old (λ byte. byte ≢ open_gate)
+    × ((front : List ℕ) (items : List (List ℕ)) (item : List ℕ) → InDoubt tells front items item old → AtRest tells front items new)
 
 -- or the disk failed, and the item is in doubt as before
-abbrev pub SettleGives : {D : Type 0} → (D → Option (List ℕ)) → (D → List ℕ → Type 0) → (D → ℕ)
-    → Journal D → Journal D → Result Settled StillStale → Type 0
-SettleGives content allowed faults old new (Ok settled) = SettlesAs content allowed old new settled
-SettleGives content allowed faults old new (Err failed) =
-    (failed.before ≡ faults old.disk) × (failed.after ≡ faults new.disk) × Rose failed.before failed.after
-    × ((front : List ℕ) (items : List (List ℕ)) (item : List ℕ) → InDoubt content allowed front items item old → InDoubt content allowed front items item new)
+abbrev pub SettleGives : {D : Type 0} → DiskTells D → Journal D → Journal D → Result Settled StillStale → Type 0
+SettleGives tells old new (Ok settled) = SettlesAs tells old new settled
+SettleGives tells old new (Err failed) =
+    (failed.before ≡ tells.faults old.disk) × (failed.after ≡ tells.faults new.disk) × Rose failed.before failed.after
+    × ((front : List ℕ) (items : List (List ℕ)) (item : List ℕ) → InDoubt tells front items item old → InDoubt tells front items item new)
 
 -- ---- for the contracts of private functions alone
 

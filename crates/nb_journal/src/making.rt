@@ -34,10 +34,10 @@ enum MagicRead {
 /// Makes a journal without items on a disk that has none. A journal that is there stays as it is. All but the magic is written
 /// and synced, and then the magic.
 pub fn init<D: Disk>(disk: &mut D, head: &[u8; HEAD], cap: u32) -> Result<(), InitFault>
-    ensures gives { InitGives D.content D.allowed D.faults disk.old disk.new head.now cap result }
-    ensures spares { SparesJournal D.content D.allowed D.moment D.left disk.old disk.new }
-    ensures bytes { OnOk result (D.content disk.new ≡ wrote_at (D.content disk.old) 0 (front_bytes cap head.now ++ 0 ∷ [])) }
-    ensures count { D.faults disk.old ≤ D.faults disk.new }
+    ensures gives { InitGives D.tells disk.old disk.new head.now cap result }
+    ensures spares { SparesJournal D.tells disk.old disk.new }
+    ensures bytes { OnOk result (D.tells.content disk.new ≡ wrote_at (D.tells.content disk.old) 0 (front_bytes cap head.now ++ 0 ∷ [])) }
+    ensures count { D.tells.faults disk.old ≤ D.tells.faults disk.new }
 {
     if cap < 1 {
         return Err(InitFault::BadCap { cap });
@@ -75,9 +75,9 @@ pub fn init<D: Disk>(disk: &mut D, head: &[u8; HEAD], cap: u32) -> Result<(), In
 
 // The first eight bytes of the content, where missing ones are zeros.
 fn magic_of<D: Disk>(disk: &mut D) -> MagicRead
-    ensures gives { MagicGives (D.faults disk.old) (D.faults disk.new) (D.content disk.old) result }
-    ensures nothing { Untouched D.content D.allowed D.moment D.left disk.old disk.new }
-    ensures count { D.faults disk.old ≤ D.faults disk.new }
+    ensures gives { MagicGives (D.tells.faults disk.old) (D.tells.faults disk.new) (D.tells.content disk.old) result }
+    ensures nothing { Untouched D.tells disk.old disk.new }
+    ensures count { D.tells.faults disk.old ≤ D.tells.faults disk.new }
 {
     let mut bytes = [0u8; MAGIC_BYTES];
     match disk.read(0, &mut bytes) {

@@ -47,9 +47,9 @@ impl<D: Disk> Journal<D> {
     /// may have `room` bytes.
     pub fn open(alloc: Global, disk: D, room: u32) -> Result<Opened<D>, (OpenFault, D)>
         requires { room ≤ MAX_ITEM }
-        ensures gives { OpenGives D.content D.allowed D.faults disk room result }
-        ensures nothing { Unwritten D.content D.allowed D.moment D.left disk (disk_of result) }
-        ensures count { D.faults disk ≤ D.faults (disk_of result) }
+        ensures gives { OpenGives D.tells disk room result }
+        ensures nothing { Unwritten D.tells disk (disk_of result) }
+        ensures count { D.tells.faults disk ≤ D.tells.faults (disk_of result) }
     {
         let mut disk = disk;
         let before = disk.fault_count();

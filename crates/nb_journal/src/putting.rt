@@ -12,14 +12,14 @@ use nb_port::{Disk, DiskOut};
 
 // Writes the piece and syncs.
 pub(crate) fn put_synced<D: Disk>(disk: &mut D, place: u64, piece: &[u8]) -> DiskOut
-    requires inside { IfSome (D.content disk.old) (λ bytes. place ≤ length bytes) }
+    requires inside { IfSome (D.tells.content disk.old) (λ bytes. place ≤ length bytes) }
     requires small { place + length piece.now < 2 ^ 63 }
-    ensures gives { PutGives (D.faults disk.old) (D.faults disk.new) (D.content disk.old) (D.content disk.new)
-        place piece.now (D.allowed disk.new) result }
-    ensures images { Follows (Torn place (length piece.now)) (D.allowed disk.old) (D.allowed disk.new) }
-    ensures time { Since (TornOf (D.allowed disk.old) place (length piece.now))
-        (D.moment disk.old) (D.moment disk.new) (D.left disk.old) (D.left disk.new) }
-    ensures count { D.faults disk.old ≤ D.faults disk.new }
+    ensures gives { PutGives (D.tells.faults disk.old) (D.tells.faults disk.new) (D.tells.content disk.old) (D.tells.content disk.new)
+        place piece.now (D.tells.allowed disk.new) result }
+    ensures images { Follows (Torn place (length piece.now)) (D.tells.allowed disk.old) (D.tells.allowed disk.new) }
+    ensures time { Since (TornOf (D.tells.allowed disk.old) place (length piece.now))
+        (D.tells.moment disk.old) (D.tells.moment disk.new) (D.tells.left disk.old) (D.tells.left disk.new) }
+    ensures count { D.tells.faults disk.old ≤ D.tells.faults disk.new }
 {
     match disk.write(place, piece) {
         DiskOut::Done => {}
@@ -33,17 +33,17 @@ pub(crate) fn put_synced<D: Disk>(disk: &mut D, place: u64, piece: &[u8]) -> Dis
 
 // Writes the body of the item, laid out in the buffer, and syncs.
 pub(crate) fn put_body<D: Disk>(disk: &mut D, place: u64, buf: &mut Vec<u8>, item: &[u8]) -> DiskOut
-    requires inside { IfSome (D.content disk.old) (λ bytes. place ≤ length bytes) }
+    requires inside { IfSome (D.tells.content disk.old) (λ bytes. place ≤ length bytes) }
     requires small { place + (length item.now + LEAD) < 2 ^ 63 }
     requires item { length item.now < 2 ^ 32 }
     requires room { length item.now + LEAD ≤ length buf.old.items }
     ensures buffer { length buf.new.items ≡ length buf.old.items }
-    ensures gives { PutGives (D.faults disk.old) (D.faults disk.new) (D.content disk.old) (D.content disk.new)
-        place (body_bytes item.now) (D.allowed disk.new) result }
-    ensures images { Follows (Torn place (length (body_bytes item.now))) (D.allowed disk.old) (D.allowed disk.new) }
-    ensures time { Since (TornOf (D.allowed disk.old) place (length (body_bytes item.now)))
-        (D.moment disk.old) (D.moment disk.new) (D.left disk.old) (D.left disk.new) }
-    ensures count { D.faults disk.old ≤ D.faults disk.new }
+    ensures gives { PutGives (D.tells.faults disk.old) (D.tells.faults disk.new) (D.tells.content disk.old) (D.tells.content disk.new)
+        place (body_bytes item.now) (D.tells.allowed disk.new) result }
+    ensures images { Follows (Torn place (length (body_bytes item.now))) (D.tells.allowed disk.old) (D.tells.allowed disk.new) }
+    ensures time { Since (TornOf (D.tells.allowed disk.old) place (length (body_bytes item.now)))
+        (D.tells.moment disk.old) (D.tells.moment disk.new) (D.tells.left disk.old) (D.tells.left disk.new) }
+    ensures count { D.tells.faults disk.old ≤ D.tells.faults disk.new }
 {
     let body = &mut buf[..item.len() + LEAD];
     lay_out(body, item);

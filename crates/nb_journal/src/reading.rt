@@ -18,9 +18,9 @@ pub(crate) enum ByteRead {
 
 // Makes all that was written stay, and reads the byte at the place: 0 where the content ends before it.
 pub(crate) fn synced_byte<D: Disk>(disk: &mut D, place: u64) -> ByteRead
-    ensures gives { ByteGives (D.faults disk.old) (D.faults disk.new) (D.content disk.old) (D.allowed disk.new) place result }
-    ensures nothing { Unwritten D.content D.allowed D.moment D.left disk.old disk.new }
-    ensures count { D.faults disk.old ≤ D.faults disk.new }
+    ensures gives { ByteGives (D.tells.faults disk.old) (D.tells.faults disk.new) (D.tells.content disk.old) (D.tells.allowed disk.new) place result }
+    ensures nothing { Unwritten D.tells disk.old disk.new }
+    ensures count { D.tells.faults disk.old ≤ D.tells.faults disk.new }
 {
     match disk.sync() {
         DiskOut::Failed => return ByteRead::Failed,

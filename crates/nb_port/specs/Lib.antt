@@ -1,6 +1,7 @@
 pub mod Faults
 pub mod Source
 pub mod Sink
+pub mod Tells
 pub mod Disk
 pub mod Images
 pub mod Clock

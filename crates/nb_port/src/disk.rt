@@ -1,5 +1,6 @@
 ghost use Rattle.std.specs.Prelude.{◌≡◌, ℕ, ◌≤◌, ◌<◌, ◌+◌, ◌^◌, List, Option, Some, IfSome, length};
 ghost use Rattle.nb_port.specs.Disk.{DiskGives, WriteGives, SyncGives, Torn};
+ghost use Rattle.nb_port.specs.Tells.{DiskTells};
 ghost use Rattle.nb_port.specs.Disk.{SameImages, NoneNew, NoneLost, Follows, Elapses};
 
 /// What a read of a disk gives.
@@ -22,62 +23,50 @@ pub enum DiskOut {
 
 /// Where bytes are kept, each at its place. What is written is sure to stay only from the next sync on that is done.
 pub trait Disk {
-    /// The count of failures. It never falls, and a call that fails raises it. At 2^64 - 1 it stays, and counts as risen.
-    ghost faults: { Self → ℕ };
-
-    /// The bytes from place 0 on; None where the disk does not tell.
-    ghost content: { Self → Option (List ℕ) };
-
-    /// The images that a stop now may leave, as far as they are known; none where the disk does not tell.
-    ghost allowed: { Self → List ℕ → Type 0 };
-
-    /// How far time went. It never falls.
-    ghost moment: { Self → ℕ };
-
-    /// The images that a stop at a moment since that one may have left, within calls too, as far as they are known.
-    ghost left: { Self → ℕ → List ℕ → Type 0 };
+    /// What it tells: its count of failures, its content, and what a stop may leave of it.
+    ghost tells: { DiskTells Self };
 
     /// The count of failures so far.
     fn fault_count(&self) -> u64
-        ensures { result ≡ faults self.now };
+        ensures { result ≡ tells.faults self.now };
 
     /// Reads the bytes from `place` on to the front of `buf`, as many as it holds and the content has: none, which is
     /// `Got(0)`, where the place is the content's end or past it. What a stop may leave stays as it is.
     fn read(&mut self, place: u64, buf: &mut [u8]) -> DiskRead
-        ensures gives { DiskGives (faults self.old) (faults self.new) (content self.old) place
+        ensures gives { DiskGives (tells.faults self.old) (tells.faults self.new) (tells.content self.old) place
             (length buf.old) buf.new result }
-        ensures content { content self.new ≡ content self.old }
-        ensures images { SameImages (allowed self.old) (allowed self.new) }
-        ensures time { Elapses (moment self.old) (moment self.new) (left self.old) (left self.new) (allowed self.new) }
-        ensures count { faults self.old ≤ faults self.new };
+        ensures content { tells.content self.new ≡ tells.content self.old }
+        ensures images { SameImages (tells.allowed self.old) (tells.allowed self.new) }
+        ensures time { Elapses (tells.moment self.old) (tells.moment self.new) (tells.left self.old) (tells.left self.new) (tells.allowed self.new) }
+        ensures count { tells.faults self.old ≤ tells.faults self.new };
 
     /// Writes the piece at `place`, over what stands there and past the end. The place is within the content or at its end.
     /// The place and the length of the piece are together below 2^63, so that a signed file offset of 64 bits holds the end.
     fn write(&mut self, place: u64, piece: &[u8]) -> DiskOut
-        requires inside { IfSome (content self.old) (λ bytes. place ≤ length bytes) }
+        requires inside { IfSome (tells.content self.old) (λ bytes. place ≤ length bytes) }
         requires small { place + length piece.now < 2 ^ 63 }
-        ensures gives { WriteGives (faults self.old) (faults self.new) (content self.old) (content self.new)
+        ensures gives { WriteGives (tells.faults self.old) (tells.faults self.new) (tells.content self.old) (tells.content self.new)
             place piece.now result }
-        ensures images { Follows (Torn place (length piece.now)) (allowed self.old) (allowed self.new) }
-        ensures kept { NoneLost (allowed self.old) (allowed self.new) }
-        ensures time { Elapses (moment self.old) (moment self.new) (left self.old) (left self.new) (allowed self.new) }
-        ensures count { faults self.old ≤ faults self.new };
+        ensures images { Follows (Torn place (length piece.now)) (tells.allowed self.old) (tells.allowed self.new) }
+        ensures kept { NoneLost (tells.allowed self.old) (tells.allowed self.new) }
+        ensures time { Elapses (tells.moment self.old) (tells.moment self.new) (tells.left self.old) (tells.left self.new) (tells.allowed self.new) }
+        ensures count { tells.faults self.old ≤ tells.faults self.new };
 
     /// Makes all that was written stay. A sync that failed leaves what a stop may leave as it is.
     fn sync(&mut self) -> DiskOut
-        ensures gives { SyncGives (faults self.old) (faults self.new) (content self.old)
-            (allowed self.old) (allowed self.new) result }
-        ensures content { content self.new ≡ content self.old }
-        ensures images { NoneNew (allowed self.old) (allowed self.new) }
-        ensures time { Elapses (moment self.old) (moment self.new) (left self.old) (left self.new) (allowed self.new) }
-        ensures count { faults self.old ≤ faults self.new };
+        ensures gives { SyncGives (tells.faults self.old) (tells.faults self.new) (tells.content self.old)
+            (tells.allowed self.old) (tells.allowed self.new) result }
+        ensures content { tells.content self.new ≡ tells.content self.old }
+        ensures images { NoneNew (tells.allowed self.old) (tells.allowed self.new) }
+        ensures time { Elapses (tells.moment self.old) (tells.moment self.new) (tells.left self.old) (tells.left self.new) (tells.allowed self.new) }
+        ensures count { tells.faults self.old ≤ tells.faults self.new };
 
     /// The content is allowed, where the disk tells.
-    ghost content_counts: { (d : Self) (c : List ℕ) → content d ≡ Some c → allowed d c };
+    ghost content_counts: { (d : Self) (c : List ℕ) → tells.content d ≡ Some c → tells.allowed d c };
 
     /// What is allowed now is among what is left since any moment up to now.
-    ghost counts_now: { (d : Self) (t : ℕ) (c : List ℕ) → t ≤ moment d → allowed d c → left d t c };
+    ghost counts_now: { (d : Self) (t : ℕ) (c : List ℕ) → t ≤ tells.moment d → tells.allowed d c → tells.left d t c };
 
     /// What is left since now is allowed now.
-    ghost only_now: { (d : Self) (c : List ℕ) → left d (moment d) c → allowed d c };
+    ghost only_now: { (d : Self) (c : List ℕ) → tells.left d (tells.moment d) c → tells.allowed d c };
 }

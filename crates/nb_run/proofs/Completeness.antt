@@ -5,6 +5,7 @@ use Rattle.std.specs.List.{flat_map, AllByRecursion}
 use Rattle.std.specs.Io.KnownBytes.{Consumes}
 use Rattle.std.proofs.lemmas.List.{length-append, length-map}
 use Rattle.std.proofs.lemmas.Option.{same_Some}
+use Rattle.nb_port.specs.Tells.{DiskTells}
 use Rattle.nb_port.specs.Faults.{Rose}
 use Rattle.nb_units.specs.Frames.{Front, Whole, Empty, Partial, Bad, HeaderFault, Frame, frame, IsFrame, front_of, IsBad, Splits}
 use Rattle.nb_units.proofs.FrameLaws.{longest, whole_front, bad_stays}
@@ -82,31 +83,31 @@ lawful_rest : (gs more : List Frame) → AllByRecursion IsFrame (gs ++ more) →
 lawful_rest [] more all = all
 lawful_rest (g ∷ gs) more all = lawful_rest gs more all.1
 
-pub complete_end : {D : Type 0} (content : D → Option (List ℕ)) (faults : D → ℕ) (moment : D → ℕ) (left : D → ℕ → List ℕ → Type 0) (old new : Chronicled D) (end : BatchEnd) (before after : Outside) (source source' sink sink' : ℕ)
-    → Served content faults moment left old new before after end → FaultOf source source' sink sink' end → IsWholeInput before.left → (Rose source source' → ⊥) → (Rose sink sink' → ⊥)
+pub complete_end : {D : Type 0} (tells : DiskTells D) (old new : Chronicled D) (end : BatchEnd) (before after : Outside) (source source' sink sink' : ℕ)
+    → Served tells old new before after end → FaultOf source source' sink sink' end → IsWholeInput before.left → (Rose source source' → ⊥) → (Rose sink sink' → ⊥)
     → (status_of end ≡ CLEAN) ⊎ (status_of end ≡ OUT_OF_MEMORY)
-complete_end content faults moment left old new Clean before after source source' sink sink' s fault input no_source no_sink = inl refl
-complete_end content faults moment left old new NoMemory before after source source' sink sink' s fault input no_source no_sink = inr refl
-complete_end content faults moment left old new ReadFault before after source source' sink sink' s fault input no_source no_sink = absurd (no_source fault)
-complete_end content faults moment left old new WriteFault before after source source' sink sink' s fault input no_source no_sink = absurd (no_sink fault)
-complete_end content faults moment left old new BadInput before after source source' sink sink' s fault input no_source no_sink =
+complete_end tells old new Clean before after source source' sink sink' s fault input no_source no_sink = inl refl
+complete_end tells old new NoMemory before after source source' sink sink' s fault input no_source no_sink = inr refl
+complete_end tells old new ReadFault before after source source' sink sink' s fault input no_source no_sink = absurd (no_source fault)
+complete_end tells old new WriteFault before after source source' sink sink' s fault input no_source no_sink = absurd (no_sink fault)
+complete_end tells old new BadInput before after source source' sink sink' s fault input no_source no_sink =
     let gs : List Frame = map frame_of s.answered ++ s.unanswered in
     let p = parts input.frames gs s.rest s.taken before.left after.left input.is input.lawful s.took s.frames in
     let P : List Frame → Type 0 = λ fs. AllByRecursion IsFrame fs in
     let Q : Option (List ℕ) → Type 0 = λ o. EndsBadly s.rest o in
     absurd (no_bad_rest s.rest p.left p.more (lawful_rest gs p.more (subst P p.all input.lawful)) p.after (subst Q p.known s.ends))
-complete_end content faults moment left old new FrameLimit before after source source' sink sink' s fault input no_source no_sink =
+complete_end tells old new FrameLimit before after source source' sink sink' s fault input no_source no_sink =
     let gs : List Frame = map frame_of s.answered ++ s.unanswered in
     let p = parts input.frames gs s.rest s.taken before.left after.left input.is input.lawful s.took s.frames in
     absurd (omega (arith, input.few, s.counted, ap length p.all, length-append gs p.more, length-append (map frame_of s.answered) s.unanswered, length-map s.answered frame_of))
 
 -- a content that stands for entries is opened, unless the disk failed or memory was wanting
-pub unopened_end : {D : Type 0} (content : D → Option (List ℕ)) (faults : D → ℕ) (disk : D) (fault : VaultFault) (new : D) → WholeOpens (content disk) (Err (fault, new)) → OpenFails content faults disk new fault → IsJournal (content disk)
-    → (Rose (faults disk) (faults new) → ⊥) → ((unopened fault).status ≡ CLEAN) ⊎ ((unopened fault).status ≡ OUT_OF_MEMORY)
-unopened_end content faults disk (Unborn found) new whole why j no_disk = absurd (whole j.image j.head j.cap j.entries j.is j.stands)
-unopened_end content faults disk (Damaged item place) new whole why j no_disk = absurd (whole j.image j.head j.cap j.entries j.is j.stands)
-unopened_end content faults disk (BadEntry item) new whole why j no_disk = absurd (whole j.image j.head j.cap j.entries j.is j.stands)
-unopened_end content faults disk (DiskFault before after) new whole why j no_disk =
+pub unopened_end : {D : Type 0} (tells : DiskTells D) (disk : D) (fault : VaultFault) (new : D) → WholeOpens (tells.content disk) (Err (fault, new)) → OpenFails tells disk new fault → IsJournal (tells.content disk)
+    → (Rose (tells.faults disk) (tells.faults new) → ⊥) → ((unopened fault).status ≡ CLEAN) ⊎ ((unopened fault).status ≡ OUT_OF_MEMORY)
+unopened_end tells disk (Unborn found) new whole why j no_disk = absurd (whole j.image j.head j.cap j.entries j.is j.stands)
+unopened_end tells disk (Damaged item place) new whole why j no_disk = absurd (whole j.image j.head j.cap j.entries j.is j.stands)
+unopened_end tells disk (BadEntry item) new whole why j no_disk = absurd (whole j.image j.head j.cap j.entries j.is j.stands)
+unopened_end tells disk (DiskFault before after) new whole why j no_disk =
     let P : ℕ → ℕ → Type 0 = λ a b. Rose a b in
-    absurd (no_disk (subst (λ (b : ℕ). P (faults disk) b) why.1 (subst (λ (a : ℕ). P a after) why.0 why.2)))
-unopened_end content faults disk Starved new whole why j no_disk = inr refl
+    absurd (no_disk (subst (λ (b : ℕ). P (tells.faults disk) b) why.1 (subst (λ (a : ℕ). P a after) why.0 why.2)))
+unopened_end tells disk Starved new whole why j no_disk = inr refl

@@ -3,6 +3,7 @@ use Rattle.std.proofs.Common.{◌≡◌, ◌≢◌, ℕ, ◌≤◌, ◌⊎◌, B
 use Rattle.std.specs.List.{AllByRecursion}
 use Rattle.std.specs.Option.{option_to_list}
 use Rattle.std.specs.Io.KnownBytes.{Appends, IsAtEnd}
+use Rattle.nb_port.specs.Tells.{DiskTells}
 use Rattle.nb_port.specs.Faults.{Rose, last_count}
 use Rattle.nb_units.specs.Frames.{front_of, IsBad}
 use Rattle.nb_book.specs.declared.entry.Entry.{Entry}
@@ -188,16 +189,16 @@ opened_rests {D} v lines fresh =
     let P : List Line → Bool → Type 0 = λ ls stale. (let house : Chronicled D = record { origin = v.origin; lines = ls; stale = stale; disk = v.disk } in state_of house) ≡ at_rest v.origin.entries in
     subst (λ (ls : List Line). P ls v.stale) (sym lines) (subst (P []) (sym fresh) (ap (λ (entries : List Entry). at_rest entries) (append-nil v.origin.entries)))
 
-module _ {D : Type 0} (content : D → Option (List ℕ)) (allowed : D → List ℕ → Type 0) (faults : D → ℕ) (moment : D → ℕ) (left : D → ℕ → List ℕ → Type 0) where
-  pub batch_of : ((d : D) (c : List ℕ) → left d (moment d) c → allowed d c) → (end : BatchEnd) (disk : D) (opened house : Chronicled D) (before after : Outside)
-      → OpensAs content allowed faults disk opened → Unwritten content allowed moment left disk opened.disk → faults disk ≤ faults opened.disk
-      → Served content faults moment left opened house before after end → Keeps content allowed faults house → house.origin ≡ opened.origin
-      → Batch content allowed faults moment left disk house.disk before after (at_no_place (status_of end))
+module _ {D : Type 0} (tells : DiskTells D) where
+  pub batch_of : ((d : D) (c : List ℕ) → tells.left d (tells.moment d) c → tells.allowed d c) → (end : BatchEnd) (disk : D) (opened house : Chronicled D) (before after : Outside)
+      → OpensAs tells disk opened → Unwritten tells disk opened.disk → tells.faults disk ≤ tells.faults opened.disk
+      → Served tells opened house before after end → Keeps tells house → house.origin ≡ opened.origin
+      → Batch tells disk house.disk before after (at_no_place (status_of end))
   batch_of only_now end disk opened house before after opens unwritten count s keeps same =
       let rest : state_of opened ≡ at_rest opened.origin.entries = opened_rests opened opens.lines opens.durable.fresh in
       let R : State → Type 0 = λ state. Run (house_rules (head_of opened.origin.head) opened.origin.cap) state s.answered s.states in
       let turns = subst R rest s.turns in
-      let backed = backed_earlier s.answered (faults disk) (faults opened.disk) (faults house.disk) count s.backed in
+      let backed = backed_earlier s.answered (tells.faults disk) (tells.faults opened.disk) (tells.faults house.disk) count s.backed in
       record {
         head = opened.origin.head;
         cap = opened.origin.cap;
@@ -218,16 +219,16 @@ module _ {D : Type 0} (content : D → Option (List ℕ)) (allowed : D → List 
         wrote = wrote_all end before after s.answered s.wrote;
         wrote_short = wrote_part end before after s.answered s.wrote;
         backed = backed;
-        steady = none_faulty (house_rules (head_of opened.origin.head) opened.origin.cap) (at_rest opened.origin.entries) s.answered s.states (faults disk) (faults house.disk) refl turns backed;
+        steady = none_faulty (house_rules (head_of opened.origin.head) opened.origin.cap) (at_rest opened.origin.entries) s.answered s.states (tells.faults disk) (tells.faults house.disk) refl turns backed;
         alone = replies-decided (house_rules (head_of opened.origin.head) opened.origin.cap) opened.origin.entries s.answered s.states turns;
-        content_rests = subst (λ (o : Origin). IfSome (content house.disk) (λ (image : List ℕ). StandsForEither o.head o.cap (entries_in house) (doubt_in house) image)) same keeps.bytes;
+        content_rests = subst (λ (o : Origin). IfSome (tells.content house.disk) (λ (image : List ℕ). StandsForEither o.head o.cap (entries_in house) (doubt_in house) image)) same keeps.bytes;
         images_rest = λ image is. subst (λ (o : Origin). StandsForEither o.head o.cap (entries_in house) (doubt_in house) image) same (keeps.images image is);
         quiet = λ all. s.quiet (subst (λ (state : State). AllByRecursion (λ (other : State). other ≡ state) s.states) (sym rest) all) ∙ unwritten.same;
         later = omega (arith, unwritten.time.later, s.stops.later);
         stops = λ image is. ⊎_elim
-            (λ earlier. inl (⊎_elim (only_now disk image) (λ now. now) (unwritten.time.each (moment disk) image (omega arith) earlier)))
+            (λ earlier. inl (⊎_elim (only_now disk image) (λ now. now) (unwritten.time.each (tells.moment disk) image (omega arith) earlier)))
             (λ here. inr (subst (λ (state : State). StandsInRun opened.origin.head opened.origin.cap state s.states image) rest here))
-            (s.stops.before (moment disk) image unwritten.time.later is);
+            (s.stops.before (tells.moment disk) image unwritten.time.later is);
         legal = keeps.legal;
         within = subst (λ (o : Origin). length (entries_in house ++ doubt_in house) ≤ o.cap) same keeps.within;
         money = keeps.money;

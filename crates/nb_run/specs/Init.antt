@@ -1,6 +1,7 @@
 -- What making a journal comes to.
 use Rattle.std.specs.Prelude.{◌≡◌, ◌≢◌, ◌⊎◌, ℕ, ◌+◌, ◌<◌, ◌≤◌, List, [], ◌∷◌, ◌++◌, length, take, Option, IfSome}
 use Rattle.std.specs.Io.KnownBytes.{Consumes, IsAtEnd}
+use Rattle.nb_port.specs.Tells.{DiskTells}
 use Rattle.nb_port.specs.Disk.{SameImages, wrote_at}
 use Rattle.nb_port.specs.Faults.{Rose}
 use Rattle.nb_journal.specs.declared.limits.TheConstants.{HEAD}
@@ -49,28 +50,28 @@ pub record TookPart (left left' : Option (List ℕ)) : Type 0 where
 -- ---- the disk, before and after
 
 -- it had no journal, and has one without entries with this head and cap; a stop leaves that and nothing else
-pub record IsMade {D : Type 0} (content : D → Option (List ℕ)) (allowed : D → List ℕ → Type 0) (old new : D) (head : List ℕ) (cap : ℕ) : Type 0 where
-  pub unborn : IfSome (content old) (λ image. found_in image ≢ magic)
-  pub bytes : content new ≡ wrote_at (content old) 0 (front_bytes cap head ++ 0 ∷ [])
-  pub stands : IfSome (content new) (StandsFor head cap [])
-  pub images : (image : List ℕ) → allowed new image → StandsFor head cap [] image
+pub record IsMade {D : Type 0} (tells : DiskTells D) (old new : D) (head : List ℕ) (cap : ℕ) : Type 0 where
+  pub unborn : IfSome (tells.content old) (λ image. found_in image ≢ magic)
+  pub bytes : tells.content new ≡ wrote_at (tells.content old) 0 (front_bytes cap head ++ 0 ∷ [])
+  pub stands : IfSome (tells.content new) (StandsFor head cap [])
+  pub images : (image : List ℕ) → tells.allowed new image → StandsFor head cap [] image
 
 -- it has a journal, and nothing was written
-pub record IsSpared {D : Type 0} (content : D → Option (List ℕ)) (allowed : D → List ℕ → Type 0) (old new : D) : Type 0 where
-  pub born : IfSome (content old) (λ image. found_in image ≡ magic)
-  pub same : content new ≡ content old
-  pub images : SameImages (allowed old) (allowed new)
+pub record IsSpared {D : Type 0} (tells : DiskTells D) (old new : D) : Type 0 where
+  pub born : IfSome (tells.content old) (λ image. found_in image ≡ magic)
+  pub same : tells.content new ≡ tells.content old
+  pub images : SameImages (tells.allowed old) (tells.allowed new)
 
 -- ---- all of it
 
 -- by cases on the end: the cap is tested before the input is read, and the input before the disk is touched
-abbrev pub MakesAs : {D : Type 0} → (D → Option (List ℕ)) → (D → List ℕ → Type 0) → (D → ℕ) → Option (List ℕ) → Option (List ℕ) → ℕ → ℕ → D → D → ℕ → InitEnd → Type 0
-MakesAs content allowed faults left left' source source' old new cap BadCap = (IsCap cap → ⊥) × (left' ≡ left) × (new ≡ old)
-MakesAs content allowed faults left left' source source' old new cap ReadFault = IsCap cap × Rose source source' × TookPart left left' × (new ≡ old)
-MakesAs content allowed faults left left' source source' old new cap (BadInput bytes) = IsCap cap × TookOther left left' bytes × (new ≡ old)
-MakesAs content allowed faults left left' source source' old new cap Exists = IsCap cap × ((head : List ℕ) × TookHead left left' head) × IsSpared content allowed old new
-MakesAs content allowed faults left left' source source' old new cap DiskFault = IsCap cap × ((head : List ℕ) × TookHead left left' head) × Rose (faults old) (faults new)
-MakesAs content allowed faults left left' source source' old new cap Made = (head : List ℕ) × IsCap cap × TookHead left left' head × IsMade content allowed old new head cap
+abbrev pub MakesAs : {D : Type 0} → DiskTells D → Option (List ℕ) → Option (List ℕ) → ℕ → ℕ → D → D → ℕ → InitEnd → Type 0
+MakesAs tells rest rest' source source' old new cap BadCap = (IsCap cap → ⊥) × (rest' ≡ rest) × (new ≡ old)
+MakesAs tells rest rest' source source' old new cap ReadFault = IsCap cap × Rose source source' × TookPart rest rest' × (new ≡ old)
+MakesAs tells rest rest' source source' old new cap (BadInput bytes) = IsCap cap × TookOther rest rest' bytes × (new ≡ old)
+MakesAs tells rest rest' source source' old new cap Exists = IsCap cap × ((head : List ℕ) × TookHead rest rest' head) × IsSpared tells old new
+MakesAs tells rest rest' source source' old new cap DiskFault = IsCap cap × ((head : List ℕ) × TookHead rest rest' head) × Rose (tells.faults old) (tells.faults new)
+MakesAs tells rest rest' source source' old new cap Made = (head : List ℕ) × IsCap cap × TookHead rest rest' head × IsMade tells old new head cap
 
 -- ---- for the contracts of private functions alone
 

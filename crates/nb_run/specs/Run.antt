@@ -2,6 +2,7 @@
 use Rattle.std.specs.Prelude.{◌≡◌, ◌≢◌, ℕ, ◌≤◌, ◌<◌, ◌⊎◌, List, [], ◌++◌, Option, Some, length, map, IfSome}
 use Rattle.std.specs.List.{flat_map, AllByRecursion}
 use Rattle.std.specs.Io.KnownBytes.{Consumes, Appends, IsAtEnd}
+use Rattle.nb_port.specs.Tells.{DiskTells}
 use Rattle.nb_port.specs.Faults.{Rose}
 use Rattle.nb_units.specs.Frames.{Frame, frame, IsFrame, front_of, IsBad, Splits}
 use Rattle.nb_book.specs.declared.entry.Entry.{Entry}
@@ -31,8 +32,8 @@ IsStatus n =
 -- ---- init
 
 -- making a journal came to one of its ends, which says how the run ends
-abbrev pub InitIs : {D : Type 0} → (D → Option (List ℕ)) → (D → List ℕ → Type 0) → (D → ℕ) → Option (List ℕ) → Option (List ℕ) → ℕ → ℕ → D → D → ℕ → Ending → Type 0
-InitIs content allowed faults left left' source source' old new cap ending = (end : InitEnd) × (ending ≡ ending_of end) × MakesAs content allowed faults left left' source source' old new cap end
+abbrev pub InitIs : {D : Type 0} → DiskTells D → Option (List ℕ) → Option (List ℕ) → ℕ → ℕ → D → D → ℕ → Ending → Type 0
+InitIs tells rest rest' source source' old new cap ending = (end : InitEnd) × (ending ≡ ending_of end) × MakesAs tells rest rest' source source' old new cap end
 
 -- ---- batch, over a journal that was not opened
 
@@ -45,17 +46,17 @@ unopened (DiskFault before after) = at_no_place DISK_FAILED
 unopened NoMemory = at_no_place OUT_OF_MEMORY
 
 -- it was not opened, and nothing was taken, sent, asked for or written
-pub record NotOpened {D : Type 0} (content : D → Option (List ℕ)) (allowed : D → List ℕ → Type 0) (faults : D → ℕ) (moment : D → ℕ) (left : D → ℕ → List ℕ → Type 0) (old new : D) (before after : Outside) (ending : Ending) : Type 0 where
+pub record NotOpened {D : Type 0} (tells : DiskTells D) (old new : D) (before after : Outside) (ending : Ending) : Type 0 where
   pub fault : VaultFault
   pub ends : ending ≡ unopened fault
-  pub why : OpenFails content faults old new fault
+  pub why : OpenFails tells old new fault
   pub nothing : after ≡ before
-  pub unwritten : Unwritten content allowed moment left old new
+  pub unwritten : Unwritten tells old new
 
 -- ---- batch, over a journal that was opened
 
 -- What a batch did, by the status that it ended with.
-pub record Batch {D : Type 0} (content : D → Option (List ℕ)) (allowed : D → List ℕ → Type 0) (faults : D → ℕ) (moment : D → ℕ) (left : D → ℕ → List ℕ → Type 0) (old new : D) (before after : Outside) (ending : Ending) : Type 0 where
+pub record Batch {D : Type 0} (tells : DiskTells D) (old new : D) (before after : Outside) (ending : Ending) : Type 0 where
   -- the journal's head, its cap and its entries; the requests that were answered, and the states that the house came to; the
   -- bytes taken from the source are the frames of these requests, further frames, and a rest that begins with none
   pub head : List ℕ
@@ -68,7 +69,7 @@ pub record Batch {D : Type 0} (content : D → Option (List ℕ)) (allowed : D �
   pub unanswered : List Frame
   pub rest : List ℕ
   -- the content at entry stands for these entries
-  pub stands : IfSome (content old) (StandsFor head cap opening)
+  pub stands : IfSome (tells.content old) (StandsFor head cap opening)
   -- the requests that were answered are the first frames of the bytes taken
   pub took : Consumes before.left after.left taken
   pub frames : Splits taken (map frame_of answered ++ unanswered) rest
@@ -84,19 +85,19 @@ pub record Batch {D : Type 0} (content : D → Option (List ℕ)) (allowed : D �
   -- after a failed write: all replies before the last one, and a part of that
   pub wrote_short : ending.status ≡ SINK_FAILED → WroteShort before after answered
   -- the faults of turns lie one after another between the disk's counts; where these did not rise, no turn failed
-  pub backed : Backed (faults old) answered (faults new)
-  pub steady : (Rose (faults old) (faults new) → ⊥) → NoneFaulty answered
+  pub backed : Backed (tells.faults old) answered (tells.faults new)
+  pub steady : (Rose (tells.faults old) (tells.faults new) → ⊥) → NoneFaulty answered
   -- where each turn decides, the replies are a function of the entries, the head, the cap and the requests alone
   pub alone : AllDecided answered → replies answered ≡ decided (house_rules (head_of head) cap) opening answered
   -- the disk is at rest in the last state: its content, and all that a stop now leaves, stands for its entries, without what is in
   -- doubt or with it
-  pub content_rests : IfSome (content new) (StandsForEither head cap last.entries last.doubt)
-  pub images_rest : (image : List ℕ) → allowed new image → StandsForEither head cap last.entries last.doubt image
+  pub content_rests : IfSome (tells.content new) (StandsForEither head cap last.entries last.doubt)
+  pub images_rest : (image : List ℕ) → tells.allowed new image → StandsForEither head cap last.entries last.doubt image
   -- where the house never left the state that it was opened in, nothing was written
-  pub quiet : AllByRecursion (λ state. state ≡ at_rest opening) states → content new ≡ content old
+  pub quiet : AllByRecursion (λ state. state ≡ at_rest opening) states → tells.content new ≡ tells.content old
   -- a stop at any moment since the start left what might have been left at the start, or what stands so for one of the states
-  pub later : moment old ≤ moment new
-  pub stops : (image : List ℕ) → left new (moment old) image → allowed old image ⊎ StandsInRun head cap (at_rest opening) states image
+  pub later : tells.moment old ≤ tells.moment new
+  pub stops : (image : List ℕ) → tells.left new (tells.moment old) image → tells.allowed old image ⊎ StandsInRun head cap (at_rest opening) states image
   -- what is recorded is legal, with what is in doubt too; each order is settled at most once, and money is neither made nor lost
   pub legal : Legal (last.entries ++ last.doubt)
   pub within : length (last.entries ++ last.doubt) ≤ cap
@@ -117,9 +118,9 @@ pub record Batch {D : Type 0} (content : D → Option (List ℕ)) (allowed : D �
   pub ends : (ending.status ≡ CLEAN) ⊎ (ending.status ≡ SOURCE_FAILED) ⊎ (ending.status ≡ SINK_FAILED) ⊎ (ending.status ≡ BAD_INPUT) ⊎ (ending.status ≡ OUT_OF_MEMORY) ⊎ (ending.status ≡ FRAME_LIMIT)
 
 -- the journal was not opened, or the frames were answered
-abbrev pub BatchIs : {D : Type 0} → (D → Option (List ℕ)) → (D → List ℕ → Type 0) → (D → ℕ) → (D → ℕ) → (D → ℕ → List ℕ → Type 0) → D → D → Outside → Outside → Ending → Type 0
-BatchIs content allowed faults moment left old new before after ending =
-    NotOpened content allowed faults moment left old new before after ending ⊎ Batch content allowed faults moment left old new before after ending
+abbrev pub BatchIs : {D : Type 0} → DiskTells D → D → D → Outside → Outside → Ending → Type 0
+BatchIs tells old new before after ending =
+    NotOpened tells old new before after ending ⊎ Batch tells old new before after ending
 
 -- the input is fewer than so many whole frames and nothing else
 pub record IsWholeInput (left : Option (List ℕ)) : Type 0 where

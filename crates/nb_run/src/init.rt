@@ -52,10 +52,10 @@ enum HeadRead {
 
 /// Makes a journal without entries on the disk. Its head is the whole input, and it holds at most `cap` entries.
 pub fn make_journal<S: Source, D: Disk>(source: &mut S, disk: &mut D, cap: u32) -> InitEnd
-    ensures made { MakesAs D.content D.allowed D.faults (S.left source.old) (S.left source.new) (S.faults source.old) (S.faults source.new) disk.old disk.new cap result }
-    ensures spares { SparesJournal D.content D.allowed D.moment D.left disk.old disk.new }
+    ensures made { MakesAs D.tells (S.left source.old) (S.left source.new) (S.faults source.old) (S.faults source.new) disk.old disk.new cap result }
+    ensures spares { SparesJournal D.tells disk.old disk.new }
     ensures source { S.faults source.old ≤ S.faults source.new }
-    ensures disk { D.faults disk.old ≤ D.faults disk.new }
+    ensures disk { D.tells.faults disk.old ≤ D.tells.faults disk.new }
 {
     if cap < 1 || cap > MAX_CAP {
         return InitEnd::BadCap;

@@ -35,22 +35,22 @@ pub fn run<S: Source, K: Sink, D: Disk, C: Clock>(
     ensures untouched { status result.0 ≡ BAD_WORDS → (place result.0 ≡ 0) × (result.1 ≡ disk) }
 
     // No count of faults falls.
-    ensures counts { (S.faults source.old ≤ S.faults source.new) × (K.faults sink.old ≤ K.faults sink.new) × (D.faults disk ≤ D.faults result.1) }
+    ensures counts { (S.faults source.old ≤ S.faults source.new) × (K.faults sink.old ≤ K.faults sink.new) × (D.tells.faults disk ≤ D.tells.faults result.1) }
 
     // A fault is answered only where the count of that object rose.
     ensures source { status result.0 ≡ SOURCE_FAILED → Rose (S.faults source.old) (S.faults source.new) }
     ensures sink { status result.0 ≡ SINK_FAILED → Rose (K.faults sink.old) (K.faults sink.new) }
-    ensures fault { status result.0 ≡ DISK_FAILED → Rose (D.faults disk) (D.faults result.1) }
+    ensures fault { status result.0 ≡ DISK_FAILED → Rose (D.tells.faults disk) (D.tells.faults result.1) }
 
     // What making a journal comes to. It sends nothing and asks for no moment, and nothing is written over a journal that is there.
     ensures init { (cap : ℕ) → IsInit (map string_bytes words.now) cap
-        → InitIs D.content D.allowed D.faults (S.left source.old) (S.left source.new) (S.faults source.old) (S.faults source.new) disk result.1 cap (ending result.0) }
+        → InitIs D.tells (S.left source.old) (S.left source.new) (S.faults source.old) (S.faults source.new) disk result.1 cap (ending result.0) }
     ensures silent { (cap : ℕ) → IsInit (map string_bytes words.now) cap
-        → (sink.new ≡ sink.old) × (clock.new ≡ clock.old) × SparesJournal D.content D.allowed D.moment D.left disk result.1 }
+        → (sink.new ≡ sink.old) × (clock.new ≡ clock.old) × SparesJournal D.tells disk result.1 }
 
     // What a batch comes to.
     ensures batch { IsBatch (map string_bytes words.now)
-        → BatchIs D.content D.allowed D.faults D.moment D.left disk result.1
+        → BatchIs D.tells disk result.1
         (record { left = S.left source.old; sent = K.sent sink.old; moments = C.moments clock.old })
         (record { left = S.left source.new; sent = K.sent sink.new; moments = C.moments clock.new }) (ending result.0) }
 
@@ -59,8 +59,8 @@ pub fn run<S: Source, K: Sink, D: Disk, C: Clock>(
         → (source.new ≡ source.old) × (sink.new ≡ sink.old) × (clock.new ≡ clock.old) }
 
     // Whole frames alone over a journal, and nothing that fails: all is done, unless memory is wanting.
-    ensures complete { IsBatch (map string_bytes words.now) → IsJournal (D.content disk) → IsWholeInput (S.left source.old)
-        → (Rose (S.faults source.old) (S.faults source.new) → ⊥) → (Rose (K.faults sink.old) (K.faults sink.new) → ⊥) → (Rose (D.faults disk) (D.faults result.1) → ⊥)
+    ensures complete { IsBatch (map string_bytes words.now) → IsJournal (D.tells.content disk) → IsWholeInput (S.left source.old)
+        → (Rose (S.faults source.old) (S.faults source.new) → ⊥) → (Rose (K.faults sink.old) (K.faults sink.new) → ⊥) → (Rose (D.tells.faults disk) (D.tells.faults result.1) → ⊥)
         → (status result.0 ≡ CLEAN) ⊎ (status result.0 ≡ OUT_OF_MEMORY) }
 {
     match command_of(words) {
@@ -85,16 +85,16 @@ fn answer_batch<S: Source, K: Sink, D: Disk, C: Clock>(
     disk: D,
     clock: &mut C,
 ) -> (Ending, D)
-    ensures batch { BatchIs D.content D.allowed D.faults D.moment D.left disk result.1
+    ensures batch { BatchIs D.tells disk result.1
         (record { left = S.left source.old; sent = K.sent sink.old; moments = C.moments clock.old })
         (record { left = S.left source.new; sent = K.sent sink.new; moments = C.moments clock.new }) result.0 }
-    ensures counts { (S.faults source.old ≤ S.faults source.new) × (K.faults sink.old ≤ K.faults sink.new) × (D.faults disk ≤ D.faults result.1) }
+    ensures counts { (S.faults source.old ≤ S.faults source.new) × (K.faults sink.old ≤ K.faults sink.new) × (D.tells.faults disk ≤ D.tells.faults result.1) }
     ensures source { result.0.status ≡ SOURCE_FAILED → Rose (S.faults source.old) (S.faults source.new) }
     ensures sink { result.0.status ≡ SINK_FAILED → Rose (K.faults sink.old) (K.faults sink.new) }
-    ensures fault { result.0.status ≡ DISK_FAILED → Rose (D.faults disk) (D.faults result.1) }
+    ensures fault { result.0.status ≡ DISK_FAILED → Rose (D.tells.faults disk) (D.tells.faults result.1) }
     ensures closed { (result.0.status ≡ NO_JOURNAL) ⊎ (result.0.status ≡ DISK_FAILED) → (source.new ≡ source.old) × (sink.new ≡ sink.old) × (clock.new ≡ clock.old) }
-    ensures complete { IsJournal (D.content disk) → IsWholeInput (S.left source.old)
-        → (Rose (S.faults source.old) (S.faults source.new) → ⊥) → (Rose (K.faults sink.old) (K.faults sink.new) → ⊥) → (Rose (D.faults disk) (D.faults result.1) → ⊥)
+    ensures complete { IsJournal (D.tells.content disk) → IsWholeInput (S.left source.old)
+        → (Rose (S.faults source.old) (S.faults source.new) → ⊥) → (Rose (K.faults sink.old) (K.faults sink.new) → ⊥) → (Rose (D.tells.faults disk) (D.tells.faults result.1) → ⊥)
         → (result.0.status ≡ CLEAN) ⊎ (result.0.status ≡ OUT_OF_MEMORY) }
 {
     let mut house = match Vault::open(alloc, disk) {

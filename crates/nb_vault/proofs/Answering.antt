@@ -22,6 +22,7 @@ use Rattle.nb_vault.specs.Vaults.{Chronicled, state_of, rules_of, StandsForState
 use Rattle.nb_vault.proofs.Resting.{leaves_more, leaves_then, rest_images, rest_content}
 use Rattle.nb_journal.proofs.Moments.{started}
 use Rattle.nb_vault.proofs.Seeing.{state_at, state_seen, entries_seen, doubt_seen, either_seen, settled_fresh, room_seen}
+use Rattle.nb_port.specs.Tells.{DiskTells}
 
 -- what is kept of a doubt: nothing, or all of it
 abbrev pub IsKept : Option Entry → Option Entry → Type 0
@@ -59,21 +60,21 @@ image_behind head cap entries over last rest doubt kept entry image is over_is l
 image_behind head cap entries over last rest doubt kept entry image is over_is (inl last_is) (inr behind) = inr (inl (subst (λ (es : List Entry). StandsFor head cap es image) (sym last_is) behind))
 image_behind head cap entries over last rest doubt kept entry image is over_is (inr last_is) (inr behind) = inr (inr (subst (λ (es : List Entry). StandsFor head cap es image) (sym last_is) behind))
 
-module _ {D : Type 0} (content : D → Option (List ℕ)) (allowed : D → List ℕ → Type 0) (faults : D → ℕ) where
-  module _ (old mid : Parts D) (vault : IsVault content allowed faults old) (settled : IsVault content allowed faults mid) (same : SameOrigin old mid) (by turn : ℕ) (kept : Option Entry)
-      (kept_is : IsKept kept old.records.doubt) (entries : mid.records.book.entries ≡ old.records.book.entries ++ option_to_list kept) (none : mid.records.doubt ≡ None) (same_content : content (disk_of mid.records) ≡ content (disk_of old.records)) where
+module _ {D : Type 0} (tells : DiskTells D) where
+  module _ (old mid : Parts D) (vault : IsVault tells old) (settled : IsVault tells mid) (same : SameOrigin old mid) (by turn : ℕ) (kept : Option Entry)
+      (kept_is : IsKept kept old.records.doubt) (entries : mid.records.book.entries ≡ old.records.book.entries ++ option_to_list kept) (none : mid.records.doubt ≡ None) (same_content : tells.content (disk_of mid.records) ≡ tells.content (disk_of old.records)) where
     -- what is kept was in doubt
     kept_of : (k : Option Entry) → IsKept k old.records.doubt → KeptOf (seen_as old) k
     kept_of None is = tt
     kept_of (Some entry) (inl e) = absurd cc
-    kept_of (Some entry) (inr was) = doubt_seen content allowed faults old vault ∙ ap option_to_list (sym was)
+    kept_of (Some entry) (inr was) = doubt_seen tells old vault ∙ ap option_to_list (sym was)
 
     -- what was in doubt is settled as the disk had it
-    pub settled_as : Settled content (seen_as old) kept mid.records.book.entries
+    pub settled_as : Settled tells (seen_as old) kept mid.records.book.entries
     settled_as = record {
       of_doubt = kept_of kept kept_is;
-      over_is = entries ∙ ap (λ (es : List Entry). es ++ option_to_list kept) (sym (entries_seen content allowed faults old vault));
-      told = subst (λ (t : Option (List ℕ)). IfSome t (StandsFor old.records.head old.records.book.cap mid.records.book.entries)) same_content (told (content (disk_of mid.records)) (rest_content content allowed mid.records settled.rests));
+      over_is = entries ∙ ap (λ (es : List Entry). es ++ option_to_list kept) (sym (entries_seen tells old vault));
+      told = subst (λ (t : Option (List ℕ)). IfSome t (StandsFor old.records.head old.records.book.cap mid.records.book.entries)) same_content (told (tells.content (disk_of mid.records)) (rest_content tells mid.records settled.rests));
     }
       where
         alone : (image : List ℕ) → StandsForEither mid.records.head mid.records.book.cap mid.records.book.entries [] image → StandsFor mid.records.head mid.records.book.cap mid.records.book.entries image
@@ -88,25 +89,25 @@ module _ {D : Type 0} (content : D → Option (List ℕ)) (allowed : D → List 
             (alone image (subst (λ (d : Option Entry). StandsForEither mid.records.head mid.records.book.cap mid.records.book.entries (option_to_list d) image) none is)))
 
     pub settles_over : Settles (state_of (seen_as old)) mid.records.book.entries
-    settles_over = subst (λ (s : State). Settles s mid.records.book.entries) (sym (state_seen content allowed faults old vault)) (subst (Settles (state_at old)) (sym entries) (settles old.records.book.entries old.records.doubt kept old.faults kept_is))
+    settles_over = subst (λ (s : State). Settles s mid.records.book.entries) (sym (state_seen tells old vault)) (subst (Settles (state_at old)) (sym entries) (settles old.records.book.entries old.records.doubt kept old.faults kept_is))
 
     -- what is written, by what the vault was before
-    writes_from : (entry : Option Entry) (new : Option (List ℕ)) → Writes mid.records.head mid.records.book.cap mid.records.book.entries entry (content (disk_of mid.records)) new
-        → Writes old.records.head old.records.book.cap mid.records.book.entries entry (content (disk_of old.records)) new
+    writes_from : (entry : Option Entry) (new : Option (List ℕ)) → Writes mid.records.head mid.records.book.cap mid.records.book.entries entry (tells.content (disk_of mid.records)) new
+        → Writes old.records.head old.records.book.cap mid.records.book.entries entry (tells.content (disk_of old.records)) new
     writes_from entry new is =
         subst (λ (t : Option (List ℕ)). Writes old.records.head old.records.book.cap mid.records.book.entries entry t new) same_content
-        (subst (λ (cap : ℕ). Writes old.records.head cap mid.records.book.entries entry (content (disk_of mid.records)) new) same.terms.cap
-        (subst (λ (head : List ℕ). Writes head mid.records.book.cap mid.records.book.entries entry (content (disk_of mid.records)) new) same.terms.head is))
+        (subst (λ (cap : ℕ). Writes old.records.head cap mid.records.book.entries entry (tells.content (disk_of mid.records)) new) same.terms.cap
+        (subst (λ (head : List ℕ). Writes head mid.records.book.cap mid.records.book.entries entry (tells.content (disk_of mid.records)) new) same.terms.head is))
 
-    tears_from : (entry : Entry) (new : Option (List ℕ)) → Tears mid.records.head mid.records.book.cap mid.records.book.entries entry (content (disk_of mid.records)) new
-        → Tears old.records.head old.records.book.cap mid.records.book.entries entry (content (disk_of old.records)) new
+    tears_from : (entry : Entry) (new : Option (List ℕ)) → Tears mid.records.head mid.records.book.cap mid.records.book.entries entry (tells.content (disk_of mid.records)) new
+        → Tears old.records.head old.records.book.cap mid.records.book.entries entry (tells.content (disk_of old.records)) new
     tears_from entry new is =
         subst (λ (t : Option (List ℕ)). Tears old.records.head old.records.book.cap mid.records.book.entries entry t new) same_content
-        (subst (λ (cap : ℕ). Tears old.records.head cap mid.records.book.entries entry (content (disk_of mid.records)) new) same.terms.cap
-        (subst (λ (head : List ℕ). Tears head mid.records.book.cap mid.records.book.entries entry (content (disk_of mid.records)) new) same.terms.head is))
+        (subst (λ (cap : ℕ). Tears old.records.head cap mid.records.book.entries entry (tells.content (disk_of mid.records)) new) same.terms.cap
+        (subst (λ (head : List ℕ). Tears head mid.records.book.cap mid.records.book.entries entry (tells.content (disk_of mid.records)) new) same.terms.head is))
 
     -- the turn decided
-    pub decides : (new : Parts D) → IsVault content allowed faults new → (request : Request) (at : ℕ) (reply : List ℕ) (entry : Option Entry) → at ≡ length mid.records.book.entries → entry ≡ (rules_of (seen_as old) mid.records.book.entries request).entry
+    pub decides : (new : Parts D) → IsVault tells new → (request : Request) (at : ℕ) (reply : List ℕ) (entry : Option Entry) → at ≡ length mid.records.book.entries → entry ≡ (rules_of (seen_as old) mid.records.book.entries request).entry
         → reply ≡ (rules_of (seen_as old) mid.records.book.entries request).reply → new.records.book.entries ≡ mid.records.book.entries ++ option_to_list entry → new.records.doubt ≡ None → new.faults ≡ old.faults
         → Decides (rules_of (seen_as old)) (state_of (seen_as old)) request at reply (state_of (seen_as new))
     decides new done request at reply entry at_is entry_is reply_is more none few = record {
@@ -114,37 +115,37 @@ module _ {D : Type 0} (content : D → Option (List ℕ)) (allowed : D → List 
       settled = settles_over;
       at = at_is;
       told = reply_is;
-      left = state_seen content allowed faults new done ∙ rw (more, none, few, sym entry_is, vault.faults_are) refl;
+      left = state_seen tells new done ∙ rw (more, none, few, sym entry_is, vault.faults_are) refl;
     }
 
     -- the lines of it
     pub decided_lines : (new : Parts D) (request : Request) (at : ℕ) (entry : Option Entry) (added : List Line) → at ≡ length mid.records.book.entries → entry ≡ (rules_of (seen_as old) mid.records.book.entries request).entry
-        → added ≡ adopts by turn kept ++ commits by turn entry → Writes mid.records.head mid.records.book.cap mid.records.book.entries entry (content (disk_of mid.records)) (content (disk_of new.records))
-        → Decided content (seen_as old) (seen_as new) by turn at request added
+        → added ≡ adopts by turn kept ++ commits by turn entry → Writes mid.records.head mid.records.book.cap mid.records.book.entries entry (tells.content (disk_of mid.records)) (tells.content (disk_of new.records))
+        → Decided tells (seen_as old) (seen_as new) by turn at request added
     decided_lines new request at entry added at_is entry_is is wrote = record {
       kept = kept;
       over = mid.records.book.entries;
       settled = settled_as;
       place = at_is;
       lines = is ∙ ap (λ (o : Option Entry). adopts by turn kept ++ commits by turn o) entry_is;
-      written = subst (λ (o : Option Entry). Writes old.records.head old.records.book.cap mid.records.book.entries o (content (disk_of old.records)) (content (disk_of new.records))) entry_is
-          (writes_from entry (content (disk_of new.records)) wrote);
+      written = subst (λ (o : Option Entry). Writes old.records.head old.records.book.cap mid.records.book.entries o (tells.content (disk_of old.records)) (tells.content (disk_of new.records))) entry_is
+          (writes_from entry (tells.content (disk_of new.records)) wrote);
     }
 
     -- the entry could not be made durable
-    pub doubts : (new : Parts D) → IsVault content allowed faults new → (request : Request) (entry : Entry) → Some entry ≡ (rules_of (seen_as old) mid.records.book.entries request).entry
+    pub doubts : (new : Parts D) → IsVault tells new → (request : Request) (entry : Entry) → Some entry ≡ (rules_of (seen_as old) mid.records.book.entries request).entry
         → new.records.book.entries ≡ mid.records.book.entries → new.records.doubt ≡ Some entry → new.faults ≡ old.faults + 1 → Doubts (rules_of (seen_as old)) (state_of (seen_as old)) request (state_of (seen_as new))
     doubts new done request entry entry_is more doubt one = record {
       over = mid.records.book.entries;
       entry = entry;
       settled = settles_over;
       recorded = sym entry_is;
-      left = state_seen content allowed faults new done ∙ rw (more, doubt, one, vault.faults_are) refl;
+      left = state_seen tells new done ∙ rw (more, doubt, one, vault.faults_are) refl;
     }
 
-    pub doubted_lines : (new : Parts D) → IsVault content allowed faults new → (request : Request) (entry : Entry) (before after : ℕ) (added : List Line) → Some entry ≡ (rules_of (seen_as old) mid.records.book.entries request).entry
+    pub doubted_lines : (new : Parts D) → IsVault tells new → (request : Request) (entry : Entry) (before after : ℕ) (added : List Line) → Some entry ≡ (rules_of (seen_as old) mid.records.book.entries request).entry
         → new.records.doubt ≡ Some entry → added ≡ adopts by turn kept ++ Doubt by turn entry ∷ Fault by turn before after ∷ []
-        → Tears mid.records.head mid.records.book.cap mid.records.book.entries entry (content (disk_of mid.records)) (content (disk_of new.records)) → Doubted content (seen_as old) (seen_as new) by turn before after request added
+        → Tears mid.records.head mid.records.book.cap mid.records.book.entries entry (tells.content (disk_of mid.records)) (tells.content (disk_of new.records)) → Doubted tells (seen_as old) (seen_as new) by turn before after request added
     doubted_lines new done request entry before after added entry_is doubt is torn = record {
       kept = kept;
       over = mid.records.book.entries;
@@ -152,8 +153,8 @@ module _ {D : Type 0} (content : D → Option (List ℕ)) (allowed : D → List 
       settled = settled_as;
       verdict = sym entry_is;
       lines = is;
-      written = tears_from entry (content (disk_of new.records)) torn;
-      doubt = doubt_seen content allowed faults new done ∙ ap option_to_list doubt;
+      written = tears_from entry (tells.content (disk_of new.records)) torn;
+      doubt = doubt_seen tells new done ∙ ap option_to_list doubt;
     }
 
   some_doubt : (d : Option Entry) → d ≢ None → option_to_list d ≢ []
@@ -161,60 +162,59 @@ module _ {D : Type 0} (content : D → Option (List ℕ)) (allowed : D → List 
   some_doubt (Some e) some is = cc
 
   -- what was in doubt still is
-  pub unsettled_lines : (old new : Parts D) → IsVault content allowed faults old → IsVault content allowed faults new → (by turn before after : ℕ) (added : List Line) → old.records.doubt ≢ None → new.records.doubt ≡ old.records.doubt
-      → new.records.book.entries ≡ old.records.book.entries → added ≡ Fault by turn before after ∷ [] → content (disk_of new.records) ≡ content (disk_of old.records) → Unsettled content (seen_as old) (seen_as new) by turn before after added
+  pub unsettled_lines : (old new : Parts D) → IsVault tells old → IsVault tells new → (by turn before after : ℕ) (added : List Line) → old.records.doubt ≢ None → new.records.doubt ≡ old.records.doubt
+      → new.records.book.entries ≡ old.records.book.entries → added ≡ Fault by turn before after ∷ [] → tells.content (disk_of new.records) ≡ tells.content (disk_of old.records) → Unsettled tells (seen_as old) (seen_as new) by turn before after added
   unsettled_lines old new vault done by turn before after added some doubt entries is unwritten = record {
-    some = λ e. some_doubt old.records.doubt some (sym (doubt_seen content allowed faults old vault) ∙ e);
+    some = λ e. some_doubt old.records.doubt some (sym (doubt_seen tells old vault) ∙ e);
     lines = is;
     written = unwritten;
-    entries = entries_seen content allowed faults new done ∙ entries ∙ sym (entries_seen content allowed faults old vault);
-    doubt = doubt_seen content allowed faults new done ∙ ap option_to_list doubt ∙ sym (doubt_seen content allowed faults old vault);
+    entries = entries_seen tells new done ∙ entries ∙ sym (entries_seen tells old vault);
+    doubt = doubt_seen tells new done ∙ ap option_to_list doubt ∙ sym (doubt_seen tells old vault);
   }
 
-  module _ (moment : D → ℕ) (left : D → ℕ → List ℕ → Type 0) where
-    -- nothing was done
-    pub leaves_here : (p new : Parts D) → IsVault content allowed faults p → ((c : List ℕ) → left (disk_of p.records) (moment (disk_of p.records)) c → allowed (disk_of p.records) c) → disk_of new.records ≡ disk_of p.records
-        → LeavesOnly moment left (disk_of p.records) (disk_of new.records) (λ image. StandsForState (seen_as p) image ⊎ StandsForState (seen_as new) image)
-    leaves_here p new vault only_now same =
-        subst (λ (d : D). LeavesOnly moment left (disk_of p.records) d (λ image. StandsForState (seen_as p) image ⊎ StandsForState (seen_as new) image)) (sym same)
-        (started moment left (disk_of p.records) (λ image. StandsForState (seen_as p) image ⊎ StandsForState (seen_as new) image)
-        (λ c is. inl (either_seen content allowed faults p vault c (rest_images content allowed p.records vault.rests c (only_now c is)))))
+  -- nothing was done
+  pub leaves_here : (p new : Parts D) → IsVault tells p → ((c : List ℕ) → tells.left (disk_of p.records) (tells.moment (disk_of p.records)) c → tells.allowed (disk_of p.records) c) → disk_of new.records ≡ disk_of p.records
+      → LeavesOnly tells (disk_of p.records) (disk_of new.records) (λ image. StandsForState (seen_as p) image ⊎ StandsForState (seen_as new) image)
+  leaves_here p new vault only_now same =
+      subst (λ (d : D). LeavesOnly tells (disk_of p.records) d (λ image. StandsForState (seen_as p) image ⊎ StandsForState (seen_as new) image)) (sym same)
+      (started tells (disk_of p.records) (λ image. StandsForState (seen_as p) image ⊎ StandsForState (seen_as new) image)
+      (λ c is. inl (either_seen tells p vault c (rest_images tells p.records vault.rests c (only_now c is)))))
 
-    -- settling failed
-    pub leaves_unsettled : (p : Parts D) (new : D) (Q : List ℕ → Type 0) → IsVault content allowed faults p → LeavesOnly moment left (disk_of p.records) new (EitherOf p.records)
-        → LeavesOnly moment left (disk_of p.records) new (λ image. StandsForState (seen_as p) image ⊎ Q image)
-    leaves_unsettled p new Q vault leaves =
-        leaves_more moment left (disk_of p.records) new (EitherOf p.records) (λ image. StandsForState (seen_as p) image ⊎ Q image) (λ c is. inl (either_seen content allowed faults p vault c is)) leaves
+  -- settling failed
+  pub leaves_unsettled : (p : Parts D) (new : D) (Q : List ℕ → Type 0) → IsVault tells p → LeavesOnly tells (disk_of p.records) new (EitherOf p.records)
+      → LeavesOnly tells (disk_of p.records) new (λ image. StandsForState (seen_as p) image ⊎ Q image)
+  leaves_unsettled p new Q vault leaves =
+      leaves_more tells (disk_of p.records) new (EitherOf p.records) (λ image. StandsForState (seen_as p) image ⊎ Q image) (λ c is. inl (either_seen tells p vault c is)) leaves
 
-    -- both steps were taken
-    pub leaves_both : (old mid new : Parts D) (vault : IsVault content allowed faults old) → IsVault content allowed faults new → SameOrigin old mid → SameOrigin mid new → (kept entry : Option Entry) → IsKept kept old.records.doubt
-        → mid.records.book.entries ≡ old.records.book.entries ++ option_to_list kept
-        → (new.records.book.entries ≡ mid.records.book.entries ++ option_to_list entry) ⊎ (new.records.book.entries ++ option_to_list new.records.doubt ≡ mid.records.book.entries ++ option_to_list entry)
-        → LeavesOnly moment left (disk_of old.records) (disk_of mid.records) (EitherOf old.records) → LeavesOnly moment left (disk_of mid.records) (disk_of new.records) (WithOrWithout mid.records (option_to_list entry))
-        → LeavesOnly moment left (disk_of old.records) (disk_of new.records) (λ image. StandsForState (seen_as old) image ⊎ StandsForState (seen_as new) image)
-    leaves_both old mid new vault done first second kept entry kept_is entries last leaves more =
-        leaves_then moment left (disk_of old.records) (disk_of mid.records) (disk_of new.records) (EitherOf old.records) (WithOrWithout mid.records (option_to_list entry)) (λ image. StandsForState (seen_as old) image ⊎ StandsForState (seen_as new) image)
-        leaves more (λ c is. inl (either_seen content allowed faults old vault c is)) (λ c is. seen c (behind c is))
-      where
-        behind : (c : List ℕ) → WithOrWithout mid.records (option_to_list entry) c → EitherOf old.records c ⊎ StandsForEither old.records.head old.records.book.cap new.records.book.entries (option_to_list new.records.doubt) c
-        behind c is =
-            image_behind old.records.head old.records.book.cap old.records.book.entries mid.records.book.entries new.records.book.entries (option_to_list new.records.doubt) old.records.doubt kept entry c kept_is entries last
-            (subst (λ (head : List ℕ). StandsForEither head old.records.book.cap mid.records.book.entries (option_to_list entry) c) first.terms.head
-            (subst (λ (cap : ℕ). StandsForEither mid.records.head cap mid.records.book.entries (option_to_list entry) c) first.terms.cap is))
+  -- both steps were taken
+  pub leaves_both : (old mid new : Parts D) (vault : IsVault tells old) → IsVault tells new → SameOrigin old mid → SameOrigin mid new → (kept entry : Option Entry) → IsKept kept old.records.doubt
+      → mid.records.book.entries ≡ old.records.book.entries ++ option_to_list kept
+      → (new.records.book.entries ≡ mid.records.book.entries ++ option_to_list entry) ⊎ (new.records.book.entries ++ option_to_list new.records.doubt ≡ mid.records.book.entries ++ option_to_list entry)
+      → LeavesOnly tells (disk_of old.records) (disk_of mid.records) (EitherOf old.records) → LeavesOnly tells (disk_of mid.records) (disk_of new.records) (WithOrWithout mid.records (option_to_list entry))
+      → LeavesOnly tells (disk_of old.records) (disk_of new.records) (λ image. StandsForState (seen_as old) image ⊎ StandsForState (seen_as new) image)
+  leaves_both old mid new vault done first second kept entry kept_is entries last leaves more =
+      leaves_then tells (disk_of old.records) (disk_of mid.records) (disk_of new.records) (EitherOf old.records) (WithOrWithout mid.records (option_to_list entry)) (λ image. StandsForState (seen_as old) image ⊎ StandsForState (seen_as new) image)
+      leaves more (λ c is. inl (either_seen tells old vault c is)) (λ c is. seen c (behind c is))
+    where
+      behind : (c : List ℕ) → WithOrWithout mid.records (option_to_list entry) c → EitherOf old.records c ⊎ StandsForEither old.records.head old.records.book.cap new.records.book.entries (option_to_list new.records.doubt) c
+      behind c is =
+          image_behind old.records.head old.records.book.cap old.records.book.entries mid.records.book.entries new.records.book.entries (option_to_list new.records.doubt) old.records.doubt kept entry c kept_is entries last
+          (subst (λ (head : List ℕ). StandsForEither head old.records.book.cap mid.records.book.entries (option_to_list entry) c) first.terms.head
+          (subst (λ (cap : ℕ). StandsForEither mid.records.head cap mid.records.book.entries (option_to_list entry) c) first.terms.cap is))
 
-        seen : (c : List ℕ) → EitherOf old.records c ⊎ StandsForEither old.records.head old.records.book.cap new.records.book.entries (option_to_list new.records.doubt) c → StandsForState (seen_as old) c ⊎ StandsForState (seen_as new) c
-        seen c (inl was) = inl (either_seen content allowed faults old vault c was)
-        seen c (inr now) = inr (either_seen content allowed faults new done c
-            (subst (λ (head : List ℕ). StandsForEither head new.records.book.cap new.records.book.entries (option_to_list new.records.doubt) c) (sym (second.terms.head ∙ first.terms.head))
-            (subst (λ (cap : ℕ). StandsForEither old.records.head cap new.records.book.entries (option_to_list new.records.doubt) c) (sym (second.terms.cap ∙ first.terms.cap)) now)))
+      seen : (c : List ℕ) → EitherOf old.records c ⊎ StandsForEither old.records.head old.records.book.cap new.records.book.entries (option_to_list new.records.doubt) c → StandsForState (seen_as old) c ⊎ StandsForState (seen_as new) c
+      seen c (inl was) = inl (either_seen tells old vault c was)
+      seen c (inr now) = inr (either_seen tells new done c
+          (subst (λ (head : List ℕ). StandsForEither head new.records.book.cap new.records.book.entries (option_to_list new.records.doubt) c) (sym (second.terms.head ∙ first.terms.head))
+          (subst (λ (cap : ℕ). StandsForEither old.records.head cap new.records.book.entries (option_to_list new.records.doubt) c) (sym (second.terms.cap ∙ first.terms.cap)) now)))
 
   -- what was answered is durable
-  pub durable : (p : Parts D) → IsVault content allowed faults p → p.records.doubt ≡ None → IsDurable allowed (seen_as p)
+  pub durable : (p : Parts D) → IsVault tells p → p.records.doubt ≡ None → IsDurable tells (seen_as p)
   durable p vault none = record {
-    fresh = settled_fresh content allowed faults p.records vault.rests none;
+    fresh = settled_fresh tells p.records vault.rests none;
     images = λ image is.
-        let all : EitherOf p.records image = rest_images content allowed p.records vault.rests image is in
-        subst (λ (es : List Entry). StandsFor p.records.head p.records.book.cap es image) (sym (entries_seen content allowed faults p vault))
+        let all : EitherOf p.records image = rest_images tells p.records vault.rests image is in
+        subst (λ (es : List Entry). StandsFor p.records.head p.records.book.cap es image) (sym (entries_seen tells p vault))
         (alone image (subst (λ (d : Option Entry). StandsForEither p.records.head p.records.book.cap p.records.book.entries (option_to_list d) image) none all));
   }
     where
@@ -224,13 +224,13 @@ module _ {D : Type 0} (content : D → Option (List ℕ)) (allowed : D → List 
 
   -- ---- the steps, by cases on the entry
 
-  pub commit_ok : (mid new : Parts D) (by turn : ℕ) (entry : Option Entry) → mid.records.doubt ≡ None → CommitGives faults mid new by turn entry (Ok tt)
+  pub commit_ok : (mid new : Parts D) (by turn : ℕ) (entry : Option Entry) → mid.records.doubt ≡ None → CommitGives tells mid new by turn entry (Ok tt)
       → (new.records.book.entries ≡ mid.records.book.entries ++ option_to_list entry) × (new.records.doubt ≡ None) × (new.lines.items ≡ mid.lines.items ++ commits by turn entry) × (new.faults ≡ mid.faults)
   commit_ok mid new by turn None none gives =
       (ap (λ (p : Parts D). p.records.book.entries) gives.0 ∙ sym (append-nil mid.records.book.entries), ap (λ (p : Parts D). p.records.doubt) gives.0 ∙ none, ap (λ (p : Parts D). p.lines.items) gives.0 ∙ sym (append-nil mid.lines.items), ap (λ (p : Parts D). p.faults) gives.0)
   commit_ok mid new by turn (Some entry) none gives = (gives.2, gives.0, gives.1, gives.3)
 
-  pub commit_err : (mid new : Parts D) (by turn : ℕ) (entry : Option Entry) (counts : Counts) → CommitGives faults mid new by turn entry (Err counts)
+  pub commit_err : (mid new : Parts D) (by turn : ℕ) (entry : Option Entry) (counts : Counts) → CommitGives tells mid new by turn entry (Err counts)
       → (e : Entry) × (entry ≡ Some e) × (new.records.book.entries ≡ mid.records.book.entries) × (new.records.doubt ≡ Some e)
       × (new.lines.items ≡ mid.lines.items ++ Doubt by turn e ∷ Fault by turn counts.before counts.after ∷ []) × (new.faults ≡ mid.faults + 1)
   commit_err mid new by turn None counts gives = absurd cc
@@ -251,7 +251,7 @@ module _ {D : Type 0} (content : D → Option (List ℕ)) (allowed : D → List 
 
   -- ---- the verdict
 
-  pub verdict_is : (old mid : Parts D) → IsVault content allowed faults old → SameOrigin old mid → (kind moment : ℕ) (body : List ℕ) (decision : Decision)
+  pub verdict_is : (old mid : Parts D) → IsVault tells old → SameOrigin old mid → (kind moment : ℕ) (body : List ℕ) (decision : Decision)
       → decision ≡ verdict mid.records.book.entries mid.head mid.records.book.cap kind body moment → decision ≡ verdict mid.records.book.entries (head_of old.records.head) old.records.book.cap kind body moment
   verdict_is old mid vault same kind moment body decision is =
       is ∙ ap (λ (head : Head). verdict mid.records.book.entries head mid.records.book.cap kind body moment) (same.head ∙ vault.keys)
@@ -259,37 +259,37 @@ module _ {D : Type 0} (content : D → Option (List ℕ)) (allowed : D → List 
 
   -- ---- from before the memory was taken
 
-  pub from_start : (moment : D → ℕ) (left : D → ℕ → List ℕ → Type 0) (old start new : Parts D) → SameButRoom old start
-      → LeavesOnly moment left (disk_of start.records) (disk_of new.records) (λ image. StandsForState (seen_as start) image ⊎ StandsForState (seen_as new) image)
-      → LeavesOnly moment left (disk_of old.records) (disk_of new.records) (λ image. StandsForState (seen_as old) image ⊎ StandsForState (seen_as new) image)
-  from_start moment left old start new same leaves =
-      subst (λ (v : Chronicled D). LeavesOnly moment left v.disk (disk_of new.records) (λ image. StandsForState v image ⊎ StandsForState (seen_as new) image)) (room_seen content allowed faults old start same) leaves
+  pub from_start : (old start new : Parts D) → SameButRoom old start
+      → LeavesOnly tells (disk_of start.records) (disk_of new.records) (λ image. StandsForState (seen_as start) image ⊎ StandsForState (seen_as new) image)
+      → LeavesOnly tells (disk_of old.records) (disk_of new.records) (λ image. StandsForState (seen_as old) image ⊎ StandsForState (seen_as new) image)
+  from_start old start new same leaves =
+      subst (λ (v : Chronicled D). LeavesOnly tells v.disk (disk_of new.records) (λ image. StandsForState v image ⊎ StandsForState (seen_as new) image)) (room_seen tells old start same) leaves
 
   pub adds_from : (old start new : Parts D) → SameButRoom old start → (by turn : ℕ) (request : Request) (answer : Answer) (added : List Line) → turn ≡ next_turn start.lines.items → new.lines.items ≡ start.lines.items ++ added → AreOf by turn added
-      → LinesOf content (seen_as start) (seen_as new) by turn request added answer → Adds content (seen_as old) (seen_as new) by request answer
+      → LinesOf tells (seen_as start) (seen_as new) by turn request added answer → Adds tells (seen_as old) (seen_as new) by request answer
   adds_from old start new same by turn request answer added turn_is behind made lines =
-      subst (λ (v : Chronicled D). Adds content v (seen_as new) by request answer) (room_seen content allowed faults old start same)
+      subst (λ (v : Chronicled D). Adds tells v (seen_as new) by request answer) (room_seen tells old start same)
       (record {
         added = added;
         behind = behind;
         made = subst (λ (n : ℕ). AreOf by n added) turn_is made;
-        lines = subst (λ (n : ℕ). LinesOf content (seen_as start) (seen_as new) by n request added answer) turn_is lines;
+        lines = subst (λ (n : ℕ). LinesOf tells (seen_as start) (seen_as new) by n request added answer) turn_is lines;
       })
 
 -- ---- where the state stays as it was
 
-module _ {D : Type 0} (content : D → Option (List ℕ)) (allowed : D → List ℕ → Type 0) (faults : D → ℕ) where
+module _ {D : Type 0} (tells : DiskTells D) where
   -- the state, from the fields
-  same_state : (old new : Parts D) → IsVault content allowed faults old → IsVault content allowed faults new → state_of (seen_as new) ≡ state_of (seen_as old) → state_at new ≡ state_at old
-  same_state old new before after same = sym (state_seen content allowed faults new after) ∙ same ∙ state_seen content allowed faults old before
+  same_state : (old new : Parts D) → IsVault tells old → IsVault tells new → state_of (seen_as new) ≡ state_of (seen_as old) → state_at new ≡ state_at old
+  same_state old new before after same = sym (state_seen tells new after) ∙ same ∙ state_seen tells old before
 
   -- then nothing was recorded, and so nothing was written
-  pub quiet_ok : (old mid new : Parts D) (by turn : ℕ) (kept entry : Option Entry) → IsVault content allowed faults old → IsVault content allowed faults new → mid.records.book.entries ≡ old.records.book.entries ++ option_to_list kept
-      → CommitGives faults mid new by turn entry (Ok tt) → content (disk_of mid.records) ≡ content (disk_of old.records) → state_of (seen_as new) ≡ state_of (seen_as old) → content (disk_of new.records) ≡ content (disk_of old.records)
-  quiet_ok old mid new by turn kept None before after is gives unwritten same = ap (λ (p : Parts D). content (disk_of p.records)) gives.0 ∙ unwritten
+  pub quiet_ok : (old mid new : Parts D) (by turn : ℕ) (kept entry : Option Entry) → IsVault tells old → IsVault tells new → mid.records.book.entries ≡ old.records.book.entries ++ option_to_list kept
+      → CommitGives tells mid new by turn entry (Ok tt) → tells.content (disk_of mid.records) ≡ tells.content (disk_of old.records) → state_of (seen_as new) ≡ state_of (seen_as old) → tells.content (disk_of new.records) ≡ tells.content (disk_of old.records)
+  quiet_ok old mid new by turn kept None before after is gives unwritten same = ap (λ (p : Parts D). tells.content (disk_of p.records)) gives.0 ∙ unwritten
   quiet_ok old mid new by turn kept (Some e) before after is gives unwritten same =
       absurd (omega (arith, ap length gives.2, length-append mid.records.book.entries (e ∷ []), ap length is, length-append old.records.book.entries (option_to_list kept), ap (λ (s : State). length s.entries) (same_state old new before after same)))
 
   -- and none failed
-  pub quiet_err : (old new : Parts D) → IsVault content allowed faults old → IsVault content allowed faults new → new.faults ≡ old.faults + 1 → state_of (seen_as new) ≡ state_of (seen_as old) → content (disk_of new.records) ≡ content (disk_of old.records)
+  pub quiet_err : (old new : Parts D) → IsVault tells old → IsVault tells new → new.faults ≡ old.faults + 1 → state_of (seen_as new) ≡ state_of (seen_as old) → tells.content (disk_of new.records) ≡ tells.content (disk_of old.records)
   quiet_err old new before after more same = absurd (omega (arith, more, ap (λ (s : State). s.faults) (same_state old new before after same)))

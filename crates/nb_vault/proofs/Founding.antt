@@ -15,15 +15,16 @@ use Rattle.nb_vault.specs.Records.{EitherOf}
 use Rattle.nb_vault.specs.Vaults.{Chronicled}
 use Rattle.nb_vault.proofs.Resting.{rest_content}
 use Rattle.nb_vault.proofs.HoldingLaws.{no_bad, one_list}
+use Rattle.nb_port.specs.Tells.{DiskTells}
 
 -- the content is this one
 pub told_of : (told : Option (List ℕ)) (P : List ℕ → Type 0) (c : List ℕ) → told ≡ Some c → IfSome told P → P c
 told_of told P c is some = subst (λ (o : Option (List ℕ)). IfSome o P) is some
 
-module _ {D : Type 0} (content : D → Option (List ℕ)) (allowed : D → List ℕ → Type 0) (faults : D → ℕ) (disk : D) (o : Opened D) (count : ℕ) where
+module _ {D : Type 0} (tells : DiskTells D) (disk : D) (o : Opened D) (count : ℕ) where
   -- the content stands for the entries that were read
-  pub opens_stands : (p : Parts D) → IsRestored content allowed faults o count p → content o.journal.disk ≡ content disk → IfSome (content disk) (StandsFor (seen_as p).origin.head (seen_as p).origin.cap (seen_as p).origin.entries)
-  opens_stands p r same = told (content disk) (subst (λ (t : Option (List ℕ)). IfSome t (EitherOf p.records)) (ap content r.disk ∙ same) (rest_content content allowed p.records r.vault.rests))
+  pub opens_stands : (p : Parts D) → IsRestored tells o count p → tells.content o.journal.disk ≡ tells.content disk → IfSome (tells.content disk) (StandsFor (seen_as p).origin.head (seen_as p).origin.cap (seen_as p).origin.entries)
+  opens_stands p r same = told (tells.content disk) (subst (λ (t : Option (List ℕ)). IfSome t (EitherOf p.records)) (ap tells.content r.disk ∙ same) (rest_content tells p.records r.vault.rests))
     where
       all : take p.opening p.records.book.entries ≡ p.records.book.entries
       all = take_all p.opening p.records.book.entries (omega (arith, r.opening))
@@ -39,18 +40,18 @@ module _ {D : Type 0} (content : D → Option (List ℕ)) (allowed : D → List 
           (alone image (subst (λ (d : Option Entry). StandsForEither p.records.head p.records.book.cap p.records.book.entries (option_to_list d) image) r.settled is))
 
   -- they are the entries that the content stands for
-  pub opens_whole : (v : Chronicled D) → IfSome (content disk) (StandsFor v.origin.head v.origin.cap v.origin.entries) → (image head : List ℕ) (cap : ℕ) (entries : List Entry) → content disk ≡ Some image → StandsFor head cap entries image
+  pub opens_whole : (v : Chronicled D) → IfSome (tells.content disk) (StandsFor v.origin.head v.origin.cap v.origin.entries) → (image head : List ℕ) (cap : ℕ) (entries : List Entry) → tells.content disk ≡ Some image → StandsFor head cap entries image
       → (v.origin.head ≡ head) × (v.origin.cap ≡ cap) × (v.origin.entries ≡ entries)
   opens_whole v stands image head cap entries is whole =
-      let same = one_list image v.origin.head head v.origin.cap cap v.origin.entries entries (told_of (content disk) (StandsFor v.origin.head v.origin.cap v.origin.entries) image is stands) whole in
+      let same = one_list image v.origin.head head v.origin.cap cap v.origin.entries entries (told_of (tells.content disk) (StandsFor v.origin.head v.origin.cap v.origin.entries) image is stands) whole in
       (same.1, same.0, same.2)
 
   -- none of its items is bad
-  pub fails_whole : (fault : VaultFault) (back : D) → RestoreFails o back fault → IfSome (content disk) (λ image. Holds image o.cap o.head o.items.items) → (image head : List ℕ) (cap : ℕ) (entries : List Entry) → content disk ≡ Some image
+  pub fails_whole : (fault : VaultFault) (back : D) → RestoreFails o back fault → IfSome (tells.content disk) (λ image. Holds image o.cap o.head o.items.items) → (image head : List ℕ) (cap : ℕ) (entries : List Entry) → tells.content disk ≡ Some image
       → StandsFor head cap entries image → OpensWhole head cap entries (Err (fault, back))
   fails_whole (opens.Unborn found) back fails holds image head cap entries is whole = absurd fails
   fails_whole (opens.Damaged item place) back fails holds image head cap entries is whole = absurd fails
   fails_whole (opens.BadEntry item) back fails holds image head cap entries is whole =
-      absurd (no_bad head cap entries image item whole (record { cap = o.cap; head = o.head; items = o.items.items; holds = told_of (content disk) (λ image. Holds image o.cap o.head o.items.items) image is holds; first = fails.0 }))
+      absurd (no_bad head cap entries image item whole (record { cap = o.cap; head = o.head; items = o.items.items; holds = told_of (tells.content disk) (λ image. Holds image o.cap o.head o.items.items) image is holds; first = fails.0 }))
   fails_whole (opens.DiskFault before after) back fails holds image head cap entries is whole = absurd fails
   fails_whole opens.NoMemory back fails holds image head cap entries is whole = tt

@@ -15,6 +15,7 @@ use Rattle.nb_journal.specs.Stands.{Stands, BeforeOrAfter}
 use Rattle.nb_journal.specs.States.{AtRest, InDoubt}
 use Rattle.nb_journal.specs.Time.{LeavesOnly}
 use Rattle.nb_journal.proofs.Appending.{stands_now}
+use Rattle.nb_port.specs.Tells.{DiskTells}
 use Rattle.nb_port.specs.Disk.{wrote_at, MayTear}
 use Rattle.nb_vault.specs.Holdings.{Joins, StandsFor, StandsForEither, IsGate, Writes, Tears}
 use Rattle.nb_vault.specs.Records.{Rests, RestsIn, WithOrWithout, EitherOf, disk_of}
@@ -86,52 +87,52 @@ module _ (head : List ℕ) (cap : ℕ) (items : List (List ℕ)) (entries : List
 
 -- ---- through time
 
-pub leaves_more : {D : Type 0} (moment : D → ℕ) (left : D → ℕ → List ℕ → Type 0) (old new : D) (P Q : List ℕ → Type 0) → ((c : List ℕ) → P c → Q c)
-    → LeavesOnly moment left old new P → LeavesOnly moment left old new Q
-leaves_more moment left old new P Q more leaves = record {
+pub leaves_more : {D : Type 0} (tells : DiskTells D) (old new : D) (P Q : List ℕ → Type 0) → ((c : List ℕ) → P c → Q c)
+    → LeavesOnly tells old new P → LeavesOnly tells old new Q
+leaves_more tells old new P Q more leaves = record {
   later = leaves.later;
   each = λ c is. more c (leaves.each c is);
   before = λ t c le is. ⊎_elim inl (λ p. inr (more c p)) (leaves.before t c le is);
 }
 
-pub leaves_then : {D : Type 0} (moment : D → ℕ) (left : D → ℕ → List ℕ → Type 0) (old mid new : D) (P Q R : List ℕ → Type 0) → LeavesOnly moment left old mid P → LeavesOnly moment left mid new Q
-    → ((c : List ℕ) → P c → R c) → ((c : List ℕ) → Q c → R c) → LeavesOnly moment left old new R
-leaves_then moment left old mid new P Q R first second p q = record {
+pub leaves_then : {D : Type 0} (tells : DiskTells D) (old mid new : D) (P Q R : List ℕ → Type 0) → LeavesOnly tells old mid P → LeavesOnly tells mid new Q
+    → ((c : List ℕ) → P c → R c) → ((c : List ℕ) → Q c → R c) → LeavesOnly tells old new R
+leaves_then tells old mid new P Q R first second p q = record {
   later = omega (arith, first.later, second.later);
-  each = λ c is. ⊎_elim (λ was. p c (first.each c was)) (q c) (second.before (moment old) c first.later is);
+  each = λ c is. ⊎_elim (λ was. p c (first.each c was)) (q c) (second.before (tells.moment old) c first.later is);
   before = λ t c le is. ⊎_elim (λ was. ⊎_elim inl (λ now. inr (p c now)) (first.before t c le was)) (λ now. inr (q c now)) (second.before t c (omega (arith, le, first.later)) is);
 }
 
 -- ---- records
 
-module _ {D : Type 0} (content : D → Option (List ℕ)) (allowed : D → List ℕ → Type 0) where
+module _ {D : Type 0} (tells : DiskTells D) where
   -- what is left of records at rest
-  pub rest_images : (r : Records D) → Rests content allowed r → (image : List ℕ) → allowed (disk_of r) image → EitherOf r image
+  pub rest_images : (r : Records D) → Rests tells r → (image : List ℕ) → tells.allowed (disk_of r) image → EitherOf r image
   rest_images r rests image is = by_doubt r.doubt rests.journal rests.next rests.fits rests.within
     where
-      by_doubt : (doubt : Option Entry) → RestsIn content allowed (front_bytes r.book.cap r.head) rests.items doubt r.journal → IfSome doubt (LegalAfter r.book.entries) → IfSome doubt IsEntry
+      by_doubt : (doubt : Option Entry) → RestsIn tells (front_bytes r.book.cap r.head) rests.items doubt r.journal → IfSome doubt (LegalAfter r.book.entries) → IfSome doubt IsEntry
           → IfSome doubt (λ (entry : Entry). length r.book.entries < r.book.cap) → WithOrWithout r (option_to_list doubt) image
-      by_doubt None at_rest next fits within = inl (stands_for r.head r.book.cap rests.items r.book.entries rests.terms rests.joins rests.legal rests.count image (stands_now content allowed _ rests.items r.journal at_rest image is))
+      by_doubt None at_rest next fits within = inl (stands_for r.head r.book.cap rests.items r.book.entries rests.terms rests.joins rests.legal rests.count image (stands_now tells _ rests.items r.journal at_rest image is))
       by_doubt (Some e) doubtful next fits within = stands_either r.head r.book.cap rests.items r.book.entries rests.terms rests.joins rests.legal e fits next within image (doubtful.images image is)
 
   -- what the content stands for
-  pub rest_content : (r : Records D) → Rests content allowed r → IfSome (content (disk_of r)) (EitherOf r)
+  pub rest_content : (r : Records D) → Rests tells r → IfSome (tells.content (disk_of r)) (EitherOf r)
   rest_content r rests = by_doubt r.doubt rests.journal rests.next rests.fits rests.within
     where
       told : (o : Option (List ℕ)) (P Q : List ℕ → Type 0) → ((c : List ℕ) → P c → Q c) → IfSome o P → IfSome o Q
       told None P Q step some = tt
       told (Some c) P Q step some = step c some
 
-      by_doubt : (doubt : Option Entry) → RestsIn content allowed (front_bytes r.book.cap r.head) rests.items doubt r.journal → IfSome doubt (LegalAfter r.book.entries) → IfSome doubt IsEntry
-          → IfSome doubt (λ (entry : Entry). length r.book.entries < r.book.cap) → IfSome (content (disk_of r)) (WithOrWithout r (option_to_list doubt))
-      by_doubt None at_rest next fits within = told (content (disk_of r)) (Stands (front_bytes r.book.cap r.head) rests.items) (WithOrWithout r [])
+      by_doubt : (doubt : Option Entry) → RestsIn tells (front_bytes r.book.cap r.head) rests.items doubt r.journal → IfSome doubt (LegalAfter r.book.entries) → IfSome doubt IsEntry
+          → IfSome doubt (λ (entry : Entry). length r.book.entries < r.book.cap) → IfSome (tells.content (disk_of r)) (WithOrWithout r (option_to_list doubt))
+      by_doubt None at_rest next fits within = told (tells.content (disk_of r)) (Stands (front_bytes r.book.cap r.head) rests.items) (WithOrWithout r [])
           (λ c stands. inl (stands_for r.head r.book.cap rests.items r.book.entries rests.terms rests.joins rests.legal rests.count c stands)) at_rest.bytes
-      by_doubt (Some e) doubtful next fits within = told (content (disk_of r)) (BeforeOrAfter (front_bytes r.book.cap r.head) rests.items (entry_bytes e)) (WithOrWithout r (e ∷ []))
+      by_doubt (Some e) doubtful next fits within = told (tells.content (disk_of r)) (BeforeOrAfter (front_bytes r.book.cap r.head) rests.items (entry_bytes e)) (WithOrWithout r (e ∷ []))
           (λ c stands. stands_either r.head r.book.cap rests.items r.book.entries rests.terms rests.joins rests.legal e fits next within c stands) doubtful.bytes
 
   -- nothing is in doubt, so the journal is at rest
-  pub at_rest : (r : Records D) (rests : Rests content allowed r) → r.doubt ≡ None → AtRest content allowed (front_bytes r.book.cap r.head) rests.items r.journal
-  at_rest r rests settled = subst (λ (doubt : Option Entry). RestsIn content allowed (front_bytes r.book.cap r.head) rests.items doubt r.journal) settled rests.journal
+  pub at_rest : (r : Records D) (rests : Rests tells r) → r.doubt ≡ None → AtRest tells (front_bytes r.book.cap r.head) rests.items r.journal
+  at_rest r rests settled = subst (λ (doubt : Option Entry). RestsIn tells (front_bytes r.book.cap r.head) rests.items doubt r.journal) settled rests.journal
 
   -- all but the entries, the doubt and what the journal holds
   pub record SameFrame (old new : Records D) : Type 0 where
@@ -145,15 +146,15 @@ module _ {D : Type 0} (content : D → Option (List ℕ)) (allowed : D → List 
   same_front old new same = rw (same.cap, same.head) refl
 
   -- an entry was recorded
-  pub added_rests : (old new : Records D) (e : Entry) (item : List ℕ) (rests : Rests content allowed old) → item ≡ entry_bytes e → IsEntry e → LegalAfter old.book.entries e → length old.book.entries < old.book.cap → SameFrame old new
-      → AtRest content allowed (front_bytes old.book.cap old.head) (rests.items ++ item ∷ []) new.journal → new.book.entries ≡ old.book.entries ++ e ∷ [] → new.doubt ≡ None → Rests content allowed new
+  pub added_rests : (old new : Records D) (e : Entry) (item : List ℕ) (rests : Rests tells old) → item ≡ entry_bytes e → IsEntry e → LegalAfter old.book.entries e → length old.book.entries < old.book.cap → SameFrame old new
+      → AtRest tells (front_bytes old.book.cap old.head) (rests.items ++ item ∷ []) new.journal → new.book.entries ≡ old.book.entries ++ e ∷ [] → new.doubt ≡ None → Rests tells new
   added_rests old new e item rests spells fits next within same rest is settled = record {
     items = rests.items ++ entry_bytes e ∷ [];
     joins = subst (Joins (rests.items ++ entry_bytes e ∷ [])) (sym is) (joins_more rests.items old.book.entries e rests.joins fits);
     terms = rw (same.cap, same.head) rests.terms;
-    journal = subst (λ (doubt : Option Entry). RestsIn content allowed (front_bytes new.book.cap new.head) (rests.items ++ entry_bytes e ∷ []) doubt new.journal) (sym settled)
-        (subst (λ (front : List ℕ). AtRest content allowed front (rests.items ++ entry_bytes e ∷ []) new.journal) (sym (same_front old new same))
-        (subst (λ (x : List ℕ). AtRest content allowed (front_bytes old.book.cap old.head) (rests.items ++ x ∷ []) new.journal) spells rest));
+    journal = subst (λ (doubt : Option Entry). RestsIn tells (front_bytes new.book.cap new.head) (rests.items ++ entry_bytes e ∷ []) doubt new.journal) (sym settled)
+        (subst (λ (front : List ℕ). AtRest tells front (rests.items ++ entry_bytes e ∷ []) new.journal) (sym (same_front old new same))
+        (subst (λ (x : List ℕ). AtRest tells (front_bytes old.book.cap old.head) (rests.items ++ x ∷ []) new.journal) spells rest));
     cap = same.most ∙ rests.cap ∙ sym same.cap;
     room = same.room ∙ rests.room;
     legal = subst Legal (sym is) (legal_more old.book.entries e rests.legal next);
@@ -164,14 +165,14 @@ module _ {D : Type 0} (content : D → Option (List ℕ)) (allowed : D → List 
   }
 
   -- none was, and nothing is in doubt
-  pub settled_rests : (old new : Records D) (rests : Rests content allowed old) → SameFrame old new → AtRest content allowed (front_bytes old.book.cap old.head) rests.items new.journal
-      → new.book.entries ≡ old.book.entries → new.doubt ≡ None → Rests content allowed new
+  pub settled_rests : (old new : Records D) (rests : Rests tells old) → SameFrame old new → AtRest tells (front_bytes old.book.cap old.head) rests.items new.journal
+      → new.book.entries ≡ old.book.entries → new.doubt ≡ None → Rests tells new
   settled_rests old new rests same rest is settled = record {
     items = rests.items;
     joins = subst (Joins rests.items) (sym is) rests.joins;
     terms = rw (same.cap, same.head) rests.terms;
-    journal = subst (λ (doubt : Option Entry). RestsIn content allowed (front_bytes new.book.cap new.head) rests.items doubt new.journal) (sym settled)
-        (subst (λ (front : List ℕ). AtRest content allowed front rests.items new.journal) (sym (same_front old new same)) rest);
+    journal = subst (λ (doubt : Option Entry). RestsIn tells (front_bytes new.book.cap new.head) rests.items doubt new.journal) (sym settled)
+        (subst (λ (front : List ℕ). AtRest tells front rests.items new.journal) (sym (same_front old new same)) rest);
     cap = same.most ∙ rests.cap ∙ sym same.cap;
     room = same.room ∙ rests.room;
     legal = subst Legal (sym is) rests.legal;
@@ -182,15 +183,15 @@ module _ {D : Type 0} (content : D → Option (List ℕ)) (allowed : D → List 
   }
 
   -- one is in doubt
-  pub doubt_rests : (old new : Records D) (e : Entry) (item : List ℕ) (rests : Rests content allowed old) → item ≡ entry_bytes e → IsEntry e → LegalAfter old.book.entries e → length old.book.entries < old.book.cap → SameFrame old new
-      → InDoubt content allowed (front_bytes old.book.cap old.head) rests.items item new.journal → new.book.entries ≡ old.book.entries → new.doubt ≡ Some e → Rests content allowed new
+  pub doubt_rests : (old new : Records D) (e : Entry) (item : List ℕ) (rests : Rests tells old) → item ≡ entry_bytes e → IsEntry e → LegalAfter old.book.entries e → length old.book.entries < old.book.cap → SameFrame old new
+      → InDoubt tells (front_bytes old.book.cap old.head) rests.items item new.journal → new.book.entries ≡ old.book.entries → new.doubt ≡ Some e → Rests tells new
   doubt_rests old new e item rests spells fits next within same doubtful is doubt = record {
     items = rests.items;
     joins = subst (Joins rests.items) (sym is) rests.joins;
     terms = rw (same.cap, same.head) rests.terms;
-    journal = subst (λ (doubt : Option Entry). RestsIn content allowed (front_bytes new.book.cap new.head) rests.items doubt new.journal) (sym doubt)
-        (subst (λ (front : List ℕ). InDoubt content allowed front rests.items (entry_bytes e) new.journal) (sym (same_front old new same))
-        (subst (λ (x : List ℕ). InDoubt content allowed (front_bytes old.book.cap old.head) rests.items x new.journal) spells doubtful));
+    journal = subst (λ (doubt : Option Entry). RestsIn tells (front_bytes new.book.cap new.head) rests.items doubt new.journal) (sym doubt)
+        (subst (λ (front : List ℕ). InDoubt tells front rests.items (entry_bytes e) new.journal) (sym (same_front old new same))
+        (subst (λ (x : List ℕ). InDoubt tells (front_bytes old.book.cap old.head) rests.items x new.journal) spells doubtful));
     cap = same.most ∙ rests.cap ∙ sym same.cap;
     room = same.room ∙ rests.room;
     legal = subst Legal (sym is) rests.legal;
@@ -201,52 +202,51 @@ module _ {D : Type 0} (content : D → Option (List ℕ)) (allowed : D → List 
   }
 
   -- what is in doubt, where the journal says that something is
-  pub doubtful : (r : Records D) (rests : Rests content allowed r) (e : Entry) → r.doubt ≡ Some e → InDoubt content allowed (front_bytes r.book.cap r.head) rests.items (entry_bytes e) r.journal
-  doubtful r rests e is = subst (λ (doubt : Option Entry). RestsIn content allowed (front_bytes r.book.cap r.head) rests.items doubt r.journal) is rests.journal
+  pub doubtful : (r : Records D) (rests : Rests tells r) (e : Entry) → r.doubt ≡ Some e → InDoubt tells (front_bytes r.book.cap r.head) rests.items (entry_bytes e) r.journal
+  doubtful r rests e is = subst (λ (doubt : Option Entry). RestsIn tells (front_bytes r.book.cap r.head) rests.items doubt r.journal) is rests.journal
 
   -- the entry in doubt is kept
-  pub kept_rests : (old new : Records D) (e : Entry) (rests : Rests content allowed old) → old.doubt ≡ Some e → SameFrame old new
-      → (InDoubt content allowed (front_bytes old.book.cap old.head) rests.items (entry_bytes e) old.journal → AtRest content allowed (front_bytes old.book.cap old.head) (rests.items ++ entry_bytes e ∷ []) new.journal)
-      → new.book.entries ≡ old.book.entries ++ e ∷ [] → new.doubt ≡ None → Rests content allowed new
+  pub kept_rests : (old new : Records D) (e : Entry) (rests : Rests tells old) → old.doubt ≡ Some e → SameFrame old new
+      → (InDoubt tells (front_bytes old.book.cap old.head) rests.items (entry_bytes e) old.journal → AtRest tells (front_bytes old.book.cap old.head) (rests.items ++ entry_bytes e ∷ []) new.journal)
+      → new.book.entries ≡ old.book.entries ++ e ∷ [] → new.doubt ≡ None → Rests tells new
   kept_rests old new e rests is same kept more settled =
       added_rests old new e (entry_bytes e) rests refl (subst (λ (doubt : Option Entry). IfSome doubt IsEntry) is rests.fits) (subst (λ (doubt : Option Entry). IfSome doubt (LegalAfter old.book.entries)) is rests.next)
       (subst (λ (doubt : Option Entry). IfSome doubt (λ (entry : Entry). length old.book.entries < old.book.cap)) is rests.within) same (kept (doubtful old rests e is)) more settled
 
-  module _ (moment : D → ℕ) (left : D → ℕ → List ℕ → Type 0) where
-    -- settling what is in doubt
-    pub settle_leaves : (r : Records D) (new : D) → Rests content allowed r → r.journal.stale ≡ true
-        → ((front : List ℕ) (items : List (List ℕ)) (item : List ℕ) → InDoubt content allowed front items item r.journal → LeavesOnly moment left (disk_of r) new (BeforeOrAfter front items item))
-        → LeavesOnly moment left (disk_of r) new (EitherOf r)
-    settle_leaves r new rests stale each = by_doubt r.doubt rests.journal rests.next rests.fits rests.within
-      where
-        by_doubt : (doubt : Option Entry) → RestsIn content allowed (front_bytes r.book.cap r.head) rests.items doubt r.journal → IfSome doubt (LegalAfter r.book.entries) → IfSome doubt IsEntry
-            → IfSome doubt (λ (entry : Entry). length r.book.entries < r.book.cap) → LeavesOnly moment left (disk_of r) new (WithOrWithout r (option_to_list doubt))
-        by_doubt None at_rest next fits within = absurd (let no : false ≡ true = sym at_rest.fresh ∙ stale in cc)
-        by_doubt (Some e) doubtful next fits within =
-            leaves_more moment left (disk_of r) new (BeforeOrAfter (front_bytes r.book.cap r.head) rests.items (entry_bytes e)) (WithOrWithout r (e ∷ []))
-            (λ c stands. stands_either r.head r.book.cap rests.items r.book.entries rests.terms rests.joins rests.legal e fits next within c stands) (each _ rests.items (entry_bytes e) doubtful)
+  -- settling what is in doubt
+  pub settle_leaves : (r : Records D) (new : D) → Rests tells r → r.journal.stale ≡ true
+      → ((front : List ℕ) (items : List (List ℕ)) (item : List ℕ) → InDoubt tells front items item r.journal → LeavesOnly tells (disk_of r) new (BeforeOrAfter front items item))
+      → LeavesOnly tells (disk_of r) new (EitherOf r)
+  settle_leaves r new rests stale each = by_doubt r.doubt rests.journal rests.next rests.fits rests.within
+    where
+      by_doubt : (doubt : Option Entry) → RestsIn tells (front_bytes r.book.cap r.head) rests.items doubt r.journal → IfSome doubt (LegalAfter r.book.entries) → IfSome doubt IsEntry
+          → IfSome doubt (λ (entry : Entry). length r.book.entries < r.book.cap) → LeavesOnly tells (disk_of r) new (WithOrWithout r (option_to_list doubt))
+      by_doubt None at_rest next fits within = absurd (let no : false ≡ true = sym at_rest.fresh ∙ stale in cc)
+      by_doubt (Some e) doubtful next fits within =
+          leaves_more tells (disk_of r) new (BeforeOrAfter (front_bytes r.book.cap r.head) rests.items (entry_bytes e)) (WithOrWithout r (e ∷ []))
+          (λ c stands. stands_either r.head r.book.cap rests.items r.book.entries rests.terms rests.joins rests.legal e fits next within c stands) (each _ rests.items (entry_bytes e) doubtful)
 
-    -- appending one entry
-    pub append_leaves : (r : Records D) (new : D) (e : Entry) (item : List ℕ) → Rests content allowed r → r.doubt ≡ None → item ≡ entry_bytes e → IsEntry e → LegalAfter r.book.entries e → length r.book.entries < r.book.cap
-        → ((front : List ℕ) (items : List (List ℕ)) → AtRest content allowed front items r.journal → LeavesOnly moment left (disk_of r) new (BeforeOrAfter front items item))
-        → LeavesOnly moment left (disk_of r) new (WithOrWithout r (e ∷ []))
-    append_leaves r new e item rests settled spells fits next within each =
-        leaves_more moment left (disk_of r) new (BeforeOrAfter (front_bytes r.book.cap r.head) rests.items item) (WithOrWithout r (e ∷ []))
-        (λ c stands. stands_either r.head r.book.cap rests.items r.book.entries rests.terms rests.joins rests.legal e fits next within c
-        (subst (λ (x : List ℕ). BeforeOrAfter (front_bytes r.book.cap r.head) rests.items x c) spells stands))
-        (each _ rests.items (subst (λ (doubt : Option Entry). RestsIn content allowed (front_bytes r.book.cap r.head) rests.items doubt r.journal) settled rests.journal))
+  -- appending one entry
+  pub append_leaves : (r : Records D) (new : D) (e : Entry) (item : List ℕ) → Rests tells r → r.doubt ≡ None → item ≡ entry_bytes e → IsEntry e → LegalAfter r.book.entries e → length r.book.entries < r.book.cap
+      → ((front : List ℕ) (items : List (List ℕ)) → AtRest tells front items r.journal → LeavesOnly tells (disk_of r) new (BeforeOrAfter front items item))
+      → LeavesOnly tells (disk_of r) new (WithOrWithout r (e ∷ []))
+  append_leaves r new e item rests settled spells fits next within each =
+      leaves_more tells (disk_of r) new (BeforeOrAfter (front_bytes r.book.cap r.head) rests.items item) (WithOrWithout r (e ∷ []))
+      (λ c stands. stands_either r.head r.book.cap rests.items r.book.entries rests.terms rests.joins rests.legal e fits next within c
+      (subst (λ (x : List ℕ). BeforeOrAfter (front_bytes r.book.cap r.head) rests.items x c) spells stands))
+      (each _ rests.items (subst (λ (doubt : Option Entry). RestsIn tells (front_bytes r.book.cap r.head) rests.items doubt r.journal) settled rests.journal))
 
 -- ---- what is written
 
-module _ {D : Type 0} (content : D → Option (List ℕ)) (allowed : D → List ℕ → Type 0) (r : Records D) (rests : Rests content allowed r) (settled : r.doubt ≡ None) (e : Entry) (item : List ℕ) (new : Option (List ℕ)) (is : item ≡ entry_bytes e) where
+module _ {D : Type 0} (tells : DiskTells D) (r : Records D) (rests : Rests tells r) (settled : r.doubt ≡ None) (e : Entry) (item : List ℕ) (new : Option (List ℕ)) (is : item ≡ entry_bytes e) where
   -- the journal's gate stands behind the items
-  gate_at : IsGate r.head r.book.cap r.book.entries (content (disk_of r)) r.journal.gate
+  gate_at : IsGate r.head r.book.cap r.book.entries (tells.content (disk_of r)) r.journal.gate
   gate_at =
-      let rest = at_rest content allowed r rests settled in
+      let rest = at_rest tells r rests settled in
       record { items = rests.items; joins = rests.joins; stands = rest.bytes; place = rest.place }
 
-  pub writes_at : new ≡ wrote_at (content (disk_of r)) r.journal.gate (item_bytes item ++ 0 ∷ []) → Writes r.head r.book.cap r.book.entries (Some e) (content (disk_of r)) new
-  writes_at wrote = (r.journal.gate, gate_at, wrote ∙ ap (λ (bytes : List ℕ). wrote_at (content (disk_of r)) r.journal.gate (item_bytes bytes ++ 0 ∷ [])) is)
+  pub writes_at : new ≡ wrote_at (tells.content (disk_of r)) r.journal.gate (item_bytes item ++ 0 ∷ []) → Writes r.head r.book.cap r.book.entries (Some e) (tells.content (disk_of r)) new
+  writes_at wrote = (r.journal.gate, gate_at, wrote ∙ ap (λ (bytes : List ℕ). wrote_at (tells.content (disk_of r)) r.journal.gate (item_bytes bytes ++ 0 ∷ [])) is)
 
-  pub tears_at : MayTear (content (disk_of r)) new r.journal.gate (length item + 6) → Tears r.head r.book.cap r.book.entries e (content (disk_of r)) new
-  tears_at torn = (r.journal.gate, gate_at, subst (λ (bytes : List ℕ). MayTear (content (disk_of r)) new r.journal.gate (length bytes + 6)) is torn)
+  pub tears_at : MayTear (tells.content (disk_of r)) new r.journal.gate (length item + 6) → Tears r.head r.book.cap r.book.entries e (tells.content (disk_of r)) new
+  tears_at torn = (r.journal.gate, gate_at, subst (λ (bytes : List ℕ). MayTear (tells.content (disk_of r)) new r.journal.gate (length bytes + 6)) is torn)

@@ -17,6 +17,7 @@ use Rattle.nb_book.proofs.Counting.{settled_once}
 use Rattle.nb_book.proofs.Summing.{balances_make_total, none_overdrawn}
 use Rattle.nb_vault.specs.Vaults.{IsBalanced, Keeps, entries_in, doubt_in, state_of, StandsForState}
 use Rattle.nb_vault.proofs.Resting.{rest_images, rest_content, legal_more}
+use Rattle.nb_port.specs.Tells.{DiskTells}
 
 -- the state, by the fields
 abbrev pub state_at : {D : Type 0} → Parts D → State
@@ -25,30 +26,30 @@ state_at p = record { entries = p.records.book.entries; doubt = option_to_list p
 some_list : (e : Entry) → e ∷ [] ≢ []
 some_list e is = cc
 
-module _ {D : Type 0} (content : D → Option (List ℕ)) (allowed : D → List ℕ → Type 0) (faults : D → ℕ) where
+module _ {D : Type 0} (tells : DiskTells D) where
   -- where it is stale an entry is in doubt, and nowhere else
-  doubt_by : (front : List ℕ) (items : List (List ℕ)) (doubt : Option Entry) (j : Journal D) (told : List Entry) → RestsIn content allowed front items doubt j → IfSome doubt (λ (entry : Entry). told ≡ entry ∷ [])
+  doubt_by : (front : List ℕ) (items : List (List ℕ)) (doubt : Option Entry) (j : Journal D) (told : List Entry) → RestsIn tells front items doubt j → IfSome doubt (λ (entry : Entry). told ≡ entry ∷ [])
       → cond j.stale told [] ≡ option_to_list doubt
   doubt_by front items None j told rest is = rw rest.fresh refl
   doubt_by front items (Some e) j told rest is = rw (rest.stale, is) refl
 
-  stale_some : (front : List ℕ) (items : List (List ℕ)) (doubt : Option Entry) (j : Journal D) → RestsIn content allowed front items doubt j → j.stale ≡ true → option_to_list doubt ≢ []
+  stale_some : (front : List ℕ) (items : List (List ℕ)) (doubt : Option Entry) (j : Journal D) → RestsIn tells front items doubt j → j.stale ≡ true → option_to_list doubt ≢ []
   stale_some front items None j rest stale = absurd (let no : false ≡ true = sym rest.fresh ∙ stale in cc)
   stale_some front items (Some e) j rest stale = some_list e
 
-  fresh_none : (front : List ℕ) (items : List (List ℕ)) (doubt : Option Entry) (j : Journal D) → RestsIn content allowed front items doubt j → doubt ≡ None → j.stale ≡ false
+  fresh_none : (front : List ℕ) (items : List (List ℕ)) (doubt : Option Entry) (j : Journal D) → RestsIn tells front items doubt j → doubt ≡ None → j.stale ≡ false
   fresh_none front items None j rest none = rest.fresh
   fresh_none front items (Some e) j rest none = absurd cc
 
-  pub settled_fresh : (r : Records D) → Rests content allowed r → r.doubt ≡ None → r.journal.stale ≡ false
+  pub settled_fresh : (r : Records D) → Rests tells r → r.doubt ≡ None → r.journal.stale ≡ false
   settled_fresh r rests none = fresh_none (front_bytes r.book.cap r.head) rests.items r.doubt r.journal rests.journal none
 
-  module _ (p : Parts D) (vault : IsVault content allowed faults p) where
+  module _ (p : Parts D) (vault : IsVault tells p) where
     pub entries_seen : entries_in (seen_as p) ≡ p.records.book.entries
-    entries_seen = sym vault.tells.listed
+    entries_seen = sym vault.told.listed
 
     pub doubt_seen : doubt_in (seen_as p) ≡ option_to_list p.records.doubt
-    doubt_seen = doubt_by (front_bytes p.records.book.cap p.records.head) vault.rests.items p.records.doubt p.records.journal (open_doubt p.lines.items) vault.rests.journal vault.tells.doubt_is
+    doubt_seen = doubt_by (front_bytes p.records.book.cap p.records.head) vault.rests.items p.records.doubt p.records.journal (open_doubt p.lines.items) vault.rests.journal vault.told.doubt_is
 
     pub state_seen : state_of (seen_as p) ≡ state_at p
     state_seen = rw (entries_seen, doubt_seen, sym vault.faults_are) refl
@@ -71,18 +72,18 @@ module _ {D : Type 0} (content : D → Option (List ℕ)) (allowed : D → List 
     told (Some c) is = either_seen c is
 
     -- what every vault keeps
-    pub keeps : Keeps content allowed faults (seen_as p)
+    pub keeps : Keeps tells (seen_as p)
     keeps = record {
       legal = rw (entries_seen, doubt_seen) (legal_with p.records.doubt vault.rests.next);
       within = rw (entries_seen, doubt_seen) (count_with p.records.doubt vault.rests.within);
       money = subst IsBalanced (sym entries_seen) (record { once = settled_once p.records.book.entries vault.rests.legal; sums = balances_make_total p.records.book.entries vault.rests.legal; none_overdrawn = none_overdrawn p.records.book.entries vault.rests.legal });
       terms = vault.rests.terms;
-      bytes = told (content (disk_of p.records)) (rest_content content allowed p.records vault.rests);
-      images = λ image is. either_seen image (rest_images content allowed p.records vault.rests image is);
+      bytes = told (tells.content (disk_of p.records)) (rest_content tells p.records vault.rests);
+      images = λ image is. either_seen image (rest_images tells p.records vault.rests image is);
       doubt = λ stale none. stale_some (front_bytes p.records.book.cap p.records.head) vault.rests.items p.records.doubt p.records.journal vault.rests.journal stale (sym doubt_seen ∙ none);
-      sound = vault.tells.sound;
-      backed = vault.tells.backed;
-      turns = vault.tells.turns;
+      sound = vault.told.sound;
+      backed = vault.told.backed;
+      turns = vault.told.turns;
       few = subst (λ (n : ℕ). n ≤ most_faults) vault.faults_are vault.few;
     }
 
@@ -91,17 +92,17 @@ module _ {D : Type 0} (content : D → Option (List ℕ)) (allowed : D → List 
   pub room_seen : (old new : Parts D) → SameButRoom old new → seen_as new ≡ seen_as old
   room_seen old new same = rw (same.entries, same.cap, same.journal, same.bytes, same.opening, same.count, same.lines) refl
 
-  pub room_vault : (old new : Parts D) → SameButRoom old new → IsVault content allowed faults old → IsVault content allowed faults new
+  pub room_vault : (old new : Parts D) → SameButRoom old new → IsVault tells old → IsVault tells new
   room_vault old new same vault = record {
     rests = rests;
     opened = rw (same.opening, same.entries) vault.opened;
-    tells = rw (same.opening, same.entries, same.doubt, same.count, same.journal, same.lines) vault.tells;
+    told = rw (same.opening, same.entries, same.doubt, same.count, same.journal, same.lines) vault.told;
     faults_are = same.faults ∙ vault.faults_are ∙ ap faults_of (sym same.lines);
     few = rw same.faults vault.few;
     keys = rw (same.head, same.bytes) vault.keys;
   }
     where
-      rests : Rests content allowed new.records
+      rests : Rests tells new.records
       rests = record {
         items = vault.rests.items;
         joins = rw same.entries vault.rests.joins;

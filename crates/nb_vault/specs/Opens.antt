@@ -1,5 +1,6 @@
 -- What opening a vault gives.
 use Rattle.std.specs.Prelude.{◌≡◌, ◌≢◌, ℕ, ⊤, List, [], Option, Some, None, IfSome, Result, Ok, Err, length}
+use Rattle.nb_port.specs.Tells.{DiskTells}
 use Rattle.nb_port.specs.Faults.{Rose}
 use Rattle.nb_book.specs.declared.entry.Entry.{Entry}
 use Rattle.nb_journal.specs.declared.opening.Opened.{Opened}
@@ -34,25 +35,25 @@ abbrev pub WholeIsGood : Type 0
 WholeIsGood = (image head : List ℕ) (cap : ℕ) (entries : List Entry) → StandsFor head cap entries image → IsGood image
 
 -- by cases on the fault, for the disk before and after
-abbrev pub OpenFails : {D : Type 0} → (D → Option (List ℕ)) → (D → ℕ) → D → D → VaultFault → Type 0
-OpenFails content faults old new (opens.Unborn found) = (found ≢ magic) × IfSome (content old) (λ image. IsUnborn image found)
-OpenFails content faults old new (opens.Damaged item place) = IfSome (content old) (λ image. IsDamaged image item place)
-OpenFails content faults old new (opens.BadEntry item) = IfSome (content old) (λ image. IsBadEntry image item)
-OpenFails content faults old new (opens.DiskFault before after) = (before ≡ faults old) × (after ≡ faults new) × Rose before after
-OpenFails content faults old new opens.NoMemory = ⊤
+abbrev pub OpenFails : {D : Type 0} → DiskTells D → D → D → VaultFault → Type 0
+OpenFails tells old new (opens.Unborn found) = (found ≢ magic) × IfSome (tells.content old) (λ image. IsUnborn image found)
+OpenFails tells old new (opens.Damaged item place) = IfSome (tells.content old) (λ image. IsDamaged image item place)
+OpenFails tells old new (opens.BadEntry item) = IfSome (tells.content old) (λ image. IsBadEntry image item)
+OpenFails tells old new (opens.DiskFault before after) = (before ≡ tells.faults old) × (after ≡ tells.faults new) × Rose before after
+OpenFails tells old new opens.NoMemory = ⊤
 
 -- nothing was done yet, the content stands for the entries, and a stop leaves nothing else
-pub record OpensAs {D : Type 0} (content : D → Option (List ℕ)) (allowed : D → List ℕ → Type 0) (faults : D → ℕ) (disk : D) (v : Chronicled D) : Type 0 where
+pub record OpensAs {D : Type 0} (tells : DiskTells D) (disk : D) (v : Chronicled D) : Type 0 where
   pub lines : v.lines ≡ []
-  pub count : v.origin.faults ≡ faults disk
-  pub stands : IfSome (content disk) (StandsFor v.origin.head v.origin.cap v.origin.entries)
-  pub durable : IsDurable allowed v
-  pub keeps : Keeps content allowed faults v
+  pub count : v.origin.faults ≡ tells.faults disk
+  pub stands : IfSome (tells.content disk) (StandsFor v.origin.head v.origin.cap v.origin.entries)
+  pub durable : IsDurable tells v
+  pub keeps : Keeps tells v
 
 -- by cases on the result
-abbrev pub OpenGives : {D : Type 0} → (D → Option (List ℕ)) → (D → List ℕ → Type 0) → (D → ℕ) → D → Result (Chronicled D) (VaultFault × D) → Type 0
-OpenGives content allowed faults disk (Ok v) = OpensAs content allowed faults disk v
-OpenGives content allowed faults disk (Err e) = OpenFails content faults disk e.1 e.0
+abbrev pub OpenGives : {D : Type 0} → DiskTells D → D → Result (Chronicled D) (VaultFault × D) → Type 0
+OpenGives tells disk (Ok v) = OpensAs tells disk v
+OpenGives tells disk (Err e) = OpenFails tells disk e.1 e.0
 
 -- what comes of a content that stands for these entries: they are opened, or the disk failed, or there was no memory
 abbrev pub OpensWhole : {D : Type 0} → List ℕ → ℕ → List Entry → Result (Chronicled D) (VaultFault × D) → Type 0
@@ -72,15 +73,15 @@ disk_in (Err e) = e.1
 -- ---- for the contracts of private functions alone
 
 -- a journal that was opened, with its items
-pub record IsOpened {D : Type 0} (content : D → Option (List ℕ)) (allowed : D → List ℕ → Type 0) (o : Opened D) : Type 0 where
+pub record IsOpened {D : Type 0} (tells : DiskTells D) (o : Opened D) : Type 0 where
   pub terms : AreTerms o.cap o.head
-  pub rest : AtRest content allowed (front_bytes o.cap o.head) o.items.items o.journal
+  pub rest : AtRest tells (front_bytes o.cap o.head) o.items.items o.journal
   pub cap : o.journal.cap ≡ o.cap
   pub room : o.journal.room ≡ ROOM
 
 -- a vault over these items
-pub record IsRestored {D : Type 0} (content : D → Option (List ℕ)) (allowed : D → List ℕ → Type 0) (faults : D → ℕ) (o : Opened D) (count : ℕ) (p : Parts D) : Type 0 where
-  pub vault : IsVault content allowed faults p
+pub record IsRestored {D : Type 0} (tells : DiskTells D) (o : Opened D) (count : ℕ) (p : Parts D) : Type 0 where
+  pub vault : IsVault tells p
   pub joins : Joins o.items.items p.records.book.entries
   pub opening : p.opening ≡ length p.records.book.entries
   pub settled : p.records.doubt ≡ None
@@ -96,6 +97,6 @@ RestoreFails o disk (opens.BadEntry item) = FirstBad o.cap o.items.items item ×
 RestoreFails o disk opens.NoMemory = disk ≡ o.journal.disk
 RestoreFails o disk other = ⊥
 
-abbrev pub RestoreGives : {D : Type 0} → (D → Option (List ℕ)) → (D → List ℕ → Type 0) → (D → ℕ) → Opened D → ℕ → Result (Parts D) (VaultFault × D) → Type 0
-RestoreGives content allowed faults o count (Ok p) = IsRestored content allowed faults o count p
-RestoreGives content allowed faults o count (Err e) = RestoreFails o e.1 e.0
+abbrev pub RestoreGives : {D : Type 0} → DiskTells D → Opened D → ℕ → Result (Parts D) (VaultFault × D) → Type 0
+RestoreGives tells o count (Ok p) = IsRestored tells o count p
+RestoreGives tells o count (Err e) = RestoreFails o e.1 e.0

@@ -14,6 +14,7 @@ use Rattle.nb_vault.specs.Lines.{entries_of, faults_of, open_doubt, is_doubt, ne
 use Rattle.nb_vault.specs.Records.{Rests, disk_of, SameTerms, Failed}
 use Rattle.nb_vault.specs.Turns.{most_faults}
 use Rattle.nb_vault.specs.Vaults.{Chronicled, adopts, commits}
+use Rattle.nb_port.specs.Tells.{DiskTells}
 
 -- what contracts see of it
 abbrev pub seen_as : {D : Type 0} → Parts D → Chronicled D
@@ -35,10 +36,10 @@ pub record Tells (opening entries : List Entry) (doubt : Option Entry) (from to 
   pub numbers : next_turn lines ≤ length lines
 
 -- the records rest, and the lines tell how they came to be
-pub record IsVault {D : Type 0} (content : D → Option (List ℕ)) (allowed : D → List ℕ → Type 0) (faults : D → ℕ) (p : Parts D) : Type 0 where
-  pub rests : Rests content allowed p.records
+pub record IsVault {D : Type 0} (tells : DiskTells D) (p : Parts D) : Type 0 where
+  pub rests : Rests tells p.records
   pub opened : p.opening ≤ length p.records.book.entries
-  pub tells : Tells (take p.opening p.records.book.entries) p.records.book.entries p.records.doubt p.count (faults (disk_of p.records)) p.lines.items
+  pub told : Tells (take p.opening p.records.book.entries) p.records.book.entries p.records.doubt p.count (tells.faults (disk_of p.records)) p.lines.items
   pub faults_are : p.faults ≡ faults_of p.lines.items
   pub few : p.faults ≤ most_faults
   pub keys : p.head ≡ head_of p.records.head
@@ -69,22 +70,22 @@ pub record SameButRoom {D : Type 0} (old new : Parts D) : Type 0 where
   pub faults : new.faults ≡ old.faults
 
 -- by cases on the result: what was in doubt is settled, or it is still in doubt
-abbrev pub ReadyGives : {D : Type 0} → (D → ℕ) → Parts D → Parts D → ℕ → ℕ → Result (Unit {0}) Counts → Type 0
-ReadyGives faults old new by turn (Ok done) =
+abbrev pub ReadyGives : {D : Type 0} → DiskTells D → Parts D → Parts D → ℕ → ℕ → Result (Unit {0}) Counts → Type 0
+ReadyGives tells old new by turn (Ok done) =
     (kept : Option Entry) × (new.records.doubt ≡ None) × (new.lines.items ≡ old.lines.items ++ adopts by turn kept)
     × (new.records.book.entries ≡ old.records.book.entries ++ option_to_list kept) × ((kept ≡ None) ⊎ (kept ≡ old.records.doubt)) × (new.faults ≡ old.faults)
-ReadyGives faults old new by turn (Err counts) =
+ReadyGives tells old new by turn (Err counts) =
     (old.records.doubt ≢ None) × (new.records.doubt ≡ old.records.doubt) × (new.lines.items ≡ old.lines.items ++ Fault by turn counts.before counts.after ∷ [])
-    × Failed faults old.records new.records counts × (new.faults ≡ old.faults + 1)
+    × Failed tells old.records new.records counts × (new.faults ≡ old.faults + 1)
 
 -- by cases on the result: the entry is recorded, if there is one, or it is in doubt
-abbrev pub CommitGives : {D : Type 0} → (D → ℕ) → Parts D → Parts D → ℕ → ℕ → Option Entry → Result (Unit {0}) Counts → Type 0
-CommitGives faults old new by turn None result = (new ≡ old) × (result ≡ Ok tt)
-CommitGives faults old new by turn (Some entry) (Ok done) =
+abbrev pub CommitGives : {D : Type 0} → DiskTells D → Parts D → Parts D → ℕ → ℕ → Option Entry → Result (Unit {0}) Counts → Type 0
+CommitGives tells old new by turn None result = (new ≡ old) × (result ≡ Ok tt)
+CommitGives tells old new by turn (Some entry) (Ok done) =
     (new.records.doubt ≡ None) × (new.lines.items ≡ old.lines.items ++ commits by turn (Some entry)) × (new.records.book.entries ≡ old.records.book.entries ++ entry ∷ []) × (new.faults ≡ old.faults)
-CommitGives faults old new by turn (Some entry) (Err counts) =
+CommitGives tells old new by turn (Some entry) (Err counts) =
     (new.records.doubt ≡ Some entry) × (new.lines.items ≡ old.lines.items ++ Doubt by turn entry ∷ Fault by turn counts.before counts.after ∷ [])
-    × Failed faults old.records new.records counts × (new.faults ≡ old.faults + 1)
+    × Failed tells old.records new.records counts × (new.faults ≡ old.faults + 1)
 
 -- what was written of it, for the content before and after
 abbrev pub CommitWrites : {D : Type 0} → Parts D → Option Entry → Option (List ℕ) → Option (List ℕ) → Result (Unit {0}) Counts → Type 0

@@ -1,7 +1,7 @@
--- The entries of a house, in memory and on the disk. The words take what a disk tells as arguments: its content, its images,
--- its count of faults.
+-- The entries of a house, in memory and on the disk, over what a disk tells.
 use Rattle.std.specs.Prelude.{◌≡◌, ◌≢◌, ℕ, ◌<◌, ◌≤◌, List, [], ◌∷◌, ◌++◌, length, Option, None, Some, IfSome, Result, Ok, Err}
 use Rattle.std.specs.Option.{option_to_list}
+use Rattle.nb_port.specs.Tells.{DiskTells}
 use Rattle.nb_port.specs.Faults.{Rose}
 use Rattle.nb_book.specs.declared.entry.Entry.{Entry}
 use Rattle.nb_book.specs.Legal.{LegalAfter, Legal}
@@ -15,16 +15,16 @@ use Rattle.nb_vault.specs.declared.records.TheConstants.{ROOM}
 use Rattle.nb_vault.specs.Holdings.{Joins, StandsForEither, Writes, Tears}
 
 -- a journal with these items, at rest where nothing is in doubt
-abbrev pub RestsIn : {D : Type 0} → (D → Option (List ℕ)) → (D → List ℕ → Type 0) → List ℕ → List (List ℕ) → Option Entry → Journal D → Type 0
-RestsIn content allowed front items None journal = AtRest content allowed front items journal
-RestsIn content allowed front items (Some entry) journal = InDoubt content allowed front items (entry_bytes entry) journal
+abbrev pub RestsIn : {D : Type 0} → DiskTells D → List ℕ → List (List ℕ) → Option Entry → Journal D → Type 0
+RestsIn tells front items None journal = AtRest tells front items journal
+RestsIn tells front items (Some entry) journal = InDoubt tells front items (entry_bytes entry) journal
 
 -- the journal holds the entries of the book, and the entry in doubt is legal behind them
-pub record Rests {D : Type 0} (content : D → Option (List ℕ)) (allowed : D → List ℕ → Type 0) (r : Records D) : Type 0 where
+pub record Rests {D : Type 0} (tells : DiskTells D) (r : Records D) : Type 0 where
   pub items : List (List ℕ)
   pub joins : Joins items r.book.entries
   pub terms : AreTerms r.book.cap r.head
-  pub journal : RestsIn content allowed (front_bytes r.book.cap r.head) items r.doubt r.journal
+  pub journal : RestsIn tells (front_bytes r.book.cap r.head) items r.doubt r.journal
   pub cap : r.journal.cap ≡ r.book.cap
   pub room : r.journal.room ≡ ROOM
   pub legal : Legal r.book.entries
@@ -50,22 +50,22 @@ pub record SameTerms {D : Type 0} (old new : Records D) : Type 0 where
   pub cap : new.book.cap ≡ old.book.cap
 
 -- the counts of the disk's faults at the beginning of a call that failed and at its end
-pub record Failed {D : Type 0} (faults : D → ℕ) (old new : Records D) (counts : Counts) : Type 0 where
-  pub before : counts.before ≡ faults (disk_of old)
-  pub after : counts.after ≡ faults (disk_of new)
+pub record Failed {D : Type 0} (tells : DiskTells D) (old new : Records D) (counts : Counts) : Type 0 where
+  pub before : counts.before ≡ tells.faults (disk_of old)
+  pub after : counts.after ≡ tells.faults (disk_of new)
   pub rose : Rose counts.before counts.after
   pub entries : new.book.entries ≡ old.book.entries
 
 -- by cases on the result: what was in doubt is kept, or is not there, or is still in doubt
-abbrev pub SettleGives : {D : Type 0} → (D → ℕ) → Records D → Records D → Result (Option Entry) Counts → Type 0
-SettleGives faults old new (Ok None) = (new.doubt ≡ None) × (new.book.entries ≡ old.book.entries)
-SettleGives faults old new (Ok (Some entry)) = (new.doubt ≡ None) × (old.doubt ≡ Some entry) × (new.book.entries ≡ old.book.entries ++ entry ∷ [])
-SettleGives faults old new (Err counts) = (new.doubt ≡ old.doubt) × (old.doubt ≢ None) × Failed faults old new counts
+abbrev pub SettleGives : {D : Type 0} → DiskTells D → Records D → Records D → Result (Option Entry) Counts → Type 0
+SettleGives tells old new (Ok None) = (new.doubt ≡ None) × (new.book.entries ≡ old.book.entries)
+SettleGives tells old new (Ok (Some entry)) = (new.doubt ≡ None) × (old.doubt ≡ Some entry) × (new.book.entries ≡ old.book.entries ++ entry ∷ [])
+SettleGives tells old new (Err counts) = (new.doubt ≡ old.doubt) × (old.doubt ≢ None) × Failed tells old new counts
 
 -- by cases on the result: the entry is recorded, or it is in doubt
-abbrev pub AddGives : {D : Type 0} → (D → ℕ) → Records D → Records D → Entry → Result (Unit {0}) Counts → Type 0
-AddGives faults old new entry (Ok done) = (new.doubt ≡ None) × (new.book.entries ≡ old.book.entries ++ entry ∷ [])
-AddGives faults old new entry (Err counts) = (new.doubt ≡ Some entry) × Failed faults old new counts
+abbrev pub AddGives : {D : Type 0} → DiskTells D → Records D → Records D → Entry → Result (Unit {0}) Counts → Type 0
+AddGives tells old new entry (Ok done) = (new.doubt ≡ None) × (new.book.entries ≡ old.book.entries ++ entry ∷ [])
+AddGives tells old new entry (Err counts) = (new.doubt ≡ Some entry) × Failed tells old new counts
 
 -- what was written of it, for the content before and after
 abbrev pub AddWrites : {D : Type 0} → Records D → Entry → Option (List ℕ) → Option (List ℕ) → Result (Unit {0}) Counts → Type 0

@@ -2,6 +2,7 @@
 use Rattle.std.specs.Prelude.{◌≡◌, ◌≢◌, ◌⊎◌, ℕ, ◌≤◌, Bool, true, false, List, [], ◌∷◌, ◌++◌, length, Option, None, Some, IfSome, if◌then◌else◌}
 use Rattle.std.specs.List.{count_by, sum_by}
 use Rattle.std.specs.Option.{option_to_list}
+use Rattle.nb_port.specs.Tells.{DiskTells}
 use Rattle.nb_port.specs.Faults.{Rose}
 use Rattle.nb_book.specs.declared.entry.Entry.{Entry}
 use Rattle.nb_units.specs.declared.epoid.Epoid.{Epoid}
@@ -58,20 +59,20 @@ pub record IsBalanced (entries : List Entry) : Type 0 where
   pub none_overdrawn : (account : AcctId) → debits entries account ≤ credits entries account
 
 -- what every vault keeps
-pub record Keeps {D : Type 0} (content : D → Option (List ℕ)) (allowed : D → List ℕ → Type 0) (faults : D → ℕ) (v : Chronicled D) : Type 0 where
+pub record Keeps {D : Type 0} (tells : DiskTells D) (v : Chronicled D) : Type 0 where
   -- its list is legal, also with an entry in doubt, and within the cap
   pub legal : Legal (entries_in v ++ doubt_in v)
   pub within : length (entries_in v ++ doubt_in v) ≤ v.origin.cap
   pub money : IsBalanced (entries_in v)
   pub terms : AreTerms v.origin.cap v.origin.head
   -- it is what its content stands for, and what a stop leaves
-  pub bytes : IfSome (content v.disk) (StandsForState v)
-  pub images : (image : List ℕ) → allowed v.disk image → StandsForState v image
+  pub bytes : IfSome (tells.content v.disk) (StandsForState v)
+  pub images : (image : List ℕ) → tells.allowed v.disk image → StandsForState v image
   -- where it is stale an entry is in doubt
   pub doubt : v.stale ≡ true → doubt_in v ≢ []
   -- its lines adopt what was in doubt, their faults are the disk's, their turns never fall, and few are faults
   pub sound : Sound v.lines
-  pub backed : Backed v.origin.faults v.lines (faults v.disk)
+  pub backed : Backed v.origin.faults v.lines (tells.faults v.disk)
   pub turns : NeverFall v.lines
   pub few : faults_of v.lines ≤ most_faults
 
@@ -108,63 +109,63 @@ KeptOf old None = Unit {0}
 KeptOf old (Some entry) = doubt_in old ≡ entry ∷ []
 
 -- what was in doubt is settled as the disk had it: what its content stood for is what the verdict is taken over
-pub record Settled {D : Type 0} (content : D → Option (List ℕ)) (old : Chronicled D) (kept : Option Entry) (over : List Entry) : Type 0 where
+pub record Settled {D : Type 0} (tells : DiskTells D) (old : Chronicled D) (kept : Option Entry) (over : List Entry) : Type 0 where
   pub of_doubt : KeptOf old kept
   pub over_is : over ≡ entries_in old ++ option_to_list kept
-  pub told : IfSome (content old.disk) (StandsFor old.origin.head old.origin.cap over)
+  pub told : IfSome (tells.content old.disk) (StandsFor old.origin.head old.origin.cap over)
 
 -- a turn that decided over so many entries: at most one line that adopts, and then that of the verdict's entry, which alone is written
-pub record Decided {D : Type 0} (content : D → Option (List ℕ)) (old new : Chronicled D) (by turn at : ℕ) (request : Request) (added : List Line) : Type 0 where
+pub record Decided {D : Type 0} (tells : DiskTells D) (old new : Chronicled D) (by turn at : ℕ) (request : Request) (added : List Line) : Type 0 where
   pub kept : Option Entry
   pub over : List Entry
-  pub settled : Settled content old kept over
+  pub settled : Settled tells old kept over
   pub place : at ≡ length over
   pub lines : added ≡ adopts by turn kept ++ commits by turn (rules_of old over request).entry
-  pub written : Writes old.origin.head old.origin.cap over (rules_of old over request).entry (content old.disk) (content new.disk)
+  pub written : Writes old.origin.head old.origin.cap over (rules_of old over request).entry (tells.content old.disk) (tells.content new.disk)
 
 -- a turn whose entry could not be made durable: at most one line that adopts, the doubt, and the fault; the entry is in doubt then
-pub record Doubted {D : Type 0} (content : D → Option (List ℕ)) (old new : Chronicled D) (by turn before after : ℕ) (request : Request) (added : List Line) : Type 0 where
+pub record Doubted {D : Type 0} (tells : DiskTells D) (old new : Chronicled D) (by turn before after : ℕ) (request : Request) (added : List Line) : Type 0 where
   pub kept : Option Entry
   pub over : List Entry
   pub entry : Entry
-  pub settled : Settled content old kept over
+  pub settled : Settled tells old kept over
   pub verdict : (rules_of old over request).entry ≡ Some entry
   pub lines : added ≡ adopts by turn kept ++ Doubt by turn entry ∷ Fault by turn before after ∷ []
-  pub written : Tears old.origin.head old.origin.cap over entry (content old.disk) (content new.disk)
+  pub written : Tears old.origin.head old.origin.cap over entry (tells.content old.disk) (tells.content new.disk)
   pub doubt : doubt_in new ≡ entry ∷ []
 
 -- a turn that could not settle what was in doubt: the fault alone, and nothing is written; the same is in doubt then
-pub record Unsettled {D : Type 0} (content : D → Option (List ℕ)) (old new : Chronicled D) (by turn before after : ℕ) (added : List Line) : Type 0 where
+pub record Unsettled {D : Type 0} (tells : DiskTells D) (old new : Chronicled D) (by turn before after : ℕ) (added : List Line) : Type 0 where
   pub some : doubt_in old ≢ []
   pub lines : added ≡ Fault by turn before after ∷ []
-  pub written : content new.disk ≡ content old.disk
+  pub written : tells.content new.disk ≡ tells.content old.disk
   pub entries : entries_in new ≡ entries_in old
   pub doubt : doubt_in new ≡ doubt_in old
 
 -- the lines of one answer
-abbrev pub LinesOf : {D : Type 0} → (D → Option (List ℕ)) → Chronicled D → Chronicled D → ℕ → ℕ → Request → List Line → Answer → Type 0
-LinesOf content old new by turn request added (answers.Answered at) = Decided content old new by turn at request added
-LinesOf content old new by turn request added (answers.DiskFault before after) =
-    Unsettled content old new by turn before after added ⊎ Doubted content old new by turn before after request added
-LinesOf content old new by turn request added (answers.Worn faults) = added ≡ []
-LinesOf content old new by turn request added answers.NoMemory = added ≡ []
+abbrev pub LinesOf : {D : Type 0} → DiskTells D → Chronicled D → Chronicled D → ℕ → ℕ → Request → List Line → Answer → Type 0
+LinesOf tells old new by turn request added (answers.Answered at) = Decided tells old new by turn at request added
+LinesOf tells old new by turn request added (answers.DiskFault before after) =
+    Unsettled tells old new by turn before after added ⊎ Doubted tells old new by turn before after request added
+LinesOf tells old new by turn request added (answers.Worn faults) = added ≡ []
+LinesOf tells old new by turn request added answers.NoMemory = added ≡ []
 
 -- what an answer adds to the lines
-pub record Adds {D : Type 0} (content : D → Option (List ℕ)) (old new : Chronicled D) (by : ℕ) (request : Request) (answer : Answer) : Type 0 where
+pub record Adds {D : Type 0} (tells : DiskTells D) (old new : Chronicled D) (by : ℕ) (request : Request) (answer : Answer) : Type 0 where
   pub added : List Line
   pub behind : new.lines ≡ old.lines ++ added
   pub made : AreOf by (next_turn old.lines) added
-  pub lines : LinesOf content old new by (next_turn old.lines) request added answer
+  pub lines : LinesOf tells old new by (next_turn old.lines) request added answer
 
 -- each image that a stop leaves stands for the entries alone, and nothing is in doubt
-pub record IsDurable {D : Type 0} (allowed : D → List ℕ → Type 0) (v : Chronicled D) : Type 0 where
+pub record IsDurable {D : Type 0} (tells : DiskTells D) (v : Chronicled D) : Type 0 where
   pub fresh : v.stale ≡ false
-  pub images : (image : List ℕ) → allowed v.disk image → StandsFor v.origin.head v.origin.cap (entries_in v) image
+  pub images : (image : List ℕ) → tells.allowed v.disk image → StandsFor v.origin.head v.origin.cap (entries_in v) image
 
 -- where it answered
-abbrev pub DurableWhere : {D : Type 0} → (D → List ℕ → Type 0) → Chronicled D → Answer → Type 0
-DurableWhere allowed new (answers.Answered at) = IsDurable allowed new
-DurableWhere allowed new other = Unit {0}
+abbrev pub DurableWhere : {D : Type 0} → DiskTells D → Chronicled D → Answer → Type 0
+DurableWhere tells new (answers.Answered at) = IsDurable tells new
+DurableWhere tells new other = Unit {0}
 
 -- where nothing was done the vault is as before, its disk too
 abbrev pub SameWhere : {D : Type 0} → Chronicled D → Chronicled D → Answer → Type 0

@@ -51,19 +51,19 @@ impl<D: Disk> Parts<D> {
         moment: u64,
         out: &mut Vec<u8>,
     ) -> Answer
-        requires vault { IsVault D.content D.allowed D.faults self.old }
+        requires vault { IsVault D.tells self.old }
         requires room { REPLY_ROOM ≤ spare_of out.old }
-        ensures vault { IsVault D.content D.allowed D.faults self.new }
+        ensures vault { IsVault D.tells self.new }
         ensures turn { TurnOf (seen_as self.old) (seen_as self.new) (request_of kind body.now moment) out.old.items out.new.items result }
-        ensures lines { Adds D.content (seen_as self.old) (seen_as self.new) by (request_of kind body.now moment) result }
+        ensures lines { Adds D.tells (seen_as self.old) (seen_as self.new) by (request_of kind body.now moment) result }
         ensures origin { SameOrigin self.old self.new }
-        ensures any_moment { LeavesOnly D.moment D.left (disk_of self.old.records) (disk_of self.new.records)
+        ensures any_moment { LeavesOnly D.tells (disk_of self.old.records) (disk_of self.new.records)
             (λ image. StandsForState (seen_as self.old) image ⊎ StandsForState (seen_as self.new) image) }
-        ensures durable { DurableWhere D.allowed (seen_as self.new) result }
-        ensures quiet { state_of (seen_as self.new) ≡ state_of (seen_as self.old) → D.content (disk_of self.new.records) ≡ D.content (disk_of self.old.records) }
+        ensures durable { DurableWhere D.tells (seen_as self.new) result }
+        ensures quiet { state_of (seen_as self.new) ≡ state_of (seen_as self.old) → D.tells.content (disk_of self.new.records) ≡ D.tells.content (disk_of self.old.records) }
         ensures same { SameWhere (seen_as self.old) (seen_as self.new) result }
-        ensures fault { FaultWithin (D.faults (disk_of self.old.records)) (D.faults (disk_of self.new.records)) result }
-        ensures count { D.faults (disk_of self.old.records) ≤ D.faults (disk_of self.new.records) }
+        ensures fault { FaultWithin (D.tells.faults (disk_of self.old.records)) (D.tells.faults (disk_of self.new.records)) result }
+        ensures count { D.tells.faults (disk_of self.old.records) ≤ D.tells.faults (disk_of self.new.records) }
         ensures room { vec_capacity out.new ≡ vec_capacity out.old }
     {
         if self.faults >= MAX_FAULTS {
@@ -89,20 +89,20 @@ impl<D: Disk> Parts<D> {
 
     // Settles what is in doubt.
     fn ready(&mut self, by: u64, turn: u64) -> Result<(), Counts>
-        requires vault { IsVault D.content D.allowed D.faults self.old }
+        requires vault { IsVault D.tells self.old }
         requires turn { MayBeTurn turn self.old.lines.items }
         requires few { self.old.faults < most_faults }
         requires entries { 1 ≤ self.old.records.book.spare }
         requires lines { vec_len self.old.lines + 1 ≤ vec_capacity self.old.lines }
-        ensures vault { IsVault D.content D.allowed D.faults self.new }
-        ensures gives { ReadyGives D.faults self.old self.new by turn result }
+        ensures vault { IsVault D.tells self.new }
+        ensures gives { ReadyGives D.tells self.old self.new by turn result }
         ensures origin { SameOrigin self.old self.new }
         ensures entries { self.old.records.book.spare ≤ self.new.records.book.spare + 1 }
         ensures lines { OnOk result (vec_len self.new.lines + vec_capacity self.old.lines ≤ vec_capacity self.new.lines + vec_len self.old.lines + 1) }
         ensures turn { MayBeTurn turn self.new.lines.items }
-        ensures content { D.content (disk_of self.new.records) ≡ D.content (disk_of self.old.records) }
-        ensures any_moment { LeavesOnly D.moment D.left (disk_of self.old.records) (disk_of self.new.records) (EitherOf self.old.records) }
-        ensures count { D.faults (disk_of self.old.records) ≤ D.faults (disk_of self.new.records) }
+        ensures content { D.tells.content (disk_of self.new.records) ≡ D.tells.content (disk_of self.old.records) }
+        ensures any_moment { LeavesOnly D.tells (disk_of self.old.records) (disk_of self.new.records) (EitherOf self.old.records) }
+        ensures count { D.tells.faults (disk_of self.old.records) ≤ D.tells.faults (disk_of self.new.records) }
     {
         match self.records.settle() {
             Ok(None) => Ok(()),
@@ -119,7 +119,7 @@ impl<D: Disk> Parts<D> {
 
     // Makes the entry durable, where there is one.
     fn commit(&mut self, by: u64, turn: u64, entry: &Option<Entry>) -> Result<(), Counts>
-        requires vault { IsVault D.content D.allowed D.faults self.old }
+        requires vault { IsVault D.tells self.old }
         requires settled { self.old.records.doubt ≡ None }
         requires turn { MayBeTurn turn self.old.lines.items }
         requires few { self.old.faults < most_faults }
@@ -127,12 +127,12 @@ impl<D: Disk> Parts<D> {
         requires within { IsSome entry.now → length self.old.records.book.entries < self.old.records.book.cap }
         requires entries { 1 ≤ self.old.records.book.spare }
         requires lines { vec_len self.old.lines + 2 ≤ vec_capacity self.old.lines }
-        ensures vault { IsVault D.content D.allowed D.faults self.new }
-        ensures gives { CommitGives D.faults self.old self.new by turn entry.now result }
-        ensures writes { CommitWrites self.old entry.now (D.content (disk_of self.old.records)) (D.content (disk_of self.new.records)) result }
+        ensures vault { IsVault D.tells self.new }
+        ensures gives { CommitGives D.tells self.old self.new by turn entry.now result }
+        ensures writes { CommitWrites self.old entry.now (D.tells.content (disk_of self.old.records)) (D.tells.content (disk_of self.new.records)) result }
         ensures origin { SameOrigin self.old self.new }
-        ensures any_moment { LeavesOnly D.moment D.left (disk_of self.old.records) (disk_of self.new.records) (WithOrWithout self.old.records (option_to_list entry.now)) }
-        ensures count { D.faults (disk_of self.old.records) ≤ D.faults (disk_of self.new.records) }
+        ensures any_moment { LeavesOnly D.tells (disk_of self.old.records) (disk_of self.new.records) (WithOrWithout self.old.records (option_to_list entry.now)) }
+        ensures count { D.tells.faults (disk_of self.old.records) ≤ D.tells.faults (disk_of self.new.records) }
     {
         let Some(entry) = *entry else {
             return Ok(());

@@ -31,15 +31,15 @@ pub(crate) struct Counts {
 impl<D: Disk> Records<D> {
     // Finds out whether an entry that is in doubt is there, and gives it where it is kept.
     pub(crate) fn settle(&mut self) -> Result<Option<Entry>, Counts>
-        requires rests { Rests D.content D.allowed self.old }
+        requires rests { Rests D.tells self.old }
         requires spare { 1 ≤ self.old.book.spare }
-        ensures rests { Rests D.content D.allowed self.new }
-        ensures gives { SettleGives D.faults self.old self.new result }
+        ensures rests { Rests D.tells self.new }
+        ensures gives { SettleGives D.tells self.old self.new result }
         ensures terms { SameTerms self.old self.new }
         ensures spare { self.old.book.spare ≤ self.new.book.spare + 1 }
-        ensures content { D.content (disk_of self.new) ≡ D.content (disk_of self.old) }
-        ensures any_moment { LeavesOnly D.moment D.left (disk_of self.old) (disk_of self.new) (EitherOf self.old) }
-        ensures count { D.faults (disk_of self.old) ≤ D.faults (disk_of self.new) }
+        ensures content { D.tells.content (disk_of self.new) ≡ D.tells.content (disk_of self.old) }
+        ensures any_moment { LeavesOnly D.tells (disk_of self.old) (disk_of self.new) (EitherOf self.old) }
+        ensures count { D.tells.faults (disk_of self.old) ≤ D.tells.faults (disk_of self.new) }
     {
         match self.journal.settle() {
             Err(StillStale { before, after }) => Err(Counts { before, after }),
@@ -60,17 +60,17 @@ impl<D: Disk> Records<D> {
 
     // Records an entry that is legal next.
     pub(crate) fn add(&mut self, entry: &Entry) -> Result<(), Counts>
-        requires rests { Rests D.content D.allowed self.old }
+        requires rests { Rests D.tells self.old }
         requires settled { self.old.doubt ≡ None }
         requires legal { LegalAfter self.old.book.entries entry.now }
         requires within { length self.old.book.entries < self.old.book.cap }
         requires spare { 1 ≤ self.old.book.spare }
-        ensures rests { Rests D.content D.allowed self.new }
-        ensures gives { AddGives D.faults self.old self.new entry.now result }
-        ensures writes { AddWrites self.old entry.now (D.content (disk_of self.old)) (D.content (disk_of self.new)) result }
+        ensures rests { Rests D.tells self.new }
+        ensures gives { AddGives D.tells self.old self.new entry.now result }
+        ensures writes { AddWrites self.old entry.now (D.tells.content (disk_of self.old)) (D.tells.content (disk_of self.new)) result }
         ensures terms { SameTerms self.old self.new }
-        ensures any_moment { LeavesOnly D.moment D.left (disk_of self.old) (disk_of self.new) (WithOrWithout self.old (entry.now ∷ [])) }
-        ensures count { D.faults (disk_of self.old) ≤ D.faults (disk_of self.new) }
+        ensures any_moment { LeavesOnly D.tells (disk_of self.old) (disk_of self.new) (WithOrWithout self.old (entry.now ∷ [])) }
+        ensures count { D.tells.faults (disk_of self.old) ≤ D.tells.faults (disk_of self.new) }
     {
         let item = entry.spelled();
         match self.journal.append(item.as_slice()) {

@@ -43,7 +43,7 @@ impl<D: Disk> Model for Vault<D> {
 
     ghost view = { λ v. seen_as v.parts };
 
-    ghost invariant = { λ v. IsVault D.content D.allowed D.faults v.parts };
+    ghost invariant = { λ v. IsVault D.tells v.parts };
 }
 
 impl<D: Disk> Vault<D> {
@@ -60,16 +60,16 @@ impl<D: Disk> Vault<D> {
     ) -> Answer
         requires { REPLY_ROOM ≤ spare_of out.old }
         ensures turn { TurnOf self.old self.new (request_of kind body.now moment) out.old.items out.new.items result }
-        ensures lines { Adds D.content self.old self.new by (request_of kind body.now moment) result }
+        ensures lines { Adds D.tells self.old self.new by (request_of kind body.now moment) result }
         ensures origin { self.new.origin ≡ self.old.origin }
-        ensures any_moment { LeavesOnly D.moment D.left self.old.disk self.new.disk
+        ensures any_moment { LeavesOnly D.tells self.old.disk self.new.disk
             (λ image. StandsForState self.old image ⊎ StandsForState self.new image) }
-        ensures durable { DurableWhere D.allowed self.new result }
-        ensures quiet { state_of self.new ≡ state_of self.old → D.content self.new.disk ≡ D.content self.old.disk }
+        ensures durable { DurableWhere D.tells self.new result }
+        ensures quiet { state_of self.new ≡ state_of self.old → D.tells.content self.new.disk ≡ D.tells.content self.old.disk }
         ensures same { SameWhere self.old self.new result }
-        ensures fault { FaultWithin (D.faults self.old.disk) (D.faults self.new.disk) result }
-        ensures keeps { Keeps D.content D.allowed D.faults self.new }
-        ensures count { D.faults self.old.disk ≤ D.faults self.new.disk }
+        ensures fault { FaultWithin (D.tells.faults self.old.disk) (D.tells.faults self.new.disk) result }
+        ensures keeps { Keeps D.tells self.new }
+        ensures count { D.tells.faults self.old.disk ≤ D.tells.faults self.new.disk }
         ensures room { vec_capacity out.new ≡ vec_capacity out.old }
     {
         self.parts.answer(by, kind, body, moment, out)
@@ -77,7 +77,7 @@ impl<D: Disk> Vault<D> {
 
     /// What every vault keeps, as a fact: it does nothing.
     pub fn witness(&self)
-        ensures keeps { Keeps D.content D.allowed D.faults self.now }
+        ensures keeps { Keeps D.tells self.now }
     {
         let _parts = &self.parts;
     }

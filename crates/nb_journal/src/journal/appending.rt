@@ -13,15 +13,15 @@ impl<D: Disk> Journal<D> {
     /// item is in doubt, and the gate's place is within the content, as it is of every journal at rest.
     pub fn append(&mut self, item: &[u8]) -> Result<(), AppendFault>
         requires fresh { self.old.stale ≡ false }
-        requires gate { HasGate D.content self.old }
-        ensures gives { AppendGives D.content D.allowed D.faults self.old self.new item.now result }
-        ensures bytes { AppendWrites (D.content self.old.disk) (D.content self.new.disk) self.old.gate item.now result }
+        requires gate { HasGate D.tells self.old }
+        ensures gives { AppendGives D.tells self.old self.new item.now result }
+        ensures bytes { AppendWrites (D.tells.content self.old.disk) (D.tells.content self.new.disk) self.old.gate item.now result }
         ensures fits { AppendFits self.old item.now result }
         ensures doubt { DoubtAfterAppend self.new result }
         ensures limits { SameLimits self.old self.new }
-        ensures count { D.faults self.old.disk ≤ D.faults self.new.disk }
-        ensures any_moment { (front : List ℕ) (items : List (List ℕ)) → AtRest D.content D.allowed front items self.old
-            → LeavesOnly D.moment D.left self.old.disk self.new.disk (BeforeOrAfter front items item.now) }
+        ensures count { D.tells.faults self.old.disk ≤ D.tells.faults self.new.disk }
+        ensures any_moment { (front : List ℕ) (items : List (List ℕ)) → AtRest D.tells front items self.old
+            → LeavesOnly D.tells self.old.disk self.new.disk (BeforeOrAfter front items item.now) }
     {
         if self.len >= self.cap {
             return Err(AppendFault::Full { cap: self.cap });

@@ -12,14 +12,14 @@ impl<D: Disk> Journal<D> {
     /// Finds out whether the item that is in doubt is there, so that nothing is in doubt: all that was written is made to
     /// stay, and then its gate is read.
     pub fn settle(&mut self) -> Result<Settled, StillStale>
-        ensures gives { SettleGives D.content D.allowed D.faults self.old self.new result }
+        ensures gives { SettleGives D.tells self.old self.new result }
         ensures asked { DoubtBeforeSettle self.old result }
         ensures doubt { DoubtAfterSettle self.new result }
-        ensures nothing { Unwritten D.content D.allowed D.moment D.left self.old.disk self.new.disk }
+        ensures nothing { Unwritten D.tells self.old.disk self.new.disk }
         ensures limits { SameLimits self.old self.new }
-        ensures count { D.faults self.old.disk ≤ D.faults self.new.disk }
-        ensures any_moment { (front : List ℕ) (items : List (List ℕ)) (item : List ℕ) → InDoubt D.content D.allowed front items item self.old
-            → LeavesOnly D.moment D.left self.old.disk self.new.disk (BeforeOrAfter front items item) }
+        ensures count { D.tells.faults self.old.disk ≤ D.tells.faults self.new.disk }
+        ensures any_moment { (front : List ℕ) (items : List (List ℕ)) (item : List ℕ) → InDoubt D.tells front items item self.old
+            → LeavesOnly D.tells self.old.disk self.new.disk (BeforeOrAfter front items item) }
     {
         if !self.stale {
             return Ok(Settled::Nothing);

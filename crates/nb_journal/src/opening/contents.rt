@@ -39,9 +39,9 @@ pub(crate) enum ContentsRead {
 
 // Makes all that was written stay, and reads it.
 pub(crate) fn read_contents<D: Disk>(alloc: Global, disk: &mut D) -> ContentsRead
-    ensures gives { ContentsGive (D.faults disk.old) (D.faults disk.new) (D.content disk.old) (D.allowed disk.new) result }
-    ensures nothing { Unwritten D.content D.allowed D.moment D.left disk.old disk.new }
-    ensures count { D.faults disk.old ≤ D.faults disk.new }
+    ensures gives { ContentsGive (D.tells.faults disk.old) (D.tells.faults disk.new) (D.tells.content disk.old) (D.tells.allowed disk.new) result }
+    ensures nothing { Unwritten D.tells disk.old disk.new }
+    ensures count { D.tells.faults disk.old ≤ D.tells.faults disk.new }
 {
     match disk.sync() {
         DiskOut::Failed => return ContentsRead::Failed,

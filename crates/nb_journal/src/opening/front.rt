@@ -31,9 +31,9 @@ pub(crate) enum FrontRead {
 
 // Reads the front.
 pub(crate) fn read_front<D: Disk>(disk: &mut D) -> FrontRead
-    ensures gives { FrontGives (D.faults disk.old) (D.faults disk.new) (D.content disk.old) result }
-    ensures nothing { Untouched D.content D.allowed D.moment D.left disk.old disk.new }
-    ensures count { D.faults disk.old ≤ D.faults disk.new }
+    ensures gives { FrontGives (D.tells.faults disk.old) (D.tells.faults disk.new) (D.tells.content disk.old) result }
+    ensures nothing { Untouched D.tells disk.old disk.new }
+    ensures count { D.tells.faults disk.old ≤ D.tells.faults disk.new }
 {
     let mut bytes = [0u8; FRONT as usize];
     match disk.read(0, &mut bytes) {

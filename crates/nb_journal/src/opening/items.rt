@@ -26,9 +26,9 @@ pub(crate) enum ItemsRead {
 // Reads the items of a journal of at most `cap` items.
 pub(crate) fn read_items<D: Disk>(alloc: Global, disk: &mut D, cap: u32) -> ItemsRead
     requires { cap ≤ MAX_CAP }
-    ensures gives { ItemsGive (D.faults disk.old) (D.faults disk.new) (D.content disk.old) cap result }
-    ensures nothing { Untouched D.content D.allowed D.moment D.left disk.old disk.new }
-    ensures count { D.faults disk.old ≤ D.faults disk.new }
+    ensures gives { ItemsGive (D.tells.faults disk.old) (D.tells.faults disk.new) (D.tells.content disk.old) cap result }
+    ensures nothing { Untouched D.tells disk.old disk.new }
+    ensures count { D.tells.faults disk.old ≤ D.tells.faults disk.new }
 {
     let mut items = Vec::new(alloc);
     let mut place = FRONT;

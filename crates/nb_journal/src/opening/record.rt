@@ -50,9 +50,9 @@ enum BodyRead {
 
 // What the gate at the place and the length behind it say.
 pub(crate) fn lead_at<D: Disk>(disk: &mut D, place: u64) -> LeadRead
-    ensures gives { LeadGives (D.faults disk.old) (D.faults disk.new) (D.content disk.old) place result }
-    ensures nothing { Untouched D.content D.allowed D.moment D.left disk.old disk.new }
-    ensures count { D.faults disk.old ≤ D.faults disk.new }
+    ensures gives { LeadGives (D.tells.faults disk.old) (D.tells.faults disk.new) (D.tells.content disk.old) place result }
+    ensures nothing { Untouched D.tells disk.old disk.new }
+    ensures count { D.tells.faults disk.old ≤ D.tells.faults disk.new }
 {
     let mut bytes = [0u8; LEAD];
     match disk.read(place, &mut bytes) {
@@ -86,9 +86,9 @@ fn lead_of(bytes: &[u8]) -> LeadRead
 // The record whose gate stands at the place.
 pub(crate) fn record_at<D: Disk>(alloc: Global, disk: &mut D, place: u64) -> RecordRead
     requires { place < 2 ^ 63 }
-    ensures gives { RecordGives (D.faults disk.old) (D.faults disk.new) (D.content disk.old) place result }
-    ensures nothing { Untouched D.content D.allowed D.moment D.left disk.old disk.new }
-    ensures count { D.faults disk.old ≤ D.faults disk.new }
+    ensures gives { RecordGives (D.tells.faults disk.old) (D.tells.faults disk.new) (D.tells.content disk.old) place result }
+    ensures nothing { Untouched D.tells disk.old disk.new }
+    ensures count { D.tells.faults disk.old ≤ D.tells.faults disk.new }
 {
     match lead_at(disk, place) {
         LeadRead::Shut => RecordRead::Shut,
@@ -105,9 +105,9 @@ pub(crate) fn record_at<D: Disk>(alloc: Global, disk: &mut D, place: u64) -> Rec
 
 // The item of so many bytes at the place.
 fn body_at<D: Disk>(alloc: Global, disk: &mut D, place: u64, len: usize) -> BodyRead
-    ensures gives { BodyGives (D.faults disk.old) (D.faults disk.new) (D.content disk.old) place len result }
-    ensures nothing { Untouched D.content D.allowed D.moment D.left disk.old disk.new }
-    ensures count { D.faults disk.old ≤ D.faults disk.new }
+    ensures gives { BodyGives (D.tells.faults disk.old) (D.tells.faults disk.new) (D.tells.content disk.old) place len result }
+    ensures nothing { Untouched D.tells disk.old disk.new }
+    ensures count { D.tells.faults disk.old ≤ D.tells.faults disk.new }
 {
     let mut piece = match Vec::from_elem(alloc, 0u8, len) {
         Ok(piece) => piece,

@@ -82,7 +82,7 @@ impl MemDisk {
     pub fn image(&self, alloc: Global, moment: u64, fill: Fill) -> Result<Blob, NoMemory>
         requires { moment ≤ length self.now.steps }
         ensures left { IfOk result (Images self.now.start (take moment self.now.steps)) }
-        ensures since { IfOk result (⟦<MemDisk as Disk>⟧.left self.now moment) }
+        ensures since { IfOk result (⟦<MemDisk as Disk>⟧.tells.left self.now moment) }
         ensures exact { IfOk result (λ image. image ≡ image_at self.now.start self.now.steps moment fill) }
     {
         let steps = &self.steps.as_slice()[..moment as usize];
@@ -92,15 +92,13 @@ impl MemDisk {
 }
 
 impl Disk for MemDisk {
-    ghost faults = { λ d. d.calls.faults };
-
-    ghost content = { λ d. Some (content_of d) };
-
-    ghost allowed = { λ d. Images d.start d.steps };
-
-    ghost moment = { λ d. length d.steps };
-
-    ghost left = { λ d. LeftFrom d.start d.steps };
+    ghost tells = { record {
+      faults = λ d. d.calls.faults;
+      content = λ d. Some (content_of d);
+      allowed = λ d. Images d.start d.steps;
+      moment = λ d. length d.steps;
+      left = λ d. LeftFrom d.start d.steps;
+    } };
 
     ghost content_counts = { λ d c is. content_now d.start d.steps c is };
 

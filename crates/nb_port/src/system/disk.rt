@@ -39,15 +39,13 @@ impl FileDisk {
 }
 
 impl Disk for FileDisk {
-    ghost faults = { λ d. d.faults };
-
-    ghost content = { λ _. None };
-
-    ghost allowed = { λ _ _. ⊥ };
-
-    ghost moment = { λ _. 0 };
-
-    ghost left = { λ _ _ _. ⊥ };
+    ghost tells = { record {
+      faults = λ d. d.faults;
+      content = λ _. None;
+      allowed = λ _ _. ⊥;
+      moment = λ _. 0;
+      left = λ _ _ _. ⊥;
+    } };
 
     ghost content_counts = { λ _ c is. untold c is };
 

@@ -32,10 +32,10 @@ pub enum VaultFault {
 impl<D: Disk> Vault<D> {
     /// Opens the vault on a disk: all that was written is made to stay, and its entries are read. Nothing is written.
     pub fn open(alloc: Global, disk: D) -> Result<Vault<D>, (VaultFault, D)>
-        ensures gives { OpenGives D.content D.allowed D.faults disk result }
-        ensures whole { WholeOpens (D.content disk) result }
-        ensures nothing { Unwritten D.content D.allowed D.moment D.left disk (disk_in result) }
-        ensures count { D.faults disk ≤ D.faults (disk_in result) }
+        ensures gives { OpenGives D.tells disk result }
+        ensures whole { WholeOpens (D.tells.content disk) result }
+        ensures nothing { Unwritten D.tells disk (disk_in result) }
+        ensures count { D.tells.faults disk ≤ D.tells.faults (disk_in result) }
     {
         let count = disk.fault_count();
         match Journal::open(alloc, disk, ROOM) {
@@ -61,9 +61,9 @@ fn restored<D: Disk>(
     opened: Opened<D>,
     count: u64,
 ) -> Result<Parts<D>, (VaultFault, D)>
-    requires opened { IsOpened D.content D.allowed opened }
-    requires count { count ≤ D.faults opened.journal.disk }
-    ensures gives { RestoreGives D.content D.allowed D.faults opened count result }
+    requires opened { IsOpened D.tells opened }
+    requires count { count ≤ D.tells.faults opened.journal.disk }
+    ensures gives { RestoreGives D.tells opened count result }
 {
     let Opened {
         journal,

@@ -18,29 +18,29 @@ returns-in-NoMemory-clause-step g c = stop_memory c.args.house.now c.next.new.se
 
 pub returns-in-All-clause-step : goal.returns-in-All-clause-step
 returns-in-All-clause-step g c =
-    stepped_with g.D.Disk.faults c.args.house.now c.answer_with.new.house c.kind.result c.now-moment.result c.next.new.self c.body.result.now c.answer_with.new.reply.items _ _
+    stepped_with g.D.Disk.tells c.args.house.now c.answer_with.new.house c.kind.result c.now-moment.result c.next.new.self c.body.result.now c.answer_with.new.reply.items _ _
     c.in-Frame.ensures.gives c.kind.ensures c.body.ensures c.in-Frame.ensures.took c.now-moment.ensures.gives c.answer_with.ensures.answers
     (λ (bytes : List ℕ). Appends (g.K.Sink.sent c.args.sink.now) (g.K.Sink.sent c.send.new.sink) bytes)
     (subst (λ (bytes : List ℕ). Appends (g.K.Sink.sent c.args.sink.now) (g.K.Sink.sent c.send.new.sink) bytes) c.as_slice.ensures.value c.in-All.ensures.sent)
 
 pub returns-in-Failed-send-clause-step : goal.returns-in-Failed-send-clause-step
 returns-in-Failed-send-clause-step g c =
-    stepped_with g.D.Disk.faults c.args.house.now c.answer_with.new.house c.kind.result c.now-moment.result c.next.new.self c.body.result.now c.answer_with.new.reply.items _ _
+    stepped_with g.D.Disk.tells c.args.house.now c.answer_with.new.house c.kind.result c.now-moment.result c.next.new.self c.body.result.now c.answer_with.new.reply.items _ _
     c.in-Frame.ensures.gives c.kind.ensures c.body.ensures c.in-Frame.ensures.took c.now-moment.ensures.gives c.answer_with.ensures.answers
     (λ (bytes : List ℕ). SentPart (g.K.Sink.sent c.args.sink.now) (g.K.Sink.sent c.send.new.sink) bytes)
     (subst (λ (bytes : List ℕ). SentPart (g.K.Sink.sent c.args.sink.now) (g.K.Sink.sent c.send.new.sink) bytes) c.as_slice.ensures.value c.in-Failed-send.ensures.sent.1)
 
 pub returns-in-End-clause-any_moment : goal.returns-in-End-clause-any_moment
-returns-in-End-clause-any_moment g c = leaves_either g.D.Disk.content g.D.Disk.allowed g.D.Disk.faults g.D.Disk.moment g.D.Disk.left g.met.D.Disk.only_now c.args.house.now c.witness.ensures.keeps
+returns-in-End-clause-any_moment g c = leaves_either g.D.Disk.tells g.met.D.Disk.only_now c.args.house.now c.witness.ensures.keeps
 
 pub returns-in-Cut-clause-any_moment : goal.returns-in-Cut-clause-any_moment
-returns-in-Cut-clause-any_moment g c = leaves_either g.D.Disk.content g.D.Disk.allowed g.D.Disk.faults g.D.Disk.moment g.D.Disk.left g.met.D.Disk.only_now c.args.house.now c.witness.ensures.keeps
+returns-in-Cut-clause-any_moment g c = leaves_either g.D.Disk.tells g.met.D.Disk.only_now c.args.house.now c.witness.ensures.keeps
 
 pub returns-in-Bad-clause-any_moment : goal.returns-in-Bad-clause-any_moment
-returns-in-Bad-clause-any_moment g c = leaves_either g.D.Disk.content g.D.Disk.allowed g.D.Disk.faults g.D.Disk.moment g.D.Disk.left g.met.D.Disk.only_now c.args.house.now c.witness.ensures.keeps
+returns-in-Bad-clause-any_moment g c = leaves_either g.D.Disk.tells g.met.D.Disk.only_now c.args.house.now c.witness.ensures.keeps
 
 pub returns-in-Failed-clause-any_moment : goal.returns-in-Failed-clause-any_moment
-returns-in-Failed-clause-any_moment g c = leaves_either g.D.Disk.content g.D.Disk.allowed g.D.Disk.faults g.D.Disk.moment g.D.Disk.left g.met.D.Disk.only_now c.args.house.now c.witness.ensures.keeps
+returns-in-Failed-clause-any_moment g c = leaves_either g.D.Disk.tells g.met.D.Disk.only_now c.args.house.now c.witness.ensures.keeps
 
 pub returns-in-NoMemory-clause-any_moment : goal.returns-in-NoMemory-clause-any_moment
-returns-in-NoMemory-clause-any_moment g c = leaves_either g.D.Disk.content g.D.Disk.allowed g.D.Disk.faults g.D.Disk.moment g.D.Disk.left g.met.D.Disk.only_now c.args.house.now c.witness.ensures.keeps
+returns-in-NoMemory-clause-any_moment g c = leaves_either g.D.Disk.tells g.met.D.Disk.only_now c.args.house.now c.witness.ensures.keeps

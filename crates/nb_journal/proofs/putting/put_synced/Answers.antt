@@ -7,4 +7,4 @@ pub returns-in-Failed-sync-clause-gives : goal.returns-in-Failed-sync-clause-giv
 returns-in-Failed-sync-clause-gives g c =
     let rose = c.in-Failed-sync.ensures.gives in
     let count = c.in-Done.ensures.count in
-    (omega (arith, rose, count), wrote_tears (g.D.Disk.content c.args.disk.now) _ _ c.args.place c.args.piece.now c.in-Done.ensures.gives c.in-Failed-sync.ensures.content c.requires.inside)
+    (omega (arith, rose, count), wrote_tears (g.D.Disk.tells.content c.args.disk.now) _ _ c.args.place c.args.piece.now c.in-Done.ensures.gives c.in-Failed-sync.ensures.content c.requires.inside)

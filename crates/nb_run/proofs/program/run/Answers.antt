@@ -9,7 +9,7 @@ use Rattle.nb_run.proofs.program.run.Goals as goal
 pub returns-in-Some-Init-clause-init : goal.returns-in-Some-Init-clause-init
 returns-in-Some-Init-clause-init g c = λ cap is.
     let words : List (List ℕ) = map string_bytes c.args.words.now in
-    subst (λ (n : ℕ). InitIs g.D.Disk.content g.D.Disk.allowed g.D.Disk.faults (g.S.Source.left c.args.source.now) (g.S.Source.left c.make_journal-end.new.source) (g.S.Source.faults c.args.source.now)
+    subst (λ (n : ℕ). InitIs g.D.Disk.tells (g.S.Source.left c.args.source.now) (g.S.Source.left c.make_journal-end.new.source) (g.S.Source.faults c.args.source.now)
     (g.S.Source.faults c.make_journal-end.new.source) c.args.disk c.make_journal-end.new.disk n c.ending.result)
     (one_number _ c.in-Some-Init.cap cap (subst (λ (command : Command). CommandIs words (Some command)) c.in-Some-Init.field-0-is c.in-Some-Init.ensures).3 is.3)
     (c.make_journal-end.result, c.ending.ensures, c.make_journal-end.ensures.made)

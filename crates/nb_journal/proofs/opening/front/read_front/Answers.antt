@@ -6,6 +6,6 @@ use Rattle.nb_journal.proofs.opening.front.read_front.Goals as goal
 pub returns-in-Got-clause-gives : goal.returns-in-Got-clause-gives
 returns-in-Got-clause-gives g c =
     let bytes = c.split_at.result.0.now in
-    front_gives _ _ (g.D.Disk.content c.args.disk.now) bytes c.front_of.result c.front_of.ensures
-    (read_is (g.D.Disk.content c.args.disk.now) 0 96 c.in-Got.n c.read.new.buf bytes c.in-Got.ensures.gives.1
+    front_gives _ _ (g.D.Disk.tells.content c.args.disk.now) bytes c.front_of.result c.front_of.ensures
+    (read_is (g.D.Disk.tells.content c.args.disk.now) 0 96 c.in-Got.n c.read.new.buf bytes c.in-Got.ensures.gives.1
     (c.split_at.ensures.front ∙ ap (take c.in-Got.n) c.as_slice.ensures))

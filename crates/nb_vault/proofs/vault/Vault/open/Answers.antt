@@ -10,33 +10,31 @@ use Rattle.nb_vault.proofs.vault.Vault.open.Goals as goal
 
 pub returns-in-Ok-restored-clause-gives : goal.returns-in-Ok-restored-clause-gives
 returns-in-Ok-restored-clause-gives g c =
-    let content = g.D.Disk.content in
-    let allowed = g.D.Disk.allowed in
-    let faults = g.D.Disk.faults in
+    let tells = g.D.Disk.tells in
     let p = c.in-Ok-restored.parts in
     let r = c.in-Ok-restored.ensures.gives in
     record {
       lines = r.lines;
       count = r.from ∙ c.fault_count-count.ensures;
-      stands = opens_stands content allowed faults c.args.disk c.in-Ok.opened c.fault_count-count.result p r c.in-Ok.ensures.nothing.same;
-      durable = durable content allowed faults p r.vault r.settled;
-      keeps = keeps content allowed faults p r.vault;
+      stands = opens_stands tells c.args.disk c.in-Ok.opened c.fault_count-count.result p r c.in-Ok.ensures.nothing.same;
+      durable = durable tells p r.vault r.settled;
+      keeps = keeps tells p r.vault;
     }
 
 pub returns-in-Ok-restored-clause-whole : goal.returns-in-Ok-restored-clause-whole
 returns-in-Ok-restored-clause-whole g c =
-    let content = g.D.Disk.content in
+    let tells = g.D.Disk.tells in
     let p = c.in-Ok-restored.parts in
     let r = c.in-Ok-restored.ensures.gives in
-    opens_whole content g.D.Disk.allowed g.D.Disk.faults c.args.disk c.in-Ok.opened c.fault_count-count.result (seen_as p)
-    (opens_stands content g.D.Disk.allowed g.D.Disk.faults c.args.disk c.in-Ok.opened c.fault_count-count.result p r c.in-Ok.ensures.nothing.same)
+    opens_whole tells c.args.disk c.in-Ok.opened c.fault_count-count.result (seen_as p)
+    (opens_stands tells c.args.disk c.in-Ok.opened c.fault_count-count.result p r c.in-Ok.ensures.nothing.same)
 
 pub returns-in-Err-clause-whole : goal.returns-in-Err-clause-whole
 returns-in-Err-clause-whole g c =
-    fails_whole g.D.Disk.content g.D.Disk.allowed g.D.Disk.faults c.args.disk c.in-Ok.opened c.fault_count-count.result c.in-Err.fault c.in-Err.disk c.in-Err.ensures.gives c.in-Ok.ensures.gives.holds
+    fails_whole g.D.Disk.tells c.args.disk c.in-Ok.opened c.fault_count-count.result c.in-Err.fault c.in-Err.disk c.in-Err.ensures.gives c.in-Ok.ensures.gives.holds
 
 pub returns-in-Err-Damaged-default-clause-whole : goal.returns-in-Err-Damaged-default-clause-whole
 returns-in-Err-Damaged-default-clause-whole g c = λ image head cap entries is whole.
     let w = c.in-Err-Damaged-default in
-    let fails = subst (OpenFails g.D.Disk.content g.D.Disk.faults c.args.disk w.disk) w.field-0-0-is w.ensures.gives in
-    no_damage head cap entries image w.item w.place whole (told_of (g.D.Disk.content c.args.disk) (λ image. IsDamaged image w.item w.place) image is fails)
+    let fails = subst (OpenFails g.D.Disk.tells c.args.disk w.disk) w.field-0-0-is w.ensures.gives in
+    no_damage head cap entries image w.item w.place whole (told_of (g.D.Disk.tells.content c.args.disk) (λ image. IsDamaged image w.item w.place) image is fails)

@@ -19,7 +19,7 @@ returns g c =
             items = o.items.items;
             joins = search rules;
             terms = search rules;
-            journal = subst (λ (most : ℕ). AtRest g.D.Disk.content g.D.Disk.allowed (front_bytes most o.head) o.items.items o.journal) (sym cap_is) opened.rest;
+            journal = subst (λ (most : ℕ). AtRest g.D.Disk.tells (front_bytes most o.head) o.items.items o.journal) (sym cap_is) opened.rest;
             cap = search rules;
             room = opened.room;
             legal = c.len-opening.ensures.legal;
@@ -29,7 +29,7 @@ returns g c =
             within = tt;
           };
           opened = omega (arith, c.len-opening.ensures.len);
-          tells = tells_at c.len-opening.result entries c.args.count _ c.new-2.result.items at (search rules) c.requires.count;
+          told = tells_at c.len-opening.result entries c.args.count _ c.new-2.result.items at (search rules) c.requires.count;
           faults_are = search rules;
           few = omega arith;
           keys = search rules;
