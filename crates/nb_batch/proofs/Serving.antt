@@ -2,12 +2,15 @@
 use Rattle.std.proofs.Common.{◌≡◌, ℕ, ◌+◌, ◌<◌, ◌≤◌, ◌⊎◌, ⊎_elim, List, [], ◌∷◌, ◌++◌, length, take, Option, None, Some, refl, sym, ap, subst, ◌∙◌, append_assoc, append-nil, arith}
 use Rattle.std.specs.Prelude.{map}
 use Rattle.std.specs.List.{flat_map, AllByRecursion}
+use Rattle.std.specs.Option.{option_to_list}
 use Rattle.std.specs.Io.KnownBytes.{Consumes, Appends}
 use Rattle.std.proofs.KnownBytes.{Consumes-trans, Consumes-nil, Appends-trans, Appends-nil}
 use Rattle.std.proofs.lemmas.List.{map-append, length-append}
 use Rattle.std.proofs.lemmas.List.Elements.{Contains-append_left, Contains-append_right, Contains-push}
 use Rattle.std.proofs.lemmas.Grind.{flat_map-append}
+use Rattle.nb_port.proofs.Backing.{backed_append}
 use Rattle.nb_port.specs.Tells.{DiskTells}
+use Rattle.nb_port.specs.Faults.{Failure, Backed}
 use Rattle.nb_port.specs.Clock.{Gives}
 use Rattle.nb_units.specs.Frames.{Frame, frame, IsFrame, front_of, IsWhole}
 use Rattle.nb_book.specs.declared.entry.Entry.{Entry}
@@ -18,7 +21,7 @@ use Rattle.nb_vault.proofs.Resting.{leaves_more, leaves_then}
 use Rattle.nb_vault.specs.declared.origin.Origin.{Origin}
 use Rattle.nb_vault.specs.Holdings.{StandsForEither}
 use Rattle.nb_vault.specs.Rules.{house_rules}
-use Rattle.nb_vault.specs.Turns.{Request, Ruling, State, Mark, At, Fault, Worn, NoMemory as Starved, Answered, Turn, Run, last_state, IsStateOf, replies, BackedBy, Backed}
+use Rattle.nb_vault.specs.Turns.{Request, Ruling, State, Mark, At, Fault, Worn, NoMemory as Starved, Answered, Turn, Run, last_state, IsStateOf, replies, failure_of, failures_of}
 use Rattle.nb_vault.specs.Vaults.{Chronicled, state_of, rules_of, entries_in, doubt_in, StandsForState as StandsForVault}
 use Rattle.nb_escrow.specs.Head.{head_of}
 use Rattle.nb_batch.specs.declared.batch.TheConstants.{MOST_FRAMES}
@@ -33,7 +36,7 @@ pub record Went {D : Type 0} (tells : DiskTells D) (old new : Chronicled D) (bef
   pub turns : Run (rules_of old) (state_of old) answered states
   pub last : state_of new ≡ last_state (state_of old) states
   pub origin : new.origin ≡ old.origin
-  pub backed : Backed (tells.faults old.disk) answered (tells.faults new.disk)
+  pub backed : Backed (tells.faults old.disk) (failures_of answered) (tells.faults new.disk)
   pub stops : LeavesOnly tells old.disk new.disk (StandsInRun old.origin.head old.origin.cap (state_of old) states)
   pub quiet : AllByRecursion (λ (state : State). state ≡ state_of old) states → tells.content new.disk ≡ tells.content old.disk
   pub lawful : AllByRecursion IsFrame (map frame_of answered)
@@ -69,23 +72,11 @@ last_is_one : (first : State) (states : List State) → IsStateOf first states (
 last_is_one first [] = (0, omega arith, refl)
 last_is_one first (s ∷ states) = Contains-append_right (first ∷ []) (s ∷ states) (last_state s states) (last_is_one s states)
 
-under : (mark : Mark) (from : ℕ) (P Q : ℕ → Type 0) → ((n : ℕ) → P n → Q n) → BackedBy from mark P → BackedBy from mark Q
-under (At place) from P Q more is = more from is
-under Starved from P Q more is = more from is
-under Worn from P Q more is = more from is
-under (Fault before after) from P Q more is = (is.0, is.1, more after is.2)
-
--- a count that does not fall is begun with
-begun : (mark : Mark) (from mid to : ℕ) → from ≤ mid → BackedBy mid mark (λ (next : ℕ). next ≤ to) → BackedBy from mark (λ (next : ℕ). next ≤ to)
-begun (At place) from mid to le is = omega (arith, le, is)
-begun Starved from mid to le is = omega (arith, le, is)
-begun Worn from mid to le is = omega (arith, le, is)
-begun (Fault before after) from mid to le is = (omega (arith, le, is.0), is.1, is.2)
-
-backed_more : (done : List Answered) (a : Answered) (from mid to : ℕ) → Backed from done mid → BackedBy mid a.mark (λ (next : ℕ). next ≤ to) → Backed from (done ++ a ∷ []) to
-backed_more [] a from mid to backed one = begun a.mark from mid to backed one
-backed_more (x ∷ done) a from mid to backed one =
-    under x.mark from (λ (next : ℕ). Backed next done mid) (λ (next : ℕ). Backed next (done ++ a ∷ []) to) (λ next is. backed_more done a next mid to is one) backed
+backed_more : (done : List Answered) (a : Answered) (from mid to : ℕ) → Backed from (failures_of done) mid → Backed mid (option_to_list (failure_of a.mark)) to → Backed from (failures_of (done ++ a ∷ [])) to
+backed_more done a from mid to backed one =
+    let last : List Failure = option_to_list (failure_of a.mark) in
+    let whole = flat_map-append (λ (b : Answered). option_to_list (failure_of b.mark)) done (a ∷ []) ∙ ap (λ (failures : List Failure). failures_of done ++ failures) (append-nil last) in
+    subst (λ (failures : List Failure). Backed from failures to) (sym whole) (backed_append (failures_of done) last from mid to backed one)
 
 all_less : {A : Type 0} (P : A → Type 0) (xs : List A) (x : A) → AllByRecursion P (xs ++ x ∷ []) → AllByRecursion P xs × P x
 all_less P [] x all = (tt, all.0)

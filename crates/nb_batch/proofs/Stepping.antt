@@ -1,8 +1,10 @@
 -- One step of a batch, from what its calls ensure.
 use Rattle.std.proofs.Common.{◌≡◌, ◌⊎◌, ℕ, ◌≤◌, List, [], ◌++◌, length, drop, Option, refl, sym, ap, subst, ◌∙◌, inl, inr}
 use Rattle.std.specs.Prelude.{slice_index}
+use Rattle.std.specs.Option.{option_to_list}
 use Rattle.std.specs.Io.KnownBytes.{Consumes, IsAtEnd}
 use Rattle.nb_port.specs.Tells.{DiskTells}
+use Rattle.nb_port.specs.Faults.{Backed}
 use Rattle.nb_port.specs.Clock.{Gives}
 use Rattle.nb_units.specs.Frames.{Front, Whole, Empty, Partial, Bad, Frame, frame, IsFrame, front_of, IsWhole, IsBad}
 use Rattle.nb_units.specs.declared.frames.TheConstants.{HEADER}
@@ -10,7 +12,7 @@ use Rattle.nb_endorse.specs.declared.refusal.TheConstants.{DISK_FAULT, WORN, NO_
 use Rattle.nb_frame.proofs.Reading.{partial_not_whole}
 use Rattle.nb_frame.specs.Reader.{HoldsFrame}
 use Rattle.nb_vault.specs.declared.vault.Answer.TheVariants as answers
-use Rattle.nb_vault.specs.Turns.{Request, Mark, At, Fault, Worn, NoMemory, Turn, BackedBy, refused}
+use Rattle.nb_vault.specs.Turns.{Request, Mark, At, Fault, Worn, NoMemory, Turn, failure_of, refused}
 use Rattle.nb_journal.proofs.Moments.{started}
 use Rattle.nb_journal.specs.Time.{LeavesOnly}
 use Rattle.nb_vault.proofs.Resting.{leaves_more}
@@ -42,7 +44,7 @@ module _ {D : Type 0} (tells : DiskTells D) (only_now : (d : D) (c : List ℕ) �
 
 module _ {D : Type 0} (tells : DiskTells D) (old new : Chronicled D) (request : Request) where
   -- the mark's reply is what is sent
-  answers_with : (mark : Mark) (told sent : List ℕ) → Turn (rules_of old) (state_of old) request mark told (state_of new) → BackedBy (tells.faults old.disk) mark (λ (next : ℕ). next ≤ tells.faults new.disk) → sent ≡ told
+  answers_with : (mark : Mark) (told sent : List ℕ) → Turn (rules_of old) (state_of old) request mark told (state_of new) → Backed (tells.faults old.disk) (option_to_list (failure_of mark)) (tells.faults new.disk) → sent ≡ told
       → AnswersWith tells old new request sent
   answers_with mark told sent turn backed is =
       record { mark = mark; turn = subst (λ (bytes : List ℕ). Turn (rules_of old) (state_of old) request mark bytes (state_of new)) (sym is) turn; backed = backed }

@@ -1,16 +1,17 @@
 -- What a batch does: the frames of the input are answered in order, one turn after another.
 use Rattle.std.specs.Prelude.{◌≡◌, ℕ, ◌<◌, ◌≤◌, ◌⊎◌, List, [], ◌∷◌, ◌++◌, Option, None, Some, ⊤, length, map, take}
 use Rattle.std.specs.List.{AllByRecursion}
+use Rattle.std.specs.Option.{option_to_list}
 use Rattle.std.specs.Io.KnownBytes.{Consumes, Appends, IsAtEnd}
 use Rattle.nb_port.specs.Tells.{DiskTells}
-use Rattle.nb_port.specs.Faults.{Rose}
+use Rattle.nb_port.specs.Faults.{Rose, Backed}
 use Rattle.nb_port.specs.Clock.{Gives}
 use Rattle.nb_units.specs.Frames.{Frame, frame, IsFrame, Partial, front_of, IsWhole, IsBad, Splits}
 use Rattle.nb_units.specs.declared.frames.TheConstants.{HEADER}
 use Rattle.nb_journal.specs.Time.{LeavesOnly}
 use Rattle.nb_book.specs.declared.entry.Entry.{Entry}
 use Rattle.nb_vault.specs.Holdings.{StandsForEither}
-use Rattle.nb_vault.specs.Turns.{Request, State, Mark, Answered, Turn, Run, last_state, IsStateOf, replies, BackedBy, Backed}
+use Rattle.nb_vault.specs.Turns.{Request, State, Mark, Answered, Turn, Run, last_state, IsStateOf, replies, failure_of, failures_of}
 use Rattle.nb_vault.specs.Vaults.{Chronicled, state_of, rules_of}
 use Rattle.nb_batch.specs.declared.batch.TheConstants.{MOST_FRAMES}
 use Rattle.nb_batch.specs.declared.batch.BatchEnd.{BatchEnd}
@@ -55,13 +56,13 @@ pub record StandsInRun (head : List ℕ) (cap : ℕ) (first : State) (states : L
 pub record AnswersWith {D : Type 0} (tells : DiskTells D) (old new : Chronicled D) (request : Request) (reply : List ℕ) : Type 0 where
   pub mark : Mark
   pub turn : Turn (rules_of old) (state_of old) request mark reply (state_of new)
-  pub backed : BackedBy (tells.faults old.disk) mark (λ next. next ≤ tells.faults new.disk)
+  pub backed : Backed (tells.faults old.disk) (option_to_list (failure_of mark)) (tells.faults new.disk)
 
 -- a frame was taken, the clock was asked, and a turn answered it
 pub record Stepped {D : Type 0} (tells : DiskTells D) (old new : Chronicled D) (before after : Outside) : Type 0 where
   pub one : Answered
   pub turn : Turn (rules_of old) (state_of old) one.request one.mark one.reply (state_of new)
-  pub backed : BackedBy (tells.faults old.disk) one.mark (λ next. next ≤ tells.faults new.disk)
+  pub backed : Backed (tells.faults old.disk) (option_to_list (failure_of one.mark)) (tells.faults new.disk)
   pub lawful : IsFrame (frame_of one)
   pub took : Consumes before.left after.left (frame (frame_of one))
   pub asked : Gives before.moments after.moments one.request.moment
@@ -149,7 +150,7 @@ pub record Served {D : Type 0} (tells : DiskTells D) (old new : Chronicled D) (b
   pub asked : Gave before.moments after.moments (map moment_of answered)
   pub turns : Run (rules_of old) (state_of old) answered states
   pub last : state_of new ≡ last_state (state_of old) states
-  pub backed : Backed (tells.faults old.disk) answered (tells.faults new.disk)
+  pub backed : Backed (tells.faults old.disk) (failures_of answered) (tells.faults new.disk)
   pub stops : LeavesOnly tells old.disk new.disk (StandsInRun old.origin.head old.origin.cap (state_of old) states)
   pub quiet : AllByRecursion (λ state. state ≡ state_of old) states → tells.content new.disk ≡ tells.content old.disk
   pub wrote : Wrote end before after answered

@@ -1,3 +1,4 @@
+pub mod Backing
 pub mod Moments
 pub mod Tears
 pub mod Stops

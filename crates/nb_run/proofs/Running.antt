@@ -4,7 +4,8 @@ use Rattle.std.specs.List.{AllByRecursion}
 use Rattle.std.specs.Option.{option_to_list}
 use Rattle.std.specs.Io.KnownBytes.{Appends, IsAtEnd}
 use Rattle.nb_port.specs.Tells.{DiskTells}
-use Rattle.nb_port.specs.Faults.{Rose, last_count}
+use Rattle.nb_port.proofs.Backing.{backed_earlier, backed_grows}
+use Rattle.nb_port.specs.Faults.{Rose, Backed}
 use Rattle.nb_units.specs.Frames.{front_of, IsBad}
 use Rattle.nb_book.specs.declared.entry.Entry.{Entry}
 use Rattle.nb_escrow.specs.Head.{head_of}
@@ -15,7 +16,7 @@ use Rattle.nb_vault.specs.declared.origin.Origin.{Origin}
 use Rattle.nb_vault.specs.Holdings.{StandsForEither}
 use Rattle.nb_vault.specs.Opens.{OpensAs}
 use Rattle.nb_vault.specs.Rules.{house_rules}
-use Rattle.nb_vault.specs.Turns.{Request, Ruling, State, Mark, At, Fault, Worn, NoMemory as Starved, Answered, Turn, Run, last_state, replies, decided, AllDecided, IsDecided, IsFaultless, NoneFaulty, Backed, BackedBy}
+use Rattle.nb_vault.specs.Turns.{Request, Ruling, State, Mark, At, Fault, Worn, NoMemory as Starved, Answered, Turn, Run, last_state, replies, decided, AllDecided, IsDecided, IsFaultless, NoneFaulty, failure_of, failures_of}
 use Rattle.nb_vault.specs.Vaults.{Chronicled, state_of, entries_in, doubt_in, Keeps}
 use Rattle.nb_run.specs.declared.ending.TheConstants.{CLEAN, SOURCE_FAILED, SINK_FAILED, BAD_INPUT, OUT_OF_MEMORY, FRAME_LIMIT}
 use Rattle.nb_batch.specs.declared.batch.TheConstants.{MOST_FRAMES}
@@ -56,40 +57,18 @@ replies-decided rules entries (a ∷ more) [] run all = absurd run
 
 -- ---- the counts of faults
 
--- faults lie also between an earlier count and the last
-backed_earlier : (answered : List Answered) (from mid to : ℕ) → from ≤ mid → Backed mid answered to → Backed from answered to
-backed_earlier [] from mid to le is = omega (arith, le, is)
-backed_earlier (a ∷ more) from mid to le is = by_mark a.mark (backed_earlier more from mid to le) is
-  where
-    by_mark : (mark : Mark) → (Backed mid more to → Backed from more to) → BackedBy mid mark (λ (next : ℕ). Backed next more to) → BackedBy from mark (λ (next : ℕ). Backed next more to)
-    by_mark (At place) again is = again is
-    by_mark Starved again is = again is
-    by_mark Worn again is = again is
-    by_mark (Fault before after) again is = (omega (arith, le, is.0), is.1, is.2)
-
--- a count goes on, up to its last value
-backed_grows : (answered : List Answered) (from to : ℕ) → Backed from answered to → min from last_count ≤ to
-backed_grows [] from to is = omega (arith, is)
-backed_grows (a ∷ more) from to is = by_mark a.mark (λ n. backed_grows more n to) is
-  where
-    by_mark : (mark : Mark) → ((n : ℕ) → Backed n more to → min n last_count ≤ to) → BackedBy from mark (λ (next : ℕ). Backed next more to) → min from last_count ≤ to
-    by_mark (At place) again is = again from is
-    by_mark Starved again is = again from is
-    by_mark Worn again is = again from is
-    by_mark (Fault before after) again is = omega (arith, is.0, is.1, again after is.2)
-
 -- a house that had no fault has none where the count does not rise
-none_faulty : (rules : List Entry → Request → Ruling) (first : State) (answered : List Answered) (states : List State) (from to : ℕ) → first.faults ≡ 0 → Run rules first answered states → Backed from answered to → (Rose from to → ⊥)
+none_faulty : (rules : List Entry → Request → Ruling) (first : State) (answered : List Answered) (states : List State) (from to : ℕ) → first.faults ≡ 0 → Run rules first answered states → Backed from (failures_of answered) to → (Rose from to → ⊥)
     → NoneFaulty answered
 none_faulty rules first [] states from to none run backed calm = tt
 none_faulty rules first (a ∷ more) [] from to none run backed calm = absurd run
 none_faulty rules first (a ∷ more) (s ∷ states) from to none run backed calm = by_mark a.mark (λ still is. none_faulty rules s more states from to still run.1 is calm) run.0 backed
   where
-    by_mark : (mark : Mark) → (s.faults ≡ 0 → Backed from more to → NoneFaulty more) → Turn rules first a.request mark a.reply s → BackedBy from mark (λ (next : ℕ). Backed next more to) → IsFaultless mark × NoneFaulty more
+    by_mark : (mark : Mark) → (s.faults ≡ 0 → Backed from (failures_of more) to → NoneFaulty more) → Turn rules first a.request mark a.reply s → Backed from (option_to_list (failure_of mark) ++ failures_of more) to → IsFaultless mark × NoneFaulty more
     by_mark (At place) again turn is = (tt, again (ap (λ (state : State). state.faults) turn.1.left ∙ none) is)
     by_mark Starved again turn is = (tt, again (ap (λ (state : State). state.faults) turn.2 ∙ none) is)
     by_mark Worn again turn is = absurd (omega (arith, none, turn.0))
-    by_mark (Fault before after) again turn is = absurd (calm (omega (arith, is.0, is.1, backed_grows more after to is.2)))
+    by_mark (Fault before after) again turn is = absurd (calm (omega (arith, is.0, is.1, backed_grows (failures_of more) after to is.2)))
 
 -- ---- by how the batch ended
 
@@ -198,7 +177,7 @@ module _ {D : Type 0} (tells : DiskTells D) where
       let rest : state_of opened ≡ at_rest opened.origin.entries = opened_rests opened opens.lines opens.durable.fresh in
       let R : State → Type 0 = λ state. Run (house_rules (head_of opened.origin.head) opened.origin.cap) state s.answered s.states in
       let turns = subst R rest s.turns in
-      let backed = backed_earlier s.answered (tells.faults disk) (tells.faults opened.disk) (tells.faults house.disk) count s.backed in
+      let backed = backed_earlier (failures_of s.answered) (tells.faults disk) (tells.faults opened.disk) (tells.faults house.disk) count s.backed in
       record {
         head = opened.origin.head;
         cap = opened.origin.cap;

@@ -3,7 +3,7 @@ use Rattle.std.specs.Prelude.{◌≡◌, ◌≢◌, ℕ, ◌≤◌, ◌<◌, ◌
 use Rattle.std.specs.List.{flat_map, AllByRecursion}
 use Rattle.std.specs.Io.KnownBytes.{Consumes, Appends, IsAtEnd}
 use Rattle.nb_port.specs.Tells.{DiskTells}
-use Rattle.nb_port.specs.Faults.{Rose}
+use Rattle.nb_port.specs.Faults.{Rose, Backed}
 use Rattle.nb_units.specs.Frames.{Frame, frame, IsFrame, front_of, IsBad, Splits}
 use Rattle.nb_book.specs.declared.entry.Entry.{Entry}
 use Rattle.nb_book.specs.Legal.{Legal}
@@ -14,7 +14,7 @@ use Rattle.nb_vault.specs.declared.vault.opening.VaultFault.TheVariants.{Unborn,
 use Rattle.nb_vault.specs.Holdings.{StandsFor, StandsForEither}
 use Rattle.nb_vault.specs.Opens.{OpenFails}
 use Rattle.nb_vault.specs.Rules.{house_rules}
-use Rattle.nb_vault.specs.Turns.{State, Answered, Run, last_state, replies, decided, AllDecided, NoneFaulty, Backed}
+use Rattle.nb_vault.specs.Turns.{State, Answered, Run, last_state, replies, decided, AllDecided, NoneFaulty, failures_of}
 use Rattle.nb_vault.specs.Vaults.{IsBalanced}
 use Rattle.nb_batch.specs.declared.batch.TheConstants.{MOST_FRAMES}
 use Rattle.nb_run.specs.declared.ending.Ending.{Ending}
@@ -85,7 +85,7 @@ pub record Batch {D : Type 0} (tells : DiskTells D) (old new : D) (before after 
   -- after a failed write: all replies before the last one, and a part of that
   pub wrote_short : ending.status ≡ SINK_FAILED → WroteShort before after answered
   -- the faults of turns lie one after another between the disk's counts; where these did not rise, no turn failed
-  pub backed : Backed (tells.faults old) answered (tells.faults new)
+  pub backed : Backed (tells.faults old) (failures_of answered) (tells.faults new)
   pub steady : (Rose (tells.faults old) (tells.faults new) → ⊥) → NoneFaulty answered
   -- where each turn decides, the replies are a function of the entries, the head, the cap and the requests alone
   pub alone : AllDecided answered → replies answered ≡ decided (house_rules (head_of head) cap) opening answered

@@ -5,14 +5,16 @@ use Rattle.std.specs.List.{filter_map, take_while, prefix_len, sum_by, AllByRecu
 use Rattle.std.specs.Option.{option_to_list}
 use Rattle.std.proofs.lemmas.List.{reverse-append, reverse-reverse, append-nil, length-append, drop-drop}
 use Rattle.std.proofs.lemmas.List.Elements.{filter_map-append}
+use Rattle.std.proofs.lemmas.Grind.{flat_map-append}
 use Rattle.std.proofs.lemmas.List.Sums.{sum_by-append, take_while-cons}
-use Rattle.nb_port.specs.Faults.{Rose}
+use Rattle.nb_port.proofs.Backing.{backed_later, backed_append}
+use Rattle.nb_port.specs.Faults.{Rose, Failure, Backed}
 use Rattle.nb_book.specs.declared.entry.Entry.{Entry}
 use Rattle.nb_vault.specs.declared.line.Line.{Line}
 use Rattle.nb_vault.specs.declared.line.Line.TheVariants.{Commit, Adopted, Doubt, Fault}
-use Rattle.nb_vault.specs.Chronicle.{FirstFails, Sound, Backed, NeverFall}
+use Rattle.nb_vault.specs.Chronicle.{FirstFails, Sound, NeverFall}
 use Rattle.nb_vault.specs.Parts.{MayBeTurn, Tells}
-use Rattle.nb_vault.specs.Lines.{recorded, adopted, doubted, is_adopted, is_doubt, is_fault, turn_of, entries_of, faults_of, open_doubt, one_above, next_turn}
+use Rattle.nb_vault.specs.Lines.{recorded, adopted, doubted, is_adopted, is_doubt, is_fault, turn_of, entries_of, failure_in, failures_in, faults_of, open_doubt, one_above, next_turn}
 
 -- from the newest line on
 pub reverse_more : (lines : List Line) (line : Line) → reverse (lines ++ line ∷ []) ≡ line ∷ reverse lines
@@ -175,30 +177,10 @@ sound_adopts lines by turn entry sound doubt before run behind split is = at_end
 
 -- ---- faults
 
-pub backed_later : (from : ℕ) (lines : List Line) (to later : ℕ) → Backed from lines to → to ≤ later → Backed from lines later
-backed_later from [] to later backed le = omega (arith, backed, le)
-backed_later from (Commit by turn entry ∷ lines) to later backed le = backed_later from lines to later backed le
-backed_later from (Adopted by turn entry ∷ lines) to later backed le = backed_later from lines to later backed le
-backed_later from (Doubt by turn entry ∷ lines) to later backed le = backed_later from lines to later backed le
-backed_later from (Fault by turn before after ∷ lines) to later backed le = (backed.0, backed.1, backed_later after lines to later backed.2 le)
-
-pub backed_more : (from : ℕ) (lines : List Line) (line : Line) (to : ℕ) → is_fault line ≡ false → Backed from lines to → Backed from (lines ++ line ∷ []) to
-backed_more from [] (Commit by turn entry) to other backed = backed
-backed_more from [] (Adopted by turn entry) to other backed = backed
-backed_more from [] (Doubt by turn entry) to other backed = backed
-backed_more from [] (Fault by turn before after) to other backed = absurd (no_both true other refl)
-backed_more from (Commit by turn entry ∷ lines) line to other backed = backed_more from lines line to other backed
-backed_more from (Adopted by turn entry ∷ lines) line to other backed = backed_more from lines line to other backed
-backed_more from (Doubt by turn entry ∷ lines) line to other backed = backed_more from lines line to other backed
-backed_more from (Fault by turn before after ∷ lines) line to other backed = (backed.0, backed.1, backed_more after lines line to other backed.2)
-
-pub backed_fault : (from : ℕ) (lines : List Line) (mid by turn before after to : ℕ) → Backed from lines mid → mid ≤ before → Rose before after → after ≤ to
-    → Backed from (lines ++ Fault by turn before after ∷ []) to
-backed_fault from [] mid by turn before after to backed le rose end = (omega (arith, backed, le), rose, end)
-backed_fault from (Commit by' turn' entry ∷ lines) mid by turn before after to backed le rose end = backed_fault from lines mid by turn before after to backed le rose end
-backed_fault from (Adopted by' turn' entry ∷ lines) mid by turn before after to backed le rose end = backed_fault from lines mid by turn before after to backed le rose end
-backed_fault from (Doubt by' turn' entry ∷ lines) mid by turn before after to backed le rose end = backed_fault from lines mid by turn before after to backed le rose end
-backed_fault from (Fault by' turn' before' after' ∷ lines) mid by turn before after to backed le rose end = (backed.0, backed.1, backed_fault after' lines mid by turn before after to backed.2 le rose end)
+-- one line more
+pub backed_line : (from mid to : ℕ) (lines : List Line) (line : Line) → Backed from (failures_in lines) mid → Backed mid (failures_in (line ∷ [])) to → Backed from (failures_in (lines ++ line ∷ [])) to
+backed_line from mid to lines line backed behind =
+    subst (λ (failures : List Failure). Backed from failures to) (sym (flat_map-append (λ (l : Line). option_to_list (failure_in l)) lines (line ∷ []))) (backed_append (failures_in lines) (failures_in (line ∷ [])) from mid to backed behind)
 
 -- ---- numbers of turns
 
@@ -251,7 +233,7 @@ module _ (opening : List Entry) (from : ℕ) where
     doubt_is = tt;
     closed = tells.closed;
     sound = tells.sound;
-    backed = backed_later from lines to later tells.backed le;
+    backed = backed_later (failures_in lines) from to later tells.backed le;
     turns = tells.turns;
     numbers = tells.numbers;
   }
@@ -264,7 +246,7 @@ module _ (opening : List Entry) (from : ℕ) where
     doubt_is = tt;
     closed = newest_fails is_doubt lines (Commit by turn entry) refl;
     sound = sound_more lines (Commit by turn entry) tells.sound refl;
-    backed = backed_more from lines (Commit by turn entry) later refl (backed_later from lines to later tells.backed le);
+    backed = backed_line from to later lines (Commit by turn entry) tells.backed le;
     turns = never_more lines (Commit by turn entry) tells.turns may.none_above;
     numbers = next_small turn lines (Commit by turn entry) refl may;
   }
@@ -277,7 +259,7 @@ module _ (opening : List Entry) (from : ℕ) where
     doubt_is = tt;
     closed = newest_fails is_doubt lines (Adopted by turn entry) refl;
     sound = sound_adopts lines by turn entry tells.sound (subst (λ (d : Option Entry). IfSome d (λ (e : Entry). open_doubt lines ≡ e ∷ [])) is tells.doubt_is);
-    backed = backed_more from lines (Adopted by turn entry) later refl (backed_later from lines to later tells.backed le);
+    backed = backed_line from to later lines (Adopted by turn entry) tells.backed le;
     turns = never_more lines (Adopted by turn entry) tells.turns may.none_above;
     numbers = next_small turn lines (Adopted by turn entry) refl may;
   }
@@ -290,7 +272,7 @@ module _ (opening : List Entry) (from : ℕ) where
     doubt_is = still doubt tells.doubt_is;
     closed = newest_fails is_doubt lines (Fault by turn before after) refl;
     sound = sound_more lines (Fault by turn before after) tells.sound refl;
-    backed = backed_fault from lines to by turn before after later tells.backed le rose end;
+    backed = backed_line from to later lines (Fault by turn before after) tells.backed (le, rose, end);
     turns = never_more lines (Fault by turn before after) tells.turns may.none_above;
     numbers = next_small turn lines (Fault by turn before after) refl may;
   }
@@ -311,7 +293,7 @@ module _ (opening : List Entry) (from : ℕ) where
         doubt_is = doubt_faults (lines ++ line ∷ []) by turn before after ∙ doubt_is lines by turn entry tells.closed;
         closed = newest_fails is_doubt (lines ++ line ∷ []) fault refl;
         sound = sound_more (lines ++ line ∷ []) fault (sound_more lines line tells.sound refl) refl;
-        backed = backed_fault from (lines ++ line ∷ []) to by turn before after later (backed_more from lines line to refl tells.backed) le rose end;
+        backed = backed_line from to later (lines ++ line ∷ []) fault (backed_line from to to lines line tells.backed (omega arith)) (le, rose, end);
         turns = never_more (lines ++ line ∷ []) fault (never_more lines line tells.turns may.none_above) may_fault.none_above;
         numbers = next_small turn (lines ++ line ∷ []) fault refl may_fault;
       }

@@ -1,9 +1,7 @@
 -- What holds of the lines of every vault.
 use Rattle.std.specs.Prelude.{◌≡◌, ◌≢◌, ℕ, ◌≤◌, Bool, true, false, List, [], ◌∷◌, ◌++◌, reverse}
 use Rattle.std.specs.List.{filter_map, AllByRecursion}
-use Rattle.nb_port.specs.Faults.{Rose}
 use Rattle.nb_vault.specs.declared.line.Line.{Line}
-use Rattle.nb_vault.specs.declared.line.Line.TheVariants.{Fault}
 use Rattle.nb_vault.specs.Lines.{adopted, is_adopted, open_doubt, turn_of}
 
 -- the first of these, if there is one, fails the test
@@ -21,12 +19,6 @@ pub record IsRun (test : Line → Bool) (before run behind : List Line) : Type 0
 -- neighbouring lines that adopt have exactly the entries that were last in doubt before them
 abbrev pub Sound : List Line → Type 0
 Sound lines = (before run behind : List Line) → lines ≡ before ++ (run ++ behind) → IsRun is_adopted before run behind → filter_map adopted run ≡ open_doubt before
-
--- the faults came one after another between two counts of the disk, and in each the count rose
-abbrev pub Backed : ℕ → List Line → ℕ → Type 0
-Backed from [] to = from ≤ to
-Backed from (Fault by turn before after ∷ lines) to = (from ≤ before) × Rose before after × Backed after lines to
-Backed from (other ∷ lines) to = Backed from lines to
 
 -- the numbers of the turns never fall
 abbrev pub NeverFall : List Line → Type 0

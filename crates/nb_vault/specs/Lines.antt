@@ -1,6 +1,8 @@
 -- The lines that a vault keeps: what was done since it was opened, in order.
 use Rattle.std.specs.Prelude.{◌≡◌, ℕ, ◌+◌, Bool, true, false, List, [], ◌∷◌, ◌++◌, Option, None, Some, drop, reverse}
-use Rattle.std.specs.List.{filter_map, take_while, prefix_len, count_by, AllByRecursion}
+use Rattle.std.specs.List.{flat_map, filter_map, take_while, prefix_len, count_by, AllByRecursion}
+use Rattle.std.specs.Option.{option_to_list}
+use Rattle.nb_port.specs.Faults.{Failure}
 use Rattle.nb_book.specs.declared.entry.Entry.{Entry}
 use Rattle.nb_vault.specs.declared.line.Line.{Line}
 use Rattle.nb_vault.specs.declared.line.Line.TheVariants.{Commit, Adopted, Doubt, Fault}
@@ -37,6 +39,11 @@ abbrev pub doubted : Line → Option Entry
 doubted (Doubt by turn entry) = Some entry
 doubted other = None
 
+-- the counts of the disk's faults between which it failed
+abbrev pub failure_in : Line → Option Failure
+failure_in (Fault by turn before after) = Some (record { before = before; after = after })
+failure_in other = None
+
 abbrev pub is_adopted : Line → Bool
 is_adopted (Adopted by turn entry) = true
 is_adopted other = false
@@ -54,6 +61,10 @@ is_fault other = false
 -- what is recorded behind these lines: the entries at opening, and then those that the lines record
 abbrev pub entries_of : List Entry → List Line → List Entry
 entries_of opening lines = opening ++ filter_map recorded lines
+
+-- the failures of the disk that they tell, in their order
+abbrev pub failures_in : List Line → List Failure
+failures_in lines = flat_map (λ line. option_to_list (failure_in line)) lines
 
 -- how many turns failed
 abbrev pub faults_of : List Line → ℕ

@@ -2,19 +2,20 @@
 use Rattle.std.specs.Prelude.{◌≡◌, ◌≢◌, ◌⊎◌, ℕ, ◌+◌, ◌≤◌, List, [], ◌∷◌, ◌++◌, length, take, reverse, Option, None, Some, IfSome, Result, Ok, Err}
 use Rattle.std.specs.List.{AllByRecursion}
 use Rattle.std.specs.Option.{option_to_list}
+use Rattle.nb_port.specs.Tells.{DiskTells}
+use Rattle.nb_port.specs.Faults.{Backed}
 use Rattle.nb_book.specs.declared.entry.Entry.{Entry}
 use Rattle.nb_escrow.specs.Head.{head_of}
 use Rattle.nb_vault.specs.declared.line.Line.{Line}
 use Rattle.nb_vault.specs.declared.line.Line.TheVariants.{Doubt, Fault}
 use Rattle.nb_vault.specs.declared.parts.Parts.{Parts}
 use Rattle.nb_vault.specs.declared.records.Counts.{Counts}
-use Rattle.nb_vault.specs.Chronicle.{FirstFails, Sound, Backed, NeverFall}
+use Rattle.nb_vault.specs.Chronicle.{FirstFails, Sound, NeverFall}
 use Rattle.nb_vault.specs.Holdings.{Writes, Tears}
-use Rattle.nb_vault.specs.Lines.{entries_of, faults_of, open_doubt, is_doubt, next_turn, turn_of}
+use Rattle.nb_vault.specs.Lines.{entries_of, failures_in, faults_of, open_doubt, is_doubt, next_turn, turn_of}
 use Rattle.nb_vault.specs.Records.{Rests, disk_of, SameTerms, Failed}
 use Rattle.nb_vault.specs.Turns.{most_faults}
 use Rattle.nb_vault.specs.Vaults.{Chronicled, adopts, commits}
-use Rattle.nb_port.specs.Tells.{DiskTells}
 
 -- what contracts see of it
 abbrev pub seen_as : {D : Type 0} → Parts D → Chronicled D
@@ -31,7 +32,7 @@ pub record Tells (opening entries : List Entry) (doubt : Option Entry) (from to 
   pub doubt_is : IfSome doubt (λ entry. open_doubt lines ≡ entry ∷ [])
   pub closed : FirstFails is_doubt (reverse lines)
   pub sound : Sound lines
-  pub backed : Backed from lines to
+  pub backed : Backed from (failures_in lines) to
   pub turns : NeverFall lines
   pub numbers : next_turn lines ≤ length lines
 

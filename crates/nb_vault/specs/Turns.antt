@@ -1,8 +1,8 @@
 -- The house as a machine: a turn takes a request and a state, and gives a reply and a state.
-use Rattle.std.specs.Prelude.{◌≡◌, ◌≢◌, ℕ, ◌+◌, ◌<◌, ◌≤◌, ◌⊎◌, List, [], ◌∷◌, ◌++◌, Option, Some, length, Contains}
+use Rattle.std.specs.Prelude.{◌≡◌, ◌≢◌, ℕ, ◌+◌, ◌<◌, ◌≤◌, ◌⊎◌, List, [], ◌∷◌, ◌++◌, Option, None, Some, length, Contains}
 use Rattle.std.specs.List.{flat_map, AllByRecursion}
 use Rattle.std.specs.Option.{option_to_list}
-use Rattle.nb_port.specs.Faults.{Rose}
+use Rattle.nb_port.specs.Faults.{Failure}
 use Rattle.nb_book.specs.declared.entry.Entry.{Entry}
 use Rattle.nb_endorse.specs.declared.refusal.TheConstants.{DISK_FAULT, WORN, NO_MEMORY}
 use Rattle.nb_endorse.specs.declared.reply.Reply.TheVariants.{Refused}
@@ -126,12 +126,11 @@ IsFaultless other = ⊥
 abbrev pub NoneFaulty : List Answered → Type 0
 NoneFaulty answered = AllByRecursion (λ (a : Answered). IsFaultless a.mark) answered
 
--- a fault begins not below a count, which rose in it, and what follows begins where it ended
-abbrev pub BackedBy : ℕ → Mark → (ℕ → Type 0) → Type 0
-BackedBy from (Fault before after) rest = (from ≤ before) × Rose before after × rest after
-BackedBy from other rest = rest from
+-- the counts of the disk's faults between which a turn failed
+abbrev pub failure_of : Mark → Option Failure
+failure_of (Fault before after) = Some (record { before = before; after = after })
+failure_of other = None
 
--- the faults of these turns came one after another between two counts of the disk
-abbrev pub Backed : ℕ → List Answered → ℕ → Type 0
-Backed from [] to = from ≤ to
-Backed from (a ∷ more) to = BackedBy from a.mark (λ next. Backed next more to)
+-- the failures of these turns, in their order
+abbrev pub failures_of : List Answered → List Failure
+failures_of answered = flat_map (λ (a : Answered). option_to_list (failure_of a.mark)) answered

@@ -3,7 +3,7 @@ use Rattle.std.specs.Prelude.{◌≡◌, ◌≢◌, ◌⊎◌, ℕ, ◌≤◌, B
 use Rattle.std.specs.List.{count_by, sum_by}
 use Rattle.std.specs.Option.{option_to_list}
 use Rattle.nb_port.specs.Tells.{DiskTells}
-use Rattle.nb_port.specs.Faults.{Rose}
+use Rattle.nb_port.specs.Faults.{Rose, Backed}
 use Rattle.nb_book.specs.declared.entry.Entry.{Entry}
 use Rattle.nb_units.specs.declared.epoid.Epoid.{Epoid}
 use Rattle.nb_units.specs.declared.ids.AcctId.{AcctId}
@@ -18,10 +18,10 @@ use Rattle.nb_vault.specs.declared.line.Line.TheVariants.{Commit, Adopted, Doubt
 use Rattle.nb_vault.specs.declared.origin.Origin.{Origin}
 use Rattle.nb_vault.specs.declared.vault.Answer.{Answer}
 use Rattle.nb_vault.specs.declared.vault.Answer.TheVariants as answers
-use Rattle.nb_vault.specs.Chronicle.{Sound, Backed, NeverFall}
+use Rattle.nb_vault.specs.Chronicle.{Sound, NeverFall}
 use Rattle.nb_vault.specs.Holdings.{StandsFor, StandsForEither, Writes, Tears}
 use Rattle.nb_vault.specs.Rules.{house_rules}
-use Rattle.nb_vault.specs.Lines.{entries_of, faults_of, open_doubt, next_turn, AreOf}
+use Rattle.nb_vault.specs.Lines.{entries_of, failures_in, faults_of, open_doubt, next_turn, AreOf}
 use Rattle.nb_vault.specs.Turns.{Request, Ruling, State, Mark, At, Turn, most_faults, refused}
 use Rattle.nb_vault.specs.Turns as turns
 
@@ -72,7 +72,7 @@ pub record Keeps {D : Type 0} (tells : DiskTells D) (v : Chronicled D) : Type 0 
   pub doubt : v.stale ≡ true → doubt_in v ≢ []
   -- its lines adopt what was in doubt, their faults are the disk's, their turns never fall, and few are faults
   pub sound : Sound v.lines
-  pub backed : Backed v.origin.faults v.lines (tells.faults v.disk)
+  pub backed : Backed v.origin.faults (failures_in v.lines) (tells.faults v.disk)
   pub turns : NeverFall v.lines
   pub few : faults_of v.lines ≤ most_faults
 
