@@ -15,7 +15,7 @@ use Rattle.nb_batch.specs.declared.batch.BatchEnd.{BatchEnd}
 use Rattle.nb_batch.specs.declared.batch.BatchEnd.TheVariants.{Clean, ReadFault, WriteFault, BadInput, NoMemory, FrameLimit}
 use Rattle.nb_vault.specs.declared.vault.opening.VaultFault.{VaultFault}
 use Rattle.nb_vault.specs.declared.vault.opening.VaultFault.TheVariants.{Unborn, Damaged, BadEntry, DiskFault, NoMemory as Starved}
-use Rattle.nb_vault.specs.Opens.{WholeOpens, OpenFails}
+use Rattle.nb_vault.specs.Opens.{WholeOpens, VaultOpenFails}
 use Rattle.nb_vault.specs.Vaults.{Chronicled}
 use Rattle.nb_batch.specs.Batch.{frame_of, Outside, EndsBadly, Served, FaultOf}
 use Rattle.nb_run.specs.Ending.{status_of}
@@ -102,7 +102,7 @@ complete_end tells old new FrameLimit before after source source' sink sink' s f
     absurd (omega (arith, input.few, s.counted, ap length p.all, length-append gs p.more, length-append (map frame_of s.answered) s.unanswered, length-map s.answered frame_of))
 
 -- a content that stands for entries is opened, unless the disk failed or memory was wanting
-pub unopened_end : {D : Type 0} (tells : DiskTells D) (disk : D) (fault : VaultFault) (new : D) → WholeOpens (tells.content disk) (Err (fault, new)) → OpenFails tells disk new fault → IsJournal (tells.content disk)
+pub unopened_end : {D : Type 0} (tells : DiskTells D) (disk : D) (fault : VaultFault) (new : D) → WholeOpens (tells.content disk) (Err (fault, new)) → VaultOpenFails tells disk new fault → IsJournal (tells.content disk)
     → (Rose (tells.faults disk) (tells.faults new) → ⊥) → ((unopened fault).status ≡ CLEAN) ⊎ ((unopened fault).status ≡ OUT_OF_MEMORY)
 unopened_end tells disk (Unborn found) new whole why j no_disk = absurd (whole j.image j.head j.cap j.entries j.is j.stands)
 unopened_end tells disk (Damaged item place) new whole why j no_disk = absurd (whole j.image j.head j.cap j.entries j.is j.stands)

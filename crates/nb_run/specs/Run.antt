@@ -12,7 +12,7 @@ use Rattle.nb_journal.specs.Time.{Unwritten}
 use Rattle.nb_vault.specs.declared.vault.opening.VaultFault.{VaultFault}
 use Rattle.nb_vault.specs.declared.vault.opening.VaultFault.TheVariants.{Unborn, Damaged, BadEntry, DiskFault, NoMemory}
 use Rattle.nb_vault.specs.Holdings.{StandsFor, StandsForEither}
-use Rattle.nb_vault.specs.Opens.{OpenFails}
+use Rattle.nb_vault.specs.Opens.{VaultOpenFails}
 use Rattle.nb_vault.specs.Rules.{house_rules}
 use Rattle.nb_vault.specs.Turns.{State, Answered, Run, last_state, replies, decided, AllDecided, NoneFaulty, failures_of}
 use Rattle.nb_vault.specs.Vaults.{IsBalanced}
@@ -49,7 +49,7 @@ unopened NoMemory = at_no_place OUT_OF_MEMORY
 pub record NotOpened {D : Type 0} (tells : DiskTells D) (old new : D) (before after : Outside) (ending : Ending) : Type 0 where
   pub fault : VaultFault
   pub ends : ending ≡ unopened fault
-  pub why : OpenFails tells old new fault
+  pub why : VaultOpenFails tells old new fault
   pub nothing : after ≡ before
   pub unwritten : Unwritten tells old new
 

@@ -12,13 +12,13 @@ use Rattle.nb_vault.specs.declared.line.Line.{Line}
 use Rattle.nb_vault.specs.declared.line.Line.TheVariants.{Doubt, Fault}
 use Rattle.nb_vault.specs.declared.parts.Parts.{Parts}
 use Rattle.nb_vault.specs.declared.records.Counts.{Counts}
-use Rattle.nb_vault.specs.Holdings.{StandsFor, StandsForEither, Writes, Tears}
+use Rattle.nb_vault.specs.Holdings.{StandsFor, StandsForEither, WritesEntry, TearsEntry}
 use Rattle.nb_vault.specs.declared.vault.Answer.{Answer}
 use Rattle.nb_vault.specs.Lines.{AreOf, next_turn}
 use Rattle.nb_vault.specs.Parts.{IsVault, SameOrigin, SameButRoom, CommitGives, CommitWrites, seen_as}
-use Rattle.nb_vault.specs.Records.{EitherOf, WithOrWithout, disk_of}
-use Rattle.nb_vault.specs.Turns.{Request, State, Settles, Decides, Doubts}
-use Rattle.nb_vault.specs.Vaults.{Chronicled, state_of, rules_of, StandsForState, adopts, commits, KeptOf, Settled, Decided, Doubted, Unsettled, IsDurable, Adds, LinesOf}
+use Rattle.nb_vault.specs.Records.{EitherOf, WithOrWithout, disk_under}
+use Rattle.nb_vault.specs.Turns.{Request, State, SettlesInto, Decides, Doubts}
+use Rattle.nb_vault.specs.Vaults.{Chronicled, state_of, rules_of, StandsForState, adopts, commits, KeptOf, SettledOver, DecidedLines, DoubtedLines, UnsettledLines, IsDurable, Adds, LinesOf}
 use Rattle.nb_vault.proofs.Resting.{leaves_more, leaves_then, rest_images, rest_content}
 use Rattle.nb_journal.proofs.Moments.{started}
 use Rattle.nb_vault.proofs.Seeing.{state_at, state_seen, entries_seen, doubt_seen, either_seen, settled_fresh, room_seen}
@@ -29,7 +29,7 @@ abbrev pub IsKept : Option Entry → Option Entry → Type 0
 IsKept kept doubt = (kept ≡ None) ⊎ (kept ≡ doubt)
 
 -- a verdict is taken over the entries without the one in doubt, or with it
-pub settles : (entries : List Entry) (doubt kept : Option Entry) (n : ℕ) → IsKept kept doubt → Settles (record { entries = entries; doubt = option_to_list doubt; faults = n }) (entries ++ option_to_list kept)
+pub settles : (entries : List Entry) (doubt kept : Option Entry) (n : ℕ) → IsKept kept doubt → SettlesInto (record { entries = entries; doubt = option_to_list doubt; faults = n }) (entries ++ option_to_list kept)
 settles entries doubt kept n (inl none) = inl (ap (λ (o : Option Entry). entries ++ option_to_list o) none ∙ append-nil entries)
 settles entries doubt kept n (inr all) = inr (ap (λ (o : Option Entry). entries ++ option_to_list o) all)
 
@@ -62,7 +62,7 @@ image_behind head cap entries over last rest doubt kept entry image is over_is (
 
 module _ {D : Type 0} (tells : DiskTells D) where
   module _ (old mid : Parts D) (vault : IsVault tells old) (settled : IsVault tells mid) (same : SameOrigin old mid) (by turn : ℕ) (kept : Option Entry)
-      (kept_is : IsKept kept old.records.doubt) (entries : mid.records.book.entries ≡ old.records.book.entries ++ option_to_list kept) (none : mid.records.doubt ≡ None) (same_content : tells.content (disk_of mid.records) ≡ tells.content (disk_of old.records)) where
+      (kept_is : IsKept kept old.records.doubt) (entries : mid.records.book.entries ≡ old.records.book.entries ++ option_to_list kept) (none : mid.records.doubt ≡ None) (same_content : tells.content (disk_under mid.records) ≡ tells.content (disk_under old.records)) where
     -- what is kept was in doubt
     kept_of : (k : Option Entry) → IsKept k old.records.doubt → KeptOf (seen_as old) k
     kept_of None is = tt
@@ -70,11 +70,11 @@ module _ {D : Type 0} (tells : DiskTells D) where
     kept_of (Some entry) (inr was) = doubt_seen tells old vault ∙ ap option_to_list (sym was)
 
     -- what was in doubt is settled as the disk had it
-    pub settled_as : Settled tells (seen_as old) kept mid.records.book.entries
+    pub settled_as : SettledOver tells (seen_as old) kept mid.records.book.entries
     settled_as = record {
       of_doubt = kept_of kept kept_is;
       over_is = entries ∙ ap (λ (es : List Entry). es ++ option_to_list kept) (sym (entries_seen tells old vault));
-      told = subst (λ (t : Option (List ℕ)). IfSome t (StandsFor old.records.head old.records.book.cap mid.records.book.entries)) same_content (told (tells.content (disk_of mid.records)) (rest_content tells mid.records settled.rests));
+      told = subst (λ (t : Option (List ℕ)). IfSome t (StandsFor old.records.head old.records.book.cap mid.records.book.entries)) same_content (told (tells.content (disk_under mid.records)) (rest_content tells mid.records settled.rests));
     }
       where
         alone : (image : List ℕ) → StandsForEither mid.records.head mid.records.book.cap mid.records.book.entries [] image → StandsFor mid.records.head mid.records.book.cap mid.records.book.entries image
@@ -88,23 +88,23 @@ module _ {D : Type 0} (tells : DiskTells D) where
             (subst (λ (cap : ℕ). StandsFor mid.records.head cap mid.records.book.entries image) same.terms.cap
             (alone image (subst (λ (d : Option Entry). StandsForEither mid.records.head mid.records.book.cap mid.records.book.entries (option_to_list d) image) none is)))
 
-    pub settles_over : Settles (state_of (seen_as old)) mid.records.book.entries
-    settles_over = subst (λ (s : State). Settles s mid.records.book.entries) (sym (state_seen tells old vault)) (subst (Settles (state_at old)) (sym entries) (settles old.records.book.entries old.records.doubt kept old.faults kept_is))
+    pub settles_over : SettlesInto (state_of (seen_as old)) mid.records.book.entries
+    settles_over = subst (λ (s : State). SettlesInto s mid.records.book.entries) (sym (state_seen tells old vault)) (subst (SettlesInto (state_at old)) (sym entries) (settles old.records.book.entries old.records.doubt kept old.faults kept_is))
 
     -- what is written, by what the vault was before
-    writes_from : (entry : Option Entry) (new : Option (List ℕ)) → Writes mid.records.head mid.records.book.cap mid.records.book.entries entry (tells.content (disk_of mid.records)) new
-        → Writes old.records.head old.records.book.cap mid.records.book.entries entry (tells.content (disk_of old.records)) new
+    writes_from : (entry : Option Entry) (new : Option (List ℕ)) → WritesEntry mid.records.head mid.records.book.cap mid.records.book.entries entry (tells.content (disk_under mid.records)) new
+        → WritesEntry old.records.head old.records.book.cap mid.records.book.entries entry (tells.content (disk_under old.records)) new
     writes_from entry new is =
-        subst (λ (t : Option (List ℕ)). Writes old.records.head old.records.book.cap mid.records.book.entries entry t new) same_content
-        (subst (λ (cap : ℕ). Writes old.records.head cap mid.records.book.entries entry (tells.content (disk_of mid.records)) new) same.terms.cap
-        (subst (λ (head : List ℕ). Writes head mid.records.book.cap mid.records.book.entries entry (tells.content (disk_of mid.records)) new) same.terms.head is))
+        subst (λ (t : Option (List ℕ)). WritesEntry old.records.head old.records.book.cap mid.records.book.entries entry t new) same_content
+        (subst (λ (cap : ℕ). WritesEntry old.records.head cap mid.records.book.entries entry (tells.content (disk_under mid.records)) new) same.terms.cap
+        (subst (λ (head : List ℕ). WritesEntry head mid.records.book.cap mid.records.book.entries entry (tells.content (disk_under mid.records)) new) same.terms.head is))
 
-    tears_from : (entry : Entry) (new : Option (List ℕ)) → Tears mid.records.head mid.records.book.cap mid.records.book.entries entry (tells.content (disk_of mid.records)) new
-        → Tears old.records.head old.records.book.cap mid.records.book.entries entry (tells.content (disk_of old.records)) new
+    tears_from : (entry : Entry) (new : Option (List ℕ)) → TearsEntry mid.records.head mid.records.book.cap mid.records.book.entries entry (tells.content (disk_under mid.records)) new
+        → TearsEntry old.records.head old.records.book.cap mid.records.book.entries entry (tells.content (disk_under old.records)) new
     tears_from entry new is =
-        subst (λ (t : Option (List ℕ)). Tears old.records.head old.records.book.cap mid.records.book.entries entry t new) same_content
-        (subst (λ (cap : ℕ). Tears old.records.head cap mid.records.book.entries entry (tells.content (disk_of mid.records)) new) same.terms.cap
-        (subst (λ (head : List ℕ). Tears head mid.records.book.cap mid.records.book.entries entry (tells.content (disk_of mid.records)) new) same.terms.head is))
+        subst (λ (t : Option (List ℕ)). TearsEntry old.records.head old.records.book.cap mid.records.book.entries entry t new) same_content
+        (subst (λ (cap : ℕ). TearsEntry old.records.head cap mid.records.book.entries entry (tells.content (disk_under mid.records)) new) same.terms.cap
+        (subst (λ (head : List ℕ). TearsEntry head mid.records.book.cap mid.records.book.entries entry (tells.content (disk_under mid.records)) new) same.terms.head is))
 
     -- the turn decided
     pub decides : (new : Parts D) → IsVault tells new → (request : Request) (at : ℕ) (reply : List ℕ) (entry : Option Entry) → at ≡ length mid.records.book.entries → entry ≡ (rules_of (seen_as old) mid.records.book.entries request).entry
@@ -120,16 +120,16 @@ module _ {D : Type 0} (tells : DiskTells D) where
 
     -- the lines of it
     pub decided_lines : (new : Parts D) (request : Request) (at : ℕ) (entry : Option Entry) (added : List Line) → at ≡ length mid.records.book.entries → entry ≡ (rules_of (seen_as old) mid.records.book.entries request).entry
-        → added ≡ adopts by turn kept ++ commits by turn entry → Writes mid.records.head mid.records.book.cap mid.records.book.entries entry (tells.content (disk_of mid.records)) (tells.content (disk_of new.records))
-        → Decided tells (seen_as old) (seen_as new) by turn at request added
+        → added ≡ adopts by turn kept ++ commits by turn entry → WritesEntry mid.records.head mid.records.book.cap mid.records.book.entries entry (tells.content (disk_under mid.records)) (tells.content (disk_under new.records))
+        → DecidedLines tells (seen_as old) (seen_as new) by turn at request added
     decided_lines new request at entry added at_is entry_is is wrote = record {
       kept = kept;
       over = mid.records.book.entries;
       settled = settled_as;
       place = at_is;
       lines = is ∙ ap (λ (o : Option Entry). adopts by turn kept ++ commits by turn o) entry_is;
-      written = subst (λ (o : Option Entry). Writes old.records.head old.records.book.cap mid.records.book.entries o (tells.content (disk_of old.records)) (tells.content (disk_of new.records))) entry_is
-          (writes_from entry (tells.content (disk_of new.records)) wrote);
+      written = subst (λ (o : Option Entry). WritesEntry old.records.head old.records.book.cap mid.records.book.entries o (tells.content (disk_under old.records)) (tells.content (disk_under new.records))) entry_is
+          (writes_from entry (tells.content (disk_under new.records)) wrote);
     }
 
     -- the entry could not be made durable
@@ -145,7 +145,7 @@ module _ {D : Type 0} (tells : DiskTells D) where
 
     pub doubted_lines : (new : Parts D) → IsVault tells new → (request : Request) (entry : Entry) (before after : ℕ) (added : List Line) → Some entry ≡ (rules_of (seen_as old) mid.records.book.entries request).entry
         → new.records.doubt ≡ Some entry → added ≡ adopts by turn kept ++ Doubt by turn entry ∷ Fault by turn before after ∷ []
-        → Tears mid.records.head mid.records.book.cap mid.records.book.entries entry (tells.content (disk_of mid.records)) (tells.content (disk_of new.records)) → Doubted tells (seen_as old) (seen_as new) by turn before after request added
+        → TearsEntry mid.records.head mid.records.book.cap mid.records.book.entries entry (tells.content (disk_under mid.records)) (tells.content (disk_under new.records)) → DoubtedLines tells (seen_as old) (seen_as new) by turn before after request added
     doubted_lines new done request entry before after added entry_is doubt is torn = record {
       kept = kept;
       over = mid.records.book.entries;
@@ -153,7 +153,7 @@ module _ {D : Type 0} (tells : DiskTells D) where
       settled = settled_as;
       verdict = sym entry_is;
       lines = is;
-      written = tears_from entry (tells.content (disk_of new.records)) torn;
+      written = tears_from entry (tells.content (disk_under new.records)) torn;
       doubt = doubt_seen tells new done ∙ ap option_to_list doubt;
     }
 
@@ -163,7 +163,7 @@ module _ {D : Type 0} (tells : DiskTells D) where
 
   -- what was in doubt still is
   pub unsettled_lines : (old new : Parts D) → IsVault tells old → IsVault tells new → (by turn before after : ℕ) (added : List Line) → old.records.doubt ≢ None → new.records.doubt ≡ old.records.doubt
-      → new.records.book.entries ≡ old.records.book.entries → added ≡ Fault by turn before after ∷ [] → tells.content (disk_of new.records) ≡ tells.content (disk_of old.records) → Unsettled tells (seen_as old) (seen_as new) by turn before after added
+      → new.records.book.entries ≡ old.records.book.entries → added ≡ Fault by turn before after ∷ [] → tells.content (disk_under new.records) ≡ tells.content (disk_under old.records) → UnsettledLines tells (seen_as old) (seen_as new) by turn before after added
   unsettled_lines old new vault done by turn before after added some doubt entries is unwritten = record {
     some = λ e. some_doubt old.records.doubt some (sym (doubt_seen tells old vault) ∙ e);
     lines = is;
@@ -173,27 +173,27 @@ module _ {D : Type 0} (tells : DiskTells D) where
   }
 
   -- nothing was done
-  pub leaves_here : (p new : Parts D) → IsVault tells p → ((c : List ℕ) → tells.left (disk_of p.records) (tells.moment (disk_of p.records)) c → tells.allowed (disk_of p.records) c) → disk_of new.records ≡ disk_of p.records
-      → LeavesOnly tells (disk_of p.records) (disk_of new.records) (λ image. StandsForState (seen_as p) image ⊎ StandsForState (seen_as new) image)
+  pub leaves_here : (p new : Parts D) → IsVault tells p → ((c : List ℕ) → tells.left (disk_under p.records) (tells.moment (disk_under p.records)) c → tells.allowed (disk_under p.records) c) → disk_under new.records ≡ disk_under p.records
+      → LeavesOnly tells (disk_under p.records) (disk_under new.records) (λ image. StandsForState (seen_as p) image ⊎ StandsForState (seen_as new) image)
   leaves_here p new vault only_now same =
-      subst (λ (d : D). LeavesOnly tells (disk_of p.records) d (λ image. StandsForState (seen_as p) image ⊎ StandsForState (seen_as new) image)) (sym same)
-      (started tells (disk_of p.records) (λ image. StandsForState (seen_as p) image ⊎ StandsForState (seen_as new) image)
+      subst (λ (d : D). LeavesOnly tells (disk_under p.records) d (λ image. StandsForState (seen_as p) image ⊎ StandsForState (seen_as new) image)) (sym same)
+      (started tells (disk_under p.records) (λ image. StandsForState (seen_as p) image ⊎ StandsForState (seen_as new) image)
       (λ c is. inl (either_seen tells p vault c (rest_images tells p.records vault.rests c (only_now c is)))))
 
   -- settling failed
-  pub leaves_unsettled : (p : Parts D) (new : D) (Q : List ℕ → Type 0) → IsVault tells p → LeavesOnly tells (disk_of p.records) new (EitherOf p.records)
-      → LeavesOnly tells (disk_of p.records) new (λ image. StandsForState (seen_as p) image ⊎ Q image)
+  pub leaves_unsettled : (p : Parts D) (new : D) (Q : List ℕ → Type 0) → IsVault tells p → LeavesOnly tells (disk_under p.records) new (EitherOf p.records)
+      → LeavesOnly tells (disk_under p.records) new (λ image. StandsForState (seen_as p) image ⊎ Q image)
   leaves_unsettled p new Q vault leaves =
-      leaves_more tells (disk_of p.records) new (EitherOf p.records) (λ image. StandsForState (seen_as p) image ⊎ Q image) (λ c is. inl (either_seen tells p vault c is)) leaves
+      leaves_more tells (disk_under p.records) new (EitherOf p.records) (λ image. StandsForState (seen_as p) image ⊎ Q image) (λ c is. inl (either_seen tells p vault c is)) leaves
 
   -- both steps were taken
   pub leaves_both : (old mid new : Parts D) (vault : IsVault tells old) → IsVault tells new → SameOrigin old mid → SameOrigin mid new → (kept entry : Option Entry) → IsKept kept old.records.doubt
       → mid.records.book.entries ≡ old.records.book.entries ++ option_to_list kept
       → (new.records.book.entries ≡ mid.records.book.entries ++ option_to_list entry) ⊎ (new.records.book.entries ++ option_to_list new.records.doubt ≡ mid.records.book.entries ++ option_to_list entry)
-      → LeavesOnly tells (disk_of old.records) (disk_of mid.records) (EitherOf old.records) → LeavesOnly tells (disk_of mid.records) (disk_of new.records) (WithOrWithout mid.records (option_to_list entry))
-      → LeavesOnly tells (disk_of old.records) (disk_of new.records) (λ image. StandsForState (seen_as old) image ⊎ StandsForState (seen_as new) image)
+      → LeavesOnly tells (disk_under old.records) (disk_under mid.records) (EitherOf old.records) → LeavesOnly tells (disk_under mid.records) (disk_under new.records) (WithOrWithout mid.records (option_to_list entry))
+      → LeavesOnly tells (disk_under old.records) (disk_under new.records) (λ image. StandsForState (seen_as old) image ⊎ StandsForState (seen_as new) image)
   leaves_both old mid new vault done first second kept entry kept_is entries last leaves more =
-      leaves_then tells (disk_of old.records) (disk_of mid.records) (disk_of new.records) (EitherOf old.records) (WithOrWithout mid.records (option_to_list entry)) (λ image. StandsForState (seen_as old) image ⊎ StandsForState (seen_as new) image)
+      leaves_then tells (disk_under old.records) (disk_under mid.records) (disk_under new.records) (EitherOf old.records) (WithOrWithout mid.records (option_to_list entry)) (λ image. StandsForState (seen_as old) image ⊎ StandsForState (seen_as new) image)
       leaves more (λ c is. inl (either_seen tells old vault c is)) (λ c is. seen c (behind c is))
     where
       behind : (c : List ℕ) → WithOrWithout mid.records (option_to_list entry) c → EitherOf old.records c ⊎ StandsForEither old.records.head old.records.book.cap new.records.book.entries (option_to_list new.records.doubt) c
@@ -246,7 +246,7 @@ module _ {D : Type 0} (tells : DiskTells D) where
 
   -- an entry that failed was torn
   pub tears_err : (old : Parts D) (entry : Option Entry) (e : Entry) (counts : Counts) (before after : Option (List ℕ)) → entry ≡ Some e → CommitWrites old entry before after (Err counts)
-      → Tears old.records.head old.records.book.cap old.records.book.entries e before after
+      → TearsEntry old.records.head old.records.book.cap old.records.book.entries e before after
   tears_err old entry e counts before after is writes = subst (λ (o : Option Entry). CommitWrites old o before after (Err counts)) is writes
 
   -- ---- the verdict
@@ -260,10 +260,10 @@ module _ {D : Type 0} (tells : DiskTells D) where
   -- ---- from before the memory was taken
 
   pub from_start : (old start new : Parts D) → SameButRoom old start
-      → LeavesOnly tells (disk_of start.records) (disk_of new.records) (λ image. StandsForState (seen_as start) image ⊎ StandsForState (seen_as new) image)
-      → LeavesOnly tells (disk_of old.records) (disk_of new.records) (λ image. StandsForState (seen_as old) image ⊎ StandsForState (seen_as new) image)
+      → LeavesOnly tells (disk_under start.records) (disk_under new.records) (λ image. StandsForState (seen_as start) image ⊎ StandsForState (seen_as new) image)
+      → LeavesOnly tells (disk_under old.records) (disk_under new.records) (λ image. StandsForState (seen_as old) image ⊎ StandsForState (seen_as new) image)
   from_start old start new same leaves =
-      subst (λ (v : Chronicled D). LeavesOnly tells v.disk (disk_of new.records) (λ image. StandsForState v image ⊎ StandsForState (seen_as new) image)) (room_seen tells old start same) leaves
+      subst (λ (v : Chronicled D). LeavesOnly tells v.disk (disk_under new.records) (λ image. StandsForState v image ⊎ StandsForState (seen_as new) image)) (room_seen tells old start same) leaves
 
   pub adds_from : (old start new : Parts D) → SameButRoom old start → (by turn : ℕ) (request : Request) (answer : Answer) (added : List Line) → turn ≡ next_turn start.lines.items → new.lines.items ≡ start.lines.items ++ added → AreOf by turn added
       → LinesOf tells (seen_as start) (seen_as new) by turn request added answer → Adds tells (seen_as old) (seen_as new) by request answer
@@ -285,11 +285,11 @@ module _ {D : Type 0} (tells : DiskTells D) where
 
   -- then nothing was recorded, and so nothing was written
   pub quiet_ok : (old mid new : Parts D) (by turn : ℕ) (kept entry : Option Entry) → IsVault tells old → IsVault tells new → mid.records.book.entries ≡ old.records.book.entries ++ option_to_list kept
-      → CommitGives tells mid new by turn entry (Ok tt) → tells.content (disk_of mid.records) ≡ tells.content (disk_of old.records) → state_of (seen_as new) ≡ state_of (seen_as old) → tells.content (disk_of new.records) ≡ tells.content (disk_of old.records)
-  quiet_ok old mid new by turn kept None before after is gives unwritten same = ap (λ (p : Parts D). tells.content (disk_of p.records)) gives.0 ∙ unwritten
+      → CommitGives tells mid new by turn entry (Ok tt) → tells.content (disk_under mid.records) ≡ tells.content (disk_under old.records) → state_of (seen_as new) ≡ state_of (seen_as old) → tells.content (disk_under new.records) ≡ tells.content (disk_under old.records)
+  quiet_ok old mid new by turn kept None before after is gives unwritten same = ap (λ (p : Parts D). tells.content (disk_under p.records)) gives.0 ∙ unwritten
   quiet_ok old mid new by turn kept (Some e) before after is gives unwritten same =
       absurd (omega (arith, ap length gives.2, length-append mid.records.book.entries (e ∷ []), ap length is, length-append old.records.book.entries (option_to_list kept), ap (λ (s : State). length s.entries) (same_state old new before after same)))
 
   -- and none failed
-  pub quiet_err : (old new : Parts D) → IsVault tells old → IsVault tells new → new.faults ≡ old.faults + 1 → state_of (seen_as new) ≡ state_of (seen_as old) → tells.content (disk_of new.records) ≡ tells.content (disk_of old.records)
+  pub quiet_err : (old new : Parts D) → IsVault tells old → IsVault tells new → new.faults ≡ old.faults + 1 → state_of (seen_as new) ≡ state_of (seen_as old) → tells.content (disk_under new.records) ≡ tells.content (disk_under old.records)
   quiet_err old new before after more same = absurd (omega (arith, more, ap (λ (s : State). s.faults) (same_state old new before after same)))

@@ -14,7 +14,7 @@ use Rattle.nb_vault.specs.declared.line.Line.{Line}
 use Rattle.nb_vault.specs.declared.line.Line.TheVariants.{Commit, Adopted, Doubt, Fault}
 use Rattle.nb_vault.specs.Chronicle.{FirstFails, Sound, NeverFall}
 use Rattle.nb_vault.specs.Parts.{MayBeTurn, Tells}
-use Rattle.nb_vault.specs.Lines.{recorded, adopted, doubted, is_adopted, is_doubt, is_fault, turn_of, entries_of, failure_in, failures_in, faults_of, open_doubt, one_above, next_turn}
+use Rattle.nb_vault.specs.Lines.{recorded_by, adopted, doubted, is_adopted, is_doubt, is_fault, turn_of, entries_of, failure_in, failures_in, faults_of, open_doubt, one_above, next_turn}
 
 -- from the newest line on
 pub reverse_more : (lines : List Line) (line : Line) → reverse (lines ++ line ∷ []) ≡ line ∷ reverse lines
@@ -24,11 +24,11 @@ reverse_more lines line = reverse-append lines (line ∷ [])
 pub newest_fails : (test : Line → Bool) (lines : List Line) (line : Line) → test line ≡ false → FirstFails test (reverse (lines ++ line ∷ []))
 newest_fails test lines line fails = subst (FirstFails test) (sym (reverse_more lines line)) fails
 
--- what is recorded
-pub entries_more : (opening : List Entry) (lines : List Line) (line : Line) → entries_of opening (lines ++ line ∷ []) ≡ entries_of opening lines ++ option_to_list (recorded line)
-entries_more opening lines line = ap (λ (xs : List Entry). opening ++ xs) (filter_map-append recorded lines (line ∷ []) ∙ ap (λ (xs : List Entry). filter_map recorded lines ++ xs) (one line)) ∙ sym (append_assoc opening (filter_map recorded lines) (option_to_list (recorded line)))
+-- what is recorded_by
+pub entries_more : (opening : List Entry) (lines : List Line) (line : Line) → entries_of opening (lines ++ line ∷ []) ≡ entries_of opening lines ++ option_to_list (recorded_by line)
+entries_more opening lines line = ap (λ (xs : List Entry). opening ++ xs) (filter_map-append recorded_by lines (line ∷ []) ∙ ap (λ (xs : List Entry). filter_map recorded_by lines ++ xs) (one line)) ∙ sym (append_assoc opening (filter_map recorded_by lines) (option_to_list (recorded_by line)))
   where
-    one : (l : Line) → filter_map recorded (l ∷ []) ≡ option_to_list (recorded l)
+    one : (l : Line) → filter_map recorded_by (l ∷ []) ≡ option_to_list (recorded_by l)
     one (Commit by turn entry) = refl
     one (Adopted by turn entry) = refl
     one (Doubt by turn entry) = refl
@@ -238,7 +238,7 @@ module _ (opening : List Entry) (from : ℕ) where
     numbers = tells.numbers;
   }
 
-  -- an entry is recorded
+  -- an entry is recorded_by
   pub tells_commit : (entries : List Entry) (doubt : Option Entry) (to later : ℕ) (lines : List Line) (by turn : ℕ) (entry : Entry) → Tells opening entries doubt from to lines → MayBeTurn turn lines → to ≤ later
       → Tells opening (entries ++ entry ∷ []) None from later (lines ++ Commit by turn entry ∷ [])
   tells_commit entries doubt to later lines by turn entry tells may le = record {

@@ -17,8 +17,8 @@ use Rattle.nb_journal.specs.Time.{LeavesOnly}
 use Rattle.nb_journal.proofs.Appending.{stands_now}
 use Rattle.nb_port.specs.Tells.{DiskTells}
 use Rattle.nb_port.specs.Disk.{wrote_at, MayTear}
-use Rattle.nb_vault.specs.Holdings.{Joins, StandsFor, StandsForEither, IsGate, Writes, Tears}
-use Rattle.nb_vault.specs.Records.{Rests, RestsIn, WithOrWithout, EitherOf, disk_of}
+use Rattle.nb_vault.specs.Holdings.{Joins, StandsFor, StandsForEither, IsGate, WritesEntry, TearsEntry}
+use Rattle.nb_vault.specs.Records.{Rests, RestsIn, WithOrWithout, EitherOf, disk_under}
 use Rattle.nb_vault.specs.declared.records.Records.{Records}
 
 -- ---- one entry more
@@ -107,7 +107,7 @@ leaves_then tells old mid new P Q R first second p q = record {
 
 module _ {D : Type 0} (tells : DiskTells D) where
   -- what is left of records at rest
-  pub rest_images : (r : Records D) → Rests tells r → (image : List ℕ) → tells.allowed (disk_of r) image → EitherOf r image
+  pub rest_images : (r : Records D) → Rests tells r → (image : List ℕ) → tells.allowed (disk_under r) image → EitherOf r image
   rest_images r rests image is = by_doubt r.doubt rests.journal rests.next rests.fits rests.within
     where
       by_doubt : (doubt : Option Entry) → RestsIn tells (front_bytes r.book.cap r.head) rests.items doubt r.journal → IfSome doubt (LegalAfter r.book.entries) → IfSome doubt IsEntry
@@ -116,7 +116,7 @@ module _ {D : Type 0} (tells : DiskTells D) where
       by_doubt (Some e) doubtful next fits within = stands_either r.head r.book.cap rests.items r.book.entries rests.terms rests.joins rests.legal e fits next within image (doubtful.images image is)
 
   -- what the content stands for
-  pub rest_content : (r : Records D) → Rests tells r → IfSome (tells.content (disk_of r)) (EitherOf r)
+  pub rest_content : (r : Records D) → Rests tells r → IfSome (tells.content (disk_under r)) (EitherOf r)
   rest_content r rests = by_doubt r.doubt rests.journal rests.next rests.fits rests.within
     where
       told : (o : Option (List ℕ)) (P Q : List ℕ → Type 0) → ((c : List ℕ) → P c → Q c) → IfSome o P → IfSome o Q
@@ -124,10 +124,10 @@ module _ {D : Type 0} (tells : DiskTells D) where
       told (Some c) P Q step some = step c some
 
       by_doubt : (doubt : Option Entry) → RestsIn tells (front_bytes r.book.cap r.head) rests.items doubt r.journal → IfSome doubt (LegalAfter r.book.entries) → IfSome doubt IsEntry
-          → IfSome doubt (λ (entry : Entry). length r.book.entries < r.book.cap) → IfSome (tells.content (disk_of r)) (WithOrWithout r (option_to_list doubt))
-      by_doubt None at_rest next fits within = told (tells.content (disk_of r)) (Stands (front_bytes r.book.cap r.head) rests.items) (WithOrWithout r [])
+          → IfSome doubt (λ (entry : Entry). length r.book.entries < r.book.cap) → IfSome (tells.content (disk_under r)) (WithOrWithout r (option_to_list doubt))
+      by_doubt None at_rest next fits within = told (tells.content (disk_under r)) (Stands (front_bytes r.book.cap r.head) rests.items) (WithOrWithout r [])
           (λ c stands. inl (stands_for r.head r.book.cap rests.items r.book.entries rests.terms rests.joins rests.legal rests.count c stands)) at_rest.bytes
-      by_doubt (Some e) doubtful next fits within = told (tells.content (disk_of r)) (BeforeOrAfter (front_bytes r.book.cap r.head) rests.items (entry_bytes e)) (WithOrWithout r (e ∷ []))
+      by_doubt (Some e) doubtful next fits within = told (tells.content (disk_under r)) (BeforeOrAfter (front_bytes r.book.cap r.head) rests.items (entry_bytes e)) (WithOrWithout r (e ∷ []))
           (λ c stands. stands_either r.head r.book.cap rests.items r.book.entries rests.terms rests.joins rests.legal e fits next within c stands) doubtful.bytes
 
   -- nothing is in doubt, so the journal is at rest
@@ -215,23 +215,23 @@ module _ {D : Type 0} (tells : DiskTells D) where
 
   -- settling what is in doubt
   pub settle_leaves : (r : Records D) (new : D) → Rests tells r → r.journal.stale ≡ true
-      → ((front : List ℕ) (items : List (List ℕ)) (item : List ℕ) → InDoubt tells front items item r.journal → LeavesOnly tells (disk_of r) new (BeforeOrAfter front items item))
-      → LeavesOnly tells (disk_of r) new (EitherOf r)
+      → ((front : List ℕ) (items : List (List ℕ)) (item : List ℕ) → InDoubt tells front items item r.journal → LeavesOnly tells (disk_under r) new (BeforeOrAfter front items item))
+      → LeavesOnly tells (disk_under r) new (EitherOf r)
   settle_leaves r new rests stale each = by_doubt r.doubt rests.journal rests.next rests.fits rests.within
     where
       by_doubt : (doubt : Option Entry) → RestsIn tells (front_bytes r.book.cap r.head) rests.items doubt r.journal → IfSome doubt (LegalAfter r.book.entries) → IfSome doubt IsEntry
-          → IfSome doubt (λ (entry : Entry). length r.book.entries < r.book.cap) → LeavesOnly tells (disk_of r) new (WithOrWithout r (option_to_list doubt))
+          → IfSome doubt (λ (entry : Entry). length r.book.entries < r.book.cap) → LeavesOnly tells (disk_under r) new (WithOrWithout r (option_to_list doubt))
       by_doubt None at_rest next fits within = absurd (let no : false ≡ true = sym at_rest.fresh ∙ stale in cc)
       by_doubt (Some e) doubtful next fits within =
-          leaves_more tells (disk_of r) new (BeforeOrAfter (front_bytes r.book.cap r.head) rests.items (entry_bytes e)) (WithOrWithout r (e ∷ []))
+          leaves_more tells (disk_under r) new (BeforeOrAfter (front_bytes r.book.cap r.head) rests.items (entry_bytes e)) (WithOrWithout r (e ∷ []))
           (λ c stands. stands_either r.head r.book.cap rests.items r.book.entries rests.terms rests.joins rests.legal e fits next within c stands) (each _ rests.items (entry_bytes e) doubtful)
 
   -- appending one entry
   pub append_leaves : (r : Records D) (new : D) (e : Entry) (item : List ℕ) → Rests tells r → r.doubt ≡ None → item ≡ entry_bytes e → IsEntry e → LegalAfter r.book.entries e → length r.book.entries < r.book.cap
-      → ((front : List ℕ) (items : List (List ℕ)) → AtRest tells front items r.journal → LeavesOnly tells (disk_of r) new (BeforeOrAfter front items item))
-      → LeavesOnly tells (disk_of r) new (WithOrWithout r (e ∷ []))
+      → ((front : List ℕ) (items : List (List ℕ)) → AtRest tells front items r.journal → LeavesOnly tells (disk_under r) new (BeforeOrAfter front items item))
+      → LeavesOnly tells (disk_under r) new (WithOrWithout r (e ∷ []))
   append_leaves r new e item rests settled spells fits next within each =
-      leaves_more tells (disk_of r) new (BeforeOrAfter (front_bytes r.book.cap r.head) rests.items item) (WithOrWithout r (e ∷ []))
+      leaves_more tells (disk_under r) new (BeforeOrAfter (front_bytes r.book.cap r.head) rests.items item) (WithOrWithout r (e ∷ []))
       (λ c stands. stands_either r.head r.book.cap rests.items r.book.entries rests.terms rests.joins rests.legal e fits next within c
       (subst (λ (x : List ℕ). BeforeOrAfter (front_bytes r.book.cap r.head) rests.items x c) spells stands))
       (each _ rests.items (subst (λ (doubt : Option Entry). RestsIn tells (front_bytes r.book.cap r.head) rests.items doubt r.journal) settled rests.journal))
@@ -240,13 +240,13 @@ module _ {D : Type 0} (tells : DiskTells D) where
 
 module _ {D : Type 0} (tells : DiskTells D) (r : Records D) (rests : Rests tells r) (settled : r.doubt ≡ None) (e : Entry) (item : List ℕ) (new : Option (List ℕ)) (is : item ≡ entry_bytes e) where
   -- the journal's gate stands behind the items
-  gate_at : IsGate r.head r.book.cap r.book.entries (tells.content (disk_of r)) r.journal.gate
+  gate_at : IsGate r.head r.book.cap r.book.entries (tells.content (disk_under r)) r.journal.gate
   gate_at =
       let rest = at_rest tells r rests settled in
       record { items = rests.items; joins = rests.joins; stands = rest.bytes; place = rest.place }
 
-  pub writes_at : new ≡ wrote_at (tells.content (disk_of r)) r.journal.gate (item_bytes item ++ 0 ∷ []) → Writes r.head r.book.cap r.book.entries (Some e) (tells.content (disk_of r)) new
-  writes_at wrote = (r.journal.gate, gate_at, wrote ∙ ap (λ (bytes : List ℕ). wrote_at (tells.content (disk_of r)) r.journal.gate (item_bytes bytes ++ 0 ∷ [])) is)
+  pub writes_at : new ≡ wrote_at (tells.content (disk_under r)) r.journal.gate (item_bytes item ++ 0 ∷ []) → WritesEntry r.head r.book.cap r.book.entries (Some e) (tells.content (disk_under r)) new
+  writes_at wrote = (r.journal.gate, gate_at, wrote ∙ ap (λ (bytes : List ℕ). wrote_at (tells.content (disk_under r)) r.journal.gate (item_bytes bytes ++ 0 ∷ [])) is)
 
-  pub tears_at : MayTear (tells.content (disk_of r)) new r.journal.gate (length item + 6) → Tears r.head r.book.cap r.book.entries e (tells.content (disk_of r)) new
-  tears_at torn = (r.journal.gate, gate_at, subst (λ (bytes : List ℕ). MayTear (tells.content (disk_of r)) new r.journal.gate (length bytes + 6)) is torn)
+  pub tears_at : MayTear (tells.content (disk_under r)) new r.journal.gate (length item + 6) → TearsEntry r.head r.book.cap r.book.entries e (tells.content (disk_under r)) new
+  tears_at torn = (r.journal.gate, gate_at, subst (λ (bytes : List ℕ). MayTear (tells.content (disk_under r)) new r.journal.gate (length bytes + 6)) is torn)

@@ -11,8 +11,9 @@ use Rattle.nb_vault.specs.declared.records.Records.{Records}
 use Rattle.nb_vault.specs.Holdings.{StandsForEither}
 use Rattle.nb_vault.specs.Lines.{open_doubt, faults_of}
 use Rattle.nb_vault.specs.Parts.{IsVault, SameButRoom, seen_as}
-use Rattle.nb_vault.specs.Records.{Rests, RestsIn, EitherOf, disk_of}
-use Rattle.nb_vault.specs.Turns.{State, most_faults}
+use Rattle.nb_vault.specs.Records.{Rests, RestsIn, EitherOf, disk_under}
+use Rattle.nb_vault.specs.Turns.{State}
+use Rattle.nb_vault.specs.declared.vault.TheConstants.{MAX_FAULTS}
 use Rattle.nb_book.proofs.Counting.{settled_once}
 use Rattle.nb_book.proofs.Summing.{balances_make_total, none_overdrawn}
 use Rattle.nb_vault.specs.Vaults.{IsBalanced, Keeps, entries_in, doubt_in, state_of, StandsForState}
@@ -78,13 +79,13 @@ module _ {D : Type 0} (tells : DiskTells D) where
       within = rw (entries_seen, doubt_seen) (count_with p.records.doubt vault.rests.within);
       money = subst IsBalanced (sym entries_seen) (record { once = settled_once p.records.book.entries vault.rests.legal; sums = balances_make_total p.records.book.entries vault.rests.legal; none_overdrawn = none_overdrawn p.records.book.entries vault.rests.legal });
       terms = vault.rests.terms;
-      bytes = told (tells.content (disk_of p.records)) (rest_content tells p.records vault.rests);
+      bytes = told (tells.content (disk_under p.records)) (rest_content tells p.records vault.rests);
       images = λ image is. either_seen image (rest_images tells p.records vault.rests image is);
       doubt = λ stale none. stale_some (front_bytes p.records.book.cap p.records.head) vault.rests.items p.records.doubt p.records.journal vault.rests.journal stale (sym doubt_seen ∙ none);
       sound = vault.told.sound;
       backed = vault.told.backed;
       turns = vault.told.turns;
-      few = subst (λ (n : ℕ). n ≤ most_faults) vault.faults_are vault.few;
+      few = subst (λ (n : ℕ). n ≤ MAX_FAULTS) vault.faults_are vault.few;
     }
 
   -- ---- more room

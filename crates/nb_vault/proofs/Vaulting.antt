@@ -11,8 +11,8 @@ use Rattle.nb_vault.specs.declared.line.Line.TheVariants.{Commit, Adopted, Doubt
 use Rattle.nb_vault.specs.Lines.{faults_of, is_fault}
 use Rattle.nb_vault.specs.Parts.{IsVault, Tells, MayBeTurn, SameOrigin}
 use Rattle.nb_vault.specs.declared.records.Records.{Records}
-use Rattle.nb_vault.specs.Records.{Rests, SameTerms, disk_of}
-use Rattle.nb_vault.specs.Turns.{most_faults}
+use Rattle.nb_vault.specs.Records.{Rests, SameTerms, disk_under}
+use Rattle.nb_vault.specs.declared.vault.TheConstants.{MAX_FAULTS}
 use Rattle.nb_vault.proofs.Lines.{faults_more, tells_commit, tells_adopt, tells_settled, tells_fault, tells_doubt}
 
 module _ {D : Type 0} (tells : DiskTells D) where
@@ -22,13 +22,13 @@ module _ {D : Type 0} (tells : DiskTells D) where
   same_opening old new more vault same is = rw (same.opening, is) (take-append-le old.opening old.records.book.entries more vault.opened)
 
   pub vault_of : (old new : Parts D) (more : List Entry) → IsVault tells old → SameOrigin old new → Rests tells new.records → new.records.book.entries ≡ old.records.book.entries ++ more
-      → Tells (take old.opening old.records.book.entries) new.records.book.entries new.records.doubt old.count (tells.faults (disk_of new.records)) new.lines.items
-      → new.faults ≡ faults_of new.lines.items → new.faults ≤ most_faults → IsVault tells new
+      → Tells (take old.opening old.records.book.entries) new.records.book.entries new.records.doubt old.count (tells.faults (disk_under new.records)) new.lines.items
+      → new.faults ≡ faults_of new.lines.items → new.faults ≤ MAX_FAULTS → IsVault tells new
   vault_of old new more vault same rests is lines counted few = record {
     rests = rests;
     opened = omega (arith, same.opening, vault.opened, ap length is, length-append old.records.book.entries more);
-    told = subst (λ (opening : List Entry). Tells opening new.records.book.entries new.records.doubt new.count (tells.faults (disk_of new.records)) new.lines.items) (sym (same_opening old new more vault same is))
-        (subst (λ (from : ℕ). Tells (take old.opening old.records.book.entries) new.records.book.entries new.records.doubt from (tells.faults (disk_of new.records)) new.lines.items) (sym same.count) lines);
+    told = subst (λ (opening : List Entry). Tells opening new.records.book.entries new.records.doubt new.count (tells.faults (disk_under new.records)) new.lines.items) (sym (same_opening old new more vault same is))
+        (subst (λ (from : ℕ). Tells (take old.opening old.records.book.entries) new.records.book.entries new.records.doubt from (tells.faults (disk_under new.records)) new.lines.items) (sym same.count) lines);
     faults_are = counted;
     few = few;
     keys = same.head ∙ vault.keys ∙ ap head_of (sym same.terms.head);
@@ -45,7 +45,7 @@ module _ {D : Type 0} (tells : DiskTells D) where
 
   module _ (old new : Parts D) (by turn : ℕ) (vault : IsVault tells old) (may : MayBeTurn turn old.lines.items) (same : SameOrigin old new) (rests : Rests tells new.records) where
     -- an entry was recorded
-    pub commit_done : (entry : Entry) → tells.faults (disk_of old.records) ≤ tells.faults (disk_of new.records) → new.records.book.entries ≡ old.records.book.entries ++ entry ∷ [] → new.records.doubt ≡ None
+    pub commit_done : (entry : Entry) → tells.faults (disk_under old.records) ≤ tells.faults (disk_under new.records) → new.records.book.entries ≡ old.records.book.entries ++ entry ∷ [] → new.records.doubt ≡ None
         → new.lines.items ≡ old.lines.items ++ Commit by turn entry ∷ [] → new.faults ≡ old.faults → IsVault tells new
     commit_done entry count entries doubt lines few =
         vault_of old new (entry ∷ []) vault same rests entries
@@ -53,7 +53,7 @@ module _ {D : Type 0} (tells : DiskTells D) where
         (counted old new (Commit by turn entry) 0 vault lines refl (omega (arith, few))) (omega (arith, few, vault.few))
 
     -- the entry in doubt was
-    pub adopt_done : (entry : Entry) → old.records.doubt ≡ Some entry → tells.faults (disk_of old.records) ≤ tells.faults (disk_of new.records) → new.records.book.entries ≡ old.records.book.entries ++ entry ∷ [] → new.records.doubt ≡ None
+    pub adopt_done : (entry : Entry) → old.records.doubt ≡ Some entry → tells.faults (disk_under old.records) ≤ tells.faults (disk_under new.records) → new.records.book.entries ≡ old.records.book.entries ++ entry ∷ [] → new.records.doubt ≡ None
         → new.lines.items ≡ old.lines.items ++ Adopted by turn entry ∷ [] → new.faults ≡ old.faults → IsVault tells new
     adopt_done entry was count entries doubt lines few =
         vault_of old new (entry ∷ []) vault same rests entries
@@ -61,7 +61,7 @@ module _ {D : Type 0} (tells : DiskTells D) where
         (counted old new (Adopted by turn entry) 0 vault lines refl (omega (arith, few))) (omega (arith, few, vault.few))
 
     -- nothing was recorded, and nothing is in doubt
-    pub settle_done : tells.faults (disk_of old.records) ≤ tells.faults (disk_of new.records) → new.records.book.entries ≡ old.records.book.entries → new.records.doubt ≡ None → new.lines.items ≡ old.lines.items → new.faults ≡ old.faults
+    pub settle_done : tells.faults (disk_under old.records) ≤ tells.faults (disk_under new.records) → new.records.book.entries ≡ old.records.book.entries → new.records.doubt ≡ None → new.lines.items ≡ old.lines.items → new.faults ≡ old.faults
         → IsVault tells new
     settle_done count entries doubt lines few =
         vault_of old new [] vault same rests (entries ∙ sym (append-nil old.records.book.entries))
@@ -69,7 +69,7 @@ module _ {D : Type 0} (tells : DiskTells D) where
         (omega (arith, few, vault.faults_are, ap faults_of lines)) (omega (arith, few, vault.few))
 
     -- what was in doubt still is
-    pub fault_done : (before after : ℕ) → old.faults < most_faults → tells.faults (disk_of old.records) ≤ before → Rose before after → after ≤ tells.faults (disk_of new.records) → new.records.book.entries ≡ old.records.book.entries
+    pub fault_done : (before after : ℕ) → old.faults < MAX_FAULTS → tells.faults (disk_under old.records) ≤ before → Rose before after → after ≤ tells.faults (disk_under new.records) → new.records.book.entries ≡ old.records.book.entries
         → new.records.doubt ≡ old.records.doubt → new.lines.items ≡ old.lines.items ++ Fault by turn before after ∷ [] → new.faults ≡ old.faults + 1 → IsVault tells new
     fault_done before after room begins rose ends entries doubt lines one =
         vault_of old new [] vault same rests (entries ∙ sym (append-nil old.records.book.entries))
@@ -77,7 +77,7 @@ module _ {D : Type 0} (tells : DiskTells D) where
         (counted old new (Fault by turn before after) 1 vault lines refl one) (omega (arith, one, room))
 
     -- a new entry is
-    pub doubt_done : (entry : Entry) (before after : ℕ) → old.faults < most_faults → tells.faults (disk_of old.records) ≤ before → Rose before after → after ≤ tells.faults (disk_of new.records) → new.records.book.entries ≡ old.records.book.entries
+    pub doubt_done : (entry : Entry) (before after : ℕ) → old.faults < MAX_FAULTS → tells.faults (disk_under old.records) ≤ before → Rose before after → after ≤ tells.faults (disk_under new.records) → new.records.book.entries ≡ old.records.book.entries
         → new.records.doubt ≡ Some entry → new.lines.items ≡ (old.lines.items ++ Doubt by turn entry ∷ []) ++ Fault by turn before after ∷ [] → new.faults ≡ old.faults + 1 → IsVault tells new
     doubt_done entry before after room begins rose ends entries doubt lines one =
         vault_of old new [] vault same rests (entries ∙ sym (append-nil old.records.book.entries))
@@ -92,5 +92,5 @@ module _ {D : Type 0} (tells : DiskTells D) (old new : Parts D) (r : Records D) 
   pub fault_rests : Rests tells r → Rests tells new.records
   fault_rests rests = subst (Rests tells) (sym is) rests
 
-  pub fault_disk : (n : ℕ) → n ≡ tells.faults (disk_of r) → n ≤ tells.faults (disk_of new.records)
-  fault_disk n end = omega (arith, end, ap (λ (x : Records D). tells.faults (disk_of x)) is)
+  pub fault_disk : (n : ℕ) → n ≡ tells.faults (disk_under r) → n ≤ tells.faults (disk_under new.records)
+  fault_disk n end = omega (arith, end, ap (λ (x : Records D). tells.faults (disk_under x)) is)

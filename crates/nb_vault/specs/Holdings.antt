@@ -37,13 +37,13 @@ pub record IsGate (head : List ℕ) (cap : ℕ) (entries : List Entry) (content 
 
 -- what is written to record an entry, for the content before and after: nothing where there is none, or its item behind an open
 -- gate, and a closed gate
-abbrev pub Writes : List ℕ → ℕ → List Entry → Option Entry → Option (List ℕ) → Option (List ℕ) → Type 0
-Writes head cap entries None old new = new ≡ old
-Writes head cap entries (Some entry) old new = (gate : ℕ) × IsGate head cap entries old gate × (new ≡ wrote_at old gate (item_bytes (entry_bytes entry) ++ 0 ∷ []))
+abbrev pub WritesEntry : List ℕ → ℕ → List Entry → Option Entry → Option (List ℕ) → Option (List ℕ) → Type 0
+WritesEntry head cap entries None old new = new ≡ old
+WritesEntry head cap entries (Some entry) old new = (gate : ℕ) × IsGate head cap entries old gate × (new ≡ wrote_at old gate (item_bytes (entry_bytes entry) ++ 0 ∷ []))
 
 -- what was written where the disk failed: bytes of that range may have changed, and no others
-abbrev pub Tears : List ℕ → ℕ → List Entry → Entry → Option (List ℕ) → Option (List ℕ) → Type 0
-Tears head cap entries entry old new = (gate : ℕ) × IsGate head cap entries old gate × MayTear old new gate (length (entry_bytes entry) + 6)
+abbrev pub TearsEntry : List ℕ → ℕ → List Entry → Entry → Option (List ℕ) → Option (List ℕ) → Type 0
+TearsEntry head cap entries entry old new = (gate : ℕ) × IsGate head cap entries old gate × MayTear old new gate (length (entry_bytes entry) + 6)
 
 -- an image stands for one list
 abbrev pub OneList : Type 0

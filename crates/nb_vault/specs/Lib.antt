@@ -8,3 +8,4 @@ pub mod Vaults
 pub mod Parts
 pub mod Restoring
 pub mod Opens
+pub mod Numbers

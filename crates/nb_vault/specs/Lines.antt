@@ -24,10 +24,10 @@ turn_of (Doubt by turn entry) = turn
 turn_of (Fault by turn before after) = turn
 
 -- the entry that it records
-abbrev pub recorded : Line → Option Entry
-recorded (Commit by turn entry) = Some entry
-recorded (Adopted by turn entry) = Some entry
-recorded other = None
+abbrev pub recorded_by : Line → Option Entry
+recorded_by (Commit by turn entry) = Some entry
+recorded_by (Adopted by turn entry) = Some entry
+recorded_by other = None
 
 -- the entry that was in doubt and is kept
 abbrev pub adopted : Line → Option Entry
@@ -58,9 +58,9 @@ is_fault other = false
 
 -- ---- all lines
 
--- what is recorded behind these lines: the entries at opening, and then those that the lines record
+-- what is recorded_by behind these lines: the entries at opening, and then those that the lines record
 abbrev pub entries_of : List Entry → List Line → List Entry
-entries_of opening lines = opening ++ filter_map recorded lines
+entries_of opening lines = opening ++ filter_map recorded_by lines
 
 -- the failures of the disk that they tell, in their order
 abbrev pub failures_in : List Line → List Failure
@@ -74,7 +74,7 @@ faults_of lines = count_by is_fault lines
 abbrev pub before_faults : List Line → List Line
 before_faults lines = drop (prefix_len is_fault (reverse lines)) (reverse lines)
 
--- the entries that were last in doubt: those of the last neighbouring doubts, where no entry was recorded since. Settling may have
+-- the entries that were last in doubt: those of the last neighbouring doubts, where no entry was recorded_by since. Settling may have
 -- dropped them: what is in doubt now is known with whether the vault is stale
 abbrev pub open_doubt : List Line → List Entry
 open_doubt lines = reverse (filter_map doubted (take_while is_doubt (before_faults lines)))

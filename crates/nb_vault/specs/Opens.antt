@@ -13,7 +13,7 @@ use Rattle.nb_vault.specs.declared.vault.opening.VaultFault.{VaultFault}
 use Rattle.nb_vault.specs.declared.vault.opening.VaultFault.TheVariants as opens
 use Rattle.nb_vault.specs.Holdings.{Joins, StandsFor}
 use Rattle.nb_vault.specs.Parts.{IsVault}
-use Rattle.nb_vault.specs.Records.{disk_of}
+use Rattle.nb_vault.specs.Records.{disk_under}
 use Rattle.nb_vault.specs.Restoring.{FirstBad}
 use Rattle.nb_vault.specs.Vaults.{Chronicled, IsDurable, Keeps}
 
@@ -35,12 +35,12 @@ abbrev pub WholeIsGood : Type 0
 WholeIsGood = (image head : List ℕ) (cap : ℕ) (entries : List Entry) → StandsFor head cap entries image → IsGood image
 
 -- by cases on the fault, for the disk before and after
-abbrev pub OpenFails : {D : Type 0} → DiskTells D → D → D → VaultFault → Type 0
-OpenFails tells old new (opens.Unborn found) = (found ≢ magic) × IfSome (tells.content old) (λ image. IsUnborn image found)
-OpenFails tells old new (opens.Damaged item place) = IfSome (tells.content old) (λ image. IsDamaged image item place)
-OpenFails tells old new (opens.BadEntry item) = IfSome (tells.content old) (λ image. IsBadEntry image item)
-OpenFails tells old new (opens.DiskFault before after) = (before ≡ tells.faults old) × (after ≡ tells.faults new) × Rose before after
-OpenFails tells old new opens.NoMemory = ⊤
+abbrev pub VaultOpenFails : {D : Type 0} → DiskTells D → D → D → VaultFault → Type 0
+VaultOpenFails tells old new (opens.Unborn found) = (found ≢ magic) × IfSome (tells.content old) (λ image. IsUnborn image found)
+VaultOpenFails tells old new (opens.Damaged item place) = IfSome (tells.content old) (λ image. IsDamaged image item place)
+VaultOpenFails tells old new (opens.BadEntry item) = IfSome (tells.content old) (λ image. IsBadEntry image item)
+VaultOpenFails tells old new (opens.DiskFault before after) = (before ≡ tells.faults old) × (after ≡ tells.faults new) × Rose before after
+VaultOpenFails tells old new opens.NoMemory = ⊤
 
 -- nothing was done yet, the content stands for the entries, and a stop leaves nothing else
 pub record OpensAs {D : Type 0} (tells : DiskTells D) (disk : D) (v : Chronicled D) : Type 0 where
@@ -51,9 +51,9 @@ pub record OpensAs {D : Type 0} (tells : DiskTells D) (disk : D) (v : Chronicled
   pub keeps : Keeps tells v
 
 -- by cases on the result
-abbrev pub OpenGives : {D : Type 0} → DiskTells D → D → Result (Chronicled D) (VaultFault × D) → Type 0
-OpenGives tells disk (Ok v) = OpensAs tells disk v
-OpenGives tells disk (Err e) = OpenFails tells disk e.1 e.0
+abbrev pub VaultOpenGives : {D : Type 0} → DiskTells D → D → Result (Chronicled D) (VaultFault × D) → Type 0
+VaultOpenGives tells disk (Ok v) = OpensAs tells disk v
+VaultOpenGives tells disk (Err e) = VaultOpenFails tells disk e.1 e.0
 
 -- what comes of a content that stands for these entries: they are opened, or the disk failed, or there was no memory
 abbrev pub OpensWhole : {D : Type 0} → List ℕ → ℕ → List Entry → Result (Chronicled D) (VaultFault × D) → Type 0
@@ -89,7 +89,7 @@ pub record IsRestored {D : Type 0} (tells : DiskTells D) (o : Opened D) (count :
   pub from : p.count ≡ count
   pub head : p.records.head ≡ o.head
   pub cap : p.records.book.cap ≡ o.cap
-  pub disk : disk_of p.records ≡ o.journal.disk
+  pub disk : disk_under p.records ≡ o.journal.disk
 
 -- by cases on the fault, with the disk that is given back
 abbrev pub RestoreFails : {D : Type 0} → Opened D → D → VaultFault → Type 0

@@ -11,10 +11,10 @@ use Rattle.nb_vault.specs.declared.line.Line.TheVariants.{Doubt, Fault}
 use Rattle.nb_vault.specs.declared.parts.Parts.{Parts}
 use Rattle.nb_vault.specs.declared.records.Counts.{Counts}
 use Rattle.nb_vault.specs.Chronicle.{FirstFails, Sound, NeverFall}
-use Rattle.nb_vault.specs.Holdings.{Writes, Tears}
+use Rattle.nb_vault.specs.Holdings.{WritesEntry, TearsEntry}
 use Rattle.nb_vault.specs.Lines.{entries_of, failures_in, faults_of, open_doubt, is_doubt, next_turn, turn_of}
-use Rattle.nb_vault.specs.Records.{Rests, disk_of, SameTerms, Failed}
-use Rattle.nb_vault.specs.Turns.{most_faults}
+use Rattle.nb_vault.specs.Records.{Rests, disk_under, SameTerms, Failed}
+use Rattle.nb_vault.specs.declared.vault.TheConstants.{MAX_FAULTS}
 use Rattle.nb_vault.specs.Vaults.{Chronicled, adopts, commits}
 
 -- what contracts see of it
@@ -40,9 +40,9 @@ pub record Tells (opening entries : List Entry) (doubt : Option Entry) (from to 
 pub record IsVault {D : Type 0} (tells : DiskTells D) (p : Parts D) : Type 0 where
   pub rests : Rests tells p.records
   pub opened : p.opening ≤ length p.records.book.entries
-  pub told : Tells (take p.opening p.records.book.entries) p.records.book.entries p.records.doubt p.count (tells.faults (disk_of p.records)) p.lines.items
+  pub told : Tells (take p.opening p.records.book.entries) p.records.book.entries p.records.doubt p.count (tells.faults (disk_under p.records)) p.lines.items
   pub faults_are : p.faults ≡ faults_of p.lines.items
-  pub few : p.faults ≤ most_faults
+  pub few : p.faults ≤ MAX_FAULTS
   pub keys : p.head ≡ head_of p.records.head
 
 -- a number that one more line may have
@@ -90,6 +90,6 @@ CommitGives tells old new by turn (Some entry) (Err counts) =
 
 -- what was written of it, for the content before and after
 abbrev pub CommitWrites : {D : Type 0} → Parts D → Option Entry → Option (List ℕ) → Option (List ℕ) → Result (Unit {0}) Counts → Type 0
-CommitWrites old entry before after (Ok done) = Writes old.records.head old.records.book.cap old.records.book.entries entry before after
-CommitWrites old (Some entry) before after (Err counts) = Tears old.records.head old.records.book.cap old.records.book.entries entry before after
+CommitWrites old entry before after (Ok done) = WritesEntry old.records.head old.records.book.cap old.records.book.entries entry before after
+CommitWrites old (Some entry) before after (Err counts) = TearsEntry old.records.head old.records.book.cap old.records.book.entries entry before after
 CommitWrites old None before after (Err counts) = ⊥

@@ -12,7 +12,7 @@ use Rattle.nb_journal.specs.States.{AtRest, InDoubt}
 use Rattle.nb_vault.specs.declared.records.Records.{Records}
 use Rattle.nb_vault.specs.declared.records.Counts.{Counts}
 use Rattle.nb_vault.specs.declared.records.TheConstants.{ROOM}
-use Rattle.nb_vault.specs.Holdings.{Joins, StandsForEither, Writes, Tears}
+use Rattle.nb_vault.specs.Holdings.{Joins, StandsForEither, WritesEntry, TearsEntry}
 
 -- a journal with these items, at rest where nothing is in doubt
 abbrev pub RestsIn : {D : Type 0} → DiskTells D → List ℕ → List (List ℕ) → Option Entry → Journal D → Type 0
@@ -33,8 +33,8 @@ pub record Rests {D : Type 0} (tells : DiskTells D) (r : Records D) : Type 0 whe
   pub fits : IfSome r.doubt IsEntry
   pub within : IfSome r.doubt (λ entry. length r.book.entries < r.book.cap)
 
-abbrev pub disk_of : {D : Type 0} → Records D → D
-disk_of r = r.journal.disk
+abbrev pub disk_under : {D : Type 0} → Records D → D
+disk_under r = r.journal.disk
 
 -- an image stands for the entries, without these or with them
 abbrev pub WithOrWithout : {D : Type 0} → Records D → List Entry → List ℕ → Type 0
@@ -51,16 +51,16 @@ pub record SameTerms {D : Type 0} (old new : Records D) : Type 0 where
 
 -- the counts of the disk's faults at the beginning of a call that failed and at its end
 pub record Failed {D : Type 0} (tells : DiskTells D) (old new : Records D) (counts : Counts) : Type 0 where
-  pub before : counts.before ≡ tells.faults (disk_of old)
-  pub after : counts.after ≡ tells.faults (disk_of new)
+  pub before : counts.before ≡ tells.faults (disk_under old)
+  pub after : counts.after ≡ tells.faults (disk_under new)
   pub rose : Rose counts.before counts.after
   pub entries : new.book.entries ≡ old.book.entries
 
 -- by cases on the result: what was in doubt is kept, or is not there, or is still in doubt
-abbrev pub SettleGives : {D : Type 0} → DiskTells D → Records D → Records D → Result (Option Entry) Counts → Type 0
-SettleGives tells old new (Ok None) = (new.doubt ≡ None) × (new.book.entries ≡ old.book.entries)
-SettleGives tells old new (Ok (Some entry)) = (new.doubt ≡ None) × (old.doubt ≡ Some entry) × (new.book.entries ≡ old.book.entries ++ entry ∷ [])
-SettleGives tells old new (Err counts) = (new.doubt ≡ old.doubt) × (old.doubt ≢ None) × Failed tells old new counts
+abbrev pub RecordsSettle : {D : Type 0} → DiskTells D → Records D → Records D → Result (Option Entry) Counts → Type 0
+RecordsSettle tells old new (Ok None) = (new.doubt ≡ None) × (new.book.entries ≡ old.book.entries)
+RecordsSettle tells old new (Ok (Some entry)) = (new.doubt ≡ None) × (old.doubt ≡ Some entry) × (new.book.entries ≡ old.book.entries ++ entry ∷ [])
+RecordsSettle tells old new (Err counts) = (new.doubt ≡ old.doubt) × (old.doubt ≢ None) × Failed tells old new counts
 
 -- by cases on the result: the entry is recorded, or it is in doubt
 abbrev pub AddGives : {D : Type 0} → DiskTells D → Records D → Records D → Entry → Result (Unit {0}) Counts → Type 0
@@ -69,5 +69,5 @@ AddGives tells old new entry (Err counts) = (new.doubt ≡ Some entry) × Failed
 
 -- what was written of it, for the content before and after
 abbrev pub AddWrites : {D : Type 0} → Records D → Entry → Option (List ℕ) → Option (List ℕ) → Result (Unit {0}) Counts → Type 0
-AddWrites old entry before after (Ok done) = Writes old.head old.book.cap old.book.entries (Some entry) before after
-AddWrites old entry before after (Err counts) = Tears old.head old.book.cap old.book.entries entry before after
+AddWrites old entry before after (Ok done) = WritesEntry old.head old.book.cap old.book.entries (Some entry) before after
+AddWrites old entry before after (Err counts) = TearsEntry old.head old.book.cap old.book.entries entry before after

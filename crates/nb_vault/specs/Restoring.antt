@@ -33,7 +33,7 @@ ItemGives cap item before after reads.Bad = SpellsNothing cap item before
 ItemGives cap item before after reads.NoMemory = ⊤
 
 -- all items
-abbrev pub ItemsGive : ℕ → List (List ℕ) → List Entry → ItemsRead → Type 0
-ItemsGive cap items entries scans.Whole = Joins items entries
-ItemsGive cap items entries (scans.Bad item) = FirstBad cap items item
-ItemsGive cap items entries scans.NoMemory = ⊤
+abbrev pub ItemsRestore : ℕ → List (List ℕ) → List Entry → ItemsRead → Type 0
+ItemsRestore cap items entries scans.Whole = Joins items entries
+ItemsRestore cap items entries (scans.Bad item) = FirstBad cap items item
+ItemsRestore cap items entries scans.NoMemory = ⊤

@@ -9,6 +9,7 @@ use Rattle.nb_endorse.specs.declared.reply.Reply.TheVariants.{Refused}
 use Rattle.nb_msgs.specs.ReplyBytes.{reply_bytes}
 use Rattle.nb_endorse.specs.Refusals.{refusal}
 use Rattle.nb_endorse.specs.Keys.{no_keys}
+use Rattle.nb_vault.specs.declared.vault.TheConstants.{MAX_FAULTS}
 
 -- what is asked, and when
 pub record Request : Type 0 where
@@ -42,22 +43,18 @@ pub record Answered : Type 0 where
   pub mark : Mark
   pub reply : List ℕ
 
--- after so many faults nothing is read, written or decided any more
-abbrev pub most_faults : ℕ
-most_faults = 1000
-
 -- the bytes of a refusal that shows two numbers
 abbrev pub refused : ℕ → ℕ → ℕ → List ℕ
 refused code a b = reply_bytes no_keys (Refused (refusal code a b))
 
 -- what a verdict is taken over: the entries, with or without those that were in doubt
-abbrev pub Settles : State → List Entry → Type 0
-Settles old entries = (entries ≡ old.entries) ⊎ (entries ≡ old.entries ++ old.doubt)
+abbrev pub SettlesInto : State → List Entry → Type 0
+SettlesInto old entries = (entries ≡ old.entries) ⊎ (entries ≡ old.entries ++ old.doubt)
 
 -- the verdict's reply is given, and its entry is recorded
 pub record Decides (rules : List Entry → Request → Ruling) (old : State) (request : Request) (place : ℕ) (reply : List ℕ) (new : State) : Type 0 where
   pub over : List Entry
-  pub settled : Settles old over
+  pub settled : SettlesInto old over
   pub at : place ≡ length over
   pub told : reply ≡ (rules over request).reply
   pub left : new ≡ record { entries = over ++ option_to_list (rules over request).entry; doubt = []; faults = old.faults }
@@ -66,7 +63,7 @@ pub record Decides (rules : List Entry → Request → Ruling) (old : State) (re
 pub record Doubts (rules : List Entry → Request → Ruling) (old : State) (request : Request) (new : State) : Type 0 where
   pub over : List Entry
   pub entry : Entry
-  pub settled : Settles old over
+  pub settled : SettlesInto old over
   pub recorded : (rules over request).entry ≡ Some entry
   pub left : new ≡ record { entries = over; doubt = entry ∷ []; faults = old.faults + 1 }
 
@@ -76,11 +73,11 @@ Unsettled old new = (old.doubt ≢ []) × (new ≡ record { entries = old.entrie
 
 -- from old, the house may answer the request so and go on to new
 abbrev pub Turn : (List Entry → Request → Ruling) → State → Request → Mark → List ℕ → State → Type 0
-Turn rules old request Worn reply new = (old.faults ≡ most_faults) × (reply ≡ refused WORN most_faults 0) × (new ≡ old)
-Turn rules old request (At place) reply new = (old.faults < most_faults) × Decides rules old request place reply new
+Turn rules old request Worn reply new = (old.faults ≡ MAX_FAULTS) × (reply ≡ refused WORN MAX_FAULTS 0) × (new ≡ old)
+Turn rules old request (At place) reply new = (old.faults < MAX_FAULTS) × Decides rules old request place reply new
 Turn rules old request (Fault before after) reply new =
-    (old.faults < most_faults) × (reply ≡ refused DISK_FAULT before after) × (Unsettled old new ⊎ Doubts rules old request new)
-Turn rules old request NoMemory reply new = (old.faults < most_faults) × (reply ≡ refused NO_MEMORY 0 0) × (new ≡ old)
+    (old.faults < MAX_FAULTS) × (reply ≡ refused DISK_FAULT before after) × (Unsettled old new ⊎ Doubts rules old request new)
+Turn rules old request NoMemory reply new = (old.faults < MAX_FAULTS) × (reply ≡ refused NO_MEMORY 0 0) × (new ≡ old)
 
 -- from a first state these requests were answered one turn after another, and the house came to these states
 abbrev pub Run : (List Entry → Request → Ruling) → State → List Answered → List State → Type 0

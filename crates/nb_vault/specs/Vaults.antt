@@ -19,10 +19,11 @@ use Rattle.nb_vault.specs.declared.origin.Origin.{Origin}
 use Rattle.nb_vault.specs.declared.vault.Answer.{Answer}
 use Rattle.nb_vault.specs.declared.vault.Answer.TheVariants as answers
 use Rattle.nb_vault.specs.Chronicle.{Sound, NeverFall}
-use Rattle.nb_vault.specs.Holdings.{StandsFor, StandsForEither, Writes, Tears}
+use Rattle.nb_vault.specs.Holdings.{StandsFor, StandsForEither, WritesEntry, TearsEntry}
 use Rattle.nb_vault.specs.Rules.{house_rules}
 use Rattle.nb_vault.specs.Lines.{entries_of, failures_in, faults_of, open_doubt, next_turn, AreOf}
-use Rattle.nb_vault.specs.Turns.{Request, Ruling, State, Mark, At, Turn, most_faults, refused}
+use Rattle.nb_vault.specs.Turns.{Request, Ruling, State, Mark, At, Turn, refused}
+use Rattle.nb_vault.specs.declared.vault.TheConstants.{MAX_FAULTS}
 use Rattle.nb_vault.specs.Turns as turns
 
 -- what it was opened with, what was done since, whether an entry is in doubt, and the disk
@@ -74,7 +75,7 @@ pub record Keeps {D : Type 0} (tells : DiskTells D) (v : Chronicled D) : Type 0 
   pub sound : Sound v.lines
   pub backed : Backed v.origin.faults (failures_in v.lines) (tells.faults v.disk)
   pub turns : NeverFall v.lines
-  pub few : faults_of v.lines ≤ most_faults
+  pub few : faults_of v.lines ≤ MAX_FAULTS
 
 -- ---- answering
 
@@ -89,7 +90,7 @@ TurnOf old new request out out' (answers.Answered at) =
 TurnOf old new request out out' (answers.DiskFault before after) =
     Turn (rules_of old) (state_of old) request (turns.Fault before after) (refused DISK_FAULT before after) (state_of new) × (out' ≡ out)
 TurnOf old new request out out' (answers.Worn faults) =
-    (faults ≡ most_faults) × Turn (rules_of old) (state_of old) request turns.Worn (refused WORN faults 0) (state_of new) × (out' ≡ out)
+    (faults ≡ MAX_FAULTS) × Turn (rules_of old) (state_of old) request turns.Worn (refused WORN faults 0) (state_of new) × (out' ≡ out)
 TurnOf old new request out out' answers.NoMemory =
     Turn (rules_of old) (state_of old) request turns.NoMemory (refused NO_MEMORY 0 0) (state_of new) × (out' ≡ out)
 
@@ -109,33 +110,33 @@ KeptOf old None = Unit {0}
 KeptOf old (Some entry) = doubt_in old ≡ entry ∷ []
 
 -- what was in doubt is settled as the disk had it: what its content stood for is what the verdict is taken over
-pub record Settled {D : Type 0} (tells : DiskTells D) (old : Chronicled D) (kept : Option Entry) (over : List Entry) : Type 0 where
+pub record SettledOver {D : Type 0} (tells : DiskTells D) (old : Chronicled D) (kept : Option Entry) (over : List Entry) : Type 0 where
   pub of_doubt : KeptOf old kept
   pub over_is : over ≡ entries_in old ++ option_to_list kept
   pub told : IfSome (tells.content old.disk) (StandsFor old.origin.head old.origin.cap over)
 
 -- a turn that decided over so many entries: at most one line that adopts, and then that of the verdict's entry, which alone is written
-pub record Decided {D : Type 0} (tells : DiskTells D) (old new : Chronicled D) (by turn at : ℕ) (request : Request) (added : List Line) : Type 0 where
+pub record DecidedLines {D : Type 0} (tells : DiskTells D) (old new : Chronicled D) (by turn at : ℕ) (request : Request) (added : List Line) : Type 0 where
   pub kept : Option Entry
   pub over : List Entry
-  pub settled : Settled tells old kept over
+  pub settled : SettledOver tells old kept over
   pub place : at ≡ length over
   pub lines : added ≡ adopts by turn kept ++ commits by turn (rules_of old over request).entry
-  pub written : Writes old.origin.head old.origin.cap over (rules_of old over request).entry (tells.content old.disk) (tells.content new.disk)
+  pub written : WritesEntry old.origin.head old.origin.cap over (rules_of old over request).entry (tells.content old.disk) (tells.content new.disk)
 
 -- a turn whose entry could not be made durable: at most one line that adopts, the doubt, and the fault; the entry is in doubt then
-pub record Doubted {D : Type 0} (tells : DiskTells D) (old new : Chronicled D) (by turn before after : ℕ) (request : Request) (added : List Line) : Type 0 where
+pub record DoubtedLines {D : Type 0} (tells : DiskTells D) (old new : Chronicled D) (by turn before after : ℕ) (request : Request) (added : List Line) : Type 0 where
   pub kept : Option Entry
   pub over : List Entry
   pub entry : Entry
-  pub settled : Settled tells old kept over
+  pub settled : SettledOver tells old kept over
   pub verdict : (rules_of old over request).entry ≡ Some entry
   pub lines : added ≡ adopts by turn kept ++ Doubt by turn entry ∷ Fault by turn before after ∷ []
-  pub written : Tears old.origin.head old.origin.cap over entry (tells.content old.disk) (tells.content new.disk)
+  pub written : TearsEntry old.origin.head old.origin.cap over entry (tells.content old.disk) (tells.content new.disk)
   pub doubt : doubt_in new ≡ entry ∷ []
 
 -- a turn that could not settle what was in doubt: the fault alone, and nothing is written; the same is in doubt then
-pub record Unsettled {D : Type 0} (tells : DiskTells D) (old new : Chronicled D) (by turn before after : ℕ) (added : List Line) : Type 0 where
+pub record UnsettledLines {D : Type 0} (tells : DiskTells D) (old new : Chronicled D) (by turn before after : ℕ) (added : List Line) : Type 0 where
   pub some : doubt_in old ≢ []
   pub lines : added ≡ Fault by turn before after ∷ []
   pub written : tells.content new.disk ≡ tells.content old.disk
@@ -144,9 +145,9 @@ pub record Unsettled {D : Type 0} (tells : DiskTells D) (old new : Chronicled D)
 
 -- the lines of one answer
 abbrev pub LinesOf : {D : Type 0} → DiskTells D → Chronicled D → Chronicled D → ℕ → ℕ → Request → List Line → Answer → Type 0
-LinesOf tells old new by turn request added (answers.Answered at) = Decided tells old new by turn at request added
+LinesOf tells old new by turn request added (answers.Answered at) = DecidedLines tells old new by turn at request added
 LinesOf tells old new by turn request added (answers.DiskFault before after) =
-    Unsettled tells old new by turn before after added ⊎ Doubted tells old new by turn before after request added
+    UnsettledLines tells old new by turn before after added ⊎ DoubtedLines tells old new by turn before after request added
 LinesOf tells old new by turn request added (answers.Worn faults) = added ≡ []
 LinesOf tells old new by turn request added answers.NoMemory = added ≡ []
 

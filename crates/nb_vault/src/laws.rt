@@ -1,7 +1,8 @@
-//! What holds of every image of a disk. Each function here does nothing: its contract is the law.
+//! What holds of every image of a disk, and the limit of a vault. Each function here does nothing: its contract is the law.
 
 ghost use Rattle.nb_vault.specs.Holdings.{OneList};
 ghost use Rattle.nb_vault.specs.Opens.{WholeIsGood};
+ghost use Rattle.nb_vault.specs.Numbers.{FaultLimitIs};
 
 /// An image stands for one list of entries, with one head and one cap.
 pub fn one_list()
@@ -11,4 +12,9 @@ pub fn one_list()
 /// An image that stands for a list begins with the magic, is not damaged and has no bad entry.
 pub fn whole_is_good()
     ensures { WholeIsGood }
+{}
+
+/// The limit of a vault in numbers.
+pub fn limit()
+    ensures { FaultLimitIs }
 {}

@@ -8,9 +8,9 @@ ghost use Rattle.nb_units.specs.Room.{spare_of};
 ghost use Rattle.nb_vault.specs.Lines.{next_turn};
 ghost use Rattle.nb_vault.specs.declared.parts.TheConstants.{TURN_ENTRIES, TURN_LINES};
 ghost use Rattle.nb_vault.specs.Parts.{IsVault, SameButRoom, MayBeTurn, SameOrigin, ReadyGives, CommitGives, CommitWrites, seen_as};
-ghost use Rattle.nb_vault.specs.Records.{disk_of, EitherOf, WithOrWithout};
+ghost use Rattle.nb_vault.specs.Records.{disk_under, EitherOf, WithOrWithout};
 ghost use Rattle.std.specs.Option.{option_to_list};
-ghost use Rattle.nb_vault.specs.Turns.{most_faults};
+ghost use Rattle.nb_vault.specs.declared.vault.TheConstants.{MAX_FAULTS};
 ghost use Rattle.nb_vault.specs.Vaults.{TurnOf, Adds, DurableWhere, SameWhere, FaultWithin, StandsForState, request_of, state_of};
 
 use crate::line::Line;
@@ -57,13 +57,13 @@ impl<D: Disk> Parts<D> {
         ensures turn { TurnOf (seen_as self.old) (seen_as self.new) (request_of kind body.now moment) out.old.items out.new.items result }
         ensures lines { Adds D.tells (seen_as self.old) (seen_as self.new) by (request_of kind body.now moment) result }
         ensures origin { SameOrigin self.old self.new }
-        ensures any_moment { LeavesOnly D.tells (disk_of self.old.records) (disk_of self.new.records)
+        ensures any_moment { LeavesOnly D.tells (disk_under self.old.records) (disk_under self.new.records)
             (λ image. StandsForState (seen_as self.old) image ⊎ StandsForState (seen_as self.new) image) }
         ensures durable { DurableWhere D.tells (seen_as self.new) result }
-        ensures quiet { state_of (seen_as self.new) ≡ state_of (seen_as self.old) → D.tells.content (disk_of self.new.records) ≡ D.tells.content (disk_of self.old.records) }
+        ensures quiet { state_of (seen_as self.new) ≡ state_of (seen_as self.old) → D.tells.content (disk_under self.new.records) ≡ D.tells.content (disk_under self.old.records) }
         ensures same { SameWhere (seen_as self.old) (seen_as self.new) result }
-        ensures fault { FaultWithin (D.tells.faults (disk_of self.old.records)) (D.tells.faults (disk_of self.new.records)) result }
-        ensures count { D.tells.faults (disk_of self.old.records) ≤ D.tells.faults (disk_of self.new.records) }
+        ensures fault { FaultWithin (D.tells.faults (disk_under self.old.records)) (D.tells.faults (disk_under self.new.records)) result }
+        ensures count { D.tells.faults (disk_under self.old.records) ≤ D.tells.faults (disk_under self.new.records) }
         ensures room { vec_capacity out.new ≡ vec_capacity out.old }
     {
         if self.faults >= MAX_FAULTS {
@@ -91,7 +91,7 @@ impl<D: Disk> Parts<D> {
     fn ready(&mut self, by: u64, turn: u64) -> Result<(), Counts>
         requires vault { IsVault D.tells self.old }
         requires turn { MayBeTurn turn self.old.lines.items }
-        requires few { self.old.faults < most_faults }
+        requires few { self.old.faults < MAX_FAULTS }
         requires entries { 1 ≤ self.old.records.book.spare }
         requires lines { vec_len self.old.lines + 1 ≤ vec_capacity self.old.lines }
         ensures vault { IsVault D.tells self.new }
@@ -100,9 +100,9 @@ impl<D: Disk> Parts<D> {
         ensures entries { self.old.records.book.spare ≤ self.new.records.book.spare + 1 }
         ensures lines { OnOk result (vec_len self.new.lines + vec_capacity self.old.lines ≤ vec_capacity self.new.lines + vec_len self.old.lines + 1) }
         ensures turn { MayBeTurn turn self.new.lines.items }
-        ensures content { D.tells.content (disk_of self.new.records) ≡ D.tells.content (disk_of self.old.records) }
-        ensures any_moment { LeavesOnly D.tells (disk_of self.old.records) (disk_of self.new.records) (EitherOf self.old.records) }
-        ensures count { D.tells.faults (disk_of self.old.records) ≤ D.tells.faults (disk_of self.new.records) }
+        ensures content { D.tells.content (disk_under self.new.records) ≡ D.tells.content (disk_under self.old.records) }
+        ensures any_moment { LeavesOnly D.tells (disk_under self.old.records) (disk_under self.new.records) (EitherOf self.old.records) }
+        ensures count { D.tells.faults (disk_under self.old.records) ≤ D.tells.faults (disk_under self.new.records) }
     {
         match self.records.settle() {
             Ok(None) => Ok(()),
@@ -122,17 +122,17 @@ impl<D: Disk> Parts<D> {
         requires vault { IsVault D.tells self.old }
         requires settled { self.old.records.doubt ≡ None }
         requires turn { MayBeTurn turn self.old.lines.items }
-        requires few { self.old.faults < most_faults }
+        requires few { self.old.faults < MAX_FAULTS }
         requires legal { IfSome entry.now (LegalAfter self.old.records.book.entries) }
         requires within { IsSome entry.now → length self.old.records.book.entries < self.old.records.book.cap }
         requires entries { 1 ≤ self.old.records.book.spare }
         requires lines { vec_len self.old.lines + 2 ≤ vec_capacity self.old.lines }
         ensures vault { IsVault D.tells self.new }
         ensures gives { CommitGives D.tells self.old self.new by turn entry.now result }
-        ensures writes { CommitWrites self.old entry.now (D.tells.content (disk_of self.old.records)) (D.tells.content (disk_of self.new.records)) result }
+        ensures writes { CommitWrites self.old entry.now (D.tells.content (disk_under self.old.records)) (D.tells.content (disk_under self.new.records)) result }
         ensures origin { SameOrigin self.old self.new }
-        ensures any_moment { LeavesOnly D.tells (disk_of self.old.records) (disk_of self.new.records) (WithOrWithout self.old.records (option_to_list entry.now)) }
-        ensures count { D.tells.faults (disk_of self.old.records) ≤ D.tells.faults (disk_of self.new.records) }
+        ensures any_moment { LeavesOnly D.tells (disk_under self.old.records) (disk_under self.new.records) (WithOrWithout self.old.records (option_to_list entry.now)) }
+        ensures count { D.tells.faults (disk_under self.old.records) ≤ D.tells.faults (disk_under self.new.records) }
     {
         let Some(entry) = *entry else {
             return Ok(());
@@ -154,7 +154,7 @@ impl<D: Disk> Parts<D> {
 impl<D> Parts<D> {
     // The disk, at the end.
     pub(crate) fn into_disk(self) -> D
-        ensures { result ≡ disk_of self.records }
+        ensures { result ≡ disk_under self.records }
     {
         let Parts {
             records,
@@ -187,7 +187,7 @@ impl<D> Parts<D> {
     // One more fault.
     fn fail(&mut self, by: u64, turn: u64, counts: Counts)
         requires lines { vec_len self.old.lines + 1 ≤ vec_capacity self.old.lines }
-        requires few { self.old.faults < most_faults }
+        requires few { self.old.faults < MAX_FAULTS }
         ensures lines { self.new.lines.items ≡ self.old.lines.items ++ Line.Fault by turn counts.before counts.after ∷ [] }
         ensures faults { self.new.faults ≡ self.old.faults + 1 }
         ensures rest { (self.new.records ≡ self.old.records) × (self.new.opening ≡ self.old.opening) × (self.new.count ≡ self.old.count) × (self.new.head ≡ self.old.head) }

@@ -2,7 +2,7 @@
 
 ghost use Rattle.std.specs.Prelude.{◌≡◌, ◌≤◌, ◌<◌, ◌+◌, [], ◌∷◌, length, None};
 ghost use Rattle.nb_book.specs.Legal.{LegalAfter};
-ghost use Rattle.nb_vault.specs.Records.{Rests, SettleGives, AddGives, AddWrites, SameTerms, disk_of, EitherOf, WithOrWithout};
+ghost use Rattle.nb_vault.specs.Records.{Rests, RecordsSettle, AddGives, AddWrites, SameTerms, disk_under, EitherOf, WithOrWithout};
 ghost use Rattle.nb_journal.specs.Time.{LeavesOnly};
 
 use nb_book::{Book, Entry, MAX_ENTRY, MAX_ITEM_ENTRIES};
@@ -34,12 +34,12 @@ impl<D: Disk> Records<D> {
         requires rests { Rests D.tells self.old }
         requires spare { 1 ≤ self.old.book.spare }
         ensures rests { Rests D.tells self.new }
-        ensures gives { SettleGives D.tells self.old self.new result }
+        ensures gives { RecordsSettle D.tells self.old self.new result }
         ensures terms { SameTerms self.old self.new }
         ensures spare { self.old.book.spare ≤ self.new.book.spare + 1 }
-        ensures content { D.tells.content (disk_of self.new) ≡ D.tells.content (disk_of self.old) }
-        ensures any_moment { LeavesOnly D.tells (disk_of self.old) (disk_of self.new) (EitherOf self.old) }
-        ensures count { D.tells.faults (disk_of self.old) ≤ D.tells.faults (disk_of self.new) }
+        ensures content { D.tells.content (disk_under self.new) ≡ D.tells.content (disk_under self.old) }
+        ensures any_moment { LeavesOnly D.tells (disk_under self.old) (disk_under self.new) (EitherOf self.old) }
+        ensures count { D.tells.faults (disk_under self.old) ≤ D.tells.faults (disk_under self.new) }
     {
         match self.journal.settle() {
             Err(StillStale { before, after }) => Err(Counts { before, after }),
@@ -67,10 +67,10 @@ impl<D: Disk> Records<D> {
         requires spare { 1 ≤ self.old.book.spare }
         ensures rests { Rests D.tells self.new }
         ensures gives { AddGives D.tells self.old self.new entry.now result }
-        ensures writes { AddWrites self.old entry.now (D.tells.content (disk_of self.old)) (D.tells.content (disk_of self.new)) result }
+        ensures writes { AddWrites self.old entry.now (D.tells.content (disk_under self.old)) (D.tells.content (disk_under self.new)) result }
         ensures terms { SameTerms self.old self.new }
-        ensures any_moment { LeavesOnly D.tells (disk_of self.old) (disk_of self.new) (WithOrWithout self.old (entry.now ∷ [])) }
-        ensures count { D.tells.faults (disk_of self.old) ≤ D.tells.faults (disk_of self.new) }
+        ensures any_moment { LeavesOnly D.tells (disk_under self.old) (disk_under self.new) (WithOrWithout self.old (entry.now ∷ [])) }
+        ensures count { D.tells.faults (disk_under self.old) ≤ D.tells.faults (disk_under self.new) }
     {
         let item = entry.spelled();
         match self.journal.append(item.as_slice()) {

@@ -2,7 +2,7 @@
 
 ghost use Rattle.std.specs.Prelude.{◌≡◌, ◌≤◌, [], length};
 ghost use Rattle.nb_book.specs.declared.limits.TheConstants.{MAX_CAP};
-ghost use Rattle.nb_vault.specs.Restoring.{ItemGives, ItemsGive, IsList};
+ghost use Rattle.nb_vault.specs.Restoring.{ItemGives, ItemsRestore, IsList};
 
 use nb_book::{Book, MAX_ITEM_ENTRIES, read_entry};
 use nb_units::{Blob, Cut};
@@ -27,7 +27,7 @@ pub(crate) enum ItemsRead {
 pub(crate) fn restore(book: &mut Book, items: &[Blob]) -> ItemsRead
     requires empty { book.old.entries ≡ [] }
     requires few { length items.now ≤ MAX_CAP }
-    ensures gives { ItemsGive book.old.cap items.now book.new.entries result }
+    ensures gives { ItemsRestore book.old.cap items.now book.new.entries result }
     ensures cap { book.new.cap ≡ book.old.cap }
 {
     for (i, item) in items.iter().enumerate() {

@@ -1,6 +1,6 @@
 ghost use Rattle.std.specs.Prelude.{◌≤◌};
 ghost use Rattle.nb_journal.specs.Time.{Unwritten};
-ghost use Rattle.nb_vault.specs.Opens.{OpenGives, WholeOpens, disk_in, IsOpened, RestoreGives};
+ghost use Rattle.nb_vault.specs.Opens.{VaultOpenGives, WholeOpens, disk_in, IsOpened, RestoreGives};
 
 use crate::parts::Parts;
 use crate::records::{ROOM, Records};
@@ -32,7 +32,7 @@ pub enum VaultFault {
 impl<D: Disk> Vault<D> {
     /// Opens the vault on a disk: all that was written is made to stay, and its entries are read. Nothing is written.
     pub fn open(alloc: Global, disk: D) -> Result<Vault<D>, (VaultFault, D)>
-        ensures gives { OpenGives D.tells disk result }
+        ensures gives { VaultOpenGives D.tells disk result }
         ensures whole { WholeOpens (D.tells.content disk) result }
         ensures nothing { Unwritten D.tells disk (disk_in result) }
         ensures count { D.tells.faults disk ≤ D.tells.faults (disk_in result) }

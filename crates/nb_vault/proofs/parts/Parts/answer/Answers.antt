@@ -10,8 +10,9 @@ use Rattle.nb_msgs.specs.ReplyBytes.{reply_bytes}
 use Rattle.nb_vault.specs.declared.vault.Answer.TheVariants.{Answered, DiskFault}
 use Rattle.nb_vault.specs.Lines.{faults_of}
 use Rattle.nb_vault.specs.Parts.{MayBeTurn, seen_as}
-use Rattle.nb_vault.specs.Records.{disk_of}
-use Rattle.nb_vault.specs.Turns.{Decides, Doubts, Unsettled, most_faults, refused}
+use Rattle.nb_vault.specs.Records.{disk_under}
+use Rattle.nb_vault.specs.Turns.{Decides, Doubts, Unsettled, refused}
+use Rattle.nb_vault.specs.declared.vault.TheConstants.{MAX_FAULTS}
 use Rattle.nb_vault.specs.Vaults.{StandsForState, adopts, commits, request_of, rules_of, state_of}
 use Rattle.nb_vault.proofs.Lines.{next_may_be}
 use Rattle.nb_vault.proofs.Seeing.{room_vault, room_seen}
@@ -48,7 +49,7 @@ returns-in-Err-clause-any_moment g c =
     let same = c.reserve.ensures.same in
     let vault = room_vault g.D.Disk.tells c.args.self.now start same c.requires.vault in
     from_start g.D.Disk.tells c.args.self.now start new same
-    (leaves_unsettled g.D.Disk.tells start (disk_of new.records) (StandsForState (seen_as new)) vault c.ready.ensures.any_moment)
+    (leaves_unsettled g.D.Disk.tells start (disk_under new.records) (StandsForState (seen_as new)) vault c.ready.ensures.any_moment)
 
 pub returns-in-Err-clause-lines : goal.returns-in-Err-clause-lines
 returns-in-Err-clause-lines g c =
@@ -77,7 +78,7 @@ returns-in-Err-commit-clause-turn g c =
     let is = verdict_is tells start mid vault c.ready.ensures.origin c.args.kind c.args.moment c.args.body.now c.decide-decision.result c.decide-decision.ensures.verdict in
     let turn = doubts tells start mid vault c.ready.ensures.vault c.ready.ensures.origin c.args.by c.next_turn-turn.result ready.0 ready.4 ready.3 ready.1 c.ready.ensures.content new c.commit.ensures.vault request commit.0
     (sym commit.1 ∙ ap (λ (d : Decision). d.entry) is) commit.2 commit.3 (commit.5 ∙ ap (λ n. n + 1) ready.5) in (
-      subst (λ v. (faults_of v.lines < most_faults) × (refused DISK_FAULT counts.before counts.after ≡ refused DISK_FAULT counts.before counts.after) × (Unsettled (state_of v) (state_of (seen_as new)) ⊎ Doubts (rules_of v) (state_of v) request (state_of (seen_as new)))) (room_seen tells c.args.self.now start c.reserve.ensures.same)
+      subst (λ v. (faults_of v.lines < MAX_FAULTS) × (refused DISK_FAULT counts.before counts.after ≡ refused DISK_FAULT counts.before counts.after) × (Unsettled (state_of v) (state_of (seen_as new)) ⊎ Doubts (rules_of v) (state_of v) request (state_of (seen_as new)))) (room_seen tells c.args.self.now start c.reserve.ensures.same)
           (omega (arith, c.if-self-ge-MAX_FAULTS.false, c.reserve.ensures.same.faults, vault.faults_are), refl, inr turn),
       refl,
     )
@@ -100,7 +101,7 @@ returns-in-Err-commit-clause-lines g c =
     (commit.4 ∙ ap (λ (xs : List Line). xs ++ Doubt c.args.by turn commit.0 ∷ Fault c.args.by turn counts.before counts.after ∷ []) ready.2 ∙ append_assoc start.lines.items (adopts c.args.by turn ready.0) (Doubt c.args.by turn commit.0 ∷ Fault c.args.by turn counts.before counts.after ∷ []))
     (adopts_are c.args.by turn ready.0 (Doubt c.args.by turn commit.0 ∷ Fault c.args.by turn counts.before counts.after ∷ []) ((refl, refl), ((refl, refl), tt)))
     (inr (doubted_lines tells start mid vault c.ready.ensures.vault c.ready.ensures.origin c.args.by turn ready.0 ready.4 ready.3 ready.1 c.ready.ensures.content new c.commit.ensures.vault request commit.0 counts.before counts.after added (sym commit.1 ∙ ap (λ (d : Decision). d.entry) is) commit.3 refl
-    (tears_err tells mid c.decide-decision.result.entry commit.0 counts (tells.content (disk_of mid.records)) (tells.content (disk_of new.records)) commit.1 c.in-Err-commit.ensures.writes)))
+    (tears_err tells mid c.decide-decision.result.entry commit.0 counts (tells.content (disk_under mid.records)) (tells.content (disk_under new.records)) commit.1 c.in-Err-commit.ensures.writes)))
 
 pub returns-in-Err-commit-clause-any_moment : goal.returns-in-Err-commit-clause-any_moment
 returns-in-Err-commit-clause-any_moment g c =
@@ -132,7 +133,7 @@ returns-clause-turn g c =
     let is = verdict_is tells start mid vault c.ready.ensures.origin c.args.kind c.args.moment c.args.body.now decision c.decide-decision.ensures.verdict in
     let turn = decides tells start mid vault c.ready.ensures.vault c.ready.ensures.origin c.args.by c.next_turn-turn.result ready.0 ready.4 ready.3 ready.1 c.ready.ensures.content new c.commit.ensures.vault request c.from-at.result reply decision.entry
     (c.from-at.ensures ∙ c.len.ensures.len) (ap (λ (d : Decision). d.entry) is) (ap (λ (d : Decision). reply_bytes d.keys d.reply) is) commit.0 commit.1 (commit.3 ∙ ready.5) in
-    subst (λ v. (x : List ℕ) × ((faults_of v.lines < most_faults) × Decides (rules_of v) (state_of v) request c.from-at.result x (state_of (seen_as new))) × (c.write_reply.new.out.items ≡ c.args.out.now.items ++ x)) (room_seen tells c.args.self.now start c.reserve.ensures.same)
+    subst (λ v. (x : List ℕ) × ((faults_of v.lines < MAX_FAULTS) × Decides (rules_of v) (state_of v) request c.from-at.result x (state_of (seen_as new))) × (c.write_reply.new.out.items ≡ c.args.out.now.items ++ x)) (room_seen tells c.args.self.now start c.reserve.ensures.same)
     (reply, (omega (arith, c.if-self-ge-MAX_FAULTS.false, c.reserve.ensures.same.faults, vault.faults_are), turn), c.write_reply.ensures.bytes)
 
 pub returns-clause-lines : goal.returns-clause-lines

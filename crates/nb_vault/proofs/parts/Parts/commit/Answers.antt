@@ -1,6 +1,6 @@
 use Rattle.std.proofs.Common.{ℕ, List, Option, Err, ◌∷◌, [], ◌++◌, refl, sym, ap, subst, ◌∙◌, arith}
 use Rattle.nb_book.specs.declared.entry.Entry.{Entry}
-use Rattle.nb_vault.specs.Holdings.{Tears}
+use Rattle.nb_vault.specs.Holdings.{TearsEntry}
 use Rattle.nb_vault.specs.Parts.{CommitWrites}
 use Rattle.nb_vault.specs.declared.records.Records.{Records}
 use Rattle.nb_vault.specs.declared.line.Line.TheVariants.{Fault}
@@ -30,5 +30,5 @@ returns-in-Err-clause-writes g c =
     let old = c.args.self.now in
     let new = g.D.Disk.tells.content c.fail.new.self.records.journal.disk in
     subst (λ (entry : Option Entry). CommitWrites old entry (g.D.Disk.tells.content old.records.journal.disk) new (Err c.in-Err.counts)) (sym c.in-Some.is)
-    (subst (λ (t : Option (List ℕ)). Tears old.records.head old.records.book.cap old.records.book.entries c.in-Some.entry (g.D.Disk.tells.content old.records.journal.disk) t) (sym (ap (λ (r : Records _). g.D.Disk.tells.content r.journal.disk) c.fail.ensures.rest.0))
+    (subst (λ (t : Option (List ℕ)). TearsEntry old.records.head old.records.book.cap old.records.book.entries c.in-Some.entry (g.D.Disk.tells.content old.records.journal.disk) t) (sym (ap (λ (r : Records _). g.D.Disk.tells.content r.journal.disk) c.fail.ensures.rest.0))
     c.in-Err.ensures.writes)

@@ -1,19 +1,19 @@
 use Rattle.std.proofs.Common.{Option, Ok, refl, subst, ap, ◌∙◌, arith}
 use Rattle.nb_book.specs.declared.entry.Entry.{Entry}
-use Rattle.nb_vault.specs.Records.{SettleGives}
+use Rattle.nb_vault.specs.Records.{RecordsSettle}
 use Rattle.nb_vault.specs.declared.records.Records.{Records}
 use Rattle.nb_vault.proofs.Vaulting.{settle_done, adopt_done, fault_done, fault_origin, fault_rests, fault_disk}
 use Rattle.nb_vault.proofs.parts.Parts.ready.Goals as goal
 
 pub returns-in-Ok-None-clause-vault : goal.returns-in-Ok-None-clause-vault
 returns-in-Ok-None-clause-vault g c =
-    let gives = subst (λ (kept : Option Entry). SettleGives g.D.Disk.tells c.args.self.now.records c.settle.new.self (Ok kept)) c.in-Ok-None.field-0-is c.in-Ok-None.ensures.gives in
+    let gives = subst (λ (kept : Option Entry). RecordsSettle g.D.Disk.tells c.args.self.now.records c.settle.new.self (Ok kept)) c.in-Ok-None.field-0-is c.in-Ok-None.ensures.gives in
     settle_done g.D.Disk.tells c.args.self.now _ c.args.by c.args.turn c.requires.vault c.requires.turn
     (record { terms = c.settle.ensures.terms; opening = refl; count = refl; head = refl }) c.settle.ensures.rests c.settle.ensures.count gives.1 gives.0 refl refl
 
 pub returns-in-Ok-Some-clause-vault : goal.returns-in-Ok-Some-clause-vault
 returns-in-Ok-Some-clause-vault g c =
-    let gives = subst (λ (kept : Option Entry). SettleGives g.D.Disk.tells c.args.self.now.records c.settle.new.self (Ok kept)) c.in-Ok-Some.field-0-is c.in-Ok-Some.ensures.gives in
+    let gives = subst (λ (kept : Option Entry). RecordsSettle g.D.Disk.tells c.args.self.now.records c.settle.new.self (Ok kept)) c.in-Ok-Some.field-0-is c.in-Ok-Some.ensures.gives in
     adopt_done g.D.Disk.tells c.args.self.now _ c.args.by c.args.turn c.requires.vault c.requires.turn
     (record { terms = c.settle.ensures.terms; opening = refl; count = refl; head = refl }) c.settle.ensures.rests c.in-Ok-Some.entry gives.1 c.settle.ensures.count gives.2 gives.0 c.push_reserved.ensures.items refl
 
