@@ -1,3 +1,4 @@
 pub mod Sending
 pub mod Serving
+pub mod Staying
 pub mod Stepping

@@ -22,22 +22,24 @@ use Rattle.nb_vault.specs.declared.origin.Origin.{Origin}
 use Rattle.nb_vault.specs.Holdings.{StandsForEither}
 use Rattle.nb_vault.specs.Rules.{house_rules}
 use Rattle.nb_vault.specs.Turns.{Request, Ruling, State, Mark, At, Fault, Worn, NoMemory as Starved, Answered, Turn, Run, last_state, IsStateOf, replies, failure_of, failures_of}
-use Rattle.nb_vault.specs.Vaults.{Chronicled, state_of, rules_of, entries_in, doubt_in, StandsForState as StandsForVault}
+use Rattle.nb_vault.specs.Vaults.{Chronicled, Keeps, state_of, rules_of, entries_in, doubt_in, StandsForState as StandsForVault}
 use Rattle.nb_escrow.specs.Head.{head_of}
 use Rattle.nb_batch.specs.declared.batch.TheConstants.{MOST_FRAMES}
 use Rattle.nb_batch.specs.declared.batch.BatchEnd.{BatchEnd}
 use Rattle.nb_batch.specs.declared.batch.BatchEnd.TheVariants.{Clean, ReadFault, WriteFault, BadInput, NoMemory, FrameLimit}
 use Rattle.nb_batch.specs.declared.batch.Step.TheVariants as step
 use Rattle.nb_batch.specs.Send.{SentPart}
-use Rattle.nb_batch.specs.Batch.{frame_of, moment_of, Outside, Gave, Stepped, Stopped, StepIs, EndsAs, CountsAs, Wrote, Served, StandsInRun}
+use Rattle.nb_batch.specs.Batch.{frame_of, moment_of, Outside, Gave, Stepped, Stopped, StepIs, EndsAs, CountsAs, Wrote, Served, StandsInRun, Holds, GoesThrough, last_disk}
 
 -- these requests were answered, and the house came to these states
-pub record Went {D : Type 0} (tells : DiskTells D) (old new : Chronicled D) (before after : Outside) (answered : List Answered) (states : List State) : Type 0 where
+pub record Went {D : Type 0} (tells : DiskTells D) (old new : Chronicled D) (before after : Outside) (answered : List Answered) (states : List State) (disks : List D) : Type 0 where
   pub turns : Run (rules_of old) (state_of old) answered states
   pub last : state_of new ≡ last_state (state_of old) states
   pub origin : new.origin ≡ old.origin
   pub backed : Backed (tells.faults old.disk) (failures_of answered) (tells.faults new.disk)
   pub stops : LeavesOnly tells old.disk new.disk (StandsInRun old.origin.head old.origin.cap (state_of old) states)
+  pub through : GoesThrough tells old.origin.head old.origin.cap (state_of old) old.disk states disks
+  pub last_is : new.disk ≡ last_disk old.disk disks
   pub quiet : AllByRecursion (λ (state : State). state ≡ state_of old) states → tells.content new.disk ≡ tells.content old.disk
   pub lawful : AllByRecursion IsFrame (map frame_of answered)
   pub took : Consumes before.left after.left (flat_map frame (map frame_of answered))
@@ -47,7 +49,8 @@ pub record Went {D : Type 0} (tells : DiskTells D) (old new : Chronicled D) (bef
 pub record Ran {D : Type 0} (tells : DiskTells D) (old new : Chronicled D) (before after : Outside) (count : ℕ) : Type 0 where
   pub answered : List Answered
   pub states : List State
-  pub went : Went tells old new before after answered states
+  pub disks : List D
+  pub went : Went tells old new before after answered states disks
   pub wrote : Appends before.sent after.sent (replies answered)
   pub counted : length answered ≡ count
 
@@ -130,42 +133,66 @@ stands_now old mid new states image same_mid same_new last is = ⊎_elim
     })
     is
 
+-- one disk more
+through_more : {D : Type 0} (tells : DiskTells D) (head : List ℕ) (cap : ℕ) (first next : State) (disk behind : D) (states : List State) (disks : List D) → GoesThrough tells head cap first disk states disks
+    → LeavesOnly tells (last_disk disk disks) behind (λ image. StandsForEither head cap (last_state first states).entries (last_state first states).doubt image ⊎ StandsForEither head cap next.entries next.doubt image)
+    → Holds tells head cap next behind → GoesThrough tells head cap first disk (states ++ next ∷ []) (disks ++ behind ∷ [])
+through_more tells head cap first next disk behind [] [] is leaves holds = (is, leaves, holds)
+through_more tells head cap first next disk behind (s ∷ states) (d ∷ disks) is leaves holds = (is.0, is.1, through_more tells head cap s next d behind states disks is.2 leaves holds)
+through_more tells head cap first next disk behind [] (d ∷ disks) is leaves holds = absurd is
+through_more tells head cap first next disk behind (s ∷ states) [] is leaves holds = absurd is
+
+last_of_more : {D : Type 0} (first next : D) (disks : List D) → next ≡ last_disk first (disks ++ next ∷ [])
+last_of_more first next [] = refl
+last_of_more first next (d ∷ disks) = last_of_more d next disks
+
 -- ---- a batch, so far
 
 module _ {D : Type 0} (tells : DiskTells D) where
-  went_none : (house : Chronicled D) (start : Outside) → LeavesOnly tells house.disk house.disk (StandsForVault house) → Went tells house house start start [] []
-  went_none house start images = record {
+  went_none : (house : Chronicled D) (start : Outside) → LeavesOnly tells house.disk house.disk (StandsForVault house) → Keeps tells house → Went tells house house start start [] [] []
+  went_none house start images keeps = record {
     turns = tt;
     last = refl;
     origin = refl;
     backed = omega arith;
     stops = leaves_more tells house.disk house.disk (StandsForVault house) (StandsInRun house.origin.head house.origin.cap (state_of house) [])
         (λ c is. record { state = state_of house; is = (0, omega arith, refl); stands = is }) images;
+    through = keeps.images;
+    last_is = refl;
     quiet = λ all. refl;
     lawful = tt;
     took = Consumes-nil start.left;
     asked = gave_none start.moments;
   }
 
-  went_more : (old mid new : Chronicled D) (before between after : Outside) (answered : List Answered) (states : List State) → Went tells old mid before between answered states
+  went_more : (old mid new : Chronicled D) (before between after : Outside) (answered : List Answered) (states : List State) (disks : List D) → Went tells old mid before between answered states disks
       → (more : Stepped tells mid new between after) → new.origin ≡ mid.origin → LeavesOnly tells mid.disk new.disk (λ (image : List ℕ). StandsForVault mid image ⊎ StandsForVault new image) → (state_of new ≡ state_of mid → tells.content new.disk ≡ tells.content mid.disk)
-      → Went tells old new before after (answered ++ more.one ∷ []) (states ++ state_of new ∷ [])
-  went_more old mid new before between after answered states went more origin leaves quiet =
+      → Keeps tells new → Went tells old new before after (answered ++ more.one ∷ []) (states ++ state_of new ∷ []) (disks ++ new.disk ∷ [])
+  went_more old mid new before between after answered states disks went more origin leaves quiet keeps =
       let P : List ℕ → Type 0 = λ bytes. Consumes before.left after.left bytes in
       let Q : List ℕ → Type 0 = λ moments. Gave before.moments after.moments moments in
       let L : List Frame → Type 0 = λ fs. AllByRecursion IsFrame fs in
       let T : (List Entry → Request → Ruling) → Type 0 = λ rules. Turn rules (state_of mid) more.one.request more.one.mark more.one.reply (state_of new) in
       let S : State → Type 0 = λ state. Turn (rules_of old) state more.one.request more.one.mark more.one.reply (state_of new) in
+      let same : new.origin ≡ old.origin = origin ∙ went.origin in
+      let Either : State → List ℕ → Type 0 = λ state image. StandsForEither old.origin.head old.origin.cap state.entries state.doubt image ⊎ StandsForEither old.origin.head old.origin.cap (entries_in new) (doubt_in new) image in
       let same_rules : rules_of mid ≡ rules_of old = ap (λ (o : Origin). house_rules (head_of o.head) o.cap) went.origin in
       record {
         turns = run_more (rules_of old) (state_of old) (state_of new) answered states more.one went.turns (subst S went.last (subst T same_rules more.turn));
         last = last_more (state_of old) (state_of new) states;
-        origin = origin ∙ went.origin;
+        origin = same;
         backed = backed_more answered more.one (tells.faults old.disk) (tells.faults mid.disk) (tells.faults new.disk) went.backed more.backed;
         stops = leaves_then tells old.disk mid.disk new.disk (StandsInRun old.origin.head old.origin.cap (state_of old) states) (λ (image : List ℕ). StandsForVault mid image ⊎ StandsForVault new image)
             (StandsInRun old.origin.head old.origin.cap (state_of old) (states ++ state_of new ∷ [])) went.stops leaves
             (λ c is. stands_before old.origin.head old.origin.cap (state_of old) (state_of new) states c is)
             (λ c is. stands_now old mid new states c went.origin origin went.last is);
+        through = through_more tells old.origin.head old.origin.cap (state_of old) (state_of new) old.disk new.disk states disks went.through
+            (subst (λ (disk : D). LeavesOnly tells disk new.disk (Either (last_state (state_of old) states))) went.last_is
+            (subst (λ (state : State). LeavesOnly tells mid.disk new.disk (Either state)) went.last
+            (subst (λ (o : Origin). LeavesOnly tells mid.disk new.disk (λ (image : List ℕ). StandsForEither o.head o.cap (entries_in mid) (doubt_in mid) image ⊎ StandsForEither old.origin.head old.origin.cap (entries_in new) (doubt_in new) image)) went.origin
+            (subst (λ (o : Origin). LeavesOnly tells mid.disk new.disk (λ (image : List ℕ). StandsForEither mid.origin.head mid.origin.cap (entries_in mid) (doubt_in mid) image ⊎ StandsForEither o.head o.cap (entries_in new) (doubt_in new) image)) same leaves))))
+            (subst (λ (o : Origin). (image : List ℕ) → tells.allowed new.disk image → StandsForEither o.head o.cap (entries_in new) (doubt_in new) image) same keeps.images);
+        last_is = last_of_more old.disk new.disk disks;
         quiet = λ all.
             let each = all_less (λ (state : State). state ≡ state_of old) states (state_of new) all in
             let here : state_of mid ≡ state_of old = went.last ∙ last_same (state_of old) (state_of old) states refl each.0 in
@@ -175,18 +202,19 @@ module _ {D : Type 0} (tells : DiskTells D) where
         asked = subst Q (sym (map-append moment_of answered (more.one ∷ []))) (gave_more before.moments between.moments after.moments (map moment_of answered) more.one.request.moment went.asked more.asked);
       }
 
-  pub ran_none : (house : Chronicled D) (start : Outside) → LeavesOnly tells house.disk house.disk (StandsForVault house) → Ran tells house house start start 0
-  ran_none house start images = record { answered = []; states = []; went = went_none house start images; wrote = Appends-nil start.sent; counted = refl }
+  pub ran_none : (house : Chronicled D) (start : Outside) → LeavesOnly tells house.disk house.disk (StandsForVault house) → Keeps tells house → Ran tells house house start start 0
+  ran_none house start images keeps = record { answered = []; states = []; disks = []; went = went_none house start images keeps; wrote = Appends-nil start.sent; counted = refl }
 
   pub ran_more : (old mid new : Chronicled D) (before between after : Outside) (n : ℕ) → Ran tells old mid before between n → (more : Stepped tells mid new between after)
       → new.origin ≡ mid.origin → LeavesOnly tells mid.disk new.disk (λ (image : List ℕ). StandsForVault mid image ⊎ StandsForVault new image) → (state_of new ≡ state_of mid → tells.content new.disk ≡ tells.content mid.disk)
-      → Appends between.sent after.sent more.one.reply → Ran tells old new before after (n + 1)
-  ran_more old mid new before between after n ran more origin leaves quiet sent =
+      → Keeps tells new → Appends between.sent after.sent more.one.reply → Ran tells old new before after (n + 1)
+  ran_more old mid new before between after n ran more origin leaves quiet keeps sent =
       let P : List ℕ → Type 0 = λ bytes. Appends before.sent after.sent bytes in
       record {
         answered = ran.answered ++ more.one ∷ [];
         states = ran.states ++ state_of new ∷ [];
-        went = went_more old mid new before between after ran.answered ran.states ran.went more origin leaves quiet;
+        disks = ran.disks ++ new.disk ∷ [];
+        went = went_more old mid new before between after ran.answered ran.states ran.disks ran.went more origin leaves quiet keeps;
         wrote = subst P (sym (replies_more ran.answered more.one)) (Appends-trans before.sent between.sent after.sent (replies ran.answered) more.one.reply ran.wrote sent);
         counted = omega (arith, ran.counted, length-append ran.answered (more.one ∷ []));
       }
@@ -194,16 +222,17 @@ module _ {D : Type 0} (tells : DiskTells D) where
   -- ---- endings
 
   -- the batch ended behind bytes that are no frame
-  served : (end : BatchEnd) (old new : Chronicled D) (before between after : Outside) (answered : List Answered) (states : List State) (rest : List ℕ)
-      → Went tells old new before between answered states → Consumes between.left after.left rest → after.moments ≡ between.moments → (IsWhole (front_of rest) → ⊥) → EndsAs end rest after.left
+  served : (end : BatchEnd) (old new : Chronicled D) (before between after : Outside) (answered : List Answered) (states : List State) (disks : List D) (rest : List ℕ)
+      → Went tells old new before between answered states disks → Consumes between.left after.left rest → after.moments ≡ between.moments → (IsWhole (front_of rest) → ⊥) → EndsAs end rest after.left
       → CountsAs end (length answered) → Wrote end before after answered → Served tells old new before after end
-  served end old new before between after answered states rest went took unasked none ends counted wrote =
+  served end old new before between after answered states disks rest went took unasked none ends counted wrote =
       let P : Option (List ℕ) → Type 0 = λ given. Gave before.moments given (map moment_of answered) in
       let L : List Frame → Type 0 = λ fs. AllByRecursion IsFrame fs in
       let fs : List Frame = map frame_of answered in
       record {
         answered = answered;
         states = states;
+        disks = disks;
         unanswered = [];
         rest = rest;
         taken = flat_map frame fs ++ rest;
@@ -221,6 +250,8 @@ module _ {D : Type 0} (tells : DiskTells D) where
         last = went.last;
         backed = went.backed;
         stops = went.stops;
+        through = went.through;
+        last_is = went.last_is;
         quiet = went.quiet;
         wrote = wrote;
       }
@@ -228,12 +259,12 @@ module _ {D : Type 0} (tells : DiskTells D) where
   -- with nothing behind the last frame that was answered
   pub spent : (old new : Chronicled D) (before after : Outside) (n : ℕ) → n ≡ MOST_FRAMES → Ran tells old new before after n → Served tells old new before after FrameLimit
   spent old new before after n all ran =
-      served FrameLimit old new before after after ran.answered ran.states [] ran.went (Consumes-nil after.left) refl nothing_whole refl (ran.counted ∙ all) ran.wrote
+      served FrameLimit old new before after after ran.answered ran.states ran.disks [] ran.went (Consumes-nil after.left) refl nothing_whole refl (ran.counted ∙ all) ran.wrote
 
   -- without memory nothing was begun
-  pub unbegun : (house : Chronicled D) (start : Outside) → LeavesOnly tells house.disk house.disk (StandsForVault house) → Served tells house house start start NoMemory
-  unbegun house start images =
-      served NoMemory house house start start start [] [] [] (went_none house start images) (Consumes-nil start.left) refl nothing_whole (nothing_bad [] refl) (omega arith) (Appends-nil start.sent)
+  pub unbegun : (house : Chronicled D) (start : Outside) → LeavesOnly tells house.disk house.disk (StandsForVault house) → Keeps tells house → Served tells house house start start NoMemory
+  unbegun house start images keeps =
+      served NoMemory house house start start start [] [] [] [] (went_none house start images keeps) (Consumes-nil start.left) refl nothing_whole (nothing_bad [] refl) (omega arith) (Appends-nil start.sent)
 
   -- what ended the batch within the next frame
   stop_with : (end : BatchEnd) (old mid new : Chronicled D) (before between after : Outside) (n : ℕ) → (ran : Ran tells old mid before between n) → n < MOST_FRAMES → (stop : Stopped mid new between after)
@@ -241,16 +272,16 @@ module _ {D : Type 0} (tells : DiskTells D) where
       → Served tells old new before after end
   stop_with end old mid new before between after n ran few stop wrote ends counts =
       let P : Option (List ℕ) → Type 0 = λ sent. Appends before.sent sent (replies ran.answered) in
-      let W : Chronicled D → Type 0 = λ house. Went tells old house before between ran.answered ran.states in
-      served end old new before between after ran.answered ran.states stop.rest (subst W (sym stop.same) ran.went) stop.took stop.unasked stop.none ends (counts (omega (arith, ran.counted, few)))
+      let W : Chronicled D → Type 0 = λ house. Went tells old house before between ran.answered ran.states ran.disks in
+      served end old new before between after ran.answered ran.states ran.disks stop.rest (subst W (sym stop.same) ran.went) stop.took stop.unasked stop.none ends (counts (omega (arith, ran.counted, few)))
       (wrote (subst P (sym stop.unsent) ran.wrote))
 
   -- the sink failed within the reply to the next frame
   stop_short : (old mid new : Chronicled D) (before between after : Outside) (n : ℕ) → Ran tells old mid before between n → n < MOST_FRAMES → (more : Stepped tells mid new between after)
       → new.origin ≡ mid.origin → LeavesOnly tells mid.disk new.disk (λ (image : List ℕ). StandsForVault mid image ⊎ StandsForVault new image) → (state_of new ≡ state_of mid → tells.content new.disk ≡ tells.content mid.disk)
-      → SentPart between.sent after.sent more.one.reply → Served tells old new before after WriteFault
-  stop_short old mid new before between after n ran few more origin leaves quiet part =
-      served WriteFault old new before after after (ran.answered ++ more.one ∷ []) (ran.states ++ state_of new ∷ []) [] (went_more old mid new before between after ran.answered ran.states ran.went more origin leaves quiet)
+      → Keeps tells new → SentPart between.sent after.sent more.one.reply → Served tells old new before after WriteFault
+  stop_short old mid new before between after n ran few more origin leaves quiet keeps part =
+      served WriteFault old new before after after (ran.answered ++ more.one ∷ []) (ran.states ++ state_of new ∷ []) (ran.disks ++ new.disk ∷ []) [] (went_more old mid new before between after ran.answered ran.states ran.disks ran.went more origin leaves quiet keeps)
       (Consumes-nil after.left) refl nothing_whole refl
       (omega (arith, ran.counted, few, length-append ran.answered (more.one ∷ [])))
       (record {
@@ -265,10 +296,10 @@ module _ {D : Type 0} (tells : DiskTells D) where
   -- the batch ends as its last step does
   pub ended : (end : BatchEnd) (old mid new : Chronicled D) (before between after : Outside) (n : ℕ) → Ran tells old mid before between n → n < MOST_FRAMES
       → new.origin ≡ mid.origin → LeavesOnly tells mid.disk new.disk (λ (image : List ℕ). StandsForVault mid image ⊎ StandsForVault new image) → (state_of new ≡ state_of mid → tells.content new.disk ≡ tells.content mid.disk)
-      → StepIs tells mid new between after (step.Ended end) → Served tells old new before after end
-  ended Clean old mid new before between after n ran few origin leaves quiet is = stop_with Clean old mid new before between after n ran few is.0 (λ wrote. wrote) (is.1, is.2) (λ fewer. fewer)
-  ended ReadFault old mid new before between after n ran few origin leaves quiet is = stop_with ReadFault old mid new before between after n ran few is (λ wrote. wrote) tt (λ fewer. fewer)
-  ended WriteFault old mid new before between after n ran few origin leaves quiet is = stop_short old mid new before between after n ran few is.0 origin leaves quiet is.1
-  ended BadInput old mid new before between after n ran few origin leaves quiet is = stop_with BadInput old mid new before between after n ran few is.0 (λ wrote. wrote) is.1 (λ fewer. fewer)
-  ended NoMemory old mid new before between after n ran few origin leaves quiet is = stop_with NoMemory old mid new before between after n ran few is.0 (λ wrote. wrote) is.1 (λ fewer. fewer)
-  ended FrameLimit old mid new before between after n ran few origin leaves quiet is = absurd is
+      → Keeps tells new → StepIs tells mid new between after (step.Ended end) → Served tells old new before after end
+  ended Clean old mid new before between after n ran few origin leaves quiet keeps is = stop_with Clean old mid new before between after n ran few is.0 (λ wrote. wrote) (is.1, is.2) (λ fewer. fewer)
+  ended ReadFault old mid new before between after n ran few origin leaves quiet keeps is = stop_with ReadFault old mid new before between after n ran few is (λ wrote. wrote) tt (λ fewer. fewer)
+  ended WriteFault old mid new before between after n ran few origin leaves quiet keeps is = stop_short old mid new before between after n ran few is.0 origin leaves quiet keeps is.1
+  ended BadInput old mid new before between after n ran few origin leaves quiet keeps is = stop_with BadInput old mid new before between after n ran few is.0 (λ wrote. wrote) is.1 (λ fewer. fewer)
+  ended NoMemory old mid new before between after n ran few origin leaves quiet keeps is = stop_with NoMemory old mid new before between after n ran few is.0 (λ wrote. wrote) is.1 (λ fewer. fewer)
+  ended FrameLimit old mid new before between after n ran few origin leaves quiet keeps is = absurd is

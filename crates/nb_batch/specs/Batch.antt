@@ -10,9 +10,10 @@ use Rattle.nb_units.specs.Frames.{Frame, frame, IsFrame, Partial, front_of, IsWh
 use Rattle.nb_units.specs.declared.frames.TheConstants.{HEADER}
 use Rattle.nb_journal.specs.Time.{LeavesOnly}
 use Rattle.nb_book.specs.declared.entry.Entry.{Entry}
+use Rattle.nb_endorse.specs.declared.refusal.TheConstants.{DISK_FAULT, WORN, NO_MEMORY}
 use Rattle.nb_vault.specs.Holdings.{StandsForEither}
-use Rattle.nb_vault.specs.Turns.{Request, State, Mark, Answered, Turn, Run, last_state, IsStateOf, replies, failure_of, failures_of}
-use Rattle.nb_vault.specs.Vaults.{Chronicled, state_of, rules_of}
+use Rattle.nb_vault.specs.Turns.{Request, State, Mark, Answered, Turn, Run, last_state, IsStateOf, replies, failure_of, failures_of, refused}
+use Rattle.nb_vault.specs.Vaults.{Chronicled, state_of, rules_of, IsDurable}
 use Rattle.nb_batch.specs.declared.batch.TheConstants.{MOST_FRAMES}
 use Rattle.nb_batch.specs.declared.batch.BatchEnd.{BatchEnd}
 use Rattle.nb_batch.specs.declared.batch.BatchEnd.TheVariants.{Clean, ReadFault, WriteFault, BadInput, NoMemory, FrameLimit}
@@ -50,6 +51,26 @@ pub record StandsInRun (head : List ℕ) (cap : ℕ) (first : State) (states : L
   pub is : IsStateOf first states state
   pub stands : StandsForEither head cap state.entries state.doubt image
 
+-- what a stop may leave of the disk stands for the entries of the state, without those in doubt in it or with them
+abbrev pub Holds : {D : Type 0} → DiskTells D → List ℕ → ℕ → State → D → Type 0
+Holds tells head cap state disk = (image : List ℕ) → tells.allowed disk image → StandsForEither head cap state.entries state.doubt image
+
+-- from a disk that holds the first state a batch came to these disks, one for each state of its run and each holding its own. A stop
+-- since one of them and up to the next leaves what stands for the state of the one or of the other
+abbrev pub GoesThrough : {D : Type 0} → DiskTells D → List ℕ → ℕ → State → D → List State → List D → Type 0
+GoesThrough tells head cap first disk [] [] = Holds tells head cap first disk
+GoesThrough tells head cap first disk (next ∷ states) (behind ∷ disks) =
+    Holds tells head cap first disk
+    × LeavesOnly tells disk behind (λ image. StandsForEither head cap first.entries first.doubt image ⊎ StandsForEither head cap next.entries next.doubt image)
+    × GoesThrough tells head cap next behind states disks
+GoesThrough tells head cap first disk [] (behind ∷ disks) = ⊥
+GoesThrough tells head cap first disk (next ∷ states) [] = ⊥
+
+-- the disk behind the last turn
+abbrev pub last_disk : {D : Type 0} → D → List D → D
+last_disk first [] = first
+last_disk first (next ∷ disks) = last_disk next disks
+
 -- ---- one step
 
 -- a request was answered so: by a turn, whose fault lies between the disk's counts before it and after
@@ -57,6 +78,14 @@ pub record AnswersWith {D : Type 0} (tells : DiskTells D) (old new : Chronicled 
   pub mark : Mark
   pub turn : Turn (rules_of old) (state_of old) request mark reply (state_of new)
   pub backed : Backed (tells.faults old.disk) (option_to_list (failure_of mark)) (tells.faults new.disk)
+
+-- the reply is the refusal of a request that was not decided
+abbrev pub IsUndecided : List ℕ → Type 0
+IsUndecided reply = (a b : ℕ) × ((reply ≡ refused DISK_FAULT a b) ⊎ (reply ≡ refused WORN a b) ⊎ (reply ≡ refused NO_MEMORY a b))
+
+-- a reply may be sent over this house: each image that a stop may leave by now stands for its entries; or nothing was decided
+abbrev pub MaySend : {D : Type 0} → DiskTells D → Chronicled D → List ℕ → Type 0
+MaySend tells house reply = IsDurable tells house ⊎ IsUndecided reply
 
 -- a frame was taken, the clock was asked, and a turn answered it
 pub record Stepped {D : Type 0} (tells : DiskTells D) (old new : Chronicled D) (before after : Outside) : Type 0 where
@@ -135,10 +164,11 @@ CountsAs other count = count < MOST_FRAMES
 
 -- What a batch did over a house, by how it ended
 pub record Served {D : Type 0} (tells : DiskTells D) (old new : Chronicled D) (before after : Outside) (end : BatchEnd) : Type 0 where
-  -- the requests that were answered and the states that the house came to, frames that were taken and not answered, and what
-  -- follows them
+  -- the requests that were answered, the states that the house came to and the disks then; frames that were taken and not answered,
+  -- and what follows them
   pub answered : List Answered
   pub states : List State
+  pub disks : List D
   pub unanswered : List Frame
   pub rest : List ℕ
   pub taken : List ℕ
@@ -152,6 +182,8 @@ pub record Served {D : Type 0} (tells : DiskTells D) (old new : Chronicled D) (b
   pub last : state_of new ≡ last_state (state_of old) states
   pub backed : Backed (tells.faults old.disk) (failures_of answered) (tells.faults new.disk)
   pub stops : LeavesOnly tells old.disk new.disk (StandsInRun old.origin.head old.origin.cap (state_of old) states)
+  pub through : GoesThrough tells old.origin.head old.origin.cap (state_of old) old.disk states disks
+  pub last_is : new.disk ≡ last_disk old.disk disks
   pub quiet : AllByRecursion (λ state. state ≡ state_of old) states → tells.content new.disk ≡ tells.content old.disk
   pub wrote : Wrote end before after answered
 

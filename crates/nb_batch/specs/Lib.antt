@@ -1,3 +1,4 @@
 pub mod Send
 pub mod Batch
+pub mod Acknowledged
 pub mod Numbers

@@ -3,11 +3,11 @@ ghost use Rattle.nb_journal.specs.Time.{LeavesOnly};
 ghost use Rattle.nb_msgs.specs.declared.reply.TheConstants.{REPLY_ROOM};
 ghost use Rattle.nb_units.specs.Room.{spare_of};
 ghost use Rattle.nb_vault.specs.Turns.{refused};
-ghost use Rattle.nb_vault.specs.Vaults.{StandsForState, request_of, state_of};
-ghost use Rattle.nb_batch.specs.Batch.{StepIs, AnswersWith, Served, FaultOf, StepFaultOf};
+ghost use Rattle.nb_vault.specs.Vaults.{Keeps, StandsForState, request_of, state_of};
+ghost use Rattle.nb_batch.specs.Batch.{MaySend, StepIs, AnswersWith, Served, FaultOf, StepFaultOf};
 ghost use Rattle.nb_batch.specs.Numbers.{LimitIs};
 
-use crate::send::{Sent, send};
+use crate::send::{Sent, send_reply};
 use nb_endorse::refusal::{DISK_FAULT, NO_MEMORY, WORN};
 use nb_endorse::{Refusal, Reply, ReplyKeys};
 use nb_frame::{FrameReader, Next};
@@ -94,6 +94,7 @@ fn answer_next<D: Disk, S: Source, K: Sink, C: Clock>(
     ensures origin { house.new.origin ≡ house.old.origin }
     ensures any_moment { LeavesOnly D.tells house.old.disk house.new.disk
         (λ image. StandsForState house.old image ⊎ StandsForState house.new image) }
+    ensures keeps { Keeps D.tells house.new }
     ensures quiet { state_of house.new ≡ state_of house.old → D.tells.content house.new.disk ≡ D.tells.content house.old.disk }
     ensures room { vec_capacity reply.old ≤ vec_capacity reply.new }
     ensures disk { D.tells.faults house.old.disk ≤ D.tells.faults house.new.disk }
@@ -114,7 +115,7 @@ fn answer_next<D: Disk, S: Source, K: Sink, C: Clock>(
     let moment = clock.now();
     reply.clear();
     answer_with(house, reader.kind(), reader.body(), moment, reply);
-    match send(sink, reply.as_slice()) {
+    match send_reply(house, sink, reply.as_slice()) {
         Sent::All => Step::Answered,
         Sent::Failed => Step::Ended(BatchEnd::WriteFault),
     }
@@ -134,6 +135,8 @@ fn answer_with<D: Disk>(
     ensures origin { house.new.origin ≡ house.old.origin }
     ensures any_moment { LeavesOnly D.tells house.old.disk house.new.disk
         (λ image. StandsForState house.old image ⊎ StandsForState house.new image) }
+    ensures durable { MaySend D.tells house.new reply.new.items }
+    ensures keeps { Keeps D.tells house.new }
     ensures quiet { state_of house.new ≡ state_of house.old → D.tells.content house.new.disk ≡ D.tells.content house.old.disk }
     ensures room { vec_capacity reply.new ≡ vec_capacity reply.old }
     ensures disk { D.tells.faults house.old.disk ≤ D.tells.faults house.new.disk }

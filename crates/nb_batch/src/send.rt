@@ -1,7 +1,9 @@
 ghost use Rattle.std.specs.Prelude.{◌≤◌, length};
+ghost use Rattle.nb_batch.specs.Batch.{MaySend};
 ghost use Rattle.nb_batch.specs.Send.{SentIs};
 
-use nb_port::{Sink, WriteOut};
+use nb_port::{Disk, Sink, WriteOut};
+use nb_vault::Vault;
 
 /// How sending went.
 #[derive(Clone, Copy, PartialEq, Eq, Debug)]
@@ -10,8 +12,22 @@ pub enum Sent {
     Failed,
 }
 
-/// Sends all of the piece, in as many writes as the sink wants.
-pub fn send<K: Sink>(sink: &mut K, piece: &[u8]) -> Sent
+/// Sends the reply of `house` to a request. A decided one is not sent before each image that a stop may leave stands for the
+/// entries of the house.
+pub fn send_reply<D: Disk, K: Sink>(
+    _house: &Vault<D>,
+    sink: &mut K,
+    reply: &[u8],
+) -> Sent
+    requires durable { MaySend D.tells _house.now reply.now }
+    ensures sent { SentIs (K.faults sink.old) (K.faults sink.new) (K.sent sink.old) (K.sent sink.new) reply.now result }
+    ensures count { K.faults sink.old ≤ K.faults sink.new }
+{
+    send(sink, reply)
+}
+
+// Sends all of the piece, in as many writes as the sink wants.
+fn send<K: Sink>(sink: &mut K, piece: &[u8]) -> Sent
     ensures sent { SentIs (K.faults sink.old) (K.faults sink.new) (K.sent sink.old) (K.sent sink.new) piece.now result }
     ensures count { K.faults sink.old ≤ K.faults sink.new }
 {

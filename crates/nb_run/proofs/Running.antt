@@ -22,7 +22,7 @@ use Rattle.nb_run.specs.declared.ending.TheConstants.{CLEAN, SOURCE_FAILED, SINK
 use Rattle.nb_batch.specs.declared.batch.TheConstants.{MOST_FRAMES}
 use Rattle.nb_batch.specs.declared.batch.BatchEnd.{BatchEnd}
 use Rattle.nb_batch.specs.declared.batch.BatchEnd.TheVariants.{Clean, ReadFault, WriteFault, BadInput, NoMemory, FrameLimit}
-use Rattle.nb_batch.specs.Batch.{at_rest, Outside, EndsAs, EndsBadly, CountsAs, AnswersAll, Wrote, WroteShort, Served, StandsInRun}
+use Rattle.nb_batch.specs.Batch.{at_rest, Outside, EndsAs, EndsBadly, CountsAs, AnswersAll, Wrote, WroteShort, Served, StandsInRun, GoesThrough}
 use Rattle.nb_run.specs.Ending.{at_no_place, status_of}
 use Rattle.nb_run.specs.Run.{Batch}
 
@@ -185,6 +185,8 @@ module _ {D : Type 0} (tells : DiskTells D) where
         answered = s.answered;
         states = s.states;
         last = state_of house;
+        opened = opened.disk;
+        disks = s.disks;
         taken = s.taken;
         unanswered = s.unanswered;
         rest = s.rest;
@@ -202,6 +204,9 @@ module _ {D : Type 0} (tells : DiskTells D) where
         alone = replies-decided (house_rules (head_of opened.origin.head) opened.origin.cap) opened.origin.entries s.answered s.states turns;
         content_rests = subst (λ (o : Origin). IfSome (tells.content house.disk) (λ (image : List ℕ). StandsForEither o.head o.cap (entries_in house) (doubt_in house) image)) same keeps.bytes;
         images_rest = λ image is. subst (λ (o : Origin). StandsForEither o.head o.cap (entries_in house) (doubt_in house) image) same (keeps.images image is);
+        opened_so = unwritten;
+        through = subst (λ (state : State). GoesThrough tells opened.origin.head opened.origin.cap state opened.disk s.states s.disks) rest s.through;
+        handed_back = s.last_is;
         quiet = λ all. s.quiet (subst (λ (state : State). AllByRecursion (λ (other : State). other ≡ state) s.states) (sym rest) all) ∙ unwritten.same;
         later = omega (arith, unwritten.time.later, s.stops.later);
         stops = λ image is. ⊎_elim

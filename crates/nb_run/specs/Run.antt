@@ -22,7 +22,7 @@ use Rattle.nb_run.specs.declared.ending.TheConstants.{CLEAN, BAD_WORDS, SOURCE_F
 use Rattle.nb_run.specs.declared.init.InitEnd.{InitEnd}
 use Rattle.nb_run.specs.Ending.{at_no_place}
 use Rattle.nb_run.specs.Init.{MakesAs, ending_of}
-use Rattle.nb_batch.specs.Batch.{at_rest, frame_of, moment_of, Outside, Gave, EndsBadly, WroteShort, StandsInRun}
+use Rattle.nb_batch.specs.Batch.{at_rest, frame_of, moment_of, Outside, Gave, EndsBadly, WroteShort, StandsInRun, GoesThrough, last_disk}
 
 -- the statuses that a run can end with
 abbrev pub IsStatus : ℕ → Type 0
@@ -57,14 +57,16 @@ pub record NotOpened {D : Type 0} (tells : DiskTells D) (old new : D) (before af
 
 -- What a batch did, by the status that it ended with.
 pub record Batch {D : Type 0} (tells : DiskTells D) (old new : D) (before after : Outside) (ending : Ending) : Type 0 where
-  -- the journal's head, its cap and its entries; the requests that were answered, and the states that the house came to; the
-  -- bytes taken from the source are the frames of these requests, further frames, and a rest that begins with none
+  -- the journal's head, its cap and its entries; the requests that were answered, and the states that the house came to; the disk
+  -- behind opening, and behind each turn; the bytes taken from the source are the frames of these requests, further frames, and a rest that begins with none
   pub head : List ℕ
   pub cap : ℕ
   pub opening : List Entry
   pub answered : List Answered
   pub states : List State
   pub last : State
+  pub opened : D
+  pub disks : List D
   pub taken : List ℕ
   pub unanswered : List Frame
   pub rest : List ℕ
@@ -93,7 +95,12 @@ pub record Batch {D : Type 0} (tells : DiskTells D) (old new : D) (before after 
   -- doubt or with it
   pub content_rests : IfSome (tells.content new) (StandsForEither head cap last.entries last.doubt)
   pub images_rest : (image : List ℕ) → tells.allowed new image → StandsForEither head cap last.entries last.doubt image
-  -- where the house never left the state that it was opened in, nothing was written
+  -- opening wrote nothing. The disk holds the entries of the state behind opening and behind each turn, and a stop since one of these
+  -- and up to the next leaves those of the one state or of the other; the last of these disks is the one that is handed back
+  pub opened_so : Unwritten tells old opened
+  pub through : GoesThrough tells head cap (at_rest opening) opened states disks
+  pub handed_back : new ≡ last_disk opened disks
+  -- where the house never left the state that it was opened in, the content is as before
   pub quiet : AllByRecursion (λ state. state ≡ at_rest opening) states → tells.content new ≡ tells.content old
   -- a stop at any moment since the start left what might have been left at the start, or what stands so for one of the states
   pub later : tells.moment old ≤ tells.moment new

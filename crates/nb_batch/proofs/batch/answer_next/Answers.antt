@@ -1,6 +1,7 @@
-use Rattle.std.proofs.Common.{List, ℕ, subst}
+use Rattle.std.proofs.Common.{List, ℕ, sym, subst}
 use Rattle.std.specs.Io.KnownBytes.{Appends}
 use Rattle.nb_batch.specs.Send.{SentPart}
+use Rattle.nb_batch.specs.Batch.{MaySend}
 use Rattle.nb_batch.proofs.Stepping.{leaves_either, stepped_with, stop_end, stop_cut, stop_bad, stop_memory}
 use Rattle.nb_batch.proofs.batch.answer_next.Goals as goal
 
@@ -20,15 +21,15 @@ pub returns-in-All-clause-step : goal.returns-in-All-clause-step
 returns-in-All-clause-step g c =
     stepped_with g.D.Disk.tells c.args.house.now c.answer_with.new.house c.kind.result c.now-moment.result c.next.new.self c.body.result.now c.answer_with.new.reply.items _ _
     c.in-Frame.ensures.gives c.kind.ensures c.body.ensures c.in-Frame.ensures.took c.now-moment.ensures.gives c.answer_with.ensures.answers
-    (λ (bytes : List ℕ). Appends (g.K.Sink.sent c.args.sink.now) (g.K.Sink.sent c.send.new.sink) bytes)
-    (subst (λ (bytes : List ℕ). Appends (g.K.Sink.sent c.args.sink.now) (g.K.Sink.sent c.send.new.sink) bytes) c.as_slice.ensures.value c.in-All.ensures.sent)
+    (λ (bytes : List ℕ). Appends (g.K.Sink.sent c.args.sink.now) (g.K.Sink.sent c.send_reply.new.sink) bytes)
+    (subst (λ (bytes : List ℕ). Appends (g.K.Sink.sent c.args.sink.now) (g.K.Sink.sent c.send_reply.new.sink) bytes) c.as_slice.ensures.value c.in-All.ensures.sent)
 
-pub returns-in-Failed-send-clause-step : goal.returns-in-Failed-send-clause-step
-returns-in-Failed-send-clause-step g c =
+pub returns-in-Failed-send_reply-clause-step : goal.returns-in-Failed-send_reply-clause-step
+returns-in-Failed-send_reply-clause-step g c =
     stepped_with g.D.Disk.tells c.args.house.now c.answer_with.new.house c.kind.result c.now-moment.result c.next.new.self c.body.result.now c.answer_with.new.reply.items _ _
     c.in-Frame.ensures.gives c.kind.ensures c.body.ensures c.in-Frame.ensures.took c.now-moment.ensures.gives c.answer_with.ensures.answers
-    (λ (bytes : List ℕ). SentPart (g.K.Sink.sent c.args.sink.now) (g.K.Sink.sent c.send.new.sink) bytes)
-    (subst (λ (bytes : List ℕ). SentPart (g.K.Sink.sent c.args.sink.now) (g.K.Sink.sent c.send.new.sink) bytes) c.as_slice.ensures.value c.in-Failed-send.ensures.sent.1)
+    (λ (bytes : List ℕ). SentPart (g.K.Sink.sent c.args.sink.now) (g.K.Sink.sent c.send_reply.new.sink) bytes)
+    (subst (λ (bytes : List ℕ). SentPart (g.K.Sink.sent c.args.sink.now) (g.K.Sink.sent c.send_reply.new.sink) bytes) c.as_slice.ensures.value c.in-Failed-send_reply.ensures.sent.1)
 
 pub returns-in-End-clause-any_moment : goal.returns-in-End-clause-any_moment
 returns-in-End-clause-any_moment g c = leaves_either g.D.Disk.tells g.met.D.Disk.only_now c.args.house.now c.witness.ensures.keeps
@@ -44,3 +45,6 @@ returns-in-Failed-clause-any_moment g c = leaves_either g.D.Disk.tells g.met.D.D
 
 pub returns-in-NoMemory-clause-any_moment : goal.returns-in-NoMemory-clause-any_moment
 returns-in-NoMemory-clause-any_moment g c = leaves_either g.D.Disk.tells g.met.D.Disk.only_now c.args.house.now c.witness.ensures.keeps
+
+pub send_reply-requires : goal.send_reply-requires
+send_reply-requires g c = record { durable = subst (MaySend g.D.Disk.tells c.answer_with.new.house) (sym c.as_slice.ensures.value) c.answer_with.ensures.durable }
