@@ -1,5 +1,5 @@
 -- One step of a batch, from what its calls ensure.
-use Rattle.std.proofs.Common.{◌≡◌, ◌⊎◌, ℕ, ◌≤◌, List, [], ◌++◌, length, drop, Option, refl, sym, ap, subst, ◌∙◌, inl, inr}
+use Rattle.std.proofs.Common.{◌≡◌, ◌⊎◌, ℕ, ◌≤◌, List, [], ◌++◌, length, drop, Option, refl, sym, ap, subst, ◌∙◌, inl, inr, arith}
 use Rattle.std.specs.Prelude.{slice_index}
 use Rattle.std.specs.Option.{option_to_list}
 use Rattle.std.specs.Io.KnownBytes.{Consumes, IsAtEnd}
@@ -52,10 +52,10 @@ module _ {D : Type 0} (tells : DiskTells D) (old new : Chronicled D) (request : 
   pub answered : (out sent : List ℕ) (place : ℕ) → out ≡ [] → TurnOf old new request out sent (answers.Answered place) → tells.faults old.disk ≤ tells.faults new.disk → AnswersWith tells old new request sent
   answered out sent place none is count = answers_with (At place) is.0 sent is.1 count (is.2 ∙ ap (λ (xs : List ℕ). xs ++ is.0) none)
 
-  pub failed : (out out' sent : List ℕ) (before after : ℕ) → out ≡ [] → TurnOf old new request out out' (answers.DiskFault before after) → FaultWithin (tells.faults old.disk) (tells.faults new.disk) (answers.DiskFault before after)
+  pub failed : (out out' sent : List ℕ) (before after : ℕ) → out ≡ [] → TurnOf old new request out out' (answers.DiskFault before after) → FaultWithin tells old new (answers.DiskFault before after)
       → sent ≡ out' ++ refused DISK_FAULT before after → AnswersWith tells old new request sent
   failed out out' sent before after none is within put =
-      answers_with (Fault before after) (refused DISK_FAULT before after) sent is.0 within (put ∙ ap (λ (xs : List ℕ). xs ++ refused DISK_FAULT before after) (is.1 ∙ none))
+      answers_with (Fault before after) (refused DISK_FAULT before after) sent is.0 (within.0, within.2, omega (arith, within.3)) (put ∙ ap (λ (xs : List ℕ). xs ++ refused DISK_FAULT before after) (is.1 ∙ none))
 
   pub worn : (out out' sent : List ℕ) (count : ℕ) → out ≡ [] → TurnOf old new request out out' (answers.Worn count) → tells.faults old.disk ≤ tells.faults new.disk → sent ≡ out' ++ refused WORN count 0 → AnswersWith tells old new request sent
   worn out out' sent count none is rises put =

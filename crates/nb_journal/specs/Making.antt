@@ -17,12 +17,15 @@ use Rattle.nb_journal.specs.Time.{Untouched}
 abbrev pub IsCap : ℕ → Type 0
 IsCap cap = (1 ≤ cap) × (cap ≤ MAX_CAP)
 
--- by cases on the fault, for the disk before and after: at Exists nothing was written
+-- by cases on the fault, for the disk before and after: at Exists and LookFailed nothing was written, and at DiskFault there was no
+-- journal
 abbrev pub InitFails : {D : Type 0} → DiskTells D → D → D → ℕ → InitFault → Type 0
 InitFails tells old new cap (inits.BadCap given) = (given ≡ cap) × ((cap ≡ 0) ⊎ (MAX_CAP < cap)) × (new ≡ old)
 InitFails tells old new cap (inits.Exists found) =
     IsCap cap × (found ≡ magic) × IfSome (tells.content old) (λ image. found_in image ≡ magic) × (tells.content new ≡ tells.content old) × SameImages (tells.allowed old) (tells.allowed new)
-InitFails tells old new cap (inits.DiskFault before after) = IsCap cap × (before ≡ tells.faults old) × (after ≡ tells.faults new) × Rose before after
+InitFails tells old new cap (inits.LookFailed before after) = IsCap cap × (before ≡ tells.faults old) × (after ≡ tells.faults new) × Rose before after × Untouched tells old new
+InitFails tells old new cap (inits.DiskFault before after) =
+    IsCap cap × (before ≡ tells.faults old) × (after ≡ tells.faults new) × Rose before after × IfSome (tells.content old) (λ image. found_in image ≢ magic)
 
 -- a journal that is there stays as it is, whatever is answered: nothing is written
 abbrev pub SparesJournal : {D : Type 0} → DiskTells D → D → D → Type 0

@@ -20,7 +20,9 @@ pub enum InitFault {
     BadCap { cap: u32 },
     /// The content begins with the magic. Nothing was written.
     Exists { magic: [u8; MAGIC_BYTES] },
-    /// The disk failed between these two counts of its faults.
+    /// The disk failed between these two counts of its faults, as it was read what the content begins with. Nothing was written.
+    LookFailed { before: u64, after: u64 },
+    /// The disk, which had no journal, failed between these two counts of its faults. The front may be written in part.
     DiskFault { before: u64, after: u64 },
 }
 
@@ -49,7 +51,7 @@ pub fn init<D: Disk>(disk: &mut D, head: &[u8; HEAD], cap: u32) -> Result<(), In
     match magic_of(disk) {
         MagicRead::Failed => {
             let after = disk.fault_count();
-            return Err(InitFault::DiskFault { before, after });
+            return Err(InitFault::LookFailed { before, after });
         }
         MagicRead::Got(found) => {
             if same_bytes(&found, &MAGIC) {

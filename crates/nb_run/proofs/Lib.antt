@@ -2,3 +2,4 @@ pub mod Running
 pub mod Completeness
 pub mod Numerals
 pub mod Heads
+pub mod Making

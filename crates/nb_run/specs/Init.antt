@@ -1,5 +1,5 @@
 -- What making a journal comes to.
-use Rattle.std.specs.Prelude.{◌≡◌, ◌≢◌, ◌⊎◌, ℕ, ◌+◌, ◌<◌, ◌≤◌, List, [], ◌∷◌, ◌++◌, length, take, Option, IfSome}
+use Rattle.std.specs.Prelude.{◌≡◌, ◌≢◌, ◌⊎◌, ℕ, ◌+◌, ◌<◌, ◌≤◌, List, [], ◌∷◌, ◌++◌, length, take, Option, Some, IfSome}
 use Rattle.std.specs.Io.KnownBytes.{Consumes, IsAtEnd}
 use Rattle.nb_port.specs.Tells.{DiskTells}
 use Rattle.nb_port.specs.Disk.{SameImages, wrote_at}
@@ -8,11 +8,12 @@ use Rattle.nb_journal.specs.declared.limits.TheConstants.{HEAD}
 use Rattle.nb_journal.specs.Layout.{magic, front_bytes}
 use Rattle.nb_journal.specs.Making.{IsCap}
 use Rattle.nb_journal.specs.Reading.{found_in}
+use Rattle.nb_journal.specs.Time.{Untouched}
 use Rattle.nb_vault.specs.Holdings.{StandsFor}
 use Rattle.nb_run.specs.declared.ending.Ending.{Ending}
 use Rattle.nb_run.specs.declared.ending.TheConstants.{CLEAN, SOURCE_FAILED, BAD_INPUT, DISK_FAILED, NOT_MADE}
 use Rattle.nb_run.specs.declared.init.InitEnd.{InitEnd}
-use Rattle.nb_run.specs.declared.init.InitEnd.TheVariants.{Made, BadCap, ReadFault, BadInput, Exists, DiskFault}
+use Rattle.nb_run.specs.declared.init.InitEnd.TheVariants.{Made, BadCap, ReadFault, BadInput, Exists, LookFault, DiskFault}
 use Rattle.nb_run.specs.declared.init.HeadRead.{HeadRead}
 use Rattle.nb_run.specs.declared.init.HeadRead.TheVariants as reads
 use Rattle.nb_run.specs.Ending.{at_no_place}
@@ -24,6 +25,7 @@ ending_of BadCap = at_no_place NOT_MADE
 ending_of ReadFault = at_no_place SOURCE_FAILED
 ending_of (BadInput bytes) = record { status = BAD_INPUT; place = bytes }
 ending_of Exists = at_no_place NOT_MADE
+ending_of LookFault = at_no_place DISK_FAILED
 ending_of DiskFault = at_no_place DISK_FAILED
 
 -- ---- the input, by what was left of it before and after
@@ -70,8 +72,19 @@ MakesAs tells rest rest' source source' old new cap BadCap = (IsCap cap → ⊥)
 MakesAs tells rest rest' source source' old new cap ReadFault = IsCap cap × Rose source source' × TookPart rest rest' × (new ≡ old)
 MakesAs tells rest rest' source source' old new cap (BadInput bytes) = IsCap cap × TookOther rest rest' bytes × (new ≡ old)
 MakesAs tells rest rest' source source' old new cap Exists = IsCap cap × ((head : List ℕ) × TookHead rest rest' head) × IsSpared tells old new
-MakesAs tells rest rest' source source' old new cap DiskFault = IsCap cap × ((head : List ℕ) × TookHead rest rest' head) × Rose (tells.faults old) (tells.faults new)
+MakesAs tells rest rest' source source' old new cap LookFault =
+    IsCap cap × ((head : List ℕ) × TookHead rest rest' head) × Rose (tells.faults old) (tells.faults new) × Untouched tells old new
+MakesAs tells rest rest' source source' old new cap DiskFault =
+    IsCap cap × ((head : List ℕ) × TookHead rest rest' head) × Rose (tells.faults old) (tells.faults new) × IfSome (tells.content old) (λ image. found_in image ≢ magic)
 MakesAs tells rest rest' source source' old new cap Made = (head : List ℕ) × IsCap cap × TookHead rest rest' head × IsMade tells old new head cap
+
+-- the input is a head and nothing else
+abbrev pub IsHeadInput : Option (List ℕ) → Type 0
+IsHeadInput left = (head : List ℕ) × (length head ≡ HEAD) × (left ≡ Some head)
+
+-- the disk has no journal
+abbrev pub HasNoJournal : Option (List ℕ) → Type 0
+HasNoJournal content = (image : List ℕ) × (found_in image ≢ magic) × (content ≡ Some image)
 
 -- ---- for the contracts of private functions alone
 

@@ -19,7 +19,9 @@ pub enum InitEnd {
     BadInput { bytes: u64 },
     /// The disk has a journal, which stays as it is.
     Exists,
-    /// The disk failed.
+    /// The disk failed as it was read whether it has a journal. Nothing was written.
+    LookFault,
+    /// The disk, which had no journal, failed.
     DiskFault,
 }
 
@@ -37,6 +39,7 @@ impl InitEnd {
                 place: bytes,
             },
             InitEnd::Exists => Ending::at_no_place(NOT_MADE),
+            InitEnd::LookFault => Ending::at_no_place(DISK_FAILED),
             InitEnd::DiskFault => Ending::at_no_place(DISK_FAILED),
         }
     }
@@ -68,6 +71,7 @@ pub fn make_journal<S: Source, D: Disk>(source: &mut S, disk: &mut D, cap: u32) 
     match init(disk, &head, cap) {
         Ok(()) => InitEnd::Made,
         Err(InitFault::Exists { .. }) => InitEnd::Exists,
+        Err(InitFault::LookFailed { .. }) => InitEnd::LookFault,
         Err(InitFault::DiskFault { .. }) => InitEnd::DiskFault,
         Err(InitFault::BadCap { .. }) => unreachable!(),
     }

@@ -1,9 +1,10 @@
 ghost use Rattle.std.specs.Prelude.{◌≡◌, ◌≢◌, ◌≤◌, ◌↔◌, ◌⊎◌, ℕ, map, string_bytes};
 ghost use Rattle.nb_port.specs.Faults.{Rose};
-ghost use Rattle.nb_journal.specs.Making.{SparesJournal};
+ghost use Rattle.nb_journal.specs.Making.{SparesJournal, IsCap};
 ghost use Rattle.nb_run.specs.declared.ending.TheConstants.{CLEAN, BAD_WORDS, SOURCE_FAILED, SINK_FAILED, OUT_OF_MEMORY, DISK_FAILED, NO_JOURNAL};
 ghost use Rattle.nb_run.specs.Ending.{ending, status, place, status_of};
 ghost use Rattle.nb_run.specs.Words.{IsBatch, IsInit, IsCommand};
+ghost use Rattle.nb_run.specs.Init.{IsHeadInput, HasNoJournal};
 ghost use Rattle.nb_run.specs.Run.{InitIs, BatchIs, IsJournal, IsWholeInput, IsStatus, unopened};
 
 use crate::ending::{
@@ -47,6 +48,11 @@ pub fn run<S: Source, K: Sink, D: Disk, C: Clock>(
         → InitIs D.tells (S.left source.old) (S.left source.new) (S.faults source.old) (S.faults source.new) disk result.1 cap (ending result.0) }
     ensures silent { (cap : ℕ) → IsInit (map string_bytes words.now) cap
         → (sink.new ≡ sink.old) × (clock.new ≡ clock.old) × SparesJournal D.tells disk result.1 }
+
+    // A head alone, a cap in its range, a disk without a journal, and nothing that fails: a journal is made.
+    ensures makes { (cap : ℕ) → IsInit (map string_bytes words.now) cap → IsCap cap → IsHeadInput (S.left source.old) → HasNoJournal (D.tells.content disk)
+        → (Rose (S.faults source.old) (S.faults source.new) → ⊥) → (Rose (D.tells.faults disk) (D.tells.faults result.1) → ⊥)
+        → status result.0 ≡ CLEAN }
 
     // What a batch comes to.
     ensures batch { IsBatch (map string_bytes words.now)

@@ -1,8 +1,12 @@
 -- A turn, from its steps: settling, and making the entry of the verdict durable.
-use Rattle.std.proofs.Common.{◌≡◌, ◌⊎◌, ◌≢◌, inl, inr, ℕ, ◌+◌, List, [], ◌∷◌, ◌++◌, length, Option, None, Some, IfSome, Ok, Err, refl, sym, ap, subst, ◌∙◌, arith}
+use Rattle.std.proofs.Common.{◌≡◌, ◌⊎◌, ◌≢◌, inl, inr, ℕ, ◌+◌, ◌≤◌, false, List, [], ◌∷◌, ◌++◌, length, Option, None, Some, IfSome, Ok, Err, refl, sym, ap, subst, ◌∙◌, arith}
 use Rattle.std.specs.Option.{option_to_list}
 use Rattle.std.proofs.lemmas.List.{append-nil, length-append}
+use Rattle.nb_port.specs.Faults.{Rose}
+use Rattle.nb_port.specs.Tells.{DiskTells}
 use Rattle.nb_book.specs.declared.entry.Entry.{Entry}
+use Rattle.nb_journal.specs.declared.journal.Journal.{Journal}
+use Rattle.nb_journal.specs.Layout.{front_bytes}
 use Rattle.nb_journal.specs.Time.{LeavesOnly}
 use Rattle.nb_escrow.specs.declared.decision.Decision.{Decision}
 use Rattle.nb_escrow.specs.declared.head.Head.{Head}
@@ -16,13 +20,13 @@ use Rattle.nb_vault.specs.Holdings.{StandsFor, StandsForEither, WritesEntry, Tea
 use Rattle.nb_vault.specs.declared.vault.Answer.{Answer}
 use Rattle.nb_vault.specs.Lines.{AreOf, next_turn}
 use Rattle.nb_vault.specs.Parts.{IsVault, SameOrigin, SameButRoom, CommitGives, CommitWrites, seen_as}
-use Rattle.nb_vault.specs.Records.{EitherOf, WithOrWithout, disk_under}
+use Rattle.nb_vault.specs.Records.{RestsIn, Failed, EitherOf, WithOrWithout, disk_under}
 use Rattle.nb_vault.specs.Turns.{Request, State, SettlesInto, Decides, Doubts}
 use Rattle.nb_vault.specs.Vaults.{Chronicled, state_of, rules_of, StandsForState, adopts, commits, KeptOf, SettledOver, DecidedLines, DoubtedLines, UnsettledLines, IsDurable, Adds, LinesOf}
+use Rattle.nb_vault.proofs.Lines.{no_both}
 use Rattle.nb_vault.proofs.Resting.{leaves_more, leaves_then, rest_images, rest_content}
 use Rattle.nb_journal.proofs.Moments.{started}
 use Rattle.nb_vault.proofs.Seeing.{state_at, state_seen, entries_seen, doubt_seen, either_seen, settled_fresh, room_seen}
-use Rattle.nb_port.specs.Tells.{DiskTells}
 
 -- what is kept of a doubt: nothing, or all of it
 abbrev pub IsKept : Option Entry → Option Entry → Type 0
@@ -163,9 +167,10 @@ module _ {D : Type 0} (tells : DiskTells D) where
 
   -- what was in doubt still is
   pub unsettled_lines : (old new : Parts D) → IsVault tells old → IsVault tells new → (by turn before after : ℕ) (added : List Line) → old.records.doubt ≢ None → new.records.doubt ≡ old.records.doubt
-      → new.records.book.entries ≡ old.records.book.entries → added ≡ Fault by turn before after ∷ [] → tells.content (disk_under new.records) ≡ tells.content (disk_under old.records) → UnsettledLines tells (seen_as old) (seen_as new) by turn before after added
-  unsettled_lines old new vault done by turn before after added some doubt entries is unwritten = record {
+      → new.records.book.entries ≡ old.records.book.entries → before ≡ tells.faults (disk_under old.records) → added ≡ Fault by turn before after ∷ [] → tells.content (disk_under new.records) ≡ tells.content (disk_under old.records) → UnsettledLines tells (seen_as old) (seen_as new) by turn before after added
+  unsettled_lines old new vault done by turn before after added some doubt entries counted is unwritten = record {
     some = λ e. some_doubt old.records.doubt some (sym (doubt_seen tells old vault) ∙ e);
+    from = counted;
     lines = is;
     written = unwritten;
     entries = entries_seen tells new done ∙ entries ∙ sym (entries_seen tells old vault);
@@ -248,6 +253,27 @@ module _ {D : Type 0} (tells : DiskTells D) where
   pub tears_err : (old : Parts D) (entry : Option Entry) (e : Entry) (counts : Counts) (before after : Option (List ℕ)) → entry ≡ Some e → CommitWrites old entry before after (Err counts)
       → TearsEntry old.records.head old.records.book.cap old.records.book.entries e before after
   tears_err old entry e counts before after is writes = subst (λ (o : Option Entry). CommitWrites old o before after (Err counts)) is writes
+
+  -- the counts of one that failed, from those before the turn
+  pub counts_err : (old start mid new : Parts D) (by turn : ℕ) (entry : Option Entry) (counts : Counts) → SameButRoom old start → IsVault tells start → tells.faults (disk_under start.records) ≤ tells.faults (disk_under mid.records)
+      → (start.records.doubt ≡ None → tells.faults (disk_under mid.records) ≡ tells.faults (disk_under start.records)) → CommitGives tells mid new by turn entry (Err counts)
+      → (tells.faults (disk_under old.records) ≤ counts.before) × (old.records.journal.stale ≡ false → counts.before ≡ tells.faults (disk_under old.records)) × Rose counts.before counts.after × (counts.after ≡ tells.faults (disk_under new.records))
+  counts_err old start mid new by turn entry counts same vault grows idle gives =
+      let failed = failed_by entry gives in
+      let from : tells.faults (disk_under start.records) ≡ tells.faults (disk_under old.records) = ap (λ (j : Journal D). tells.faults j.disk) same.journal in (
+        omega (arith, failed.before, grows, from),
+        λ fresh. failed.before ∙ idle (none_fresh start.records.doubt (front_bytes start.records.book.cap start.records.head) vault.rests.items start.records.journal vault.rests.journal (ap (λ (j : Journal D). j.stale) same.journal ∙ fresh)) ∙ from,
+        failed.rose,
+        failed.after,
+      )
+    where
+      failed_by : (e : Option Entry) → CommitGives tells mid new by turn e (Err counts) → Failed tells mid.records new.records counts
+      failed_by None is = absurd cc
+      failed_by (Some e) is = is.2
+
+      none_fresh : (d : Option Entry) (front : List ℕ) (items : List (List ℕ)) (j : Journal D) → RestsIn tells front items d j → j.stale ≡ false → d ≡ None
+      none_fresh None front items j rests fresh = refl
+      none_fresh (Some e) front items j rests fresh = absurd (no_both j.stale fresh rests.stale)
 
   -- ---- the verdict
 

@@ -97,7 +97,7 @@ doubt_none lines line no_fault no_doubt = ap (λ (xs : List Line). reverse (filt
 
 -- ---- soundness
 
-no_both : (b : Bool) → b ≡ false → b ≡ true → ⊥
+pub no_both : (b : Bool) → b ≡ false → b ≡ true → ⊥
 no_both true e f = cc
 no_both false e f = cc
 

@@ -135,9 +135,11 @@ pub record DoubtedLines {D : Type 0} (tells : DiskTells D) (old new : Chronicled
   pub written : TearsEntry old.origin.head old.origin.cap over entry (tells.content old.disk) (tells.content new.disk)
   pub doubt : doubt_in new ≡ entry ∷ []
 
--- a turn that could not settle what was in doubt: the fault alone, and nothing is written; the same is in doubt then
+-- a turn that could not settle what was in doubt: the fault alone, told with the count at the start, and nothing is written; the same
+-- is in doubt then
 pub record UnsettledLines {D : Type 0} (tells : DiskTells D) (old new : Chronicled D) (by turn before after : ℕ) (added : List Line) : Type 0 where
   pub some : doubt_in old ≢ []
+  pub from : before ≡ tells.faults old.disk
   pub lines : added ≡ Fault by turn before after ∷ []
   pub written : tells.content new.disk ≡ tells.content old.disk
   pub entries : entries_in new ≡ entries_in old
@@ -174,7 +176,8 @@ SameWhere old new (answers.Worn faults) = new ≡ old
 SameWhere old new answers.NoMemory = new ≡ old
 SameWhere old new other = Unit {0}
 
--- a fault lies within the call's counts of faults
-abbrev pub FaultWithin : ℕ → ℕ → Answer → Type 0
-FaultWithin from to (answers.DiskFault before after) = (from ≤ before) × Rose before after × (after ≤ to)
-FaultWithin from to other = Unit {0}
+-- a fault is told with the disk's count at the end of the call, and with that at its start where nothing was in doubt
+abbrev pub FaultWithin : {D : Type 0} → DiskTells D → Chronicled D → Chronicled D → Answer → Type 0
+FaultWithin tells old new (answers.DiskFault before after) =
+    (tells.faults old.disk ≤ before) × (old.stale ≡ false → before ≡ tells.faults old.disk) × Rose before after × (after ≡ tells.faults new.disk)
+FaultWithin tells old new other = Unit {0}

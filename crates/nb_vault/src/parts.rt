@@ -62,7 +62,7 @@ impl<D: Disk> Parts<D> {
         ensures durable { DurableWhere D.tells (seen_as self.new) result }
         ensures quiet { state_of (seen_as self.new) ≡ state_of (seen_as self.old) → D.tells.content (disk_under self.new.records) ≡ D.tells.content (disk_under self.old.records) }
         ensures same { SameWhere (seen_as self.old) (seen_as self.new) result }
-        ensures fault { FaultWithin (D.tells.faults (disk_under self.old.records)) (D.tells.faults (disk_under self.new.records)) result }
+        ensures fault { FaultWithin D.tells (seen_as self.old) (seen_as self.new) result }
         ensures count { D.tells.faults (disk_under self.old.records) ≤ D.tells.faults (disk_under self.new.records) }
         ensures room { vec_capacity out.new ≡ vec_capacity out.old }
     {
@@ -102,6 +102,7 @@ impl<D: Disk> Parts<D> {
         ensures turn { MayBeTurn turn self.new.lines.items }
         ensures content { D.tells.content (disk_under self.new.records) ≡ D.tells.content (disk_under self.old.records) }
         ensures any_moment { LeavesOnly D.tells (disk_under self.old.records) (disk_under self.new.records) (EitherOf self.old.records) }
+        ensures idle { self.old.records.doubt ≡ None → D.tells.faults (disk_under self.new.records) ≡ D.tells.faults (disk_under self.old.records) }
         ensures count { D.tells.faults (disk_under self.old.records) ≤ D.tells.faults (disk_under self.new.records) }
     {
         match self.records.settle() {

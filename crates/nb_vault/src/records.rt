@@ -39,6 +39,7 @@ impl<D: Disk> Records<D> {
         ensures spare { self.old.book.spare ≤ self.new.book.spare + 1 }
         ensures content { D.tells.content (disk_under self.new) ≡ D.tells.content (disk_under self.old) }
         ensures any_moment { LeavesOnly D.tells (disk_under self.old) (disk_under self.new) (EitherOf self.old) }
+        ensures idle { self.old.doubt ≡ None → D.tells.faults (disk_under self.new) ≡ D.tells.faults (disk_under self.old) }
         ensures count { D.tells.faults (disk_under self.old) ≤ D.tells.faults (disk_under self.new) }
     {
         match self.journal.settle() {

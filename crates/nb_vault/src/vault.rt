@@ -67,7 +67,7 @@ impl<D: Disk> Vault<D> {
         ensures durable { DurableWhere D.tells self.new result }
         ensures quiet { state_of self.new ≡ state_of self.old → D.tells.content self.new.disk ≡ D.tells.content self.old.disk }
         ensures same { SameWhere self.old self.new result }
-        ensures fault { FaultWithin (D.tells.faults self.old.disk) (D.tells.faults self.new.disk) result }
+        ensures fault { FaultWithin D.tells self.old self.new result }
         ensures keeps { Keeps D.tells self.new }
         ensures count { D.tells.faults self.old.disk ≤ D.tells.faults self.new.disk }
         ensures room { vec_capacity out.new ≡ vec_capacity out.old }

@@ -16,7 +16,7 @@ use Rattle.nb_vault.specs.declared.vault.TheConstants.{MAX_FAULTS}
 use Rattle.nb_vault.specs.Vaults.{StandsForState, adopts, commits, request_of, rules_of, state_of}
 use Rattle.nb_vault.proofs.Lines.{next_may_be}
 use Rattle.nb_vault.proofs.Seeing.{room_vault, room_seen}
-use Rattle.nb_vault.proofs.Answering.{leaves_here, leaves_unsettled, leaves_both, decides, decided_lines, doubts, doubted_lines, adopts_are, commits_are, durable, commit_ok, commit_err, verdict_is, from_start, adds_from, together, unsettled_lines, tears_err, quiet_ok, quiet_err}
+use Rattle.nb_vault.proofs.Answering.{leaves_here, leaves_unsettled, leaves_both, decides, decided_lines, doubts, doubted_lines, adopts_are, commits_are, durable, commit_ok, commit_err, counts_err, verdict_is, from_start, adds_from, together, unsettled_lines, tears_err, quiet_ok, quiet_err}
 use Rattle.nb_vault.proofs.parts.Parts.answer.Goals as goal
 
 pub returns-then-self-ge-MAX_FAULTS-clause-any_moment : goal.returns-then-self-ge-MAX_FAULTS-clause-any_moment
@@ -62,7 +62,7 @@ returns-in-Err-clause-lines g c =
     let gives = c.in-Err.ensures.gives in
     let added = Fault c.args.by turn counts.before counts.after ∷ [] in
     adds_from tells c.args.self.now start new c.reserve.ensures.same c.args.by turn (request_of c.args.kind c.args.body.now c.args.moment) (DiskFault counts.before counts.after) added c.next_turn-turn.ensures gives.2
-    ((refl, refl), tt) (inl (unsettled_lines tells start new vault c.ready.ensures.vault c.args.by turn counts.before counts.after added gives.0 gives.1 gives.3.entries refl c.ready.ensures.content))
+    ((refl, refl), tt) (inl (unsettled_lines tells start new vault c.ready.ensures.vault c.args.by turn counts.before counts.after added gives.0 gives.1 gives.3.entries gives.3.before refl c.ready.ensures.content))
 
 pub returns-in-Err-commit-clause-turn : goal.returns-in-Err-commit-clause-turn
 returns-in-Err-commit-clause-turn g c =
@@ -102,6 +102,13 @@ returns-in-Err-commit-clause-lines g c =
     (adopts_are c.args.by turn ready.0 (Doubt c.args.by turn commit.0 ∷ Fault c.args.by turn counts.before counts.after ∷ []) ((refl, refl), ((refl, refl), tt)))
     (inr (doubted_lines tells start mid vault c.ready.ensures.vault c.ready.ensures.origin c.args.by turn ready.0 ready.4 ready.3 ready.1 c.ready.ensures.content new c.commit.ensures.vault request commit.0 counts.before counts.after added (sym commit.1 ∙ ap (λ (d : Decision). d.entry) is) commit.3 refl
     (tears_err tells mid c.decide-decision.result.entry commit.0 counts (tells.content (disk_under mid.records)) (tells.content (disk_under new.records)) commit.1 c.in-Err-commit.ensures.writes)))
+
+pub returns-in-Err-commit-clause-fault : goal.returns-in-Err-commit-clause-fault
+returns-in-Err-commit-clause-fault g c =
+    let start = c.reserve.new.self in
+    let vault = room_vault g.D.Disk.tells c.args.self.now start c.reserve.ensures.same c.requires.vault in
+    counts_err g.D.Disk.tells c.args.self.now start c.ready.new.self c.commit.new.self c.args.by c.next_turn-turn.result c.decide-decision.result.entry c.in-Err-commit.field-0
+    c.reserve.ensures.same vault c.ready.ensures.count c.ready.ensures.idle c.in-Err-commit.ensures.gives
 
 pub returns-in-Err-commit-clause-any_moment : goal.returns-in-Err-commit-clause-any_moment
 returns-in-Err-commit-clause-any_moment g c =

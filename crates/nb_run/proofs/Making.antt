@@ -1,0 +1,45 @@
+-- A head alone, for a disk without a journal, makes one, unless something failed.
+use Rattle.std.proofs.Common.{◌≡◌, ℕ, ◌+◌, ◌≤◌, List, ◌++◌, length, Option, None, Some, IfSome, refl, sym, ap, subst, ◌∙◌, arith, inl, inr}
+use Rattle.std.specs.Io.KnownBytes.{Consumes, IsAtEnd}
+use Rattle.std.proofs.lemmas.List.{length-append}
+use Rattle.std.proofs.lemmas.Option.{same_Some}
+use Rattle.nb_port.specs.Tells.{DiskTells}
+use Rattle.nb_port.specs.Faults.{Rose}
+use Rattle.nb_journal.specs.declared.limits.TheConstants.{HEAD}
+use Rattle.nb_journal.specs.Layout.{magic}
+use Rattle.nb_journal.specs.Making.{IsCap}
+use Rattle.nb_journal.specs.Reading.{found_in}
+use Rattle.nb_run.specs.declared.ending.TheConstants.{CLEAN}
+use Rattle.nb_run.specs.declared.init.InitEnd.{InitEnd}
+use Rattle.nb_run.specs.declared.init.InitEnd.TheVariants.{Made, BadCap, ReadFault, BadInput, Exists, LookFault, DiskFault}
+use Rattle.nb_run.specs.Init.{MakesAs, ending_of, TookOther, IsHeadInput, HasNoJournal}
+
+-- an input of a head has no other length
+not_other : (left left' : Option (List ℕ)) (count : ℕ) → IsHeadInput left → TookOther left left' count → ⊥
+not_other None left' count input took = absurd cc
+not_other (Some bytes) None count input took = absurd took.took
+not_other (Some bytes) (Some behind) count input took =
+    let whole : length bytes ≡ HEAD = ap length (same_Some bytes input.0 input.2) ∙ input.1 in
+    let parts : length bytes ≡ length took.taken + length behind = ap length took.took ∙ length-append took.taken behind in
+    elim took.other [
+      | inl few ↦ absurd (omega (arith, whole, parts, few.0, ends few.1))
+      | inr many ↦ absurd (omega (arith, whole, parts, many))
+    ]
+  where
+    ends : IsAtEnd (Some behind) → length behind ≡ 0
+    ends is = ap length is
+
+-- a disk without a journal is not spared
+not_born : (content : Option (List ℕ)) → HasNoJournal content → IfSome content (λ image. found_in image ≡ magic) → ⊥
+not_born None none born = absurd cc
+not_born (Some image) none born = none.1 (ap found_in (sym (same_Some image none.0 none.2)) ∙ born)
+
+pub makes_clean : {D : Type 0} (tells : DiskTells D) (rest rest' : Option (List ℕ)) (source source' : ℕ) (old new : D) (cap : ℕ) (end : InitEnd) → MakesAs tells rest rest' source source' old new cap end
+    → IsCap cap → IsHeadInput rest → HasNoJournal (tells.content old) → (Rose source source' → ⊥) → (Rose (tells.faults old) (tells.faults new) → ⊥) → (ending_of end).status ≡ CLEAN
+makes_clean tells rest rest' source source' old new cap Made is range input none no_source no_disk = refl
+makes_clean tells rest rest' source source' old new cap BadCap is range input none no_source no_disk = absurd (is.0 range)
+makes_clean tells rest rest' source source' old new cap ReadFault is range input none no_source no_disk = absurd (no_source is.1)
+makes_clean tells rest rest' source source' old new cap (BadInput bytes) is range input none no_source no_disk = absurd (not_other rest rest' bytes input is.1)
+makes_clean tells rest rest' source source' old new cap Exists is range input none no_source no_disk = absurd (not_born (tells.content old) none is.2.born)
+makes_clean tells rest rest' source source' old new cap LookFault is range input none no_source no_disk = absurd (no_disk is.2)
+makes_clean tells rest rest' source source' old new cap DiskFault is range input none no_source no_disk = absurd (no_disk is.2)
