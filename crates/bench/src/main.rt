@@ -1,19 +1,21 @@
 //! A program that does a named piece of work over bytes a number of times, so that its speed can be measured:
-//! `bench sha|hmac|seal|unseal|stream SIZE TIMES`. It prints the SHA-256 digest of what the work made, in hexadecimal.
+//! `bench ROW SIZE TIMES`. It prints the SHA-256 digest of what the work made, in hexadecimal.
 //!
-//! The work begins with SIZE bytes of a pattern. Each round works on what the last one made, so that none can be left
-//! out. [`Command`] reads the words and has the work done. [`rounds`] has a loop for each [`Work`](work::Work), with
-//! its exact result. How long a loop takes is no claim of the proofs: bench/run measures it from outside.
+//! The work begins with SIZE bytes of a pattern. Each round works on what the last one made, so that none can be left out. A file
+//! has one subject and its rows: a new row touches that file alone. How long a round takes is no claim of the proofs, and no clause
+//! says more than its safety needs: bench/run measures from outside, and the tests compare what is made with other programs.
 #![tactic(auto)]
 
-mod command;
-mod rounds;
+mod hashing;
+mod keystream;
+mod pattern;
+mod sealing;
 #[cfg(test)]
 mod tests;
-mod work;
 
 use anyhow::anyhow;
-use command::Command;
+use nb_seal::{NoMemory, sha};
+use std::alloc::Global;
 use std::env;
 use std::process::ExitCode;
 
@@ -22,15 +24,49 @@ const USAGE: &str = "usage: bench sha|hmac|seal|unseal|stream SIZE TIMES";
 // The words are none of the program's.
 const BAD_WORDS: u8 = 2;
 
+/// What came of a row.
+#[derive(Drop)]
+pub enum Made {
+    /// The bytes that it made.
+    Bytes(Vec<u8>),
+    /// There is no such row.
+    Unknown,
+}
+
 fn main(rt: HostRuntime) -> anyhow::Result<ExitCode> {
     let words: Vec<String> = env::args(&rt)?.skip(1).collect(rt.alloc())?;
-    let Some(command) = Command::read(words.as_slice()) else {
+    let line = line_of(rt.alloc(), words.as_slice()).map_err(|_| anyhow!("out of memory"))?;
+    let Some(line) = line else {
         eprintln!(rt; "{USAGE}")?;
         return Ok(ExitCode::from(BAD_WORDS));
     };
-    let line = command
-        .line(rt.alloc())
-        .map_err(|_| anyhow!("out of memory"))?;
     println!(rt; "{line}")?;
     Ok(ExitCode::SUCCESS)
+}
+
+// Does what the words say, and gives the digest of what it made, where the words are a row, a size in bytes and a number of times.
+fn line_of(alloc: Global, words: &[String]) -> Result<Option<String>, NoMemory> {
+    if words.len() != 3 {
+        return Ok(None);
+    }
+    let (Ok(size), Ok(times)) = (words[1].as_str().parse(), words[2].as_str().parse()) else {
+        return Ok(None);
+    };
+    match run(alloc, words[0].as_str(), size, times)? {
+        Made::Bytes(bytes) => Ok(Some(hex::encode(alloc, sha(&bytes))?)),
+        Made::Unknown => Ok(None),
+    }
+}
+
+// What a row makes: the first subject that has it does it.
+fn run(alloc: Global, row: &str, size: u32, times: u32) -> Result<Made, NoMemory> {
+    match hashing::run(alloc, row, size, times)? {
+        Made::Bytes(bytes) => return Ok(Made::Bytes(bytes)),
+        Made::Unknown => {}
+    }
+    match keystream::run(alloc, row, size, times)? {
+        Made::Bytes(bytes) => return Ok(Made::Bytes(bytes)),
+        Made::Unknown => {}
+    }
+    sealing::run(alloc, row, size, times)
 }

@@ -1,6 +1,6 @@
 //! The program's words and lines. Digests are from a Python program over hashlib, hmac and another ChaCha20.
 
-use crate::command::Command;
+use crate::line_of;
 use std::alloc::{AllocError, Global};
 use std::test::Fail;
 
@@ -61,13 +61,8 @@ fn lines(rt: HostRuntime) -> Result<(), Fail> {
     ];
     for (line, want) in cases {
         let words = words_of(rt.alloc(), line)?;
-        match Command::read(words.as_slice()) {
-            Some(command) => {
-                let made = command.line(rt.alloc())?;
-                assert_eq!(rt; made.as_str(), want, "at {line}");
-            }
-            None => assert!(rt; false, "at {line}"),
-        }
+        let made = line_of(rt.alloc(), words.as_slice())?;
+        assert_eq!(rt; made.as_deref(), Some(want), "at {line}");
     }
     Ok(())
 }
