@@ -1,30 +1,40 @@
 ghost use Rattle.std.specs.Prelude.{◌≡◌, ◌≤◌, ◌↔◌, ◌+◌, ◌++◌, length, codes, vec_capacity, vec_len, IfOk, IsTrue, Ok};
 ghost use Rattle.nb_seal.specs.Seal.{Opens, seal_of};
-ghost use Rattle.nb_units.specs.Fields.{allowed};
 ghost use Rattle.nb_units.specs.Room.{spare_of};
 ghost use Rattle.nb_units.specs.Reads.{Reads};
 ghost use Rattle.nb_units.specs.declared.buffer.TheConstants.{MAX_BUFFER};
-ghost use Rattle.nb_endorse.specs.declared.receipt.TheConstants.{RECEIPT_BYTES};
+ghost use Rattle.nb_endorse.specs.declared.receipt.TheConstants.{UNTAGGED_BYTES, SIGNED_BYTES, RECEIPT_BYTES};
 ghost use Rattle.nb_endorse.specs.Spelling.{IsSigned, key_bytes, shown_bytes, receipt_bytes, signed_bytes};
-ghost use Rattle.nb_endorse.specs.Reading.{is_code, key_flag, may_show, may_hold, signed_of, behind_moment, behind_key};
+ghost use Rattle.nb_endorse.specs.Reading.{is_receipt_code, key_flag, may_show, may_hold, signed_of, behind_moment, behind_key};
 ghost use Rattle.nb_endorse.specs.Sealed.{ReadsSealed};
 ghost use Rattle.nb_endorse.specs.Tags.{receipt_tag, signed};
 
 use crate::sealed::SealedFault;
 use nb_seal::{hmac, same, seal_to, unseal_to};
-use nb_units::{Buffer, Cut, Epoid, Malformed, PartyId, Pen, Price, Secret, Tag};
+use nb_units::width::{
+    CODE, EPOID, FLAG, MOMENT, MONEY, PARTY, PLACE, PRODUCT, SEAL, SECRET, SHOWN, TAG,
+};
+use nb_units::{Buffer, Cut, Epoid, Malformed, PartyId, Pen, Price, Secret, Tag, allow, is_reason};
 
 /// The code of an order that was paid.
-pub const PAID: u8 = 0;
+pub const PAID_CODE: u8 = 0;
 
-/// The first code of an order that was refused.
-pub const FIRST_REFUSED: u8 = 31;
+// The bytes of a receipt before its tag.
+const UNTAGGED_BYTES: usize = CODE
+    + 2 * PARTY
+    + PRODUCT
+    + MONEY
+    + EPOID
+    + PLACE
+    + MOMENT
+    + (FLAG + SECRET)
+    + (FLAG + 2 * SHOWN);
 
-/// The last code of an order that was refused.
-pub const LAST_REFUSED: u8 = 37;
+/// The bytes of a receipt with its tag.
+pub const SIGNED_BYTES: usize = UNTAGGED_BYTES + TAG;
 
-/// The bytes of a receipt, sealed.
-pub const RECEIPT_BYTES: usize = 167;
+/// The bytes of a receipt with its tag, sealed.
+pub const RECEIPT_BYTES: usize = SEAL + SIGNED_BYTES;
 
 // A receipt is sealed under this label, and what its tag is over begins with it.
 const RECEIPT_LABEL: [u8; 4] = *b"rcpt";
@@ -34,13 +44,13 @@ const ABSENT: u8 = 0;
 
 const PRESENT: u8 = 1;
 
-// What stands in place of a key that is not there.
-const NO_KEY: Secret = [0; 32];
+/// What stands in place of a key that is not there: zeros.
+pub const NO_KEY: Secret = [0; 32];
 
 /// What the house says of an order to one of its parties.
 #[derive(Clone, Copy, PartialEq, Eq, Debug)]
 pub struct Receipt {
-    /// [`PAID`], or why the order was refused: from [`FIRST_REFUSED`] to [`LAST_REFUSED`]. One byte wide.
+    /// [`PAID_CODE`], or why the order was refused: from [`FIRST_REASON`](nb_units::FIRST_REASON) to [`LAST_REASON`](nb_units::LAST_REASON). One byte wide.
     pub code: u8,
     /// Who pays, 4 bytes wide.
     pub consumer: PartyId,
@@ -70,10 +80,10 @@ pub struct Signed {
 }
 
 impl Signed {
-    /// The bytes of the receipt, 103, and of its tag, 32, before they are sealed.
+    /// The bytes of the receipt and of its tag before they are sealed: [`SIGNED_BYTES`].
     pub fn spelled(&self) -> Buffer
         ensures bytes { result ≡ signed_bytes self.now }
-        ensures long { length result ≡ 135 }
+        ensures long { length result ≡ SIGNED_BYTES }
     {
         let mut bytes = spelled(&self.receipt);
         bytes.raw(&self.tag);
@@ -164,7 +174,7 @@ fn tag_of(r: &Receipt, house: &Secret) -> Tag
 #[tactic(auto, unfolding(crate::specs::Spelling::receipt_bytes))]
 fn spelled(r: &Receipt) -> Buffer
     ensures bytes { result ≡ receipt_bytes r.now }
-    ensures long { length result ≡ 103 }
+    ensures long { length result ≡ UNTAGGED_BYTES }
 {
     let mut bytes = Buffer::new();
     bytes.u8(r.code);
@@ -233,7 +243,7 @@ fn read_fields(bytes: &[u8]) -> Result<Signed, Malformed>
     let mut cut = Cut::new(bytes);
     let place = cut.place();
     let code = cut.u8()?;
-    allow(is_code(code), place)?;
+    allow(is_receipt_code(code), place)?;
     let consumer = cut.u32()?;
     let merchant = cut.u32()?;
     let product = cut.u32()?;
@@ -302,17 +312,17 @@ fn read_shown(front: Receipt, mut cut: Cut) -> Result<Signed, Malformed>
 }
 
 // Whether a receipt may have this code.
-fn is_code(code: u8) -> bool
-    ensures { result ≡ is_code code }
+fn is_receipt_code(code: u8) -> bool
+    ensures { result ≡ is_receipt_code code }
 {
-    code == PAID || (FIRST_REFUSED <= code && code <= LAST_REFUSED)
+    code == PAID_CODE || is_reason(code)
 }
 
 // The byte before the key of a receipt with this code.
 fn key_flag(code: u8) -> u8
     ensures { result ≡ key_flag code }
 {
-    if code == PAID { PRESENT } else { ABSENT }
+    if code == PAID_CODE { PRESENT } else { ABSENT }
 }
 
 // Whether this byte may stand before the numbers that a receipt with this code shows.
@@ -320,7 +330,7 @@ fn key_flag(code: u8) -> u8
 fn may_show(code: u8, has_shown: u8) -> bool
     ensures { result ≡ may_show code has_shown }
 {
-    has_shown == ABSENT || (has_shown == PRESENT && code != PAID)
+    has_shown == ABSENT || (has_shown == PRESENT && code != PAID_CODE)
 }
 
 // Whether a field behind this byte may hold what it holds: anything where the field is there, and else zeros.
@@ -329,11 +339,4 @@ fn may_hold(has: u8, is_zero: bool) -> bool
     ensures { result ≡ may_hold has is_zero }
 {
     has == PRESENT || is_zero
-}
-
-// Whether the value of the field at this place is allowed.
-fn allow(is: bool, place: usize) -> Result<(), Malformed>
-    ensures { Reads result (allowed is place) }
-{
-    if is { Ok(()) } else { Err(Malformed { place }) }
 }

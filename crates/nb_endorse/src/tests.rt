@@ -3,7 +3,7 @@
 
 use super::*;
 use nb_seal::seal_to;
-use nb_units::{AcctId, Digest, Epoid, NoMemory, PartyId, Price, Secret, Small, room};
+use nb_units::{AcctId, Digest, Epoid, MAX_MEMO, NoMemory, PartyId, Price, Secret, Small, room};
 use std::alloc::Global;
 use std::test::Fail;
 
@@ -73,7 +73,7 @@ fn endorsements_are_sealed_and_read(rt: HostRuntime) -> Result<(), Fail> {
         assert_eq!(rt; digest_of(&endorsement), digest_from(case.digest)?);
 
         let mut out = Vec::new(rt.alloc());
-        if endorsement.memo.as_slice().len() > MAX_MEMO as usize {
+        if endorsement.memo.as_slice().len() > MAX_MEMO {
             return Err("no memo has more".into());
         }
         if let Err(NoMemory) = room(&mut out, MAX_SEALED) {

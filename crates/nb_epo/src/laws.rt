@@ -1,6 +1,6 @@
 //! What holds of every order and every hidden part. Each function here does nothing: its contract is the law.
 
-ghost use Rattle.nb_epo.specs.Laws.{OrderReadsBack, OrderSpellsBack, OneOrder, HiddenReadsBack, HiddenSpellsBack, OneHidden, LengthsAre, SignedIsRight, LimitsAre};
+ghost use Rattle.nb_epo.specs.Laws.{OrderReadsBack, OrderSpellsBack, OneOrder, HiddenReadsBack, HiddenSpellsBack, OneHidden, LengthsAre, SignedIsRight, LabelsAre};
 
 /// A law: what was spelled of an order is read as that order.
 pub fn order_reads_back()
@@ -43,7 +43,7 @@ pub fn signed_is_right()
     ensures { SignedIsRight }
 {}
 
-/// A law: the limits and the labels in numbers and texts.
-pub fn limits()
-    ensures { LimitsAre }
+/// A law: the labels in texts.
+pub fn labels()
+    ensures { LabelsAre }
 {}

@@ -1,7 +1,9 @@
 // Values made by another program. Keys are one byte repeated; the consumer's is 32 times 44.
 
 use super::*;
-use nb_units::{AcctId, Digest, Epoid, NoMemory, PartyId, Price, Small, room};
+use nb_units::{
+    AcctId, Digest, Epoid, MAX_HIDDEN, MAX_ORDER, NoMemory, PartyId, Price, Small, room,
+};
 use std::alloc::Global;
 use std::test::Fail;
 
@@ -104,7 +106,7 @@ fn orders_are_signed_written_and_read(rt: HostRuntime) -> Result<(), Fail> {
         let want = bytes_of(rt.alloc(), case.bytes)?;
 
         let mut out = Vec::new(rt.alloc());
-        if order.hidden.as_slice().len() > MAX_HIDDEN as usize {
+        if order.hidden.as_slice().len() > MAX_HIDDEN {
             return Err("no hidden part has more".into());
         }
         if let Err(NoMemory) = room(&mut out, MAX_ORDER) {
@@ -158,7 +160,7 @@ fn the_hidden_part_is_revealed(rt: HostRuntime) -> Result<(), Fail> {
             memo: memo_of(case.memo)?,
         };
         let sealed = order.hidden.as_slice();
-        if sealed.len() > MAX_HIDDEN as usize {
+        if sealed.len() > MAX_HIDDEN {
             return Err("no hidden part has more".into());
         }
         assert_eq!(rt; reveal(sealed, &KEY), Ok(hidden));

@@ -3,13 +3,14 @@ ghost use Rattle.nb_msgs.specs.ReplyBytes.{ticket_bytes, sealed_ticket, grant_by
 
 use nb_endorse::ReplyKeys;
 use nb_seal::seal_to;
+use nb_units::width::{LENGTH, MOMENT, NONCE, PARTY, SEAL, SECRET};
 use nb_units::{Buffer, PartyId, Secret};
 
 // The bytes of a ticket, sealed.
-const TICKET_BYTES: usize = 80;
+const TICKET_BYTES: usize = SEAL + 2 * PARTY + MOMENT + SECRET;
 
 // The bytes of a grant, sealed.
-const GRANT_BYTES: usize = 168;
+const GRANT_BYTES: usize = SEAL + PARTY + NONCE + MOMENT + SECRET + LENGTH + TICKET_BYTES;
 
 // A ticket is sealed under this label.
 const TICKET_LABEL: [u8; 4] = *b"tick";

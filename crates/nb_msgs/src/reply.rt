@@ -3,26 +3,34 @@ ghost use Rattle.nb_seal.specs.Seal.{seal_of};
 ghost use Rattle.nb_units.specs.Room.{spare_of};
 ghost use Rattle.nb_msgs.specs.Limits.{LimitsAre};
 ghost use Rattle.nb_msgs.specs.ReplyBytes.{reply_bytes, result_frame, status_bytes, status_frame, done_frame, refusal_frame};
-ghost use Rattle.nb_msgs.specs.declared.reply.TheConstants.{MOST_BODY, REPLY_ROOM, LONGEST_REPLY, MOST_STATUS};
+ghost use Rattle.nb_msgs.specs.declared.reply.TheConstants.{MOST_BODY, REPLY_ROOM, LONGEST_REPLY, MOST_TEXT, MOST_STATUS};
 
 use crate::grant::grant_body;
-use nb_endorse::{Receipt, Refusal, Reply, ReplyKeys, seal_receipt, sign_receipt};
+use nb_endorse::{
+    RECEIPT_BYTES, Receipt, Refusal, Reply, ReplyKeys, SIGNED_BYTES, seal_receipt, sign_receipt,
+};
 use nb_frame::write_frame;
 use nb_seal::seal_to;
-use nb_units::frames::{DONE, GRANT, REFUSED, RESULT, STATUS};
+use nb_units::frames::{
+    DONE_REPLY, GRANT_REPLY, HEADER, REFUSED_REPLY, RESULT_REPLY, STATUS_REPLY,
+};
+use nb_units::width::{EPOID, FLAG, LENGTH, PLACE, SEAL};
 use nb_units::{AcctId, Buffer, Epoid, Secret};
 
 /// The room that is asked for a reply's frame.
 pub const REPLY_ROOM: usize = 512;
 
 /// The most bytes that a reply's frame has.
-pub const LONGEST_REPLY: usize = 350;
+pub const LONGEST_REPLY: usize = HEADER + MOST_BODY;
 
 // The most bytes of a reply's body: those of a result, two sealed receipts, each behind its length.
-const MOST_BODY: usize = 342;
+const MOST_BODY: usize = 2 * (LENGTH + RECEIPT_BYTES);
+
+// The most bytes of a status before it is sealed: place, identifier, and a receipt behind the byte that says whether there is one.
+const MOST_TEXT: usize = PLACE + EPOID + FLAG + SIGNED_BYTES;
 
 // The most bytes of a status, sealed.
-const MOST_STATUS: usize = 192;
+const MOST_STATUS: usize = SEAL + MOST_TEXT;
 
 // The status of an order is sealed under this label.
 const STATUS_LABEL: [u8; 4] = *b"stat";
@@ -43,7 +51,7 @@ pub fn write_reply(reply: &Reply, keys: &ReplyKeys, out: &mut Vec<u8>)
     match reply {
         Reply::Result { merchant, consumer } => {
             write_frame(
-                RESULT,
+                RESULT_REPLY,
                 result_body(merchant, consumer, keys).as_slice(),
                 out,
             );
@@ -54,7 +62,7 @@ pub fn write_reply(reply: &Reply, keys: &ReplyKeys, out: &mut Vec<u8>)
             receipt,
         } => {
             write_frame(
-                STATUS,
+                STATUS_REPLY,
                 status_body(*place, epoid, receipt, keys).as_slice(),
                 out,
             );
@@ -67,15 +75,19 @@ pub fn write_reply(reply: &Reply, keys: &ReplyKeys, out: &mut Vec<u8>)
             session,
         } => {
             write_frame(
-                GRANT,
+                GRANT_REPLY,
                 &grant_body(*consumer, *merchant, *nonce, *until, session, keys),
                 out,
             );
         }
         Reply::Done { acct, at, balance } => {
-            write_frame(DONE, done_body(*acct, *at, *balance).as_slice(), out);
+            write_frame(DONE_REPLY, done_body(*acct, *at, *balance).as_slice(), out);
         }
-        Reply::Refused(refusal) => write_frame(REFUSED, refusal_body(refusal).as_slice(), out),
+        Reply::Refused(refusal) => write_frame(
+            REFUSED_REPLY,
+            refusal_body(refusal).as_slice(),
+            out,
+        ),
     }
 }
 
@@ -106,7 +118,7 @@ fn status_body(place: u64, epoid: &Epoid, receipt: &Option<Receipt>, keys: &Repl
 // The bytes of a status before they are sealed.
 fn status_text(place: u64, epoid: &Epoid, receipt: &Option<Receipt>, house: &Secret) -> Buffer
     ensures bytes { result ≡ status_bytes house.now place epoid.now receipt.now }
-    ensures short { length result ≤ 160 }
+    ensures short { length result ≤ MOST_TEXT }
 {
     let mut text = Buffer::new();
     text.u64(place);

@@ -22,31 +22,31 @@ pub const MAX_BODY: u32 = 1_048_576;
 pub const HEADER: usize = 8;
 
 /// The kind of a frame by which a merchant hands in an order that it endorsed.
-pub const ENDORSED_ORDER: u8 = 0x06;
+pub const ORDER_REQUEST: u8 = 0x06;
 
 /// The kind of a reply: the result of an order.
-pub const RESULT: u8 = 0x07;
+pub const RESULT_REPLY: u8 = 0x07;
 
 /// The kind of a frame by which a party asks for the status of an order.
-pub const STATUS_QUERY: u8 = 0x09;
+pub const STATUS_REQUEST: u8 = 0x09;
 
 /// The kind of a reply: the status of an order.
-pub const STATUS: u8 = 0x0A;
+pub const STATUS_REPLY: u8 = 0x0A;
 
 /// The kind of a reply: a ticket is granted.
-pub const GRANT: u8 = 0x0C;
+pub const GRANT_REPLY: u8 = 0x0C;
 
 /// The kind of a frame by which the operator enrols a party.
-pub const ENROL: u8 = 0x0D;
+pub const ENROL_REQUEST: u8 = 0x0D;
 
 /// The kind of a frame by which the operator puts money into an account.
-pub const FUND: u8 = 0x0E;
+pub const FUND_REQUEST: u8 = 0x0E;
 
 /// The kind of a reply: the house did what was asked.
-pub const DONE: u8 = 0x0F;
+pub const DONE_REPLY: u8 = 0x0F;
 
 /// The kind of a reply: the house refuses.
-pub const REFUSED: u8 = 0x10;
+pub const REFUSED_REPLY: u8 = 0x10;
 
 /// A law: the layout of a frame in numbers.
 pub fn layout()

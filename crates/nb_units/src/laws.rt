@@ -1,6 +1,6 @@
 //! What holds of every field and of every identifier. Each function here does nothing: its contract is the law.
 
-ghost use Rattle.nb_units.specs.Laws.{RawStands, ByteStands, U32Stands, U64Stands, TextStands, FieldShort, TextLong, TextShort, DoneExtra, EpoidReadsBack, EpoidSpellsBack, SmallLimit};
+ghost use Rattle.nb_units.specs.Laws.{RawStands, ByteStands, U32Stands, U64Stands, TextStands, FieldShort, TextLong, TextShort, DoneExtra, EpoidReadsBack, EpoidSpellsBack, LimitsAre, ReasonsAre};
 
 /// A law: bytes of a fixed number are read exactly where they stand.
 pub fn raw_stands()
@@ -58,7 +58,8 @@ pub fn epoid_spells_back()
     ensures { EpoidSpellsBack }
 {}
 
-/// A law: the most bytes of a small list in numbers.
-pub fn small_limit()
-    ensures { SmallLimit }
+/// A law: the limits in numbers, and the least and the greatest code of a reason.
+pub fn limits()
+    ensures limits { LimitsAre }
+    ensures reasons { ReasonsAre }
 {}

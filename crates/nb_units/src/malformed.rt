@@ -1,3 +1,7 @@
+ghost use Rattle.std.specs.Prelude.{IsTrue, OnOk};
+ghost use Rattle.nb_units.specs.Fields.{allowed};
+ghost use Rattle.nb_units.specs.Reads.{Reads};
+
 use crate::CutFault;
 
 /// Bytes are not spelled as they should be. The place is that of the first field that fails, in bytes from the front.
@@ -19,4 +23,12 @@ impl From<CutFault> for Malformed {
             CutFault::Extra { place } => Malformed { place },
         }
     }
+}
+
+/// Tests the value of the field at the place: answers [`Malformed`] at that place where it is not allowed.
+pub fn allow(is: bool, place: usize) -> Result<(), Malformed>
+    ensures reads { Reads result (allowed is place) }
+    ensures holds { OnOk result (IsTrue is) }
+{
+    if is { Ok(()) } else { Err(Malformed { place }) }
 }
