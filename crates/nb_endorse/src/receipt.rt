@@ -1,11 +1,12 @@
-ghost use Rattle.std.specs.Prelude.{◌≡◌, ◌≤◌, ◌↔◌, ◌+◌, ◌++◌, length, codes, vec_capacity, vec_len, IfOk, IsTrue, Ok};
+ghost use Rattle.std.specs.Prelude.{◌≡◌, ◌≤◌, ◌↔◌, ◌+◌, ◌++◌, length, codes, vec_capacity, vec_len, IfOk, IfSome, IsTrue, Ok, ◌<◌, ◌^◌};
 ghost use Rattle.nb_seal.specs.Seal.{Opens, seal_of};
 ghost use Rattle.nb_units.specs.Room.{spare_of};
 ghost use Rattle.nb_units.specs.Reads.{Reads};
 ghost use Rattle.nb_units.specs.declared.buffer.TheConstants.{MAX_BUFFER};
 ghost use Rattle.nb_endorse.specs.declared.receipt.TheConstants.{UNTAGGED_BYTES, SIGNED_BYTES, RECEIPT_BYTES};
-ghost use Rattle.nb_endorse.specs.Spelling.{IsSigned, key_bytes, shown_bytes, receipt_bytes, signed_bytes};
+ghost use Rattle.nb_endorse.specs.Spelling.{IsReceipt, IsSigned, key_bytes, shown_bytes, receipt_bytes, signed_bytes};
 ghost use Rattle.nb_endorse.specs.Reading.{is_receipt_code, key_flag, may_show, may_hold, signed_of, behind_moment, behind_key};
+ghost use Rattle.nb_endorse.specs.Replies.{ReceiptKeepsRules};
 ghost use Rattle.nb_endorse.specs.Sealed.{ReadsSealed};
 ghost use Rattle.nb_endorse.specs.Tags.{receipt_tag, signed};
 
@@ -80,9 +81,12 @@ pub struct Signed {
 }
 
 impl Signed {
-    /// The bytes of the receipt and of its tag before they are sealed: [`SIGNED_BYTES`].
+    /// The bytes of the receipt and of its tag before they are sealed: [`SIGNED_BYTES`]. Its code must be one that receipts have;
+    /// there must be a key exactly where it says paid, and then nothing that is shown.
     pub fn spelled(&self) -> Buffer
+        requires lawful { ReceiptKeepsRules self.now.receipt }
         ensures bytes { result ≡ signed_bytes self.now }
+        ensures fits { IsSigned self.now }
         ensures long { length result ≡ SIGNED_BYTES }
     {
         let mut bytes = spelled(&self.receipt);
@@ -108,9 +112,12 @@ pub fn receipt_tag_ok(s: &Signed, house: &Secret) -> bool
     same(&s.tag, &tag_of(&s.receipt, house))
 }
 
-/// The receipt and its tag, sealed under a party's key and the label "rcpt".
+/// The receipt and its tag, sealed under a party's key and the label "rcpt". The receipt must keep the rules that
+/// [`Signed::spelled`] names.
 pub fn seal_receipt(s: &Signed, key: &Secret) -> [u8; RECEIPT_BYTES]
-    ensures { result ≡ seal_of key.now (codes "rcpt") (signed_bytes s.now) }
+    requires lawful { ReceiptKeepsRules s.now.receipt }
+    ensures sealed { result ≡ seal_of key.now (codes "rcpt") (signed_bytes s.now) }
+    ensures fits { IsSigned s.now }
 {
     let mut sealed = [0u8; RECEIPT_BYTES];
     let _all = seal_to(key, &RECEIPT_LABEL, s.spelled().as_slice(), &mut sealed);
@@ -118,10 +125,12 @@ pub fn seal_receipt(s: &Signed, key: &Secret) -> [u8; RECEIPT_BYTES]
 }
 
 /// Appends the receipt and its tag, sealed under a party's key and the label "rcpt": [`RECEIPT_BYTES`] bytes, which needs
-/// room for as many. It takes no memory.
+/// room for as many. The receipt must keep the rules that [`Signed::spelled`] names. It takes no memory.
 pub fn write_receipt(s: &Signed, key: &Secret, out: &mut Vec<u8>)
+    requires lawful { ReceiptKeepsRules s.now.receipt }
     requires room { RECEIPT_BYTES ≤ spare_of out.old }
     ensures bytes { out.new.items ≡ out.old.items ++ seal_of key.now (codes "rcpt") (signed_bytes s.now) }
+    ensures fits { IsSigned s.now }
     ensures long { vec_len out.new ≡ vec_len out.old + RECEIPT_BYTES }
     ensures room { vec_capacity out.new ≡ vec_capacity out.old }
 {
@@ -174,6 +183,7 @@ fn tag_of(r: &Receipt, house: &Secret) -> Tag
 #[tactic(auto, unfolding(crate::specs::Spelling::receipt_bytes))]
 fn spelled(r: &Receipt) -> Buffer
     ensures bytes { result ≡ receipt_bytes r.now }
+    ensures fits { ReceiptKeepsRules r.now → IsReceipt r.now }
     ensures long { length result ≡ UNTAGGED_BYTES }
 {
     let mut bytes = Buffer::new();
@@ -194,6 +204,7 @@ fn spelled(r: &Receipt) -> Buffer
 fn write_key(key: &Option<Secret>, bytes: &mut Buffer)
     requires { length bytes.old + 33 ≤ MAX_BUFFER }
     ensures value { bytes.new ≡ bytes.old ++ key_bytes key.now }
+    ensures fits { IfSome key.now (λ key. length key ≡ 32) }
     ensures long { length bytes.new ≡ length bytes.old + 33 }
 {
     match key {
@@ -212,6 +223,7 @@ fn write_key(key: &Option<Secret>, bytes: &mut Buffer)
 fn write_shown(shown: Option<(u64, u64)>, bytes: &mut Buffer)
     requires { length bytes.old + 17 ≤ MAX_BUFFER }
     ensures value { bytes.new ≡ bytes.old ++ shown_bytes shown }
+    ensures fits { IfSome shown (λ numbers. (numbers.0 < 2 ^ 64) × (numbers.1 < 2 ^ 64)) }
     ensures long { length bytes.new ≡ length bytes.old + 17 }
 {
     match shown {

@@ -1,6 +1,7 @@
-ghost use Rattle.std.specs.Prelude.{◌≡◌, ◌≤◌, ◌++◌, codes, length, vec_capacity};
+ghost use Rattle.std.specs.Prelude.{◌≡◌, ◌≤◌, ◌++◌, codes, length, vec_capacity, IfSome};
 ghost use Rattle.nb_seal.specs.Seal.{seal_of};
 ghost use Rattle.nb_units.specs.Room.{spare_of};
+ghost use Rattle.nb_endorse.specs.Replies.{HasLawfulReceipts, ReceiptKeepsRules};
 ghost use Rattle.nb_msgs.specs.Limits.{LimitsAre};
 ghost use Rattle.nb_msgs.specs.ReplyBytes.{reply_bytes, result_frame, status_bytes, status_frame, done_frame, refusal_frame};
 ghost use Rattle.nb_msgs.specs.declared.reply.TheConstants.{MOST_BODY, REPLY_ROOM, LONGEST_REPLY, MOST_TEXT, MOST_STATUS};
@@ -41,9 +42,11 @@ const ABSENT: u8 = 0;
 const PRESENT: u8 = 1;
 
 /// Appends the frame of a reply, which needs room for [`REPLY_ROOM`] bytes and takes no memory. A result, a status and a
-/// grant are sealed under the keys, and the receipts in them are signed.
+/// grant are sealed under the keys, and the receipts in them are signed. Each receipt must have a code that receipts have, a
+/// key exactly where it says paid, and then nothing that is shown.
 pub fn write_reply(reply: &Reply, keys: &ReplyKeys, out: &mut Vec<u8>)
-    requires { REPLY_ROOM ≤ spare_of out.old }
+    requires lawful { HasLawfulReceipts reply.now }
+    requires room { REPLY_ROOM ≤ spare_of out.old }
     ensures bytes { out.new.items ≡ out.old.items ++ reply_bytes keys.now reply.now }
     ensures short { length (reply_bytes keys.now reply.now) ≤ LONGEST_REPLY }
     ensures room { vec_capacity out.new ≡ vec_capacity out.old }
@@ -93,6 +96,8 @@ pub fn write_reply(reply: &Reply, keys: &ReplyKeys, out: &mut Vec<u8>)
 
 // The body that gives each party its receipt, signed by the house and sealed.
 fn result_body(merchant: &Receipt, consumer: &Receipt, keys: &ReplyKeys) -> Buffer
+    requires merchant { ReceiptKeepsRules merchant.now }
+    requires consumer { ReceiptKeepsRules consumer.now }
     ensures bytes { result ≡ (result_frame keys.now merchant.now consumer.now).body }
     ensures short { length result ≤ MOST_BODY }
 {
@@ -104,6 +109,7 @@ fn result_body(merchant: &Receipt, consumer: &Receipt, keys: &ReplyKeys) -> Buff
 
 // The body that gives the status of an order, sealed for who asked.
 fn status_body(place: u64, epoid: &Epoid, receipt: &Option<Receipt>, keys: &ReplyKeys) -> Buffer
+    requires { IfSome receipt.now ReceiptKeepsRules }
     ensures bytes { result ≡ (status_frame keys.now place epoid.now receipt.now).body }
     ensures short { length result ≤ MOST_STATUS }
 {
@@ -117,6 +123,7 @@ fn status_body(place: u64, epoid: &Epoid, receipt: &Option<Receipt>, keys: &Repl
 
 // The bytes of a status before they are sealed.
 fn status_text(place: u64, epoid: &Epoid, receipt: &Option<Receipt>, house: &Secret) -> Buffer
+    requires { IfSome receipt.now ReceiptKeepsRules }
     ensures bytes { result ≡ status_bytes house.now place epoid.now receipt.now }
     ensures short { length result ≤ MOST_TEXT }
 {
