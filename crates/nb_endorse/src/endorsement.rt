@@ -41,6 +41,7 @@ pub fn write_sealed(e: &Endorsement, key: &Secret, out: &mut Vec<u8>)
     requires memo { length e.now.memo ≤ MAX_MEMO }
     requires room { MAX_SEALED ≤ spare_of out.old }
     ensures bytes { out.new.items ≡ out.old.items ++ seal_of key.now (codes "endo") (endorsement_bytes e.now) }
+    ensures fits { IsEndorsement e.now }
     ensures spare { spare_of out.old ≤ spare_of out.new + MAX_SEALED }
     ensures room { vec_capacity out.new ≡ vec_capacity out.old }
 {
@@ -90,6 +91,7 @@ pub fn digest_of(e: &Endorsement) -> Digest
 #[tactic(auto, unfolding(crate::specs::Spelling::endorsement_bytes))]
 fn spelled(e: &Endorsement) -> Buffer
     ensures bytes { result ≡ endorsement_bytes e.now }
+    ensures fits { length e.now.memo ≤ MAX_MEMO → IsEndorsement e.now }
     ensures short { length result ≤ MAX_SMALL + 44 + length e.now.memo }
 {
     let mut bytes = Buffer::new();

@@ -64,6 +64,7 @@ impl From<Malformed> for RevealFault {
 pub fn hide(h: &Hidden, key: &Secret) -> Small
     requires memo { length h.now.memo ≤ MAX_MEMO }
     ensures sealed { result ≡ seal_of key.now (codes "hide") (hidden_bytes h.now) }
+    ensures fits { IsHidden h.now }
     ensures long { length result ≡ 48 + length h.now.memo }
 {
     let plain = spelled(h);
@@ -112,6 +113,7 @@ pub fn account_digest(acct: AcctId, nonce: u64) -> Digest
 fn spelled(h: &Hidden) -> Buffer
     requires { length h.now.memo ≤ MAX_MEMO }
     ensures bytes { result ≡ hidden_bytes h.now }
+    ensures fits { IsHidden h.now }
     ensures long { length result ≡ 16 + length h.now.memo }
 {
     let mut bytes = Buffer::new();

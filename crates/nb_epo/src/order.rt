@@ -46,6 +46,7 @@ pub fn write_order(o: &Order, out: &mut Vec<u8>)
     requires hidden { length o.now.hidden ≤ MAX_HIDDEN }
     requires room { MAX_ORDER ≤ spare_of out.old }
     ensures bytes { out.new.items ≡ out.old.items ++ order_bytes o.now }
+    ensures fits { IsOrder o.now }
     ensures room { vec_capacity out.new ≡ vec_capacity out.old }
 {
     let signed = signed_part(o);
@@ -125,6 +126,7 @@ fn tag_of(o: &Order, key: &Secret) -> Tag
 #[tactic(auto, unfolding(crate::specs::Spelling::untagged_bytes))]
 fn signed_part(o: &Order) -> Buffer
     ensures bytes { result ≡ untagged_bytes o.now }
+    ensures fits { length o.now.hidden ≤ MAX_HIDDEN → IsOrder o.now }
     ensures long { length result ≡ 136 + length o.now.hidden }
 {
     let mut bytes = Buffer::new();
