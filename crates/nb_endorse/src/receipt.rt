@@ -4,8 +4,8 @@ ghost use Rattle.nb_units.specs.Room.{spare_of};
 ghost use Rattle.nb_units.specs.Reads.{Reads};
 ghost use Rattle.nb_units.specs.declared.buffer.TheConstants.{MAX_BUFFER};
 ghost use Rattle.nb_endorse.specs.declared.receipt.TheConstants.{UNTAGGED_BYTES, SIGNED_BYTES, RECEIPT_BYTES};
-ghost use Rattle.nb_endorse.specs.Spelling.{IsReceipt, IsSigned, key_bytes, shown_bytes, receipt_bytes, signed_bytes};
-ghost use Rattle.nb_endorse.specs.Reading.{is_receipt_code, key_flag, may_show, may_hold, signed_of, behind_moment, behind_key};
+ghost use Rattle.nb_endorse.specs.Spelling as spelling;
+ghost use Rattle.nb_endorse.specs.Reading as reading;
 ghost use Rattle.nb_endorse.specs.Replies.{ReceiptKeepsRules};
 ghost use Rattle.nb_endorse.specs.Sealed.{ReadsSealed};
 ghost use Rattle.nb_endorse.specs.Tags.{receipt_tag, signed};
@@ -85,8 +85,8 @@ impl Signed {
     /// there must be a key exactly where it says paid, and then nothing that is shown.
     pub fn spelled(&self) -> Buffer
         requires lawful { ReceiptKeepsRules self.now.receipt }
-        ensures bytes { result ≡ signed_bytes self.now }
-        ensures fits { IsSigned self.now }
+        ensures bytes { result ≡ spelling.signed_bytes self.now }
+        ensures fits { spelling.IsSigned self.now }
         ensures long { length result ≡ SIGNED_BYTES }
     {
         let mut bytes = spelled(&self.receipt);
@@ -116,8 +116,8 @@ pub fn receipt_tag_ok(s: &Signed, house: &Secret) -> bool
 /// [`Signed::spelled`] names.
 pub fn seal_receipt(s: &Signed, key: &Secret) -> [u8; RECEIPT_BYTES]
     requires lawful { ReceiptKeepsRules s.now.receipt }
-    ensures sealed { result ≡ seal_of key.now (codes "rcpt") (signed_bytes s.now) }
-    ensures fits { IsSigned s.now }
+    ensures sealed { result ≡ seal_of key.now (codes "rcpt") (spelling.signed_bytes s.now) }
+    ensures fits { spelling.IsSigned s.now }
 {
     let mut sealed = [0u8; RECEIPT_BYTES];
     let _all = seal_to(key, &RECEIPT_LABEL, s.spelled().as_slice(), &mut sealed);
@@ -129,8 +129,8 @@ pub fn seal_receipt(s: &Signed, key: &Secret) -> [u8; RECEIPT_BYTES]
 pub fn write_receipt(s: &Signed, key: &Secret, out: &mut Vec<u8>)
     requires lawful { ReceiptKeepsRules s.now.receipt }
     requires room { RECEIPT_BYTES ≤ spare_of out.old }
-    ensures bytes { out.new.items ≡ out.old.items ++ seal_of key.now (codes "rcpt") (signed_bytes s.now) }
-    ensures fits { IsSigned s.now }
+    ensures bytes { out.new.items ≡ out.old.items ++ seal_of key.now (codes "rcpt") (spelling.signed_bytes s.now) }
+    ensures fits { spelling.IsSigned s.now }
     ensures long { vec_len out.new ≡ vec_len out.old + RECEIPT_BYTES }
     ensures room { vec_capacity out.new ≡ vec_capacity out.old }
 {
@@ -150,11 +150,11 @@ pub fn write_receipt(s: &Signed, key: &Secret, out: &mut Vec<u8>)
 pub fn read_receipt(bytes: &[u8], key: &Secret) -> Result<Signed, SealedFault>
     requires short { length bytes.now ≤ RECEIPT_BYTES }
     // What the seal hides, field by field, and the first that fails; or that the bytes are the seal of nothing.
-    ensures reads { ReadsSealed signed_of key.now (codes "rcpt") bytes.now result }
+    ensures reads { ReadsSealed reading.signed_of key.now (codes "rcpt") bytes.now result }
 
     // A receipt that is read was sealed so, and one that was sealed so is read.
-    ensures spelled { IfOk result (λ s. IsSigned s × Opens key.now (codes "rcpt") bytes.now (signed_bytes s)) }
-    ensures found { (s : Signed) → IsSigned s → Opens key.now (codes "rcpt") bytes.now (signed_bytes s) → result ≡ Ok s }
+    ensures spelled { IfOk result (λ s. spelling.IsSigned s × Opens key.now (codes "rcpt") bytes.now (spelling.signed_bytes s)) }
+    ensures found { (s : Signed) → spelling.IsSigned s → Opens key.now (codes "rcpt") bytes.now (spelling.signed_bytes s) → result ≡ Ok s }
 {
     opened(bytes, key)
 }
@@ -162,8 +162,8 @@ pub fn read_receipt(bytes: &[u8], key: &Secret) -> Result<Signed, SealedFault>
 // The receipt and its tag that the bytes are the seal of.
 fn opened(bytes: &[u8], key: &Secret) -> Result<Signed, SealedFault>
     requires { length bytes.now ≤ RECEIPT_BYTES }
-    ensures reads { ReadsSealed signed_of key.now (codes "rcpt") bytes.now result }
-    ensures spelled { IfOk result (λ s. IsSigned s × Opens key.now (codes "rcpt") bytes.now (signed_bytes s)) }
+    ensures reads { ReadsSealed reading.signed_of key.now (codes "rcpt") bytes.now result }
+    ensures spelled { IfOk result (λ s. spelling.IsSigned s × Opens key.now (codes "rcpt") bytes.now (spelling.signed_bytes s)) }
 {
     let mut plain = [0u8; RECEIPT_BYTES];
     let n = unseal_to(key, &RECEIPT_LABEL, bytes, &mut plain)?;
@@ -182,8 +182,8 @@ fn tag_of(r: &Receipt, house: &Secret) -> Tag
 // The receipt's bytes before its tag.
 #[tactic(auto, unfolding(crate::specs::Spelling::receipt_bytes))]
 fn spelled(r: &Receipt) -> Buffer
-    ensures bytes { result ≡ receipt_bytes r.now }
-    ensures fits { ReceiptKeepsRules r.now → IsReceipt r.now }
+    ensures bytes { result ≡ spelling.receipt_bytes r.now }
+    ensures fits { ReceiptKeepsRules r.now → spelling.IsReceipt r.now }
     ensures long { length result ≡ UNTAGGED_BYTES }
 {
     let mut bytes = Buffer::new();
@@ -203,7 +203,7 @@ fn spelled(r: &Receipt) -> Buffer
 // A key behind a byte that says whether there is one.
 fn write_key(key: &Option<Secret>, bytes: &mut Buffer)
     requires { length bytes.old + 33 ≤ MAX_BUFFER }
-    ensures value { bytes.new ≡ bytes.old ++ key_bytes key.now }
+    ensures value { bytes.new ≡ bytes.old ++ spelling.key_bytes key.now }
     ensures fits { IfSome key.now (λ key. length key ≡ 32) }
     ensures long { length bytes.new ≡ length bytes.old + 33 }
 {
@@ -222,7 +222,7 @@ fn write_key(key: &Option<Secret>, bytes: &mut Buffer)
 // The numbers that are shown, behind a byte that says whether they are.
 fn write_shown(shown: Option<(u64, u64)>, bytes: &mut Buffer)
     requires { length bytes.old + 17 ≤ MAX_BUFFER }
-    ensures value { bytes.new ≡ bytes.old ++ shown_bytes shown }
+    ensures value { bytes.new ≡ bytes.old ++ spelling.shown_bytes shown }
     ensures fits { IfSome shown (λ numbers. (numbers.0 < 2 ^ 64) × (numbers.1 < 2 ^ 64)) }
     ensures long { length bytes.new ≡ length bytes.old + 17 }
 {
@@ -242,15 +242,15 @@ fn write_shown(shown: Option<(u64, u64)>, bytes: &mut Buffer)
 
 // The receipt and its tag that the bytes spell, or the place of the first field that fails.
 fn read_signed(bytes: &[u8]) -> Result<Signed, Malformed>
-    ensures reads { Reads result (signed_of bytes.now) }
-    ensures spelled { IfOk result (λ s. IsSigned s × (bytes.now ≡ signed_bytes s)) }
+    ensures reads { Reads result (reading.signed_of bytes.now) }
+    ensures spelled { IfOk result (λ s. spelling.IsSigned s × (bytes.now ≡ spelling.signed_bytes s)) }
 {
     read_fields(bytes)
 }
 
 #[tactic(auto, unfolding(crate::specs::Reading::signed_of))]
 fn read_fields(bytes: &[u8]) -> Result<Signed, Malformed>
-    ensures { Reads result (signed_of bytes.now) }
+    ensures { Reads result (reading.signed_of bytes.now) }
 {
     let mut cut = Cut::new(bytes);
     let place = cut.place();
@@ -283,7 +283,7 @@ fn read_fields(bytes: &[u8]) -> Result<Signed, Malformed>
 #[tactic(auto, unfolding(crate::specs::Reading::behind_moment))]
 fn read_key(front: Receipt, mut cut: Cut) -> Result<Signed, Malformed>
     requires { cut.place ≡ 53 }
-    ensures { Reads result (behind_moment front cut.entry.bytes) }
+    ensures { Reads result (reading.behind_moment front cut.entry.bytes) }
 {
     let place = cut.place();
     let has_key = cut.u8()?;
@@ -303,7 +303,7 @@ fn read_key(front: Receipt, mut cut: Cut) -> Result<Signed, Malformed>
 #[tactic(auto, unfolding(crate::specs::Reading::behind_key))]
 fn read_shown(front: Receipt, mut cut: Cut) -> Result<Signed, Malformed>
     requires { cut.place ≡ 86 }
-    ensures { Reads result (behind_key front cut.entry.bytes) }
+    ensures { Reads result (reading.behind_key front cut.entry.bytes) }
 {
     let place = cut.place();
     let has_shown = cut.u8()?;
@@ -325,14 +325,14 @@ fn read_shown(front: Receipt, mut cut: Cut) -> Result<Signed, Malformed>
 
 // Whether a receipt may have this code.
 fn is_receipt_code(code: u8) -> bool
-    ensures { result ≡ is_receipt_code code }
+    ensures { result ≡ reading.is_receipt_code code }
 {
     code == PAID_CODE || is_reason(code)
 }
 
 // The byte before the key of a receipt with this code.
 fn key_flag(code: u8) -> u8
-    ensures { result ≡ key_flag code }
+    ensures { result ≡ reading.key_flag code }
 {
     if code == PAID_CODE { PRESENT } else { ABSENT }
 }
@@ -340,7 +340,7 @@ fn key_flag(code: u8) -> u8
 // Whether this byte may stand before the numbers that a receipt with this code shows.
 #[tactic(auto, unfolding(crate::specs::Reading::may_show))]
 fn may_show(code: u8, has_shown: u8) -> bool
-    ensures { result ≡ may_show code has_shown }
+    ensures { result ≡ reading.may_show code has_shown }
 {
     has_shown == ABSENT || (has_shown == PRESENT && code != PAID_CODE)
 }
@@ -348,7 +348,7 @@ fn may_show(code: u8, has_shown: u8) -> bool
 // Whether a field behind this byte may hold what it holds: anything where the field is there, and else zeros.
 #[tactic(auto, unfolding(crate::specs::Reading::may_hold))]
 fn may_hold(has: u8, is_zero: bool) -> bool
-    ensures { result ≡ may_hold has is_zero }
+    ensures { result ≡ reading.may_hold has is_zero }
 {
     has == PRESENT || is_zero
 }

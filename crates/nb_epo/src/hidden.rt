@@ -9,6 +9,7 @@ ghost use Rattle.nb_epo.specs.Tags.{account_digest_of};
 
 use nb_seal::{BadSeal, seal_to, sha, unseal_to};
 use nb_units::{AcctId, Buffer, Cut, Digest, MAX_HIDDEN, MAX_MEMO, Malformed, Secret, Small};
+use std::fmt;
 
 // A hidden part is sealed under this label.
 const HIDE_LABEL: [u8; 4] = *b"hide";
@@ -33,6 +34,18 @@ pub enum RevealFault {
     /// The bytes are a seal, and its text is no hidden part. The place is that of the first field that fails, in bytes
     /// from the front of the text.
     Malformed { place: usize },
+}
+
+impl fmt::Display for RevealFault {
+    fn fmt<W: fmt::Write>(&self, f: &mut fmt::Formatter<W>) -> fmt::Result {
+        match self {
+            RevealFault::BadSeal { .. } => write!(f, "no seal under this key"),
+            RevealFault::Malformed { place } => write!(
+                f,
+                "in what is sealed, at byte {place}: not spelled as it should be"
+            ),
+        }
+    }
 }
 
 impl From<BadSeal> for RevealFault {

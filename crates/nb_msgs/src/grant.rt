@@ -1,4 +1,5 @@
 ghost use Rattle.std.specs.Prelude.{◌≡◌, length};
+ghost use Rattle.nb_msgs.specs.declared.grant.TheConstants.{GRANT_BYTES};
 ghost use Rattle.nb_msgs.specs.ReplyBytes.{ticket_bytes, sealed_ticket, grant_bytes, grant_frame};
 
 use nb_endorse::ReplyKeys;
@@ -26,14 +27,17 @@ pub(crate) fn grant_body(
     until: u64,
     session: &Secret,
     keys: &ReplyKeys,
-) -> [u8; GRANT_BYTES]
-    ensures { result ≡ (grant_frame keys.now consumer merchant nonce until session.now).body }
+) -> Buffer
+    ensures bytes { result ≡ (grant_frame keys.now consumer merchant nonce until session.now).body }
+    ensures long { length result ≡ GRANT_BYTES }
 {
     let ticket = seal_ticket(consumer, merchant, until, session, &keys.second);
     let plain = grant_text(merchant, nonce, until, session, &ticket);
     let mut sealed = [0u8; GRANT_BYTES];
     let _all = seal_to(&keys.first, &GRANT_LABEL, plain.as_slice(), &mut sealed);
-    sealed
+    let mut body = Buffer::new();
+    body.raw(&sealed);
+    body
 }
 
 // The bytes of a grant before they are sealed.

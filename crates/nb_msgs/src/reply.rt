@@ -1,9 +1,10 @@
 ghost use Rattle.std.specs.Prelude.{◌≡◌, ◌≤◌, ◌++◌, codes, length, vec_capacity, IfSome};
 ghost use Rattle.nb_seal.specs.Seal.{seal_of};
 ghost use Rattle.nb_units.specs.Room.{spare_of};
+ghost use Rattle.nb_units.specs.declared.frames.TheConstants.{LAST_KIND};
 ghost use Rattle.nb_endorse.specs.Replies.{HasLawfulReceipts, ReceiptKeepsRules};
 ghost use Rattle.nb_msgs.specs.Limits.{LimitsAre};
-ghost use Rattle.nb_msgs.specs.ReplyBytes.{reply_bytes, result_frame, status_bytes, status_frame, done_frame, refusal_frame};
+ghost use Rattle.nb_msgs.specs.ReplyBytes as layout;
 ghost use Rattle.nb_msgs.specs.declared.reply.TheConstants.{MOST_BODY, REPLY_ROOM, LONGEST_REPLY, MOST_TEXT, MOST_STATUS};
 
 use crate::grant::grant_body;
@@ -47,50 +48,50 @@ const PRESENT: u8 = 1;
 pub fn write_reply(reply: &Reply, keys: &ReplyKeys, out: &mut Vec<u8>)
     requires lawful { HasLawfulReceipts reply.now }
     requires room { REPLY_ROOM ≤ spare_of out.old }
-    ensures bytes { out.new.items ≡ out.old.items ++ reply_bytes keys.now reply.now }
-    ensures short { length (reply_bytes keys.now reply.now) ≤ LONGEST_REPLY }
+    ensures bytes { out.new.items ≡ out.old.items ++ layout.reply_bytes keys.now reply.now }
+    ensures short { length (layout.reply_bytes keys.now reply.now) ≤ LONGEST_REPLY }
     ensures room { vec_capacity out.new ≡ vec_capacity out.old }
 {
+    write_frame(kind_of(reply), body_of(reply, keys).as_slice(), out);
+}
+
+// The kind of a reply's frame.
+fn kind_of(reply: &Reply) -> u8
+    ensures kind { (keys : ReplyKeys) → result ≡ (layout.reply_frame keys reply.now).kind }
+    ensures least { 1 ≤ result }
+    ensures most { result ≤ LAST_KIND }
+{
     match reply {
-        Reply::Result { merchant, consumer } => {
-            write_frame(
-                RESULT_REPLY,
-                result_body(merchant, consumer, keys).as_slice(),
-                out,
-            );
-        }
+        Reply::Result { .. } => RESULT_REPLY,
+        Reply::Status { .. } => STATUS_REPLY,
+        Reply::Grant { .. } => GRANT_REPLY,
+        Reply::Done { .. } => DONE_REPLY,
+        Reply::Refused(_) => REFUSED_REPLY,
+    }
+}
+
+// The body of a reply's frame.
+fn body_of(reply: &Reply, keys: &ReplyKeys) -> Buffer
+    requires { HasLawfulReceipts reply.now }
+    ensures bytes { result ≡ (layout.reply_frame keys.now reply.now).body }
+    ensures short { length result ≤ MOST_BODY }
+{
+    match reply {
+        Reply::Result { merchant, consumer } => result_body(merchant, consumer, keys),
         Reply::Status {
             place,
             epoid,
             receipt,
-        } => {
-            write_frame(
-                STATUS_REPLY,
-                status_body(*place, epoid, receipt, keys).as_slice(),
-                out,
-            );
-        }
+        } => status_body(*place, epoid, receipt, keys),
         Reply::Grant {
             consumer,
             merchant,
             nonce,
             until,
             session,
-        } => {
-            write_frame(
-                GRANT_REPLY,
-                &grant_body(*consumer, *merchant, *nonce, *until, session, keys),
-                out,
-            );
-        }
-        Reply::Done { acct, at, balance } => {
-            write_frame(DONE_REPLY, done_body(*acct, *at, *balance).as_slice(), out);
-        }
-        Reply::Refused(refusal) => write_frame(
-            REFUSED_REPLY,
-            refusal_body(refusal).as_slice(),
-            out,
-        ),
+        } => grant_body(*consumer, *merchant, *nonce, *until, session, keys),
+        Reply::Done { acct, at, balance } => done_body(*acct, *at, *balance),
+        Reply::Refused(refusal) => refusal_body(refusal),
     }
 }
 
@@ -98,7 +99,7 @@ pub fn write_reply(reply: &Reply, keys: &ReplyKeys, out: &mut Vec<u8>)
 fn result_body(merchant: &Receipt, consumer: &Receipt, keys: &ReplyKeys) -> Buffer
     requires merchant { ReceiptKeepsRules merchant.now }
     requires consumer { ReceiptKeepsRules consumer.now }
-    ensures bytes { result ≡ (result_frame keys.now merchant.now consumer.now).body }
+    ensures bytes { result ≡ (layout.result_frame keys.now merchant.now consumer.now).body }
     ensures short { length result ≤ MOST_BODY }
 {
     let mut body = Buffer::new();
@@ -110,7 +111,7 @@ fn result_body(merchant: &Receipt, consumer: &Receipt, keys: &ReplyKeys) -> Buff
 // The body that gives the status of an order, sealed for who asked.
 fn status_body(place: u64, epoid: &Epoid, receipt: &Option<Receipt>, keys: &ReplyKeys) -> Buffer
     requires { IfSome receipt.now ReceiptKeepsRules }
-    ensures bytes { result ≡ (status_frame keys.now place epoid.now receipt.now).body }
+    ensures bytes { result ≡ (layout.status_frame keys.now place epoid.now receipt.now).body }
     ensures short { length result ≤ MOST_STATUS }
 {
     let plain = status_text(place, epoid, receipt, &keys.house);
@@ -124,7 +125,7 @@ fn status_body(place: u64, epoid: &Epoid, receipt: &Option<Receipt>, keys: &Repl
 // The bytes of a status before they are sealed.
 fn status_text(place: u64, epoid: &Epoid, receipt: &Option<Receipt>, house: &Secret) -> Buffer
     requires { IfSome receipt.now ReceiptKeepsRules }
-    ensures bytes { result ≡ status_bytes house.now place epoid.now receipt.now }
+    ensures bytes { result ≡ layout.status_bytes house.now place epoid.now receipt.now }
     ensures short { length result ≤ MOST_TEXT }
 {
     let mut text = Buffer::new();
@@ -142,7 +143,7 @@ fn status_text(place: u64, epoid: &Epoid, receipt: &Option<Receipt>, house: &Sec
 
 // The body that says what was done.
 fn done_body(acct: AcctId, at: u64, balance: u64) -> Buffer
-    ensures bytes { result ≡ (done_frame acct at balance).body }
+    ensures bytes { result ≡ (layout.done_frame acct at balance).body }
     ensures short { length result ≤ MOST_BODY }
 {
     let mut body = Buffer::new();
@@ -154,7 +155,7 @@ fn done_body(acct: AcctId, at: u64, balance: u64) -> Buffer
 
 // The body that refuses.
 fn refusal_body(refusal: &Refusal) -> Buffer
-    ensures bytes { result ≡ (refusal_frame refusal.now).body }
+    ensures bytes { result ≡ (layout.refusal_frame refusal.now).body }
     ensures short { length result ≤ MOST_BODY }
 {
     let mut body = Buffer::new();

@@ -3,11 +3,18 @@ ghost use Rattle.nb_units.specs.Fields.{allowed};
 ghost use Rattle.nb_units.specs.Reads.{Reads};
 
 use crate::CutFault;
+use std::fmt;
 
 /// Bytes are not spelled as they should be. The place is that of the first field that fails, in bytes from the front.
 #[derive(Clone, Copy, PartialEq, Eq, Debug)]
 pub struct Malformed {
     pub place: usize,
+}
+
+impl fmt::Display for Malformed {
+    fn fmt<W: fmt::Write>(&self, f: &mut fmt::Formatter<W>) -> fmt::Result {
+        write!(f, "at byte {}: not spelled as it should be", self.place)
+    }
 }
 
 impl From<CutFault> for Malformed {
