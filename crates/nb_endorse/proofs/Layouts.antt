@@ -1,7 +1,7 @@
 -- Endorsements as rows of fields.
 use Rattle.std.proofs.Common.{◌≡◌, ℕ, List, Ok, refl, sym, ap, subst, ◌∙◌, arith}
 use Rattle.nb_units.proofs.Rows.{Row, IsRow, ◌&◌, and_row, number4, number4_row, raw, raw_row, text, text_row, whole, whole_found, whole_reads, ok_is}
-use Rattle.nb_endorse.specs.declared.endorsement.TheConstants.{MAX_ENDORSED, MAX_MEMO}
+use Rattle.nb_units.specs.declared.limits.TheConstants.{MAX_MEMO, MAX_ORDER}
 use Rattle.nb_endorse.specs.declared.endorsement.Endorsement.{Endorsement}
 use Rattle.nb_endorse.specs.Spelling.{IsEndorsement, endorsement_bytes}
 use Rattle.nb_endorse.specs.Reading.{endorsement_of}
@@ -14,10 +14,10 @@ abbrev Parts : Type 0
 Parts = ((List ℕ × ℕ) × List ℕ) × List ℕ
 
 abbrev endorsement_row : Row Parts
-endorsement_row = text MAX_ENDORSED & number4 & text MAX_MEMO & raw 32
+endorsement_row = text MAX_ORDER & number4 & text MAX_MEMO & raw 32
 
 is_row : IsRow endorsement_row
-is_row = and_row (and_row (and_row (text_row MAX_ENDORSED (omega arith)) number4_row) (text_row MAX_MEMO (omega arith))) (raw_row 32)
+is_row = and_row (and_row (and_row (text_row MAX_ORDER (omega arith)) number4_row) (text_row MAX_MEMO (omega arith))) (raw_row 32)
 
 abbrev made : Parts → Endorsement
 made p = record { order = p.0.0.0; macct = record { 0 = p.0.0.1 }; memo = p.0.1; key = p.1 }

@@ -7,7 +7,7 @@ use Rattle.std.proofs.lemmas.Slice.Eq.{bytes_eq-Decides}
 use Rattle.nb_units.specs.Fields.{be8}
 use Rattle.nb_units.specs.Laws.{StandsAt}
 use Rattle.nb_units.proofs.Rows.{Row, IsRow, ◌then◌, then_row, ◌&◌, and_row, tested, tested_row, byte, byte_row, number8, number8_row, raw, raw_row}
-use Rattle.nb_endorse.specs.declared.receipt.TheConstants.{PAID, ABSENT, PRESENT, NO_KEY}
+use Rattle.nb_endorse.specs.declared.receipt.TheConstants.{PAID_CODE, ABSENT, PRESENT, NO_KEY}
 use Rattle.nb_endorse.specs.Spelling.{key_bytes, shown_bytes}
 use Rattle.nb_endorse.specs.Reading.{key_flag, may_show, may_hold}
 
@@ -44,7 +44,7 @@ key_given p = then_some (p.0 == PRESENT) p.1
 
 -- there is a key exactly where the order was paid
 abbrev pub KeyFits : ℕ → Option (List ℕ) → Type 0
-KeyFits code key = (IsSome key ↔ (code ≡ PAID)) × IfSome key (λ k. length k ≡ 32)
+KeyFits code key = (IsSome key ↔ (code ≡ PAID_CODE)) × IfSome key (λ k. length k ≡ 32)
 
 abbrev pub key_row : ℕ → Row (Option (List ℕ))
 key_row code = seen_as (key_fields code) key_given key_bytes (λ place key. place + 33) (KeyFits code)
@@ -53,22 +53,22 @@ key_long : (code place : ℕ) (key : Option (List ℕ)) → KeyFits code key →
 key_long code place None fits = refl
 key_long code place (Some key) fits = omega (arith, fits.1)
 
-key_to_at : (paid : Bool) (code : ℕ) (key : List ℕ) → (code == PAID) ≡ paid → length key ≡ 32 → may_hold (cond paid PRESENT ABSENT) (bytes_eq key NO_KEY) ≡ true
+key_to_at : (paid : Bool) (code : ℕ) (key : List ℕ) → (code == PAID_CODE) ≡ paid → length key ≡ 32 → may_hold (cond paid PRESENT ABSENT) (bytes_eq key NO_KEY) ≡ true
     → KeyFits code (key_given (cond paid PRESENT ABSENT, key)) × (cond paid PRESENT ABSENT ∷ key ≡ key_bytes (key_given (cond paid PRESENT ABSENT, key)))
 unfolding may_hold
-key_to_at true code key paid long holds = (((λ is. eqb-true code PAID paid, λ is. refl), long), refl)
-key_to_at false code key paid long holds = (((λ is. absurd cc, λ is. absurd (eqb-false code PAID paid is)), tt), ap (λ (k : List ℕ). ABSENT ∷ k) ((bytes_eq-Decides key NO_KEY).0 holds))
+key_to_at true code key paid long holds = (((λ is. eqb-true code PAID_CODE paid, λ is. refl), long), refl)
+key_to_at false code key paid long holds = (((λ is. absurd cc, λ is. absurd (eqb-false code PAID_CODE paid is)), tt), ap (λ (k : List ℕ). ABSENT ∷ k) ((bytes_eq-Decides key NO_KEY).0 holds))
 
 key_to : (code : ℕ) (p : ℕ × List ℕ) → (key_fields code).fits p → KeyFits code (key_given p) × ((key_fields code).spelled p ≡ key_bytes (key_given p))
 key_to code p fits =
     let e : p.0 ≡ key_flag code = eqb-true p.0 (key_flag code) fits.0.1 in
     subst (λ (has : ℕ). KeyFits code (key_given (has, p.1)) × (has ∷ p.1 ≡ key_bytes (key_given (has, p.1)))) (sym e)
-    (key_to_at (code == PAID) code p.1 refl fits.1.0 (subst (λ (has : ℕ). may_hold has (bytes_eq p.1 NO_KEY) ≡ true) e fits.1.1))
+    (key_to_at (code == PAID_CODE) code p.1 refl fits.1.0 (subst (λ (has : ℕ). may_hold has (bytes_eq p.1 NO_KEY) ≡ true) e fits.1.1))
 
 key_from : (code : ℕ) (key : Option (List ℕ)) → KeyFits code key → (p : ℕ × List ℕ) × ((key_fields code).fits p) × (key_given p ≡ key)
 unfolding may_hold
-key_from code None fits = ((ABSENT, NO_KEY), ((omega arith, rw (ne_eqb code PAID (λ is. let h = fits.0.1 is in absurd cc)) refl), (refl, refl)), refl)
-key_from code (Some key) fits = ((PRESENT, key), ((omega arith, rw (eq-eqb code PAID (fits.0.0 refl)) refl), (fits.1, refl)), refl)
+key_from code None fits = ((ABSENT, NO_KEY), ((omega arith, rw (ne_eqb code PAID_CODE (λ is. let h = fits.0.1 is in absurd cc)) refl), (refl, refl)), refl)
+key_from code (Some key) fits = ((PRESENT, key), ((omega arith, rw (eq-eqb code PAID_CODE (fits.0.0 refl)) refl), (fits.1, refl)), refl)
 
 pub is_key_row : (code : ℕ) → IsRow (key_row code)
 is_key_row code =
@@ -86,7 +86,7 @@ shown_given p = then_some (p.0 == PRESENT) p.1
 
 -- nothing is shown where the order was paid
 abbrev pub ShownFits : ℕ → Option (ℕ × ℕ) → Type 0
-ShownFits code shown = (code ≡ PAID → shown ≡ None) × IfSome shown (λ n. (n.0 < 2 ^ 64) × (n.1 < 2 ^ 64))
+ShownFits code shown = (code ≡ PAID_CODE → shown ≡ None) × IfSome shown (λ n. (n.0 < 2 ^ 64) × (n.1 < 2 ^ 64))
 
 abbrev pub shown_row : ℕ → Row (Option (ℕ × ℕ))
 shown_row code = seen_as (shown_fields code) shown_given shown_bytes (λ place shown. place + 17) (ShownFits code)
@@ -96,11 +96,11 @@ shown_long code place None fits = refl
 shown_long code place (Some n) fits = refl
 
 -- the byte before the numbers
-shown_has : (code has : ℕ) → may_show code has ≡ true → (has ≡ ABSENT) ⊎ ((has ≡ PRESENT) × (code ≡ PAID → ⊥))
+shown_has : (code has : ℕ) → may_show code has ≡ true → (has ≡ ABSENT) ⊎ ((has ≡ PRESENT) × (code ≡ PAID_CODE → ⊥))
 unfolding may_show
 shown_has code has e = grind (arith, eqb-true, eqb-false)
 
-shown_to_at : (code has a b : ℕ) → (has ≡ ABSENT) ⊎ ((has ≡ PRESENT) × (code ≡ PAID → ⊥)) → a < 2 ^ 64 → b < 2 ^ 64 → may_hold has (a == 0) ≡ true → may_hold has (b == 0) ≡ true
+shown_to_at : (code has a b : ℕ) → (has ≡ ABSENT) ⊎ ((has ≡ PRESENT) × (code ≡ PAID_CODE → ⊥)) → a < 2 ^ 64 → b < 2 ^ 64 → may_hold has (a == 0) ≡ true → may_hold has (b == 0) ≡ true
     → ShownFits code (shown_given (has, (a, b))) × ((has ∷ be8 a ++ be8 b) ≡ shown_bytes (shown_given (has, (a, b))))
 unfolding may_hold
 shown_to_at code has a b (inl e) a_fits b_fits a_is b_is =
@@ -118,7 +118,7 @@ shown_to code p fits = shown_to_at code p.0 p.1.0 p.1.1 (shown_has code p.0 fits
 shown_from : (code : ℕ) (shown : Option (ℕ × ℕ)) → ShownFits code shown → (p : ℕ × (ℕ × ℕ)) × ((shown_fields code).fits p) × (shown_given p ≡ shown)
 unfolding may_hold may_show
 shown_from code None fits = ((ABSENT, (0, 0)), ((omega arith, refl), ((omega arith, refl), (omega arith, refl))), refl)
-shown_from code (Some n) fits = ((PRESENT, n), ((omega arith, rw (ne_eqb code PAID (λ is. let h = fits.0 is in absurd cc)) refl), ((fits.1.0, refl), (fits.1.1, refl))), refl)
+shown_from code (Some n) fits = ((PRESENT, n), ((omega arith, rw (ne_eqb code PAID_CODE (λ is. let h = fits.0 is in absurd cc)) refl), ((fits.1.0, refl), (fits.1.1, refl))), refl)
 
 pub is_shown_row : (code : ℕ) → IsRow (shown_row code)
 is_shown_row code =

@@ -5,8 +5,8 @@ use Rattle.std.proofs.lemmas.Bool.{eqb-true, leb-true, eq-eqb, le-leb}
 use Rattle.nb_units.specs.declared.epoid.Epoid.{Epoid}
 use Rattle.nb_units.proofs.Rows.{Row, IsRow, ◌then◌, then_row, ◌&◌, and_row, tested, tested_row, byte, byte_row, number4, number4_row, number8, number8_row, epoid, epoid_row, raw, raw_row, whole, whole_found, whole_reads, ok_is}
 use Rattle.nb_endorse.specs.declared.receipt.Signed.{Signed}
-use Rattle.nb_endorse.specs.Spelling.{IsCode, IsSigned, receipt_bytes, signed_bytes}
-use Rattle.nb_endorse.specs.Reading.{is_code, signed_of, behind_moment, behind_key}
+use Rattle.nb_endorse.specs.Spelling.{IsReceiptCode, IsSigned, receipt_bytes, signed_bytes}
+use Rattle.nb_endorse.specs.Reading.{is_receipt_code, signed_of, behind_moment, behind_key}
 use Rattle.nb_endorse.specs.Laws.{ReceiptReadsBack, ReceiptSpellsBack, OneReceipt, ReceiptIsAsLong}
 use Rattle.nb_endorse.proofs.Optional.{key_row, is_key_row, shown_row, is_shown_row}
 
@@ -15,10 +15,10 @@ abbrev Front : Type 0
 Front = ((((((ℕ × ℕ) × ℕ) × ℕ) × ℕ) × Epoid) × ℕ) × ℕ
 
 abbrev front_row : Row Front
-front_row = tested byte is_code & number4 & number4 & number4 & number8 & epoid & number8 & number8
+front_row = tested byte is_receipt_code & number4 & number4 & number4 & number8 & epoid & number8 & number8
 
 is_front_row : IsRow front_row
-is_front_row = and_row (and_row (and_row (and_row (and_row (and_row (and_row (tested_row byte is_code byte_row) number4_row) number4_row) number4_row) number8_row) epoid_row) number8_row) number8_row
+is_front_row = and_row (and_row (and_row (and_row (and_row (and_row (and_row (tested_row byte is_receipt_code byte_row) number4_row) number4_row) number4_row) number8_row) epoid_row) number8_row) number8_row
 
 abbrev code_of : Front → ℕ
 code_of p = p.0.0.0.0.0.0.0
@@ -68,13 +68,13 @@ unfolding receipt_bytes
 spelled_so p = refl
 
 -- the test of a code
-code_is : (code : ℕ) → is_code code ≡ true → IsCode code
+code_is : (code : ℕ) → is_receipt_code code ≡ true → IsReceiptCode code
 code_is code e = grind (arith, eqb-true, leb-true)
 
-is_tested : (code : ℕ) → IsCode code → is_code code ≡ true
+is_tested : (code : ℕ) → IsReceiptCode code → is_receipt_code code ≡ true
 is_tested code is = grind (arith, eq-eqb, le-leb)
 
-code_fits : (code : ℕ) → IsCode code → code < 2 ^ 8
+code_fits : (code : ℕ) → IsReceiptCode code → code < 2 ^ 8
 code_fits code is = grind arith
 
 fits_so : (p : Parts) → signed_row.fits p → IsSigned (made p)

@@ -1,9 +1,9 @@
 -- Spelling and reading are the two sides of one thing.
 use Rattle.std.specs.Prelude.{◌≡◌, ℕ, ◌+◌, List, [], ◌∷◌, length, replicate, codes, Ok}
 use Rattle.nb_units.specs.Frames.{AreBytes}
-use Rattle.nb_endorse.specs.declared.endorsement.TheConstants.{MAX_SEALED, MAX_ENDORSED, MAX_MEMO, ENDORSE_LABEL}
+use Rattle.nb_endorse.specs.declared.endorsement.TheConstants.{MAX_SEALED, ENDORSE_LABEL}
 use Rattle.nb_endorse.specs.declared.endorsement.Endorsement.{Endorsement}
-use Rattle.nb_endorse.specs.declared.receipt.TheConstants.{PAID, FIRST_REFUSED, LAST_REFUSED, RECEIPT_BYTES, RECEIPT_LABEL, ABSENT, PRESENT, NO_KEY}
+use Rattle.nb_endorse.specs.declared.receipt.TheConstants.{PAID_CODE, RECEIPT_BYTES, RECEIPT_LABEL, ABSENT, PRESENT, NO_KEY}
 use Rattle.nb_endorse.specs.declared.receipt.Signed.{Signed}
 use Rattle.nb_endorse.specs.Spelling.{IsEndorsement, endorsement_bytes, IsSigned, signed_bytes}
 use Rattle.nb_endorse.specs.Reading.{endorsement_of, signed_of}
@@ -39,8 +39,8 @@ ReceiptIsAsLong = (s : Signed) → IsSigned s → length (signed_bytes s) + 32 �
 
 -- the limits and the labels
 abbrev pub LimitsAre : Type 0
-LimitsAre = (MAX_SEALED ∷ MAX_ENDORSED ∷ MAX_MEMO ∷ RECEIPT_BYTES ∷ [] ≡ 420 ∷ 280 ∷ 64 ∷ 167 ∷ []) × (ENDORSE_LABEL ≡ codes "endo") × (RECEIPT_LABEL ≡ codes "rcpt")
+LimitsAre = (MAX_SEALED ≡ 420) × (RECEIPT_BYTES ≡ 167) × (ENDORSE_LABEL ≡ codes "endo") × (RECEIPT_LABEL ≡ codes "rcpt")
 
--- the codes of receipts, and what stands before a field and in place of one
+-- the code of a paid order, and what stands before a field and in place of one
 abbrev pub CodesOfReceiptsAre : Type 0
-CodesOfReceiptsAre = (PAID ∷ FIRST_REFUSED ∷ LAST_REFUSED ∷ [] ≡ 0 ∷ 31 ∷ 37 ∷ []) × (ABSENT ∷ PRESENT ∷ [] ≡ 0 ∷ 1 ∷ []) × (NO_KEY ≡ replicate 32 0)
+CodesOfReceiptsAre = (PAID_CODE ≡ 0) × (ABSENT ∷ PRESENT ∷ [] ≡ 0 ∷ 1 ∷ []) × (NO_KEY ≡ replicate 32 0)

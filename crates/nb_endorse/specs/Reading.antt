@@ -1,18 +1,19 @@
 -- What bytes spell, read field by field at the place of each: the value, or the place of the first field that fails.
-use Rattle.std.specs.Prelude.{ℕ, ◌+◌, Bool, not, ◌==◌, ◌||◌, ◌&&◌, nat_le, if◌then◌else◌, List, length, bytes_eq, None, Result, Ok}
+use Rattle.std.specs.Prelude.{ℕ, ◌+◌, Bool, not, ◌==◌, ◌||◌, ◌&&◌, if◌then◌else◌, List, length, bytes_eq, None, Result, Ok}
 use Rattle.std.specs.Bool.{then_some}
 use Rattle.nb_units.specs.Fields.{◌>>=◌, u8_at, u32_at, u64_at, raw_at, bytes_at, done_at, or_place, allowed}
 use Rattle.nb_units.specs.Epoid.{epoid_of}
-use Rattle.nb_endorse.specs.declared.endorsement.TheConstants.{MAX_ENDORSED, MAX_MEMO}
+use Rattle.nb_units.specs.Reasons.{is_reason}
+use Rattle.nb_units.specs.declared.limits.TheConstants.{MAX_MEMO, MAX_ORDER}
 use Rattle.nb_endorse.specs.declared.endorsement.Endorsement.{Endorsement}
-use Rattle.nb_endorse.specs.declared.receipt.TheConstants.{PAID, FIRST_REFUSED, LAST_REFUSED, ABSENT, PRESENT, NO_KEY}
+use Rattle.nb_endorse.specs.declared.receipt.TheConstants.{PAID_CODE, ABSENT, PRESENT, NO_KEY}
 use Rattle.nb_endorse.specs.declared.receipt.Receipt.{Receipt}
 use Rattle.nb_endorse.specs.declared.receipt.Signed.{Signed}
 
 -- the endorsement that the bytes spell, or the bad place
 unfoldable pub endorsement_of : List ℕ → Result Endorsement ℕ
 endorsement_of bytes = do
-  order ← or_place (bytes_at MAX_ENDORSED bytes 0)
+  order ← or_place (bytes_at MAX_ORDER bytes 0)
   macct ← or_place (u32_at bytes (4 + length order))
   memo ← or_place (bytes_at MAX_MEMO bytes (4 + length order + 4))
   key ← or_place (raw_at 32 bytes (4 + length order + 4 + 4 + length memo))
@@ -20,16 +21,16 @@ endorsement_of bytes = do
   Ok (record { order = order; macct = record { 0 = macct }; memo = memo; key = key })
 
 -- a receipt may have this code
-abbrev pub is_code : ℕ → Bool
-is_code code = code == PAID || (nat_le FIRST_REFUSED code && nat_le code LAST_REFUSED)
+abbrev pub is_receipt_code : ℕ → Bool
+is_receipt_code code = code == PAID_CODE || is_reason code
 
 -- the byte before the key of a receipt with this code
 abbrev pub key_flag : ℕ → ℕ
-key_flag code = if code == PAID then PRESENT else ABSENT
+key_flag code = if code == PAID_CODE then PRESENT else ABSENT
 
 -- a receipt with this code may have this byte before the numbers that it shows
 unfoldable pub may_show : ℕ → ℕ → Bool
-may_show code has_shown = has_shown == ABSENT || (has_shown == PRESENT && not (code == PAID))
+may_show code has_shown = has_shown == ABSENT || (has_shown == PRESENT && not (code == PAID_CODE))
 
 -- a field behind this byte may hold what it holds: anything where the field is there, and else zeros
 unfoldable pub may_hold : ℕ → Bool → Bool
@@ -61,7 +62,7 @@ behind_moment front bytes = do
 unfoldable pub signed_of : List ℕ → Result Signed ℕ
 signed_of bytes = do
   code ← or_place (u8_at bytes 0)
-  coded ← allowed (is_code code) 0
+  coded ← allowed (is_receipt_code code) 0
   consumer ← or_place (u32_at bytes 1)
   merchant ← or_place (u32_at bytes 5)
   product ← or_place (u32_at bytes 9)

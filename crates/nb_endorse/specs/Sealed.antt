@@ -1,15 +1,11 @@
 -- What reading sealed bytes gives.
 use Rattle.std.specs.Prelude.{◌≡◌, ℕ, List, Result, Ok, Err}
-use Rattle.nb_seal.specs.Seal.{Opens, IsNoSeal, iv_shown}
+use Rattle.nb_seal.specs.Seal.{OpensAs, IsNoSeal, iv_shown}
 use Rattle.nb_endorse.specs.declared.sealed.SealedFault.{SealedFault}
 use Rattle.nb_endorse.specs.declared.sealed.SealedFault.TheVariants.{BadSeal, Malformed}
 
--- under a key and a label the bytes are the seal of a text that is read so
-abbrev pub SealsWhat : {A : Type 0} → (List ℕ → Result A ℕ) → List ℕ → List ℕ → List ℕ → Result A ℕ → Type 0
-SealsWhat reading key label bytes read = (plain : List ℕ) × Opens key label bytes plain × (reading plain ≡ read)
-
 -- the value that is sealed there; or that it is the seal of no text, and its front; or the bad place of the text
 abbrev pub ReadsSealed : {A : Type 0} → (List ℕ → Result A ℕ) → List ℕ → List ℕ → List ℕ → Result A SealedFault → Type 0
-ReadsSealed reading key label bytes (Ok value) = SealsWhat reading key label bytes (Ok value)
+ReadsSealed reading key label bytes (Ok value) = OpensAs reading key label bytes (Ok value)
 ReadsSealed reading key label bytes (Err (BadSeal iv)) = IsNoSeal key label bytes × (iv ≡ iv_shown bytes)
-ReadsSealed reading key label bytes (Err (Malformed place)) = SealsWhat reading key label bytes (Err place)
+ReadsSealed reading key label bytes (Err (Malformed place)) = OpensAs reading key label bytes (Err place)

@@ -3,19 +3,20 @@
 use Rattle.std.specs.Prelude.{◌≡◌, ◌↔◌, ◌⊎◌, ℕ, ◌<◌, ◌≤◌, ◌^◌, List, [], ◌∷◌, ◌++◌, length, Option, Some, None, IsSome, IfSome}
 use Rattle.nb_units.specs.Fields.{be4, be8, sized}
 use Rattle.nb_units.specs.Epoid.{IsEpoid, epoid_bytes}
-use Rattle.nb_endorse.specs.declared.endorsement.TheConstants.{MAX_ENDORSED, MAX_MEMO}
+use Rattle.nb_units.specs.Reasons.{IsReason}
+use Rattle.nb_units.specs.declared.limits.TheConstants.{MAX_MEMO, MAX_ORDER}
 use Rattle.nb_endorse.specs.declared.endorsement.Endorsement.{Endorsement}
-use Rattle.nb_endorse.specs.declared.receipt.TheConstants.{PAID, FIRST_REFUSED, LAST_REFUSED, ABSENT, PRESENT, NO_KEY}
+use Rattle.nb_endorse.specs.declared.receipt.TheConstants.{PAID_CODE, ABSENT, PRESENT, NO_KEY}
 use Rattle.nb_endorse.specs.declared.receipt.Receipt.{Receipt}
 use Rattle.nb_endorse.specs.declared.receipt.Signed.{Signed}
 
--- an endorsement before it is sealed: order, at most 280 | merchant's account 4 | memo, at most 64 | key 32
+-- an endorsement before it is sealed: order, at most MAX_ORDER | merchant's account 4 | memo, at most MAX_MEMO | key 32
 unfoldable pub endorsement_bytes : Endorsement → List ℕ
 endorsement_bytes e = sized e.order ++ be4 e.macct.0 ++ sized e.memo ++ e.key
 
 -- each field of an endorsement is within its limits
 pub record IsEndorsement (e : Endorsement) : Type 0 where
-  pub order : length e.order ≤ MAX_ENDORSED
+  pub order : length e.order ≤ MAX_ORDER
   pub macct : e.macct.0 < 2 ^ 32
   pub memo : length e.memo ≤ MAX_MEMO
   pub key : length e.key ≡ 32
@@ -40,13 +41,13 @@ receipt_bytes r = (r.code ∷ []) ++ be4 r.consumer.0 ++ be4 r.merchant.0 ++ be4
 abbrev pub signed_bytes : Signed → List ℕ
 signed_bytes s = receipt_bytes s.receipt ++ s.tag
 
--- a receipt may have this code: paid, or from the first to the last of refusals
-abbrev pub IsCode : ℕ → Type 0
-IsCode code = (code ≡ PAID) ⊎ ((FIRST_REFUSED ≤ code) × (code ≤ LAST_REFUSED))
+-- a receipt may have this code: paid, or the reason for which the order is refused
+abbrev pub IsReceiptCode : ℕ → Type 0
+IsReceiptCode code = (code ≡ PAID_CODE) ⊎ IsReason code
 
 -- each field of a receipt is within its limits: there is a key exactly where the order was paid, and then nothing is shown
 pub record IsReceipt (r : Receipt) : Type 0 where
-  pub code : IsCode r.code
+  pub code : IsReceiptCode r.code
   pub consumer : r.consumer.0 < 2 ^ 32
   pub merchant : r.merchant.0 < 2 ^ 32
   pub product : r.product < 2 ^ 32
@@ -54,9 +55,9 @@ pub record IsReceipt (r : Receipt) : Type 0 where
   pub epoid : IsEpoid r.epoid
   pub at : r.at < 2 ^ 64
   pub moment : r.moment < 2 ^ 64
-  pub keyed : IsSome r.key ↔ (r.code ≡ PAID)
+  pub keyed : IsSome r.key ↔ (r.code ≡ PAID_CODE)
   pub key : IfSome r.key (λ key. length key ≡ 32)
-  pub showing : r.code ≡ PAID → r.shown ≡ None
+  pub showing : r.code ≡ PAID_CODE → r.shown ≡ None
   pub shown : IfSome r.shown (λ numbers. (numbers.0 < 2 ^ 64) × (numbers.1 < 2 ^ 64))
 
 -- so is each field of a receipt with its tag

@@ -2,7 +2,9 @@ ghost use Rattle.std.specs.Prelude.{◌≡◌, ◌≤◌, ◌+◌, ◌++◌, len
 ghost use Rattle.nb_seal.specs.Seal.{Opens, seal_of};
 ghost use Rattle.nb_units.specs.Room.{spare_of};
 ghost use Rattle.nb_units.specs.Reads.{Reads};
-ghost use Rattle.nb_endorse.specs.declared.endorsement.TheConstants.{MAX_SEALED, MAX_MEMO};
+ghost use Rattle.nb_units.specs.declared.small.TheConstants.{MAX_SMALL};
+ghost use Rattle.nb_units.specs.declared.limits.TheConstants.{MAX_MEMO};
+ghost use Rattle.nb_endorse.specs.declared.endorsement.TheConstants.{MAX_SEALED};
 ghost use Rattle.nb_endorse.specs.Spelling.{IsEndorsement, endorsement_bytes};
 ghost use Rattle.nb_endorse.specs.Reading.{endorsement_of};
 ghost use Rattle.nb_endorse.specs.Sealed.{ReadsSealed};
@@ -10,16 +12,12 @@ ghost use Rattle.nb_endorse.specs.Tags.{endorsement_digest};
 
 use crate::sealed::SealedFault;
 use nb_seal::{seal_spare, sha, unseal_to};
-use nb_units::{AcctId, Buffer, Cut, Digest, Malformed, Secret, Small};
+use nb_units::width::{ACCOUNT, LENGTH, SEAL, SECRET};
+use nb_units::{AcctId, Buffer, Cut, Digest, MAX_MEMO, MAX_ORDER, Malformed, Secret, Small};
 
-/// The most bytes of an endorsement, sealed.
-pub const MAX_SEALED: usize = 420;
-
-/// The most bytes of an order that is endorsed.
-pub const MAX_ENDORSED: u32 = 280;
-
-/// The most bytes of the merchant's memo.
-pub const MAX_MEMO: u32 = 64;
+/// The most bytes of an endorsement, sealed: the order behind its length, the merchant's account, the memo behind its length,
+/// and the key of the goods.
+pub const MAX_SEALED: usize = SEAL + LENGTH + MAX_ORDER + ACCOUNT + LENGTH + MAX_MEMO + SECRET;
 
 // An endorsement is sealed under this label.
 const ENDORSE_LABEL: [u8; 4] = *b"endo";
@@ -27,7 +25,7 @@ const ENDORSE_LABEL: [u8; 4] = *b"endo";
 /// A merchant's endorsement of an order: it asks the house for the payment, and hands it the goods' key.
 #[derive(Clone, Copy, PartialEq, Eq, Debug)]
 pub struct Endorsement {
-    /// The order's bytes: at most [`MAX_ENDORSED`].
+    /// The order's bytes: at most [`MAX_ORDER`].
     pub order: Small,
     /// The merchant's account, which is paid, 4 bytes wide.
     pub macct: AcctId,
@@ -43,6 +41,7 @@ pub fn write_sealed(e: &Endorsement, key: &Secret, out: &mut Vec<u8>)
     requires memo { length e.now.memo ≤ MAX_MEMO }
     requires room { MAX_SEALED ≤ spare_of out.old }
     ensures bytes { out.new.items ≡ out.old.items ++ seal_of key.now (codes "endo") (endorsement_bytes e.now) }
+    ensures fits { IsEndorsement e.now }
     ensures spare { spare_of out.old ≤ spare_of out.new + MAX_SEALED }
     ensures room { vec_capacity out.new ≡ vec_capacity out.old }
 {
@@ -92,7 +91,8 @@ pub fn digest_of(e: &Endorsement) -> Digest
 #[tactic(auto, unfolding(crate::specs::Spelling::endorsement_bytes))]
 fn spelled(e: &Endorsement) -> Buffer
     ensures bytes { result ≡ endorsement_bytes e.now }
-    ensures short { length result ≤ 324 + length e.now.memo }
+    ensures fits { length e.now.memo ≤ MAX_MEMO → IsEndorsement e.now }
+    ensures short { length result ≤ MAX_SMALL + 44 + length e.now.memo }
 {
     let mut bytes = Buffer::new();
     bytes.bytes(e.order.as_slice());
@@ -115,9 +115,9 @@ fn read_fields(bytes: &[u8]) -> Result<Endorsement, Malformed>
     ensures { Reads result (endorsement_of bytes.now) }
 {
     let mut cut = Cut::new(bytes);
-    let order = cut.bytes(MAX_ENDORSED)?;
+    let order = cut.bytes(MAX_ORDER as u32)?;
     let macct = cut.u32()?;
-    let memo = cut.bytes(MAX_MEMO)?;
+    let memo = cut.bytes(MAX_MEMO as u32)?;
     let key = cut.fixed32()?;
     cut.done()?;
     Ok(Endorsement {

@@ -26,12 +26,10 @@ pub mod refusal;
 mod reply;
 mod sealed;
 
-pub use endorsement::{
-    Endorsement, MAX_ENDORSED, MAX_MEMO, MAX_SEALED, digest_of, read_sealed, write_sealed,
-};
+pub use endorsement::{Endorsement, MAX_SEALED, digest_of, read_sealed, write_sealed};
 pub use receipt::{
-    FIRST_REFUSED, LAST_REFUSED, PAID, RECEIPT_BYTES, Receipt, Signed, read_receipt,
-    receipt_tag_ok, seal_receipt, sign_receipt, write_receipt,
+    NO_KEY, PAID_CODE, RECEIPT_BYTES, Receipt, SIGNED_BYTES, Signed, read_receipt, receipt_tag_ok,
+    seal_receipt, sign_receipt, write_receipt,
 };
 pub use refusal::Refusal;
 pub use reply::{Reply, ReplyKeys};

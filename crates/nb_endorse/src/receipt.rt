@@ -1,30 +1,41 @@
-ghost use Rattle.std.specs.Prelude.{◌≡◌, ◌≤◌, ◌↔◌, ◌+◌, ◌++◌, length, codes, vec_capacity, vec_len, IfOk, IsTrue, Ok};
+ghost use Rattle.std.specs.Prelude.{◌≡◌, ◌≤◌, ◌↔◌, ◌+◌, ◌++◌, length, codes, vec_capacity, vec_len, IfOk, IfSome, IsTrue, Ok, ◌<◌, ◌^◌};
 ghost use Rattle.nb_seal.specs.Seal.{Opens, seal_of};
-ghost use Rattle.nb_units.specs.Fields.{allowed};
 ghost use Rattle.nb_units.specs.Room.{spare_of};
 ghost use Rattle.nb_units.specs.Reads.{Reads};
 ghost use Rattle.nb_units.specs.declared.buffer.TheConstants.{MAX_BUFFER};
-ghost use Rattle.nb_endorse.specs.declared.receipt.TheConstants.{RECEIPT_BYTES};
-ghost use Rattle.nb_endorse.specs.Spelling.{IsSigned, key_bytes, shown_bytes, receipt_bytes, signed_bytes};
-ghost use Rattle.nb_endorse.specs.Reading.{is_code, key_flag, may_show, may_hold, signed_of, behind_moment, behind_key};
+ghost use Rattle.nb_endorse.specs.declared.receipt.TheConstants.{UNTAGGED_BYTES, SIGNED_BYTES, RECEIPT_BYTES};
+ghost use Rattle.nb_endorse.specs.Spelling as spelling;
+ghost use Rattle.nb_endorse.specs.Reading as reading;
+ghost use Rattle.nb_endorse.specs.Replies.{ReceiptKeepsRules};
 ghost use Rattle.nb_endorse.specs.Sealed.{ReadsSealed};
 ghost use Rattle.nb_endorse.specs.Tags.{receipt_tag, signed};
 
 use crate::sealed::SealedFault;
 use nb_seal::{hmac, same, seal_to, unseal_to};
-use nb_units::{Buffer, Cut, Epoid, Malformed, PartyId, Pen, Price, Secret, Tag};
+use nb_units::width::{
+    CODE, EPOID, FLAG, MOMENT, MONEY, PARTY, PLACE, PRODUCT, SEAL, SECRET, SHOWN, TAG,
+};
+use nb_units::{Buffer, Cut, Epoid, Malformed, PartyId, Pen, Price, Secret, Tag, allow, is_reason};
 
 /// The code of an order that was paid.
-pub const PAID: u8 = 0;
+pub const PAID_CODE: u8 = 0;
 
-/// The first code of an order that was refused.
-pub const FIRST_REFUSED: u8 = 31;
+// The bytes of a receipt before its tag.
+const UNTAGGED_BYTES: usize = CODE
+    + 2 * PARTY
+    + PRODUCT
+    + MONEY
+    + EPOID
+    + PLACE
+    + MOMENT
+    + (FLAG + SECRET)
+    + (FLAG + 2 * SHOWN);
 
-/// The last code of an order that was refused.
-pub const LAST_REFUSED: u8 = 37;
+/// The bytes of a receipt with its tag.
+pub const SIGNED_BYTES: usize = UNTAGGED_BYTES + TAG;
 
-/// The bytes of a receipt, sealed.
-pub const RECEIPT_BYTES: usize = 167;
+/// The bytes of a receipt with its tag, sealed.
+pub const RECEIPT_BYTES: usize = SEAL + SIGNED_BYTES;
 
 // A receipt is sealed under this label, and what its tag is over begins with it.
 const RECEIPT_LABEL: [u8; 4] = *b"rcpt";
@@ -34,13 +45,13 @@ const ABSENT: u8 = 0;
 
 const PRESENT: u8 = 1;
 
-// What stands in place of a key that is not there.
-const NO_KEY: Secret = [0; 32];
+/// What stands in place of a key that is not there: zeros.
+pub const NO_KEY: Secret = [0; 32];
 
 /// What the house says of an order to one of its parties.
 #[derive(Clone, Copy, PartialEq, Eq, Debug)]
 pub struct Receipt {
-    /// [`PAID`], or why the order was refused: from [`FIRST_REFUSED`] to [`LAST_REFUSED`]. One byte wide.
+    /// [`PAID_CODE`], or why the order was refused: from [`FIRST_REASON`](nb_units::FIRST_REASON) to [`LAST_REASON`](nb_units::LAST_REASON). One byte wide.
     pub code: u8,
     /// Who pays, 4 bytes wide.
     pub consumer: PartyId,
@@ -70,10 +81,13 @@ pub struct Signed {
 }
 
 impl Signed {
-    /// The bytes of the receipt, 103, and of its tag, 32, before they are sealed.
+    /// The bytes of the receipt and of its tag before they are sealed: [`SIGNED_BYTES`]. Its code must be one that receipts have;
+    /// there must be a key exactly where it says paid, and then nothing that is shown.
     pub fn spelled(&self) -> Buffer
-        ensures bytes { result ≡ signed_bytes self.now }
-        ensures long { length result ≡ 135 }
+        requires lawful { ReceiptKeepsRules self.now.receipt }
+        ensures bytes { result ≡ spelling.signed_bytes self.now }
+        ensures fits { spelling.IsSigned self.now }
+        ensures long { length result ≡ SIGNED_BYTES }
     {
         let mut bytes = spelled(&self.receipt);
         bytes.raw(&self.tag);
@@ -98,9 +112,12 @@ pub fn receipt_tag_ok(s: &Signed, house: &Secret) -> bool
     same(&s.tag, &tag_of(&s.receipt, house))
 }
 
-/// The receipt and its tag, sealed under a party's key and the label "rcpt".
+/// The receipt and its tag, sealed under a party's key and the label "rcpt". The receipt must keep the rules that
+/// [`Signed::spelled`] names.
 pub fn seal_receipt(s: &Signed, key: &Secret) -> [u8; RECEIPT_BYTES]
-    ensures { result ≡ seal_of key.now (codes "rcpt") (signed_bytes s.now) }
+    requires lawful { ReceiptKeepsRules s.now.receipt }
+    ensures sealed { result ≡ seal_of key.now (codes "rcpt") (spelling.signed_bytes s.now) }
+    ensures fits { spelling.IsSigned s.now }
 {
     let mut sealed = [0u8; RECEIPT_BYTES];
     let _all = seal_to(key, &RECEIPT_LABEL, s.spelled().as_slice(), &mut sealed);
@@ -108,10 +125,12 @@ pub fn seal_receipt(s: &Signed, key: &Secret) -> [u8; RECEIPT_BYTES]
 }
 
 /// Appends the receipt and its tag, sealed under a party's key and the label "rcpt": [`RECEIPT_BYTES`] bytes, which needs
-/// room for as many. It takes no memory.
+/// room for as many. The receipt must keep the rules that [`Signed::spelled`] names. It takes no memory.
 pub fn write_receipt(s: &Signed, key: &Secret, out: &mut Vec<u8>)
+    requires lawful { ReceiptKeepsRules s.now.receipt }
     requires room { RECEIPT_BYTES ≤ spare_of out.old }
-    ensures bytes { out.new.items ≡ out.old.items ++ seal_of key.now (codes "rcpt") (signed_bytes s.now) }
+    ensures bytes { out.new.items ≡ out.old.items ++ seal_of key.now (codes "rcpt") (spelling.signed_bytes s.now) }
+    ensures fits { spelling.IsSigned s.now }
     ensures long { vec_len out.new ≡ vec_len out.old + RECEIPT_BYTES }
     ensures room { vec_capacity out.new ≡ vec_capacity out.old }
 {
@@ -131,11 +150,11 @@ pub fn write_receipt(s: &Signed, key: &Secret, out: &mut Vec<u8>)
 pub fn read_receipt(bytes: &[u8], key: &Secret) -> Result<Signed, SealedFault>
     requires short { length bytes.now ≤ RECEIPT_BYTES }
     // What the seal hides, field by field, and the first that fails; or that the bytes are the seal of nothing.
-    ensures reads { ReadsSealed signed_of key.now (codes "rcpt") bytes.now result }
+    ensures reads { ReadsSealed reading.signed_of key.now (codes "rcpt") bytes.now result }
 
     // A receipt that is read was sealed so, and one that was sealed so is read.
-    ensures spelled { IfOk result (λ s. IsSigned s × Opens key.now (codes "rcpt") bytes.now (signed_bytes s)) }
-    ensures found { (s : Signed) → IsSigned s → Opens key.now (codes "rcpt") bytes.now (signed_bytes s) → result ≡ Ok s }
+    ensures spelled { IfOk result (λ s. spelling.IsSigned s × Opens key.now (codes "rcpt") bytes.now (spelling.signed_bytes s)) }
+    ensures found { (s : Signed) → spelling.IsSigned s → Opens key.now (codes "rcpt") bytes.now (spelling.signed_bytes s) → result ≡ Ok s }
 {
     opened(bytes, key)
 }
@@ -143,8 +162,8 @@ pub fn read_receipt(bytes: &[u8], key: &Secret) -> Result<Signed, SealedFault>
 // The receipt and its tag that the bytes are the seal of.
 fn opened(bytes: &[u8], key: &Secret) -> Result<Signed, SealedFault>
     requires { length bytes.now ≤ RECEIPT_BYTES }
-    ensures reads { ReadsSealed signed_of key.now (codes "rcpt") bytes.now result }
-    ensures spelled { IfOk result (λ s. IsSigned s × Opens key.now (codes "rcpt") bytes.now (signed_bytes s)) }
+    ensures reads { ReadsSealed reading.signed_of key.now (codes "rcpt") bytes.now result }
+    ensures spelled { IfOk result (λ s. spelling.IsSigned s × Opens key.now (codes "rcpt") bytes.now (spelling.signed_bytes s)) }
 {
     let mut plain = [0u8; RECEIPT_BYTES];
     let n = unseal_to(key, &RECEIPT_LABEL, bytes, &mut plain)?;
@@ -163,8 +182,9 @@ fn tag_of(r: &Receipt, house: &Secret) -> Tag
 // The receipt's bytes before its tag.
 #[tactic(auto, unfolding(crate::specs::Spelling::receipt_bytes))]
 fn spelled(r: &Receipt) -> Buffer
-    ensures bytes { result ≡ receipt_bytes r.now }
-    ensures long { length result ≡ 103 }
+    ensures bytes { result ≡ spelling.receipt_bytes r.now }
+    ensures fits { ReceiptKeepsRules r.now → spelling.IsReceipt r.now }
+    ensures long { length result ≡ UNTAGGED_BYTES }
 {
     let mut bytes = Buffer::new();
     bytes.u8(r.code);
@@ -183,7 +203,8 @@ fn spelled(r: &Receipt) -> Buffer
 // A key behind a byte that says whether there is one.
 fn write_key(key: &Option<Secret>, bytes: &mut Buffer)
     requires { length bytes.old + 33 ≤ MAX_BUFFER }
-    ensures value { bytes.new ≡ bytes.old ++ key_bytes key.now }
+    ensures value { bytes.new ≡ bytes.old ++ spelling.key_bytes key.now }
+    ensures fits { IfSome key.now (λ key. length key ≡ 32) }
     ensures long { length bytes.new ≡ length bytes.old + 33 }
 {
     match key {
@@ -201,7 +222,8 @@ fn write_key(key: &Option<Secret>, bytes: &mut Buffer)
 // The numbers that are shown, behind a byte that says whether they are.
 fn write_shown(shown: Option<(u64, u64)>, bytes: &mut Buffer)
     requires { length bytes.old + 17 ≤ MAX_BUFFER }
-    ensures value { bytes.new ≡ bytes.old ++ shown_bytes shown }
+    ensures value { bytes.new ≡ bytes.old ++ spelling.shown_bytes shown }
+    ensures fits { IfSome shown (λ numbers. (numbers.0 < 2 ^ 64) × (numbers.1 < 2 ^ 64)) }
     ensures long { length bytes.new ≡ length bytes.old + 17 }
 {
     match shown {
@@ -220,20 +242,20 @@ fn write_shown(shown: Option<(u64, u64)>, bytes: &mut Buffer)
 
 // The receipt and its tag that the bytes spell, or the place of the first field that fails.
 fn read_signed(bytes: &[u8]) -> Result<Signed, Malformed>
-    ensures reads { Reads result (signed_of bytes.now) }
-    ensures spelled { IfOk result (λ s. IsSigned s × (bytes.now ≡ signed_bytes s)) }
+    ensures reads { Reads result (reading.signed_of bytes.now) }
+    ensures spelled { IfOk result (λ s. spelling.IsSigned s × (bytes.now ≡ spelling.signed_bytes s)) }
 {
     read_fields(bytes)
 }
 
 #[tactic(auto, unfolding(crate::specs::Reading::signed_of))]
 fn read_fields(bytes: &[u8]) -> Result<Signed, Malformed>
-    ensures { Reads result (signed_of bytes.now) }
+    ensures { Reads result (reading.signed_of bytes.now) }
 {
     let mut cut = Cut::new(bytes);
     let place = cut.place();
     let code = cut.u8()?;
-    allow(is_code(code), place)?;
+    allow(is_receipt_code(code), place)?;
     let consumer = cut.u32()?;
     let merchant = cut.u32()?;
     let product = cut.u32()?;
@@ -261,7 +283,7 @@ fn read_fields(bytes: &[u8]) -> Result<Signed, Malformed>
 #[tactic(auto, unfolding(crate::specs::Reading::behind_moment))]
 fn read_key(front: Receipt, mut cut: Cut) -> Result<Signed, Malformed>
     requires { cut.place ≡ 53 }
-    ensures { Reads result (behind_moment front cut.entry.bytes) }
+    ensures { Reads result (reading.behind_moment front cut.entry.bytes) }
 {
     let place = cut.place();
     let has_key = cut.u8()?;
@@ -281,7 +303,7 @@ fn read_key(front: Receipt, mut cut: Cut) -> Result<Signed, Malformed>
 #[tactic(auto, unfolding(crate::specs::Reading::behind_key))]
 fn read_shown(front: Receipt, mut cut: Cut) -> Result<Signed, Malformed>
     requires { cut.place ≡ 86 }
-    ensures { Reads result (behind_key front cut.entry.bytes) }
+    ensures { Reads result (reading.behind_key front cut.entry.bytes) }
 {
     let place = cut.place();
     let has_shown = cut.u8()?;
@@ -302,38 +324,31 @@ fn read_shown(front: Receipt, mut cut: Cut) -> Result<Signed, Malformed>
 }
 
 // Whether a receipt may have this code.
-fn is_code(code: u8) -> bool
-    ensures { result ≡ is_code code }
+fn is_receipt_code(code: u8) -> bool
+    ensures { result ≡ reading.is_receipt_code code }
 {
-    code == PAID || (FIRST_REFUSED <= code && code <= LAST_REFUSED)
+    code == PAID_CODE || is_reason(code)
 }
 
 // The byte before the key of a receipt with this code.
 fn key_flag(code: u8) -> u8
-    ensures { result ≡ key_flag code }
+    ensures { result ≡ reading.key_flag code }
 {
-    if code == PAID { PRESENT } else { ABSENT }
+    if code == PAID_CODE { PRESENT } else { ABSENT }
 }
 
 // Whether this byte may stand before the numbers that a receipt with this code shows.
 #[tactic(auto, unfolding(crate::specs::Reading::may_show))]
 fn may_show(code: u8, has_shown: u8) -> bool
-    ensures { result ≡ may_show code has_shown }
+    ensures { result ≡ reading.may_show code has_shown }
 {
-    has_shown == ABSENT || (has_shown == PRESENT && code != PAID)
+    has_shown == ABSENT || (has_shown == PRESENT && code != PAID_CODE)
 }
 
 // Whether a field behind this byte may hold what it holds: anything where the field is there, and else zeros.
 #[tactic(auto, unfolding(crate::specs::Reading::may_hold))]
 fn may_hold(has: u8, is_zero: bool) -> bool
-    ensures { result ≡ may_hold has is_zero }
+    ensures { result ≡ reading.may_hold has is_zero }
 {
     has == PRESENT || is_zero
-}
-
-// Whether the value of the field at this place is allowed.
-fn allow(is: bool, place: usize) -> Result<(), Malformed>
-    ensures { Reads result (allowed is place) }
-{
-    if is { Ok(()) } else { Err(Malformed { place }) }
 }

@@ -1,7 +1,7 @@
 ghost use Rattle.std.specs.Prelude.{◌≡◌};
 ghost use Rattle.nb_endorse.specs.Keys.{no_keys};
 
-use crate::receipt::Receipt;
+use crate::receipt::{NO_KEY, Receipt};
 use crate::refusal::Refusal;
 use nb_units::{AcctId, Epoid, PartyId, Secret};
 
@@ -65,9 +65,9 @@ impl ReplyKeys {
         ensures { result ≡ no_keys }
     {
         ReplyKeys {
-            house: [0; 32],
-            first: [0; 32],
-            second: [0; 32],
+            house: NO_KEY,
+            first: NO_KEY,
+            second: NO_KEY,
         }
     }
 }

@@ -1,5 +1,6 @@
 use nb_seal::BadSeal;
 use nb_units::Malformed;
+use std::fmt;
 
 /// Why sealed bytes were not read.
 #[derive(Clone, Copy, PartialEq, Eq, Debug)]
@@ -10,6 +11,18 @@ pub enum SealedFault {
     /// The bytes are a seal, and its text is not spelled as it should be. The place is that of the first field that
     /// fails, in bytes from the front of the text.
     Malformed { place: usize },
+}
+
+impl fmt::Display for SealedFault {
+    fn fmt<W: fmt::Write>(&self, f: &mut fmt::Formatter<W>) -> fmt::Result {
+        match self {
+            SealedFault::BadSeal { .. } => write!(f, "no seal under this key"),
+            SealedFault::Malformed { place } => write!(
+                f,
+                "in what is sealed, at byte {place}: not spelled as it should be"
+            ),
+        }
+    }
 }
 
 impl From<BadSeal> for SealedFault {

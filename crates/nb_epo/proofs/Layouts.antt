@@ -2,7 +2,7 @@
 use Rattle.std.proofs.Common.{◌≡◌, ℕ, ◌+◌, List, Ok, refl, sym, ap, subst, ◌∙◌, arith, length, Result, Err}
 use Rattle.nb_units.specs.declared.epoid.Epoid.{Epoid}
 use Rattle.nb_units.proofs.Rows.{Row, IsRow, ◌&◌, and_row, number4, number4_row, number8, number8_row, raw, raw_row, text, text_row, epoid, epoid_row, whole, whole_found, whole_reads, ok_is}
-use Rattle.nb_epo.specs.declared.hidden.TheConstants.{MAX_HIDDEN, MAX_MEMO}
+use Rattle.nb_units.specs.declared.limits.TheConstants.{MAX_HIDDEN, MAX_MEMO}
 use Rattle.nb_epo.specs.declared.order.Order.{Order}
 use Rattle.nb_epo.specs.declared.hidden.Hidden.{Hidden}
 use Rattle.nb_epo.specs.Spelling.{IsOrder, untagged_bytes, order_bytes, IsHidden, hidden_bytes}

@@ -1,8 +1,8 @@
 -- Spelling and reading are the two sides of one thing.
 use Rattle.std.specs.Prelude.{◌≡◌, ℕ, ◌+◌, List, length, codes, Ok}
 use Rattle.nb_units.specs.Frames.{AreBytes}
-use Rattle.nb_epo.specs.declared.hidden.TheConstants.{MAX_HIDDEN, MAX_MEMO, HIDE_LABEL}
-use Rattle.nb_epo.specs.declared.order.TheConstants.{MAX_ORDER, ORDER_LABEL}
+use Rattle.nb_epo.specs.declared.hidden.TheConstants.{HIDE_LABEL}
+use Rattle.nb_epo.specs.declared.order.TheConstants.{ORDER_LABEL}
 use Rattle.nb_epo.specs.declared.order.Order.{Order}
 use Rattle.nb_epo.specs.declared.hidden.Hidden.{Hidden}
 use Rattle.nb_epo.specs.Spelling.{IsOrder, order_bytes, IsHidden, hidden_bytes}
@@ -33,7 +33,7 @@ HiddenSpellsBack = (bytes : List ℕ) (h : Hidden) → AreBytes bytes → hidden
 abbrev pub OneHidden : Type 0
 OneHidden = (a b : Hidden) → IsHidden a → IsHidden b → hidden_bytes a ≡ hidden_bytes b → a ≡ b
 
--- an order and a hidden part are as long as this: an order has at most 280 bytes, a hidden part at most 80
+-- an order and a hidden part, before it is sealed, are as long as this
 abbrev pub LengthsAre : Type 0
 LengthsAre = ((o : Order) → IsOrder o → length (order_bytes o) ≡ 168 + length o.hidden)
     × ((h : Hidden) → IsHidden h → length (hidden_bytes h) ≡ 16 + length h.memo)
@@ -42,6 +42,6 @@ LengthsAre = ((o : Order) → IsOrder o → length (order_bytes o) ≡ 168 + len
 abbrev pub SignedIsRight : Type 0
 SignedIsRight = (key : List ℕ) (o : Order) → (signed key o).tag ≡ order_tag key (signed key o)
 
--- the limits and the labels
-abbrev pub LimitsAre : Type 0
-LimitsAre = (MAX_HIDDEN ≡ 112) × (MAX_MEMO ≡ 64) × (MAX_ORDER ≡ 280) × (HIDE_LABEL ≡ codes "hide") × (ORDER_LABEL ≡ codes "ordr")
+-- the labels in texts
+abbrev pub LabelsAre : Type 0
+LabelsAre = (HIDE_LABEL ≡ codes "hide") × (ORDER_LABEL ≡ codes "ordr")

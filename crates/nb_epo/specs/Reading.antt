@@ -2,7 +2,7 @@
 use Rattle.std.specs.Prelude.{ℕ, ◌+◌, List, length, Result, Ok}
 use Rattle.nb_units.specs.Fields.{◌>>=◌, u32_at, u64_at, raw_at, bytes_at, done_at, or_place}
 use Rattle.nb_units.specs.Epoid.{epoid_of}
-use Rattle.nb_epo.specs.declared.hidden.TheConstants.{MAX_HIDDEN, MAX_MEMO}
+use Rattle.nb_units.specs.declared.limits.TheConstants.{MAX_HIDDEN, MAX_MEMO}
 use Rattle.nb_epo.specs.declared.order.Order.{Order}
 use Rattle.nb_epo.specs.declared.hidden.Hidden.{Hidden}
 

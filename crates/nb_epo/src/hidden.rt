@@ -1,20 +1,15 @@
 ghost use Rattle.std.specs.Prelude.{◌≡◌, ◌≤◌, ◌+◌, length, codes, IfOk, Ok};
 ghost use Rattle.nb_seal.specs.Seal.{Opens, seal_of};
-ghost use Rattle.nb_epo.specs.declared.hidden.TheConstants.{MAX_HIDDEN, MAX_MEMO, HIDE_LABEL};
 ghost use Rattle.nb_units.specs.Reads.{Reads};
+ghost use Rattle.nb_units.specs.declared.limits.TheConstants.{MAX_HIDDEN, MAX_MEMO};
 ghost use Rattle.nb_epo.specs.Spelling.{IsHidden, hidden_bytes};
 ghost use Rattle.nb_epo.specs.Reading.{hidden_of};
 ghost use Rattle.nb_epo.specs.Revealing.{Reveals};
 ghost use Rattle.nb_epo.specs.Tags.{account_digest_of};
 
 use nb_seal::{BadSeal, seal_to, sha, unseal_to};
-use nb_units::{AcctId, Buffer, Cut, Digest, Malformed, Secret, Small};
-
-/// The most bytes of a hidden part, sealed.
-pub const MAX_HIDDEN: u32 = 112;
-
-/// The most bytes of a memo.
-pub const MAX_MEMO: u32 = 64;
+use nb_units::{AcctId, Buffer, Cut, Digest, MAX_HIDDEN, MAX_MEMO, Malformed, Secret, Small};
+use std::fmt;
 
 // A hidden part is sealed under this label.
 const HIDE_LABEL: [u8; 4] = *b"hide";
@@ -39,6 +34,18 @@ pub enum RevealFault {
     /// The bytes are a seal, and its text is no hidden part. The place is that of the first field that fails, in bytes
     /// from the front of the text.
     Malformed { place: usize },
+}
+
+impl fmt::Display for RevealFault {
+    fn fmt<W: fmt::Write>(&self, f: &mut fmt::Formatter<W>) -> fmt::Result {
+        match self {
+            RevealFault::BadSeal { .. } => write!(f, "no seal under this key"),
+            RevealFault::Malformed { place } => write!(
+                f,
+                "in what is sealed, at byte {place}: not spelled as it should be"
+            ),
+        }
+    }
 }
 
 impl From<BadSeal> for RevealFault {
@@ -70,10 +77,11 @@ impl From<Malformed> for RevealFault {
 pub fn hide(h: &Hidden, key: &Secret) -> Small
     requires memo { length h.now.memo ≤ MAX_MEMO }
     ensures sealed { result ≡ seal_of key.now (codes "hide") (hidden_bytes h.now) }
+    ensures fits { IsHidden h.now }
     ensures long { length result ≡ 48 + length h.now.memo }
 {
     let plain = spelled(h);
-    let mut sealed = [0u8; MAX_HIDDEN as usize];
+    let mut sealed = [0u8; MAX_HIDDEN];
     let n = seal_to(key, &HIDE_LABEL, plain.as_slice(), &mut sealed);
     Small::of(sealed.split_at(n).0).unwrap()
 }
@@ -96,7 +104,7 @@ fn opened(bytes: &[u8], key: &Secret) -> Result<Hidden, RevealFault>
     ensures reveals { Reveals key.now bytes.now result }
     ensures spelled { IfOk result (λ h. IsHidden h × Opens key.now (codes "hide") bytes.now (hidden_bytes h)) }
 {
-    let mut plain = [0u8; MAX_HIDDEN as usize];
+    let mut plain = [0u8; MAX_HIDDEN];
     let n = unseal_to(key, &HIDE_LABEL, bytes, &mut plain)?;
     let hidden = read_hidden(plain.split_at(n).0)?;
     Ok(hidden)
@@ -118,6 +126,7 @@ pub fn account_digest(acct: AcctId, nonce: u64) -> Digest
 fn spelled(h: &Hidden) -> Buffer
     requires { length h.now.memo ≤ MAX_MEMO }
     ensures bytes { result ≡ hidden_bytes h.now }
+    ensures fits { IsHidden h.now }
     ensures long { length result ≡ 16 + length h.now.memo }
 {
     let mut bytes = Buffer::new();
@@ -142,7 +151,7 @@ fn read_fields(bytes: &[u8]) -> Result<Hidden, Malformed>
     let mut cut = Cut::new(bytes);
     let acct = cut.u32()?;
     let nonce = cut.u64()?;
-    let memo = cut.bytes(MAX_MEMO)?;
+    let memo = cut.bytes(MAX_MEMO as u32)?;
     cut.done()?;
     Ok(Hidden {
         acct: AcctId(acct),

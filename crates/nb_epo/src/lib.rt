@@ -15,9 +15,9 @@ mod hidden;
 pub mod laws;
 mod order;
 
-pub use hidden::{Hidden, MAX_HIDDEN, MAX_MEMO, RevealFault, account_digest, hide, reveal};
+pub use hidden::{Hidden, RevealFault, account_digest, hide, reveal};
 pub use nb_units::Malformed;
-pub use order::{MAX_ORDER, Order, order_tag_ok, read_order, sign_order, write_order};
+pub use order::{Order, order_tag_ok, read_order, sign_order, write_order};
 
 #[cfg(test)]
 mod tests;

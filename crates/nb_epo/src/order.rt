@@ -1,18 +1,16 @@
 ghost use Rattle.std.specs.Prelude.{◌≡◌, ◌≤◌, ◌↔◌, ◌+◌, ◌++◌, length, vec_capacity, IfOk, IsTrue, Ok};
 ghost use Rattle.nb_units.specs.Room.{spare_of};
-ghost use Rattle.nb_epo.specs.declared.hidden.TheConstants.{MAX_HIDDEN};
-ghost use Rattle.nb_epo.specs.declared.order.TheConstants.{MAX_ORDER};
 ghost use Rattle.nb_units.specs.Reads.{Reads};
+ghost use Rattle.nb_units.specs.declared.limits.TheConstants.{MAX_HIDDEN, MAX_ORDER};
 ghost use Rattle.nb_epo.specs.Spelling.{IsOrder, untagged_bytes, order_bytes};
 ghost use Rattle.nb_epo.specs.Reading.{order_of};
 ghost use Rattle.nb_epo.specs.Tags.{order_tag, signed};
 
-use crate::hidden::MAX_HIDDEN;
 use nb_seal::{hmac, same};
-use nb_units::{Buffer, Cut, Digest, Epoid, Malformed, PartyId, Pen, Price, Secret, Small, Tag};
-
-/// The most bytes of an order.
-pub const MAX_ORDER: usize = 280;
+use nb_units::{
+    Buffer, Cut, Digest, Epoid, MAX_HIDDEN, MAX_ORDER, Malformed, PartyId, Pen, Price, Secret,
+    Small, Tag,
+};
 
 // What the tag of an order is over begins with this.
 const ORDER_LABEL: [u8; 4] = *b"ordr";
@@ -48,6 +46,7 @@ pub fn write_order(o: &Order, out: &mut Vec<u8>)
     requires hidden { length o.now.hidden ≤ MAX_HIDDEN }
     requires room { MAX_ORDER ≤ spare_of out.old }
     ensures bytes { out.new.items ≡ out.old.items ++ order_bytes o.now }
+    ensures fits { IsOrder o.now }
     ensures room { vec_capacity out.new ≡ vec_capacity out.old }
 {
     let signed = signed_part(o);
@@ -83,7 +82,7 @@ fn read_fields(bytes: &[u8]) -> Result<Order, Malformed>
     let checksum = cut.fixed32()?;
     let request = cut.fixed32()?;
     let account = cut.fixed32()?;
-    let hidden = cut.bytes(MAX_HIDDEN)?;
+    let hidden = cut.bytes(MAX_HIDDEN as u32)?;
     let tag = cut.fixed32()?;
     cut.done()?;
     Ok(Order {
@@ -127,6 +126,7 @@ fn tag_of(o: &Order, key: &Secret) -> Tag
 #[tactic(auto, unfolding(crate::specs::Spelling::untagged_bytes))]
 fn signed_part(o: &Order) -> Buffer
     ensures bytes { result ≡ untagged_bytes o.now }
+    ensures fits { length o.now.hidden ≤ MAX_HIDDEN → IsOrder o.now }
     ensures long { length result ≡ 136 + length o.now.hidden }
 {
     let mut bytes = Buffer::new();

@@ -1,8 +1,10 @@
 // Values made by another program. Keys are one byte repeated; the consumer's is 32 times 44.
 
+ghost use Rattle.std.specs.Prelude.{◌≤◌, length, IfOk};
+ghost use Rattle.nb_units.specs.declared.limits.TheConstants.{MAX_HIDDEN, MAX_MEMO};
+
 use super::*;
-use nb_units::{AcctId, Digest, Epoid, NoMemory, PartyId, Price, Small, room};
-use std::alloc::Global;
+use nb_units::{AcctId, Digest, Epoid, MAX_MEMO, MAX_ORDER, NoMemory, PartyId, Price, Small, room};
 use std::test::Fail;
 
 const KEY: [u8; 32] = [0x44; 32];
@@ -48,13 +50,6 @@ const CASES: [Case; 3] = [
     },
 ];
 
-// The digest of account 1 and nonce 7.
-const ACCOUNT_1: &str = "1dd80d7fe0dc850adf5e3fdfdf4ec3b4ed923908aa306f2d8bdcdf8519fd2171";
-
-fn bytes_of(alloc: Global, text: &str) -> Result<Vec<u8>, Fail> {
-    Ok(hex::decode(alloc, text)?)
-}
-
 fn digest_of(text: &str) -> Result<Digest, Fail> {
     let mut digest = [0u8; 32];
     hex::decode_to_slice(text, &mut digest)?;
@@ -67,16 +62,25 @@ fn memo_of(len: usize) -> Result<Small, Fail> {
     Ok(Small::of(&memo[..len.min(64)]).ok_or("a memo is a small list")?)
 }
 
-// The order of a case, signed.
-fn order_of(case: &Case) -> Result<Order, Fail> {
-    let hidden = Hidden {
-        acct: AcctId(1),
-        nonce: 7,
-        memo: memo_of(case.memo)?,
-    };
-    if hidden.memo.as_slice().len() > 64 {
+// What a case hides.
+fn hidden_of(case: &Case) -> Result<Hidden, Fail>
+    ensures { IfOk result (λ h. length h.memo ≤ MAX_MEMO) }
+{
+    let memo = memo_of(case.memo)?;
+    if memo.as_slice().len() > MAX_MEMO {
         return Err("no memo has more".into());
     }
+    Ok(Hidden {
+        acct: AcctId(1),
+        nonce: 7,
+        memo,
+    })
+}
+
+// The order of a case, signed.
+fn order_of(case: &Case) -> Result<Order, Fail>
+    ensures { IfOk result (λ o. length o.hidden ≤ MAX_HIDDEN) }
+{
     let mut order = Order {
         consumer: PartyId(1),
         merchant: PartyId(2),
@@ -90,7 +94,7 @@ fn order_of(case: &Case) -> Result<Order, Fail> {
         checksum: digest_of(case.checksum)?,
         request: digest_of(case.request)?,
         account: digest_of(case.account)?,
-        hidden: hide(&hidden, &KEY),
+        hidden: hide(&hidden_of(case)?, &KEY),
         tag: [0; 32],
     };
     sign_order(&mut order, &KEY);
@@ -98,87 +102,47 @@ fn order_of(case: &Case) -> Result<Order, Fail> {
 }
 
 #[test]
-fn orders_are_signed_written_and_read(rt: HostRuntime) -> Result<(), Fail> {
+fn orders_are_written_and_read(rt: HostRuntime) -> Result<(), Fail> {
     for case in &CASES {
         let order = order_of(case)?;
-        let want = bytes_of(rt.alloc(), case.bytes)?;
-
+        let want = hex::decode(rt.alloc(), case.bytes)?;
         let mut out = Vec::new(rt.alloc());
-        if order.hidden.as_slice().len() > MAX_HIDDEN as usize {
-            return Err("no hidden part has more".into());
-        }
         if let Err(NoMemory) = room(&mut out, MAX_ORDER) {
             return Err("no memory".into());
         }
         write_order(&order, &mut out);
         assert_eq!(rt; out.as_slice(), want.as_slice());
-
-        let read = read_order(want.as_slice());
-        assert_eq!(rt; read, Ok(order));
+        assert_eq!(rt; read_order(want.as_slice()), Ok(order));
         assert!(rt; order_tag_ok(&order, &KEY));
-        assert!(rt; !order_tag_ok(&order, &[0x55; 32]));
     }
     Ok(())
 }
 
 #[test]
-fn a_bad_order_is_told_by_its_place(rt: HostRuntime) -> Result<(), Fail> {
-    // the first order, with a zero behind it
-    let mut longer = [0u8; 217];
-    let (order, _) = longer.split_at_mut(216);
-    hex::decode_to_slice(CASES[0].bytes, order)?;
-
-    for (len, place) in [(217, 216), (215, 184), (0, 0)] {
-        assert_eq!(rt;
-            read_order(longer.split_at(len).0),
-            Err(Malformed { place })
-        );
-    }
-    // the hidden part's length is above its limit
-    longer[135] = 113;
-    assert_eq!(rt; read_order(&longer), Err(Malformed { place: 132 }));
-    Ok(())
-}
-
-// The first 32 bytes, with zeros where there are fewer.
-fn front_of(bytes: &[u8]) -> [u8; 32] {
-    let mut front = [0u8; 32];
-    let n = bytes.len().min(32);
-    front[..n].copy_from_slice(&bytes[..n]);
-    front
-}
-
-#[test]
-fn the_hidden_part_is_revealed(rt: HostRuntime) -> Result<(), Fail> {
+fn hidden_parts_are_revealed(rt: HostRuntime) -> Result<(), Fail> {
     for case in &CASES {
         let order = order_of(case)?;
-        let hidden = Hidden {
-            acct: AcctId(1),
-            nonce: 7,
-            memo: memo_of(case.memo)?,
-        };
-        let sealed = order.hidden.as_slice();
-        if sealed.len() > MAX_HIDDEN as usize {
-            return Err("no hidden part has more".into());
-        }
-        assert_eq!(rt; reveal(sealed, &KEY), Ok(hidden));
-
-        let iv = front_of(sealed);
-        assert_eq!(rt;
-            reveal(sealed, &[0x55; 32]),
-            Err(RevealFault::BadSeal { iv })
-        );
-        assert_eq!(rt; reveal(&iv, &KEY), Err(RevealFault::BadSeal { iv }));
-        assert_eq!(rt;
-            reveal(&[], &KEY),
-            Err(RevealFault::BadSeal { iv: [0; 32] })
-        );
+        assert_eq!(rt; reveal(order.hidden.as_slice(), &KEY), Ok(hidden_of(case)?));
     }
+    // the last case's digest is that of account 1 and nonce 7
+    assert_eq!(rt; account_digest(AcctId(1), 7), digest_of(CASES[2].account)?);
     Ok(())
 }
 
 #[test]
-fn an_account_has_its_digest(rt: HostRuntime) -> Result<(), Fail> {
-    assert_eq!(rt; account_digest(AcctId(1), 7), digest_of(ACCOUNT_1)?);
+fn faults_are_told_in_words(rt: HostRuntime) -> Result<(), Fail> {
+    let cases: [(RevealFault, &str); 2] = [
+        (
+            RevealFault::BadSeal { iv: [0; 32] },
+            "no seal under this key",
+        ),
+        (
+            RevealFault::Malformed { place: 12 },
+            "in what is sealed, at byte 12: not spelled as it should be",
+        ),
+    ];
+    for (fault, text) in cases {
+        assert_eq!(rt; fault.to_string(rt.alloc())?.as_str(), text);
+    }
     Ok(())
 }

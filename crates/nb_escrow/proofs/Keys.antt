@@ -7,7 +7,7 @@ use Rattle.std.proofs.lemmas.Slice.Eq.{bytes_eq-Decides}
 use Rattle.std.specs.Prelude.{◌==◌}
 use Rattle.std.specs.List.{Any, count_by}
 use Rattle.std.specs.Option.{option_or, option_and_then}
-use Rattle.nb_units.specs.declared.frames.TheConstants.{STATUS_QUERY}
+use Rattle.nb_units.specs.declared.frames.TheConstants.{STATUS_REQUEST}
 use Rattle.nb_units.specs.declared.ids.AcctId.{AcctId}
 use Rattle.nb_units.specs.declared.ids.PartyId.{PartyId}
 use Rattle.nb_units.specs.declared.ids.Price.{Price}
@@ -194,17 +194,17 @@ status_tells_key H legal head cap body moment asked key is enough =
     as_reply (Some receipt) tells = tells
 
 -- the same of a decision that passed all tests
-pub key_where_passed : (H : List Entry) → Legal H → (head : Head) (cap kind : ℕ) (body : List ℕ) (moment : ℕ) (d : Decision) → kind ≡ STATUS_QUERY
+pub key_where_passed : (H : List Entry) → Legal H → (head : Head) (cap kind : ℕ) (body : List ℕ) (moment : ℕ) (d : Decision) → kind ≡ STATUS_REQUEST
     → Ok d ≡ steps H head cap kind body moment → KeyWherePaid H body d.reply
 key_where_passed H legal head cap kind body moment d same is =
-    let query : Ok d ≡ steps H head cap STATUS_QUERY body moment = is ∙ ap (λ (k : ℕ). steps H head cap k body moment) same in
+    let query : Ok d ≡ steps H head cap STATUS_REQUEST body moment = is ∙ ap (λ (k : ℕ). steps H head cap k body moment) same in
     subst (λ (r : Result Decision Refusal). KeyWherePaid H body (told r).reply) (sym query) (status_tells_key H legal head cap body moment)
 
 -- a query that is refused is not authentic, or asks for more entries
-pub key_where_refused : (H : List Entry) (head : Head) (cap kind : ℕ) (body : List ℕ) (moment : ℕ) (why : Refusal) → kind ≡ STATUS_QUERY
+pub key_where_refused : (H : List Entry) (head : Head) (cap kind : ℕ) (body : List ℕ) (moment : ℕ) (why : Refusal) → kind ≡ STATUS_REQUEST
     → Err why ≡ steps H head cap kind body moment → KeyWherePaid H body (Refused_with why)
 key_where_refused H head cap kind body moment why same is asked key authentic enough =
-    let query : Err why ≡ steps H head cap STATUS_QUERY body moment = is ∙ ap (λ (k : ℕ). steps H head cap k body moment) same in
+    let query : Err why ≡ steps H head cap STATUS_REQUEST body moment = is ∙ ap (λ (k : ℕ). steps H head cap k body moment) same in
     absurd (not_both why (status H head authentic.asker asked) (query ∙ passes H head body asked authentic enough))
   where
     not_both : (why : Refusal) (d : Decision) → (let r : Result Decision Refusal = Err why in r) ≡ Ok d → ⊥

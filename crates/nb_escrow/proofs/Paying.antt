@@ -15,7 +15,7 @@ use Rattle.nb_book.specs.Searches.{party_in, order_in}
 use Rattle.nb_book.specs.Money.{balance}
 use Rattle.nb_book.specs.Legal.{LegalAfter, PriceIsLegal, IsInTime, ReasonIsTrue}
 use Rattle.nb_escrow.specs.declared.order.Presented.{Presented}
-use Rattle.nb_endorse.specs.declared.receipt.TheConstants.{FIRST_REFUSED, LAST_REFUSED}
+use Rattle.nb_units.specs.Reasons.{IsReason}
 use Rattle.nb_escrow.specs.declared.settlement.RefusalReason.{RefusalReason}
 use Rattle.nb_escrow.specs.declared.settlement.PaymentOutcome.{PaymentOutcome}
 use Rattle.nb_escrow.specs.declared.settlement.Settlement.{Settlement}
@@ -40,7 +40,7 @@ last P false why fails holds = fails refl
 
 -- a reason that is true has one of the codes of refused orders
 pub reason_code : (H : List Entry) (epoid : Epoid) (consumer merchant : PartyId) (price : Price) (code a b moment : ℕ) → ReasonIsTrue H epoid consumer merchant price code a b moment
-    → (FIRST_REFUSED ≤ code) × (code ≤ LAST_REFUSED)
+    → IsReason code
 reason_code H epoid consumer merchant price code a b moment (inl is) = grind (arith, is)
 reason_code H epoid consumer merchant price code a b moment (inr (inl is)) = grind (arith, is)
 reason_code H epoid consumer merchant price code a b moment (inr (inr (inl is))) = grind (arith, is)

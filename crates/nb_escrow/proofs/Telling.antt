@@ -6,7 +6,7 @@ use Rattle.std.proofs.lemmas.Slice.Eq.{bytes_eq-Decides}
 use Rattle.std.specs.Prelude.{◌==◌, if◌then◌else◌}
 use Rattle.std.specs.Option.{option_or, option_and_then}
 use Rattle.std.specs.Str.{bytes_eq}
-use Rattle.nb_units.specs.declared.frames.TheConstants.{ENDORSED_ORDER, STATUS_QUERY, ENROL, FUND}
+use Rattle.nb_units.specs.declared.frames.TheConstants.{ORDER_REQUEST, STATUS_REQUEST, ENROL_REQUEST, FUND_REQUEST}
 use Rattle.nb_units.specs.declared.ids.AcctId.{AcctId}
 use Rattle.nb_units.specs.declared.ids.PartyId.{PartyId}
 use Rattle.nb_units.specs.declared.epoid.Epoid.{Epoid}
@@ -276,10 +276,10 @@ chosen false held f g f' g' one other = other
 steps_again : (H more : List Entry) (head : Head) (cap kind : ℕ) (body : List ℕ) (moment later : ℕ) → Again (λ e. H ++ e ∷ more) (steps H head cap kind body moment) (λ e. steps (H ++ e ∷ more) head cap kind body later)
 steps_again H more head cap kind body moment later =
     let held : Entry → List Entry = λ e. H ++ e ∷ more in
-    chosen (kind == ENDORSED_ORDER) held _ _ _ _ (order_steps_again H more head cap body moment later)
-    (chosen (kind == STATUS_QUERY) held _ _ _ _ (status_steps_again H more head body)
-    (chosen (kind == ENROL) held _ _ _ _ (enrol_steps_again H more head cap body)
-    (chosen (kind == FUND) held _ _ _ _ (fund_steps_again H more head cap body) (λ e reply keys is. absurd (refused_not (refusal NOT_SERVED kind 0) (decided reply keys (Some e)) is)))))
+    chosen (kind == ORDER_REQUEST) held _ _ _ _ (order_steps_again H more head cap body moment later)
+    (chosen (kind == STATUS_REQUEST) held _ _ _ _ (status_steps_again H more head body)
+    (chosen (kind == ENROL_REQUEST) held _ _ _ _ (enrol_steps_again H more head cap body)
+    (chosen (kind == FUND_REQUEST) held _ _ _ _ (fund_steps_again H more head cap body) (λ e reply keys is. absurd (refused_not (refusal NOT_SERVED kind 0) (decided reply keys (Some e)) is)))))
   where
     refused_not : (r : Refusal) (d : Decision) → (let first : Answer = Err r in first) ≡ Ok d → ⊥
     refused_not r d is = cc
@@ -352,5 +352,5 @@ result_stays H more head cap body moment later merchant consumer keys None is = 
     now : order_steps (H ++ []) head cap body moment ≡ Ok d
     now = subst (λ (xs : List Entry). order_steps xs head cap body moment ≡ Ok d) (sym (append-nil H)) (step_of (order_steps H head cap body moment) is)
 result_stays H more head cap body moment later merchant consumer keys (Some entry) is =
-    subst (λ (xs : List Entry). verdict xs head cap ENDORSED_ORDER body later ≡ decided (Receipts merchant consumer) keys None) (sym (append_assoc H (entry ∷ []) more))
-    (told_again H more head cap ENDORSED_ORDER body moment later entry (Receipts merchant consumer) keys is)
+    subst (λ (xs : List Entry). verdict xs head cap ORDER_REQUEST body later ≡ decided (Receipts merchant consumer) keys None) (sym (append_assoc H (entry ∷ []) more))
+    (told_again H more head cap ORDER_REQUEST body moment later entry (Receipts merchant consumer) keys is)

@@ -3,7 +3,7 @@ use Rattle.std.specs.Prelude.{◌≡◌, ◌↔◌, ◌⊎◌, ℕ, ◌<◌, ◌
 use Rattle.std.specs.List.{Any}
 use Rattle.std.specs.Option.{option_to_list}
 use Rattle.nb_units.specs.declared.epoid.Epoid.{Epoid}
-use Rattle.nb_units.specs.declared.frames.TheConstants.{ENDORSED_ORDER, STATUS_QUERY}
+use Rattle.nb_units.specs.declared.frames.TheConstants.{ORDER_REQUEST, STATUS_REQUEST}
 use Rattle.nb_units.specs.declared.ids.PartyId.{PartyId}
 use Rattle.nb_seal.specs.Hmac.{hmac_of}
 use Rattle.nb_book.specs.declared.entry.Entry.{Entry}
@@ -43,8 +43,8 @@ ToldAgain = (H more : List Entry) (head : Head) (cap kind : ℕ) (body : List �
 -- and its own. The reply is the same, under the same keys, and nothing is recorded.
 abbrev pub ResultStays : Type 0
 ResultStays = (H more : List Entry) (head : Head) (cap : ℕ) (body : List ℕ) (moment later : ℕ) (merchant consumer : Receipt) (keys : ReplyKeys) (entry : Option Entry)
-    → verdict H head cap ENDORSED_ORDER body moment ≡ record { reply = Receipts merchant consumer; keys = keys; entry = entry }
-    → verdict (H ++ option_to_list entry ++ more) head cap ENDORSED_ORDER body later ≡ record { reply = Receipts merchant consumer; keys = keys; entry = None }
+    → verdict H head cap ORDER_REQUEST body moment ≡ record { reply = Receipts merchant consumer; keys = keys; entry = entry }
+    → verdict (H ++ option_to_list entry ++ more) head cap ORDER_REQUEST body later ≡ record { reply = Receipts merchant consumer; keys = keys; entry = None }
 
 -- the entry pays the order of this identifier, names this party as its consumer or as its merchant, and has this key
 abbrev pub PaysWith : Epoid → PartyId → List ℕ → Entry → Type 0
@@ -73,4 +73,4 @@ KeyWherePaid H body reply = (asked : StatusQuery) (key : List ℕ) → IsAuthent
 -- Over every Legal list the verdict on a status query is so.
 abbrev pub StatusTellsKey : Type 0
 StatusTellsKey = (H : List Entry) → Legal H → (head : Head) (cap : ℕ) (body : List ℕ) (moment : ℕ)
-    → KeyWherePaid H body (verdict H head cap STATUS_QUERY body moment).reply
+    → KeyWherePaid H body (verdict H head cap STATUS_REQUEST body moment).reply

@@ -10,7 +10,8 @@ use Rattle.nb_book.specs.declared.entry.TheConstants.{CONSUMER, MERCHANT}
 use Rattle.nb_book.specs.declared.kept.Kept.{Kept}
 use Rattle.nb_book.specs.declared.reason.TheConstants.{CONSUMER_ACCOUNT, MERCHANT_ACCOUNT, BALANCE_LOW, CONSUMER_NONCE}
 use Rattle.nb_book.specs.Searches.{order_in}
-use Rattle.nb_endorse.specs.declared.receipt.TheConstants.{PAID, FIRST_REFUSED, LAST_REFUSED}
+use Rattle.nb_units.specs.Reasons.{IsReason}
+use Rattle.nb_endorse.specs.declared.receipt.TheConstants.{PAID_CODE}
 use Rattle.nb_endorse.specs.declared.receipt.Receipt.{Receipt}
 use Rattle.nb_escrow.specs.declared.settlement.PaymentOutcome.{PaymentOutcome}
 use Rattle.nb_escrow.specs.declared.settlement.PaymentOutcome.TheVariants.{Paid, Refused}
@@ -19,7 +20,7 @@ use Rattle.nb_escrow.specs.declared.settlement.Settlement.{Settlement}
 -- a reason's code is one that a receipt may have
 abbrev pub IsPaymentOutcome : PaymentOutcome → Type 0
 IsPaymentOutcome (Paid cacct macct key) = Unit {0}
-IsPaymentOutcome (Refused reason) = (FIRST_REFUSED ≤ reason.code) × (reason.code ≤ LAST_REFUSED)
+IsPaymentOutcome (Refused reason) = IsReason reason.code
 
 -- a settlement of these parts
 abbrev pub settlement : ℕ → List ℕ → Epoid → PartyId → PartyId → ℕ → Price → ℕ → PaymentOutcome → Settlement
@@ -62,7 +63,7 @@ entry_of s = entry_with s s.outcome
 
 -- the code of a receipt: paid, or the reason's
 abbrev pub code_of : PaymentOutcome → ℕ
-code_of (Paid cacct macct key) = PAID
+code_of (Paid cacct macct key) = PAID_CODE
 code_of (Refused reason) = reason.code
 
 -- the key of the goods goes with a payment alone

@@ -7,7 +7,7 @@ use Rattle.nb_book.specs.declared.party.Party.{Party}
 use Rattle.nb_endorse.specs.declared.refusal.TheConstants.{IN_BODY, TOO_FEW_ENTRIES}
 use Rattle.nb_endorse.specs.declared.refusal.Refusal.{Refusal}
 use Rattle.nb_endorse.specs.declared.reply.Reply.TheVariants.{Status}
-use Rattle.nb_endorse.specs.Keys.{no_key}
+use Rattle.nb_endorse.specs.declared.receipt.TheConstants.{NO_KEY}
 use Rattle.nb_endorse.specs.Refusals.{refusal}
 use Rattle.nb_escrow.specs.declared.head.Head.{Head}
 use Rattle.nb_escrow.specs.declared.decision.Decision.{Decision}
@@ -24,7 +24,7 @@ enough_entries H least = unless (nat_le least (length H)) (refusal TOO_FEW_ENTRI
 abbrev pub status : List Entry → Head → Party → StatusQuery → Decision
 status H head asker asked = record {
   reply = Status (length H) asked.epoid (receipt_of_party asked.asker (settlement_in H asked.epoid));
-  keys = record { house = head.house; first = asker.key; second = no_key };
+  keys = record { house = head.house; first = asker.key; second = NO_KEY };
   entry = None;
 }
 

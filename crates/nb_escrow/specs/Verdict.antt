@@ -1,6 +1,6 @@
 -- The verdict on a request over a list of entries: one reply, and at most one entry that is recorded.
 use Rattle.std.specs.Prelude.{ℕ, ◌==◌, List, None, Result, Ok, Err, if◌then◌else◌}
-use Rattle.nb_units.specs.declared.frames.TheConstants.{ENDORSED_ORDER, STATUS_QUERY, ENROL, FUND}
+use Rattle.nb_units.specs.declared.frames.TheConstants.{ORDER_REQUEST, STATUS_REQUEST, ENROL_REQUEST, FUND_REQUEST}
 use Rattle.nb_book.specs.declared.entry.Entry.{Entry}
 use Rattle.nb_endorse.specs.declared.refusal.Refusal.{Refusal}
 use Rattle.nb_endorse.specs.declared.refusal.TheConstants.{NOT_SERVED}
@@ -17,10 +17,10 @@ use Rattle.nb_escrow.specs.Fundings.{fund_steps}
 -- the tests of each kind. Tickets, of kind 0B, are not served yet
 abbrev pub steps : List Entry → Head → ℕ → ℕ → List ℕ → ℕ → Result Decision Refusal
 steps H head cap kind body moment =
-    if kind == ENDORSED_ORDER then order_steps H head cap body moment
-    else if kind == STATUS_QUERY then status_steps H head body
-    else if kind == ENROL then enrol_steps H head cap body
-    else if kind == FUND then fund_steps H head cap body
+    if kind == ORDER_REQUEST then order_steps H head cap body moment
+    else if kind == STATUS_REQUEST then status_steps H head body
+    else if kind == ENROL_REQUEST then enrol_steps H head cap body
+    else if kind == FUND_REQUEST then fund_steps H head cap body
     else Err (refusal NOT_SERVED kind 0)
 
 -- a refusal records nothing

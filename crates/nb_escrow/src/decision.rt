@@ -1,5 +1,5 @@
 ghost use Rattle.std.specs.Prelude.{◌≡◌, ◌<◌, length, IfOk, IfSome, IsOk, IsSome};
-ghost use Rattle.nb_units.specs.declared.frames.TheConstants.{STATUS_QUERY};
+ghost use Rattle.nb_units.specs.declared.frames.TheConstants.{STATUS_REQUEST};
 ghost use Rattle.nb_book.specs.Legal.{Legal, LegalAfter};
 ghost use Rattle.nb_endorse.specs.Replies.{HasLawfulReceipts};
 ghost use Rattle.nb_escrow.specs.Held.{done as done_at};
@@ -15,7 +15,7 @@ use nb_book::{Book, Entry};
 use nb_endorse::refusal::NOT_SERVED;
 use nb_endorse::{Refusal, Reply, ReplyKeys};
 use nb_units::AcctId;
-use nb_units::frames::{ENDORSED_ORDER, ENROL, FUND, STATUS_QUERY};
+use nb_units::frames::{ENROL_REQUEST, FUND_REQUEST, ORDER_REQUEST, STATUS_REQUEST};
 
 /// The house's answer to one request, and the entry that it records for it, if any.
 #[derive(Clone, Copy, PartialEq, Eq, Debug)]
@@ -27,8 +27,8 @@ pub struct Decision {
 }
 
 /// Decides on one request, a frame's kind and body, over the entries that are held, at a moment in seconds since 1970-01-01
-/// 00:00 UTC. It has no condition, and takes no memory. Four kinds are served: [`ENDORSED_ORDER`], [`STATUS_QUERY`], [`ENROL`]
-/// and [`FUND`].
+/// 00:00 UTC. It has no condition, and takes no memory. Four kinds are served: [`ORDER_REQUEST`], [`STATUS_REQUEST`], [`ENROL_REQUEST`]
+/// and [`FUND_REQUEST`].
 pub fn decide(book: &Book, head: &Head, kind: u8, body: &[u8], moment: u64) -> Decision
     ensures verdict { result ≡ verdict book.now.entries head.now book.now.cap kind body.now moment }
     ensures legal { IfSome result.entry (LegalAfter book.now.entries) }
@@ -37,7 +37,7 @@ pub fn decide(book: &Book, head: &Head, kind: u8, body: &[u8], moment: u64) -> D
 
     // To an authentic status query, over at least as many entries as it asks for, a key is given exactly where an entry pays the
     // order with it and names who asks.
-    ensures key { kind ≡ STATUS_QUERY → KeyWherePaid book.now.entries body.now result.reply }
+    ensures key { kind ≡ STATUS_REQUEST → KeyWherePaid book.now.entries body.now result.reply }
 {
     match test(book, head, kind, body, moment) {
         Ok(decision) => decision,
@@ -55,13 +55,13 @@ fn test(book: &Book, head: &Head, kind: u8, body: &[u8], moment: u64) -> Result<
     ensures legal { IfOk result (λ decision. IfSome decision.entry (LegalAfter book.now.entries)) }
     ensures room { IfOk result (λ decision. IsSome decision.entry → length book.now.entries < book.now.cap) }
     ensures receipts { IfOk result (λ decision. HasLawfulReceipts decision.reply) }
-    ensures list { kind ≡ STATUS_QUERY → IsOk result → Legal book.now.entries }
+    ensures list { kind ≡ STATUS_REQUEST → IsOk result → Legal book.now.entries }
 {
     match kind {
-        ENDORSED_ORDER => decide_order(book, head, body, moment),
-        STATUS_QUERY => decide_status(book, head, body),
-        ENROL => decide_enrolment(book, head, body),
-        FUND => decide_funding(book, head, body),
+        ORDER_REQUEST => decide_order(book, head, body, moment),
+        STATUS_REQUEST => decide_status(book, head, body),
+        ENROL_REQUEST => decide_enrolment(book, head, body),
+        FUND_REQUEST => decide_funding(book, head, body),
         _ => Err(Refusal::of(NOT_SERVED, u64::from(kind), 0)),
     }
 }

@@ -2,7 +2,7 @@ ghost use Rattle.std.specs.Prelude.{◌≡◌, ◌≤◌, ◌<◌, length, IfOk,
 ghost use Rattle.nb_units.specs.Reads.{Reads};
 ghost use Rattle.nb_book.specs.Legal.{LegalAfter};
 ghost use Rattle.nb_book.specs.Searches.{order_in};
-ghost use Rattle.nb_epo.specs.declared.hidden.TheConstants.{MAX_HIDDEN};
+ghost use Rattle.nb_units.specs.declared.limits.TheConstants.{MAX_HIDDEN};
 ghost use Rattle.nb_epo.specs.Reading.{order_of};
 ghost use Rattle.nb_epo.specs.Tags.{order_tag};
 ghost use Rattle.nb_endorse.specs.declared.endorsement.TheConstants.{MAX_SEALED};

@@ -1,12 +1,12 @@
 ghost use Rattle.std.specs.Prelude.{◌≡◌, ◌↔◌, IfSome, IsSome, None, Some};
-ghost use Rattle.nb_endorse.specs.declared.receipt.TheConstants.{PAID};
-ghost use Rattle.nb_endorse.specs.Replies.{KeepsRules};
-ghost use Rattle.nb_endorse.specs.Spelling.{IsCode};
+ghost use Rattle.nb_endorse.specs.declared.receipt.TheConstants.{PAID_CODE};
+ghost use Rattle.nb_endorse.specs.Replies.{ReceiptKeepsRules};
+ghost use Rattle.nb_endorse.specs.Spelling.{IsReceiptCode};
 ghost use Rattle.nb_escrow.specs.Settlements.{settlement_of, entry_of, may_see, receipt_saying, receipt_in_role, receipt_of_party, IsPaymentOutcome};
 
 use nb_book::reason::{BALANCE_LOW, CONSUMER_ACCOUNT, CONSUMER_NONCE, MERCHANT_ACCOUNT};
 use nb_book::{CONSUMER, Entry, Kept, MERCHANT};
-use nb_endorse::{PAID, Receipt};
+use nb_endorse::{PAID_CODE, Receipt};
 use nb_units::{AcctId, Digest, Epoid, PartyId, Price, Secret};
 
 /// Why an order was refused: one of the codes of [`reason`](nb_book::reason), and the two numbers of which it speaks.
@@ -160,10 +160,10 @@ impl Settlement {
     pub fn receipt_in_role(&self, role: u8) -> Receipt
         requires { IsPaymentOutcome self.now.outcome }
         ensures receipt { result ≡ receipt_in_role role self.now }
-        ensures lawful { KeepsRules result }
+        ensures lawful { ReceiptKeepsRules result }
     {
         match self.outcome {
-            PaymentOutcome::Paid { key, .. } => self.receipt_saying(PAID, Some(key), None),
+            PaymentOutcome::Paid { key, .. } => self.receipt_saying(PAID_CODE, Some(key), None),
             PaymentOutcome::Refused(RefusalReason { code, a, b }) => {
                 self.receipt_saying(code, None, may_see(role, code).then_some((a, b)))
             }
@@ -172,11 +172,11 @@ impl Settlement {
 
     // A receipt with this code, and key or numbers.
     fn receipt_saying(&self, code: u8, key: Option<Secret>, shown: Option<(u64, u64)>) -> Receipt
-        requires code { IsCode code }
-        requires keyed { IsSome key ↔ (code ≡ PAID) }
-        requires showing { code ≡ PAID → shown ≡ None }
+        requires code { IsReceiptCode code }
+        requires keyed { IsSome key ↔ (code ≡ PAID_CODE) }
+        requires showing { code ≡ PAID_CODE → shown ≡ None }
         ensures receipt { result ≡ receipt_saying self.now code key shown }
-        ensures lawful { KeepsRules result }
+        ensures lawful { ReceiptKeepsRules result }
     {
         Receipt {
             code,
@@ -197,7 +197,7 @@ impl Settlement {
     pub fn receipt_of_party(&self, id: PartyId) -> Option<Receipt>
         requires { IsPaymentOutcome self.now.outcome }
         ensures receipt { result ≡ receipt_of_party id (Some self.now) }
-        ensures lawful { IfSome result KeepsRules }
+        ensures lawful { IfSome result ReceiptKeepsRules }
     {
         if self.consumer == id {
             Some(self.receipt_in_role(CONSUMER))

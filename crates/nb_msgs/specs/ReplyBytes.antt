@@ -3,7 +3,7 @@ use Rattle.std.specs.Prelude.{ℕ, List, [], ◌∷◌, ◌++◌, codes, Option,
 use Rattle.nb_units.specs.Fields.{be4, be8, sized}
 use Rattle.nb_units.specs.Epoid.{epoid_bytes}
 use Rattle.nb_units.specs.Frames.{Frame, frame}
-use Rattle.nb_units.specs.declared.frames.TheConstants.{RESULT, STATUS, GRANT, DONE, REFUSED}
+use Rattle.nb_units.specs.declared.frames.TheConstants.{RESULT_REPLY, STATUS_REPLY, GRANT_REPLY, DONE_REPLY, REFUSED_REPLY}
 use Rattle.nb_units.specs.declared.ids.AcctId.{AcctId}
 use Rattle.nb_units.specs.declared.ids.PartyId.{PartyId}
 use Rattle.nb_units.specs.declared.epoid.Epoid.{Epoid}
@@ -23,7 +23,7 @@ sealed_receipt house key r = seal_of key (codes "rcpt") (signed_bytes (signed ho
 -- the merchant's receipt 167, behind its length | the consumer's 167, behind its length
 abbrev pub result_frame : ReplyKeys → Receipt → Receipt → Frame
 result_frame keys merchant consumer =
-    record { kind = RESULT; body = sized (sealed_receipt keys.house keys.first merchant) ++ sized (sealed_receipt keys.house keys.second consumer) }
+    record { kind = RESULT_REPLY; body = sized (sealed_receipt keys.house keys.first merchant) ++ sized (sealed_receipt keys.house keys.second consumer) }
 
 -- a receipt behind the byte that says whether there is one, signed by the house: has 1, 0 or 1 | receipt and tag 135, where there is one
 abbrev pub receipt_text : List ℕ → Option Receipt → List ℕ
@@ -36,7 +36,7 @@ status_bytes house place epoid receipt = be8 place ++ epoid_bytes epoid ++ recei
 
 -- the whole body is the seal of that under the key of who asks and the label "stat"
 abbrev pub status_frame : ReplyKeys → ℕ → Epoid → Option Receipt → Frame
-status_frame keys place epoid receipt = record { kind = STATUS; body = seal_of keys.first (codes "stat") (status_bytes keys.house place epoid receipt) }
+status_frame keys place epoid receipt = record { kind = STATUS_REPLY; body = seal_of keys.first (codes "stat") (status_bytes keys.house place epoid receipt) }
 
 -- a ticket before it is sealed: consumer 4 | merchant 4 | until 8 | session key 32
 unfoldable pub ticket_bytes : PartyId → PartyId → ℕ → List ℕ → List ℕ
@@ -53,17 +53,17 @@ grant_bytes merchant nonce until session ticket = be4 merchant.0 ++ be8 nonce ++
 -- the whole body is the seal of that under the consumer's key and the label "gran"
 abbrev pub grant_frame : ReplyKeys → PartyId → PartyId → ℕ → ℕ → List ℕ → Frame
 grant_frame keys consumer merchant nonce until session = record {
-  kind = GRANT;
+  kind = GRANT_REPLY;
   body = seal_of keys.first (codes "gran") (grant_bytes merchant nonce until session (sealed_ticket keys.second consumer merchant until session));
 }
 
 -- account 4 | place 8 | balance 8
 abbrev pub done_frame : AcctId → ℕ → ℕ → Frame
-done_frame acct at balance = record { kind = DONE; body = be4 acct.0 ++ be8 at ++ be8 balance }
+done_frame acct at balance = record { kind = DONE_REPLY; body = be4 acct.0 ++ be8 at ++ be8 balance }
 
 -- code 1 | two numbers of 8 | 32 bytes
 abbrev pub refusal_frame : Refusal → Frame
-refusal_frame r = record { kind = REFUSED; body = (r.code ∷ []) ++ be8 r.a ++ be8 r.b ++ r.x }
+refusal_frame r = record { kind = REFUSED_REPLY; body = (r.code ∷ []) ++ be8 r.a ++ be8 r.b ++ r.x }
 
 -- the one frame of a reply
 abbrev pub reply_frame : ReplyKeys → Reply → Frame

@@ -1,15 +1,17 @@
 ghost use Rattle.std.specs.Prelude.{◌≡◌, length};
+ghost use Rattle.nb_msgs.specs.declared.grant.TheConstants.{GRANT_BYTES};
 ghost use Rattle.nb_msgs.specs.ReplyBytes.{ticket_bytes, sealed_ticket, grant_bytes, grant_frame};
 
 use nb_endorse::ReplyKeys;
 use nb_seal::seal_to;
+use nb_units::width::{LENGTH, MOMENT, NONCE, PARTY, SEAL, SECRET};
 use nb_units::{Buffer, PartyId, Secret};
 
 // The bytes of a ticket, sealed.
-const TICKET_BYTES: usize = 80;
+const TICKET_BYTES: usize = SEAL + 2 * PARTY + MOMENT + SECRET;
 
 // The bytes of a grant, sealed.
-const GRANT_BYTES: usize = 168;
+const GRANT_BYTES: usize = SEAL + PARTY + NONCE + MOMENT + SECRET + LENGTH + TICKET_BYTES;
 
 // A ticket is sealed under this label.
 const TICKET_LABEL: [u8; 4] = *b"tick";
@@ -25,14 +27,17 @@ pub(crate) fn grant_body(
     until: u64,
     session: &Secret,
     keys: &ReplyKeys,
-) -> [u8; GRANT_BYTES]
-    ensures { result ≡ (grant_frame keys.now consumer merchant nonce until session.now).body }
+) -> Buffer
+    ensures bytes { result ≡ (grant_frame keys.now consumer merchant nonce until session.now).body }
+    ensures long { length result ≡ GRANT_BYTES }
 {
     let ticket = seal_ticket(consumer, merchant, until, session, &keys.second);
     let plain = grant_text(merchant, nonce, until, session, &ticket);
     let mut sealed = [0u8; GRANT_BYTES];
     let _all = seal_to(&keys.first, &GRANT_LABEL, plain.as_slice(), &mut sealed);
-    sealed
+    let mut body = Buffer::new();
+    body.raw(&sealed);
+    body
 }
 
 // The bytes of a grant before they are sealed.

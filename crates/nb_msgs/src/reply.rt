@@ -1,28 +1,38 @@
-ghost use Rattle.std.specs.Prelude.{◌≡◌, ◌≤◌, ◌++◌, codes, length, vec_capacity};
+ghost use Rattle.std.specs.Prelude.{◌≡◌, ◌≤◌, ◌++◌, codes, length, vec_capacity, IfSome};
 ghost use Rattle.nb_seal.specs.Seal.{seal_of};
 ghost use Rattle.nb_units.specs.Room.{spare_of};
+ghost use Rattle.nb_units.specs.declared.frames.TheConstants.{LAST_KIND};
+ghost use Rattle.nb_endorse.specs.Replies.{HasLawfulReceipts, ReceiptKeepsRules};
 ghost use Rattle.nb_msgs.specs.Limits.{LimitsAre};
-ghost use Rattle.nb_msgs.specs.ReplyBytes.{reply_bytes, result_frame, status_bytes, status_frame, done_frame, refusal_frame};
-ghost use Rattle.nb_msgs.specs.declared.reply.TheConstants.{MOST_BODY, REPLY_ROOM, LONGEST_REPLY, MOST_STATUS};
+ghost use Rattle.nb_msgs.specs.ReplyBytes as layout;
+ghost use Rattle.nb_msgs.specs.declared.reply.TheConstants.{MOST_BODY, REPLY_ROOM, LONGEST_REPLY, MOST_TEXT, MOST_STATUS};
 
 use crate::grant::grant_body;
-use nb_endorse::{Receipt, Refusal, Reply, ReplyKeys, seal_receipt, sign_receipt};
+use nb_endorse::{
+    RECEIPT_BYTES, Receipt, Refusal, Reply, ReplyKeys, SIGNED_BYTES, seal_receipt, sign_receipt,
+};
 use nb_frame::write_frame;
 use nb_seal::seal_to;
-use nb_units::frames::{DONE, GRANT, REFUSED, RESULT, STATUS};
+use nb_units::frames::{
+    DONE_REPLY, GRANT_REPLY, HEADER, REFUSED_REPLY, RESULT_REPLY, STATUS_REPLY,
+};
+use nb_units::width::{EPOID, FLAG, LENGTH, PLACE, SEAL};
 use nb_units::{AcctId, Buffer, Epoid, Secret};
 
 /// The room that is asked for a reply's frame.
 pub const REPLY_ROOM: usize = 512;
 
 /// The most bytes that a reply's frame has.
-pub const LONGEST_REPLY: usize = 350;
+pub const LONGEST_REPLY: usize = HEADER + MOST_BODY;
 
 // The most bytes of a reply's body: those of a result, two sealed receipts, each behind its length.
-const MOST_BODY: usize = 342;
+const MOST_BODY: usize = 2 * (LENGTH + RECEIPT_BYTES);
+
+// The most bytes of a status before it is sealed: place, identifier, and a receipt behind the byte that says whether there is one.
+const MOST_TEXT: usize = PLACE + EPOID + FLAG + SIGNED_BYTES;
 
 // The most bytes of a status, sealed.
-const MOST_STATUS: usize = 192;
+const MOST_STATUS: usize = SEAL + MOST_TEXT;
 
 // The status of an order is sealed under this label.
 const STATUS_LABEL: [u8; 4] = *b"stat";
@@ -33,55 +43,63 @@ const ABSENT: u8 = 0;
 const PRESENT: u8 = 1;
 
 /// Appends the frame of a reply, which needs room for [`REPLY_ROOM`] bytes and takes no memory. A result, a status and a
-/// grant are sealed under the keys, and the receipts in them are signed.
+/// grant are sealed under the keys, and the receipts in them are signed. Each receipt must have a code that receipts have, a
+/// key exactly where it says paid, and then nothing that is shown.
 pub fn write_reply(reply: &Reply, keys: &ReplyKeys, out: &mut Vec<u8>)
-    requires { REPLY_ROOM ≤ spare_of out.old }
-    ensures bytes { out.new.items ≡ out.old.items ++ reply_bytes keys.now reply.now }
-    ensures short { length (reply_bytes keys.now reply.now) ≤ LONGEST_REPLY }
+    requires lawful { HasLawfulReceipts reply.now }
+    requires room { REPLY_ROOM ≤ spare_of out.old }
+    ensures bytes { out.new.items ≡ out.old.items ++ layout.reply_bytes keys.now reply.now }
+    ensures short { length (layout.reply_bytes keys.now reply.now) ≤ LONGEST_REPLY }
     ensures room { vec_capacity out.new ≡ vec_capacity out.old }
 {
+    write_frame(kind_of(reply), body_of(reply, keys).as_slice(), out);
+}
+
+// The kind of a reply's frame.
+fn kind_of(reply: &Reply) -> u8
+    ensures kind { (keys : ReplyKeys) → result ≡ (layout.reply_frame keys reply.now).kind }
+    ensures least { 1 ≤ result }
+    ensures most { result ≤ LAST_KIND }
+{
     match reply {
-        Reply::Result { merchant, consumer } => {
-            write_frame(
-                RESULT,
-                result_body(merchant, consumer, keys).as_slice(),
-                out,
-            );
-        }
+        Reply::Result { .. } => RESULT_REPLY,
+        Reply::Status { .. } => STATUS_REPLY,
+        Reply::Grant { .. } => GRANT_REPLY,
+        Reply::Done { .. } => DONE_REPLY,
+        Reply::Refused(_) => REFUSED_REPLY,
+    }
+}
+
+// The body of a reply's frame.
+fn body_of(reply: &Reply, keys: &ReplyKeys) -> Buffer
+    requires { HasLawfulReceipts reply.now }
+    ensures bytes { result ≡ (layout.reply_frame keys.now reply.now).body }
+    ensures short { length result ≤ MOST_BODY }
+{
+    match reply {
+        Reply::Result { merchant, consumer } => result_body(merchant, consumer, keys),
         Reply::Status {
             place,
             epoid,
             receipt,
-        } => {
-            write_frame(
-                STATUS,
-                status_body(*place, epoid, receipt, keys).as_slice(),
-                out,
-            );
-        }
+        } => status_body(*place, epoid, receipt, keys),
         Reply::Grant {
             consumer,
             merchant,
             nonce,
             until,
             session,
-        } => {
-            write_frame(
-                GRANT,
-                &grant_body(*consumer, *merchant, *nonce, *until, session, keys),
-                out,
-            );
-        }
-        Reply::Done { acct, at, balance } => {
-            write_frame(DONE, done_body(*acct, *at, *balance).as_slice(), out);
-        }
-        Reply::Refused(refusal) => write_frame(REFUSED, refusal_body(refusal).as_slice(), out),
+        } => grant_body(*consumer, *merchant, *nonce, *until, session, keys),
+        Reply::Done { acct, at, balance } => done_body(*acct, *at, *balance),
+        Reply::Refused(refusal) => refusal_body(refusal),
     }
 }
 
 // The body that gives each party its receipt, signed by the house and sealed.
 fn result_body(merchant: &Receipt, consumer: &Receipt, keys: &ReplyKeys) -> Buffer
-    ensures bytes { result ≡ (result_frame keys.now merchant.now consumer.now).body }
+    requires merchant { ReceiptKeepsRules merchant.now }
+    requires consumer { ReceiptKeepsRules consumer.now }
+    ensures bytes { result ≡ (layout.result_frame keys.now merchant.now consumer.now).body }
     ensures short { length result ≤ MOST_BODY }
 {
     let mut body = Buffer::new();
@@ -92,7 +110,8 @@ fn result_body(merchant: &Receipt, consumer: &Receipt, keys: &ReplyKeys) -> Buff
 
 // The body that gives the status of an order, sealed for who asked.
 fn status_body(place: u64, epoid: &Epoid, receipt: &Option<Receipt>, keys: &ReplyKeys) -> Buffer
-    ensures bytes { result ≡ (status_frame keys.now place epoid.now receipt.now).body }
+    requires { IfSome receipt.now ReceiptKeepsRules }
+    ensures bytes { result ≡ (layout.status_frame keys.now place epoid.now receipt.now).body }
     ensures short { length result ≤ MOST_STATUS }
 {
     let plain = status_text(place, epoid, receipt, &keys.house);
@@ -105,8 +124,9 @@ fn status_body(place: u64, epoid: &Epoid, receipt: &Option<Receipt>, keys: &Repl
 
 // The bytes of a status before they are sealed.
 fn status_text(place: u64, epoid: &Epoid, receipt: &Option<Receipt>, house: &Secret) -> Buffer
-    ensures bytes { result ≡ status_bytes house.now place epoid.now receipt.now }
-    ensures short { length result ≤ 160 }
+    requires { IfSome receipt.now ReceiptKeepsRules }
+    ensures bytes { result ≡ layout.status_bytes house.now place epoid.now receipt.now }
+    ensures short { length result ≤ MOST_TEXT }
 {
     let mut text = Buffer::new();
     text.u64(place);
@@ -123,7 +143,7 @@ fn status_text(place: u64, epoid: &Epoid, receipt: &Option<Receipt>, house: &Sec
 
 // The body that says what was done.
 fn done_body(acct: AcctId, at: u64, balance: u64) -> Buffer
-    ensures bytes { result ≡ (done_frame acct at balance).body }
+    ensures bytes { result ≡ (layout.done_frame acct at balance).body }
     ensures short { length result ≤ MOST_BODY }
 {
     let mut body = Buffer::new();
@@ -135,7 +155,7 @@ fn done_body(acct: AcctId, at: u64, balance: u64) -> Buffer
 
 // The body that refuses.
 fn refusal_body(refusal: &Refusal) -> Buffer
-    ensures bytes { result ≡ (refusal_frame refusal.now).body }
+    ensures bytes { result ≡ (layout.refusal_frame refusal.now).body }
     ensures short { length result ≤ MOST_BODY }
 {
     let mut body = Buffer::new();

@@ -1,9 +1,13 @@
 // Frames made by another program. Keys are one byte repeated: the house's 11, the consumer's 44, the merchant's 55, a
 // stranger's 88.
 
+ghost use Rattle.std.specs.Prelude.{IfSome};
+ghost use Rattle.nb_endorse.specs.Replies.{HasLawfulReceipts, ReceiptKeepsRules};
+
 use super::*;
 use nb_endorse::{Receipt, Refusal, Reply, ReplyKeys};
 use nb_units::{AcctId, Epoid, PartyId, Price};
+use std::alloc::Global;
 use std::test::Fail;
 
 const HOUSE: [u8; 32] = [0x11; 32];
@@ -43,7 +47,10 @@ const SESSION: [u8; 32] = [
 ];
 
 // A status over five entries.
-fn status(receipt: Option<Receipt>) -> Reply {
+fn status(receipt: Option<Receipt>) -> Reply
+    requires { IfSome receipt ReceiptKeepsRules }
+    ensures { HasLawfulReceipts result }
+{
     Reply::Status {
         place: 5,
         epoid: EPOID,
@@ -51,38 +58,73 @@ fn status(receipt: Option<Receipt>) -> Reply {
     }
 }
 
+// Whether the reply under these keys is written as the frame that a text spells in hexadecimal.
+fn is_written(
+    alloc: Global,
+    reply: &Reply,
+    first: [u8; 32],
+    second: [u8; 32],
+    want: &str,
+) -> Result<bool, Fail>
+    requires { HasLawfulReceipts reply.now }
+{
+    let keys = ReplyKeys {
+        house: HOUSE,
+        first,
+        second,
+    };
+    let mut out = Vec::with_capacity(alloc, REPLY_ROOM)?;
+    write_reply(reply, &keys, &mut out);
+    let want = hex::decode(alloc, want)?;
+    Ok(out.as_slice() == want.as_slice())
+}
+
 #[test]
 fn replies_are_written(rt: HostRuntime) -> Result<(), Fail> {
-    let cases: [(Reply, [u8; 32], [u8; 32], &str); 7] = [
-        (
-            Reply::Result {
+    let alloc = rt.alloc();
+    assert!(rt;
+        is_written(
+            alloc,
+            &Reply::Result {
                 merchant: PAID,
                 consumer: PAID,
             },
             MERCHANT,
             CONSUMER,
-            "4e42010700000156000000a7552316fff34018a229c5ebc0f29bdd42d16550639a9db30f787964a61fe4a36affd05364c4606a357fd5b0a9d2fcb8e03b1aa43867dc8c57117eec084a714a642bb5af944d196aa41fbb718eec1efaeee2e1c4f57c738e884b8e0e8197e7716716fde2ba9ec4595261b9ef996943e9528e3bb3cce1e3da87f5bceffbfcbcd1768e828a72042f422a1ba23d66e30b4c55ea2b770f1a8c4a65e76db9a2e28d9697120d5185e8b1f9000000a79ffc7c65a196fd7f678372f6e46afc7a362b493342f04cc30fc87bd17aa5345338212fa1a4cf9d486f97c1cb8f7c8920347b014b546574b87ac1274ad10d5497f08d8843d3a7fd700ece3722b5d007ed1db18a15f7eb0718d821697057615c572b8f962d3805bb7f751a661a6f954b3159507bdbb9b86c32db7582f071c422a94e87069f58b8ca75cae02356908ea842bc563dd4b20e8b3930e16227d63c8d009aceda94906e03",
-        ),
-        (
-            status(Some(PAID)),
+            "4e42010700000156000000a7552316fff34018a229c5ebc0f29bdd42d16550639a9db30f787964a61fe4a36affd05364c4606a357fd5b0a9d2fcb8e03b1aa43867dc8c57117eec084a714a642bb5af944d196aa41fbb718eec1efaeee2e1c4f57c738e884b8e0e8197e7716716fde2ba9ec4595261b9ef996943e9528e3bb3cce1e3da87f5bceffbfcbcd1768e828a72042f422a1ba23d66e30b4c55ea2b770f1a8c4a65e76db9a2e28d9697120d5185e8b1f9000000a79ffc7c65a196fd7f678372f6e46afc7a362b493342f04cc30fc87bd17aa5345338212fa1a4cf9d486f97c1cb8f7c8920347b014b546574b87ac1274ad10d5497f08d8843d3a7fd700ece3722b5d007ed1db18a15f7eb0718d821697057615c572b8f962d3805bb7f751a661a6f954b3159507bdbb9b86c32db7582f071c422a94e87069f58b8ca75cae02356908ea842bc563dd4b20e8b3930e16227d63c8d009aceda94906e03"
+        )?
+    );
+    assert!(rt;
+        is_written(
+            alloc,
+            &status(Some(PAID)),
             CONSUMER,
             NONE,
-            "4e42010a000000c0b26811f45b2c5c3f3a106b3d48df70d27037fb4ea771a5128598be2396377b990f7ad87f2299d162de924409baaa902a5dc4847690009123f24f40fcdd0fb7c53943a62ac81a7fca3dd0318a689e2367e2bfcc710866c919f397c81b794bc7c2e45c14293718499334a4d7718363e96e542744519adbdb0f1c60ccaba395efbe3fd5cf4e417c75d095fb17311a7e07b42a33c866810f014afe9e3dc46022ad0d11a5ff1c3b2b112dadfc3549230cfcc17f2ce9faf7d7aa5804fa94a1eb9e83c2",
-        ),
-        (
-            status(Some(PAID)),
+            "4e42010a000000c0b26811f45b2c5c3f3a106b3d48df70d27037fb4ea771a5128598be2396377b990f7ad87f2299d162de924409baaa902a5dc4847690009123f24f40fcdd0fb7c53943a62ac81a7fca3dd0318a689e2367e2bfcc710866c919f397c81b794bc7c2e45c14293718499334a4d7718363e96e542744519adbdb0f1c60ccaba395efbe3fd5cf4e417c75d095fb17311a7e07b42a33c866810f014afe9e3dc46022ad0d11a5ff1c3b2b112dadfc3549230cfcc17f2ce9faf7d7aa5804fa94a1eb9e83c2"
+        )?
+    );
+    assert!(rt;
+        is_written(
+            alloc,
+            &status(Some(PAID)),
             MERCHANT,
             NONE,
-            "4e42010a000000c0b16ac16ccde5113b7f96512b73bdeb86c6111f4500caf64b1fb06fb70a666256967945118cfb524eee6cda812d227a702f865f153a16da9081bf11fc2b12087f37d35af43c886ce7d6b91e39a533a7595b39634ab42b5bed0ffea0a81322f156cc8abe594b749d7c70a502c0c384621fad4580bb463f381f459adae90531e891ace2b494a44a5709b1bc0fb9eeb645f2c342705a3f93cf8b31ebe023bd455797d57f8fbc43965eff07b62207ecb2c0768049c8fa9fe2e49ba1a2bc99bbcb233e",
-        ),
-        (
-            status(None),
+            "4e42010a000000c0b16ac16ccde5113b7f96512b73bdeb86c6111f4500caf64b1fb06fb70a666256967945118cfb524eee6cda812d227a702f865f153a16da9081bf11fc2b12087f37d35af43c886ce7d6b91e39a533a7595b39634ab42b5bed0ffea0a81322f156cc8abe594b749d7c70a502c0c384621fad4580bb463f381f459adae90531e891ace2b494a44a5709b1bc0fb9eeb645f2c342705a3f93cf8b31ebe023bd455797d57f8fbc43965eff07b62207ecb2c0768049c8fa9fe2e49ba1a2bc99bbcb233e"
+        )?
+    );
+    assert!(rt;
+        is_written(
+            alloc,
+            &status(None),
             STRANGER,
             NONE,
-            "4e42010a00000039c3c5e3c24c670bf9259afdde2948f1bd4cb7ad97c6f48c8d240b2b14b47962555cfc832a0c922de68e7d50c9e6c0c38b8e67b0f7b7caed39f6",
-        ),
-        (
-            Reply::Grant {
+            "4e42010a00000039c3c5e3c24c670bf9259afdde2948f1bd4cb7ad97c6f48c8d240b2b14b47962555cfc832a0c922de68e7d50c9e6c0c38b8e67b0f7b7caed39f6"
+        )?
+    );
+    assert!(rt;
+        is_written(
+            alloc,
+            &Reply::Grant {
                 consumer: PartyId(1),
                 merchant: PartyId(2),
                 nonce: 9,
@@ -91,35 +133,30 @@ fn replies_are_written(rt: HostRuntime) -> Result<(), Fail> {
             },
             CONSUMER,
             MERCHANT,
-            "4e42010c000000a86b466073bd2414a7dadcfd0596715106035d1b89f8baebb62ca08193d822cdc1956b30ae87b8c421d2f3ae246994bd2fb95307b44bdc3b97884a1c6beb006a49c76420f7f7918fb94d79943b3a638868867b15840bbada1a3bf459363aebe7cfa630685df83805ec97c2331d1180bb0890957938a5dfc3a6dae8688164d957ff2aec7e7a2386ab3a7daf474c4597f5d83b895f5105f3ff7be6beabcb40b5bb3df5919e0cd6e82c56",
-        ),
-        (
-            Reply::Done {
+            "4e42010c000000a86b466073bd2414a7dadcfd0596715106035d1b89f8baebb62ca08193d822cdc1956b30ae87b8c421d2f3ae246994bd2fb95307b44bdc3b97884a1c6beb006a49c76420f7f7918fb94d79943b3a638868867b15840bbada1a3bf459363aebe7cfa630685df83805ec97c2331d1180bb0890957938a5dfc3a6dae8688164d957ff2aec7e7a2386ab3a7daf474c4597f5d83b895f5105f3ff7be6beabcb40b5bb3df5919e0cd6e82c56"
+        )?
+    );
+    assert!(rt;
+        is_written(
+            alloc,
+            &Reply::Done {
                 acct: AcctId(1),
                 at: 0,
                 balance: 0,
             },
             NONE,
             NONE,
-            "4e42010f000000140000000100000000000000000000000000000000",
-        ),
-        (
-            Reply::Refused(Refusal::of(40, 5, 6)),
+            "4e42010f000000140000000100000000000000000000000000000000"
+        )?
+    );
+    assert!(rt;
+        is_written(
+            alloc,
+            &Reply::Refused(Refusal::of(40, 5, 6)),
             NONE,
             NONE,
-            "4e4201100000003128000000000000000500000000000000060000000000000000000000000000000000000000000000000000000000000000",
-        ),
-    ];
-    for (reply, first, second, want) in &cases {
-        let keys = ReplyKeys {
-            house: HOUSE,
-            first: *first,
-            second: *second,
-        };
-        let mut out = Vec::with_capacity(rt.alloc(), REPLY_ROOM)?;
-        write_reply(reply, &keys, &mut out);
-        let want = hex::decode(rt.alloc(), *want)?;
-        assert_eq!(rt; out.as_slice(), want.as_slice());
-    }
+            "4e4201100000003128000000000000000500000000000000060000000000000000000000000000000000000000000000000000000000000000"
+        )?
+    );
     Ok(())
 }

@@ -1,5 +1,5 @@
 -- Seals: a text behind the code of its label and itself, hidden by the keystream of a key made from that code.
-use Rattle.std.specs.Prelude.{◌≡◌, ℕ, List, ◌++◌, codes, replicate, take, drop, Option, Some, None, if◌then◌else◌}
+use Rattle.std.specs.Prelude.{◌≡◌, ℕ, List, ◌++◌, codes, replicate, take, drop, Option, Some, None, Result, if◌then◌else◌}
 use Rattle.std.specs.Str.{bytes_eq}
 use Rattle.nb_seal.specs.declared.limits.TheConstants.{CODE_BYTES}
 use Rattle.nb_seal.specs.Hmac.{hmac_of}
@@ -20,6 +20,10 @@ seal_of key label plain = iv_of key label plain ++ xored (stream_key_of key (iv_
 -- under a key and a label the bytes open to a text: they are its seal
 abbrev pub Opens : List ℕ → List ℕ → List ℕ → List ℕ → Type 0
 Opens key label bytes plain = bytes ≡ seal_of key label plain
+
+-- they open to a text that is read so
+abbrev pub OpensAs : {A E : Type 0} → (List ℕ → Result A E) → List ℕ → List ℕ → List ℕ → Result A E → Type 0
+OpensAs reading key label bytes read = (plain : List ℕ) × Opens key label bytes plain × (reading plain ≡ read)
 
 -- the bytes are the seal of no text
 abbrev pub IsNoSeal : List ℕ → List ℕ → List ℕ → Type 0

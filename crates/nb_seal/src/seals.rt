@@ -1,7 +1,7 @@
 ghost use Rattle.std.specs.Prelude.{◌≡◌, ◌≢◌, ◌≤◌, ◌+◌, ◌-◌, ◌++◌, ℕ, List, false, IfErr, IfOk, IsOk, IsTrue, OnErr, OnOk, drop, length, take, vec_capacity, vec_len};
 ghost use Rattle.nb_seal.specs.declared.limits.TheConstants.{CODE_BYTES, MAX_TEXT};
 ghost use Rattle.nb_seal.specs.Room.{spare_of};
-ghost use Rattle.nb_seal.specs.Seal.{AppendsOpened, IsNoSeal, Opens, iv_shown, seal_of};
+ghost use Rattle.nb_seal.specs.Seal as seals;
 ghost use Rattle.nb_seal.specs.Unsealed.{Refuses};
 
 use crate::digest::same;
@@ -10,13 +10,19 @@ use crate::limits::CODE_BYTES;
 use crate::mac::hmac;
 use crate::memory::NoMemory;
 use std::alloc::AllocError;
-use std::mem;
+use std::{fmt, mem};
 
 /// The bytes are the seal of no text under the key and the label.
 #[derive(Clone, Copy, PartialEq, Eq, Debug)]
 pub struct BadSeal {
     /// The first 32 bytes given, with zeros where there are fewer.
     pub iv: [u8; CODE_BYTES],
+}
+
+impl fmt::Display for BadSeal {
+    fn fmt<W: fmt::Write>(&self, f: &mut fmt::Formatter<W>) -> fmt::Result {
+        write!(f, "no seal under this key")
+    }
 }
 
 /// Why bytes were not unsealed.
@@ -27,6 +33,15 @@ pub enum Unsealed {
     BadSeal { iv: [u8; CODE_BYTES] },
     /// There was no memory for the text.
     NoMemory,
+}
+
+impl fmt::Display for Unsealed {
+    fn fmt<W: fmt::Write>(&self, f: &mut fmt::Formatter<W>) -> fmt::Result {
+        match self {
+            Unsealed::BadSeal { .. } => write!(f, "no seal under this key"),
+            Unsealed::NoMemory => write!(f, "there is no memory"),
+        }
+    }
 }
 
 impl From<BadSeal> for Unsealed {
@@ -65,7 +80,7 @@ pub fn seal(
     out: &mut Vec<u8>,
 ) -> Result<(), NoMemory>
     requires { length plain.now ≤ MAX_TEXT }
-    ensures sealed { OnOk result (out.new.items ≡ out.old.items ++ seal_of key.now label.now plain.now) }
+    ensures sealed { OnOk result (out.new.items ≡ out.old.items ++ seals.seal_of key.now label.now plain.now) }
     ensures unchanged { OnErr result (out.new.items ≡ out.old.items) }
     ensures as_before { OnErr result (vec_capacity out.new ≡ vec_capacity out.old) }
     ensures succeeds { CODE_BYTES + length plain.now ≤ spare_of out.old → IsOk result }
@@ -82,7 +97,7 @@ pub fn seal(
 pub fn seal_spare(key: &[u8; CODE_BYTES], label: &[u8; 4], plain: &[u8], out: &mut Vec<u8>)
     requires short { length plain.now ≤ MAX_TEXT }
     requires spare { CODE_BYTES + length plain.now ≤ spare_of out.old }
-    ensures sealed { out.new.items ≡ out.old.items ++ seal_of key.now label.now plain.now }
+    ensures sealed { out.new.items ≡ out.old.items ++ seals.seal_of key.now label.now plain.now }
     ensures spare { spare_of out.old ≤ spare_of out.new + (CODE_BYTES + length plain.now) }
     ensures room { vec_capacity out.new ≡ vec_capacity out.old }
 {
@@ -99,7 +114,7 @@ pub fn seal_spare(key: &[u8; CODE_BYTES], label: &[u8; 4], plain: &[u8], out: &m
 pub fn seal_to(key: &[u8; CODE_BYTES], label: &[u8; 4], plain: &[u8], buf: &mut [u8]) -> usize
     requires short { length plain.now ≤ MAX_TEXT }
     requires room { CODE_BYTES + length plain.now ≤ length buf.old }
-    ensures sealed { take result buf.new ≡ seal_of key.now label.now plain.now }
+    ensures sealed { take result buf.new ≡ seals.seal_of key.now label.now plain.now }
     ensures len { result ≡ CODE_BYTES + length plain.now }
     ensures rest { drop result buf.new ≡ drop result buf.old }
 {
@@ -126,7 +141,7 @@ pub fn unseal(
     out: &mut Vec<u8>,
 ) -> Result<(), Unsealed>
     requires { length bytes.now ≤ CODE_BYTES + MAX_TEXT }
-    ensures opened { OnOk result (AppendsOpened key.now label.now bytes.now out.old.items out.new.items) }
+    ensures opened { OnOk result (seals.AppendsOpened key.now label.now bytes.now out.old.items out.new.items) }
     ensures refused { IfErr result (Refuses key.now label.now bytes.now) }
     ensures unchanged { OnErr result (out.new.items ≡ out.old.items) }
     ensures kept { OnErr result (spare_of out.old ≤ spare_of out.new) }
@@ -154,11 +169,11 @@ pub fn unseal_to(
 ) -> Result<usize, BadSeal>
     requires short { length bytes.now ≤ CODE_BYTES + MAX_TEXT }
     requires room { length bytes.now ≤ length buf.old }
-    ensures opened { IfOk result (λ n. Opens key.now label.now bytes.now (take n buf.new)) }
+    ensures opened { IfOk result (λ n. seals.Opens key.now label.now bytes.now (take n buf.new)) }
     ensures len { IfOk result (λ n. n + CODE_BYTES ≡ length bytes.now) }
     ensures rest { IfOk result (λ n. drop n buf.new ≡ drop n buf.old) }
-    ensures refused { OnErr result (IsNoSeal key.now label.now bytes.now) }
-    ensures front { IfErr result (λ bad. bad.iv ≡ iv_shown bytes.now) }
+    ensures refused { OnErr result (seals.IsNoSeal key.now label.now bytes.now) }
+    ensures front { IfErr result (λ bad. bad.iv ≡ seals.iv_shown bytes.now) }
 {
     let (iv, text) = parts_of(bytes)?;
     let n = text.len();
@@ -172,9 +187,9 @@ pub fn unseal_to(
 // The iv and the text of a seal, which has 32 bytes at least.
 fn parts_of(bytes: &[u8]) -> Result<([u8; CODE_BYTES], &[u8]), BadSeal>
     ensures parts { IfOk result (λ p. bytes.now ≡ p.0 ++ p.1.now) }
-    ensures front { IfOk result (λ p. p.0 ≡ iv_shown bytes.now) }
-    ensures short { OnErr result ((key label : List ℕ) → IsNoSeal key label bytes.now) }
-    ensures iv { IfErr result (λ bad. bad.iv ≡ iv_shown bytes.now) }
+    ensures front { IfOk result (λ p. p.0 ≡ seals.iv_shown bytes.now) }
+    ensures short { OnErr result ((key label : List ℕ) → seals.IsNoSeal key label bytes.now) }
+    ensures iv { IfErr result (λ bad. bad.iv ≡ seals.iv_shown bytes.now) }
 {
     let iv = front(bytes);
     if bytes.len() < CODE_BYTES {
@@ -185,7 +200,7 @@ fn parts_of(bytes: &[u8]) -> Result<([u8; CODE_BYTES], &[u8]), BadSeal>
 
 // The first 32 bytes, with zeros where there are fewer.
 fn front(bytes: &[u8]) -> [u8; CODE_BYTES]
-    ensures { result ≡ iv_shown bytes.now }
+    ensures { result ≡ seals.iv_shown bytes.now }
 {
     let mut front = [0u8; CODE_BYTES];
     let n = bytes.len().min(CODE_BYTES);
@@ -201,8 +216,8 @@ fn open_text(
     text: &mut [u8],
 ) -> bool
     requires { length text.old ≤ MAX_TEXT }
-    ensures opened { IsTrue result → Opens key.now label.now (iv.now ++ text.old) text.new }
-    ensures refused { result ≡ false → IsNoSeal key.now label.now (iv.now ++ text.old) }
+    ensures opened { IsTrue result → seals.Opens key.now label.now (iv.now ++ text.old) text.new }
+    ensures refused { result ≡ false → seals.IsNoSeal key.now label.now (iv.now ++ text.old) }
 {
     stream_xor(&hmac(key, b"enc", iv), 0, text);
     same(iv, &hmac(key, label, text))

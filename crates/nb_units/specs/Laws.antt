@@ -7,7 +7,10 @@ use Rattle.nb_units.specs.declared.epoid.Epoid.{Epoid}
 use Rattle.nb_units.specs.Fields.{be4, be8, sized, raw_at, u8_at, u32_at, u64_at, bytes_at, done_at}
 use Rattle.nb_units.specs.Frames.{AreBytes}
 use Rattle.nb_units.specs.Epoid.{IsEpoid, epoid_bytes, epoid_of}
+use Rattle.nb_units.specs.declared.limits.TheConstants.{MAX_MEMO, MAX_HIDDEN, MAX_ORDER}
 use Rattle.nb_units.specs.declared.small.TheConstants.{MAX_SMALL}
+use Rattle.nb_units.specs.declared.buffer.TheConstants.{MAX_BUFFER}
+use Rattle.nb_units.specs.declared.reason.TheConstants.{FIRST_REASON, LAST_REASON}
 
 -- this spelling stands at the place of the bytes
 abbrev pub StandsAt : List ℕ → List ℕ → ℕ → Type 0
@@ -77,6 +80,10 @@ EpoidReadsBack = (e : Epoid) → IsEpoid e → epoid_of (epoid_bytes e) ≡ e
 abbrev pub EpoidSpellsBack : Type 0
 EpoidSpellsBack = (bytes : List ℕ) → length bytes ≡ 16 → AreBytes bytes → epoid_bytes (epoid_of bytes) ≡ bytes
 
--- a small list has at most so many bytes
-abbrev pub SmallLimit : Type 0
-SmallLimit = MAX_SMALL ≡ 280
+-- the most bytes of a memo, of a hidden part, sealed, of an order, of a small list and of a buffer
+abbrev pub LimitsAre : Type 0
+LimitsAre = (MAX_MEMO ≡ 64) × (MAX_HIDDEN ≡ 112) × (MAX_ORDER ≡ 280) × (MAX_SMALL ≡ 280) × (MAX_BUFFER ≡ 604)
+
+-- the least and the greatest code of a reason
+abbrev pub ReasonsAre : Type 0
+ReasonsAre = (FIRST_REASON ≡ 31) × (LAST_REASON ≡ 37)

@@ -5,4 +5,5 @@ pub mod Room
 pub mod Frames
 pub mod Epoid
 pub mod Padding
+pub mod Reasons
 pub mod Laws

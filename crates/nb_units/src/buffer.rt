@@ -2,12 +2,14 @@ ghost use Rattle.std.specs.Prelude.{◌≡◌, ◌≤◌, ◌+◌, ◌<◌, ◌^
 ghost use Rattle.nb_units.specs.Fields.{be4, be8, sized};
 ghost use Rattle.nb_units.specs.declared.buffer.TheConstants.{MAX_BUFFER};
 
+use crate::small::MAX_SMALL;
+use crate::width::{ACCOUNT, LENGTH, SECRET};
 use arrayvec::ArrayVec;
 use std::marker::Model;
 
 /// The most bytes of a [`Buffer`]: as many as the longest text that is spelled in one can have, an endorsement whose order
-/// and memo are as long as a [`Small`](crate::Small) can be.
-pub const MAX_BUFFER: usize = 604;
+/// and memo are as long as a [`Small`](crate::Small) can be, each behind its length, with an account and a key.
+pub const MAX_BUFFER: usize = LENGTH + MAX_SMALL + ACCOUNT + LENGTH + MAX_SMALL + SECRET;
 
 /// Fields one behind the other, at most [`MAX_BUFFER`] bytes in all, in a place of their own that takes no memory.
 /// Numbers are big-endian. What is spelled in a buffer is then appended, sealed or hashed as a whole.

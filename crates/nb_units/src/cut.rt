@@ -1,7 +1,8 @@
 ghost use Rattle.std.specs.Prelude.{◌≡◌, ◌≤◌, ◌<◌, ◌+◌, ◌^◌, drop, length, IfOk};
-ghost use Rattle.nb_units.specs.Fields.{raw_at, u8_at, u32_at, u64_at, bytes_at, done_at, moved_by, moved_past, moved, seen};
+ghost use Rattle.nb_units.specs.Fields as fields;
 
 use crate::number::{u32_of, u64_of};
+use std::fmt;
 use std::marker::Model;
 
 /// Why no such field stands at the place of a cut. Each `place` is that of the field's first byte, in bytes from the front
@@ -14,6 +15,19 @@ pub enum CutFault {
     Long { place: usize, len: u32, max: u32 },
     /// Bytes are left over behind the last field: the first of them stands at the place.
     Extra { place: usize },
+}
+
+impl fmt::Display for CutFault {
+    fn fmt<W: fmt::Write>(&self, f: &mut fmt::Formatter<W>) -> fmt::Result {
+        match self {
+            CutFault::Short { place } => write!(f, "at byte {place}: the field is not all there"),
+            CutFault::Long { place, len, max } => write!(
+                f,
+                "at byte {place}: a text of {len} bytes, and at most {max} are allowed"
+            ),
+            CutFault::Extra { place } => write!(f, "at byte {place}: bytes are left over"),
+        }
+    }
 }
 
 /// Reads a slice from its front, field by field. A field that was read is passed over; after a fault the cut is where it
@@ -64,15 +78,15 @@ impl<'a> Cut<'a> {
     /// Passes over `n` bytes, which are left.
     pub fn skip(&mut self, n: usize)
         requires { self.old.place + n ≤ length self.old.bytes }
-        ensures { self.new ≡ moved self.old n }
+        ensures { self.new ≡ fields.moved self.old n }
     {
         self.place += n;
     }
 
     /// One byte, or [`CutFault::Short`].
     pub fn u8(&mut self) -> Result<u8, CutFault>
-        ensures value { result ≡ u8_at self.old.bytes self.old.place }
-        ensures moved { self.new ≡ moved_by self.old 1 result }
+        ensures value { result ≡ fields.u8_at self.old.bytes self.old.place }
+        ensures moved { self.new ≡ fields.moved_by self.old 1 result }
     {
         let rest = self.rest();
         if rest.is_empty() {
@@ -84,8 +98,8 @@ impl<'a> Cut<'a> {
 
     /// A number of 4 bytes, big-endian, or [`CutFault::Short`].
     pub fn u32(&mut self) -> Result<u32, CutFault>
-        ensures value { result ≡ u32_at self.old.bytes self.old.place }
-        ensures moved { self.new ≡ moved_by self.old 4 result }
+        ensures value { result ≡ fields.u32_at self.old.bytes self.old.place }
+        ensures moved { self.new ≡ fields.moved_by self.old 4 result }
     {
         let rest = self.rest();
         if rest.len() < 4 {
@@ -97,8 +111,8 @@ impl<'a> Cut<'a> {
 
     /// A number of 8 bytes, big-endian, or [`CutFault::Short`].
     pub fn u64(&mut self) -> Result<u64, CutFault>
-        ensures value { result ≡ u64_at self.old.bytes self.old.place }
-        ensures moved { self.new ≡ moved_by self.old 8 result }
+        ensures value { result ≡ fields.u64_at self.old.bytes self.old.place }
+        ensures moved { self.new ≡ fields.moved_by self.old 8 result }
     {
         let rest = self.rest();
         if rest.len() < 8 {
@@ -110,8 +124,8 @@ impl<'a> Cut<'a> {
 
     /// 16 bytes as they stand, or [`CutFault::Short`].
     pub fn fixed16(&mut self) -> Result<[u8; 16], CutFault>
-        ensures value { result ≡ raw_at 16 self.old.bytes self.old.place }
-        ensures moved { self.new ≡ moved_by self.old 16 result }
+        ensures value { result ≡ fields.raw_at 16 self.old.bytes self.old.place }
+        ensures moved { self.new ≡ fields.moved_by self.old 16 result }
     {
         let rest = self.rest();
         if rest.len() < 16 {
@@ -125,8 +139,8 @@ impl<'a> Cut<'a> {
 
     /// 32 bytes as they stand, or [`CutFault::Short`].
     pub fn fixed32(&mut self) -> Result<[u8; 32], CutFault>
-        ensures value { result ≡ raw_at 32 self.old.bytes self.old.place }
-        ensures moved { self.new ≡ moved_by self.old 32 result }
+        ensures value { result ≡ fields.raw_at 32 self.old.bytes self.old.place }
+        ensures moved { self.new ≡ fields.moved_by self.old 32 result }
     {
         let rest = self.rest();
         if rest.len() < 32 {
@@ -141,9 +155,9 @@ impl<'a> Cut<'a> {
     /// A text of at most `max` bytes: its length in 4 bytes, big-endian, and then the text. Answers [`CutFault::Long`]
     /// where the length is more than `max`, however many bytes are left, and else [`CutFault::Short`].
     pub fn bytes(&mut self, max: u32) -> Result<&'a [u8], CutFault>
-        ensures value { seen result ≡ bytes_at max self.old.bytes self.old.place }
+        ensures value { fields.seen result ≡ fields.bytes_at max self.old.bytes self.old.place }
         ensures short { IfOk result (λ text. length text.now ≤ max) }
-        ensures moved { self.new ≡ moved_past self.old result }
+        ensures moved { self.new ≡ fields.moved_past self.old result }
     {
         let place = self.place;
         let rest = self.rest();
@@ -165,7 +179,7 @@ impl<'a> Cut<'a> {
 
     /// Answers [`CutFault::Extra`] where bytes are left over.
     pub fn done(&self) -> Result<(), CutFault>
-        ensures { result ≡ done_at self.now.bytes self.now.place }
+        ensures { result ≡ fields.done_at self.now.bytes self.now.place }
     {
         if self.place < self.bytes.len() {
             return Err(CutFault::Extra { place: self.place });

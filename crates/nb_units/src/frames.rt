@@ -1,7 +1,7 @@
 //! What a frame of the protocol is. The definitions stand in `specs/Frames.antt`; here are the header's
 //! constants, the kinds that have a name, and the laws that make the definitions one reading of a stream.
 
-ghost use Rattle.nb_units.specs.Frames.{FrameLayout, FrameKinds, FrontIsFrame, FrameIsFront, PartIsPartial, PartialIsPart, EmptyIsNothing, BadIsFault, HasReading, LongestReading, OneReading, BadStays};
+ghost use Rattle.nb_units.specs.Frames as law;
 
 /// The first byte of a frame, `N`.
 pub const FIRST_MAGIC: u8 = 0x4E;
@@ -22,91 +22,91 @@ pub const MAX_BODY: u32 = 1_048_576;
 pub const HEADER: usize = 8;
 
 /// The kind of a frame by which a merchant hands in an order that it endorsed.
-pub const ENDORSED_ORDER: u8 = 0x06;
+pub const ORDER_REQUEST: u8 = 0x06;
 
 /// The kind of a reply: the result of an order.
-pub const RESULT: u8 = 0x07;
+pub const RESULT_REPLY: u8 = 0x07;
 
 /// The kind of a frame by which a party asks for the status of an order.
-pub const STATUS_QUERY: u8 = 0x09;
+pub const STATUS_REQUEST: u8 = 0x09;
 
 /// The kind of a reply: the status of an order.
-pub const STATUS: u8 = 0x0A;
+pub const STATUS_REPLY: u8 = 0x0A;
 
 /// The kind of a reply: a ticket is granted.
-pub const GRANT: u8 = 0x0C;
+pub const GRANT_REPLY: u8 = 0x0C;
 
 /// The kind of a frame by which the operator enrols a party.
-pub const ENROL: u8 = 0x0D;
+pub const ENROL_REQUEST: u8 = 0x0D;
 
 /// The kind of a frame by which the operator puts money into an account.
-pub const FUND: u8 = 0x0E;
+pub const FUND_REQUEST: u8 = 0x0E;
 
 /// The kind of a reply: the house did what was asked.
-pub const DONE: u8 = 0x0F;
+pub const DONE_REPLY: u8 = 0x0F;
 
 /// The kind of a reply: the house refuses.
-pub const REFUSED: u8 = 0x10;
+pub const REFUSED_REPLY: u8 = 0x10;
 
 /// A law: the layout of a frame in numbers.
 pub fn layout()
-    ensures { FrameLayout }
+    ensures { law.FrameLayout }
 {}
 
 /// A law: the kinds in numbers.
 pub fn kinds()
-    ensures { FrameKinds }
+    ensures { law.FrameKinds }
 {}
 
 /// A law: a whole frame at the front of a stream is read as that frame, whatever follows it.
 #[tactic(auto, using(crate::proofs::FrameLaws::whole_front))]
 pub fn front_is_frame()
-    ensures { FrontIsFrame }
+    ensures { law.FrontIsFrame }
 {}
 
 /// A law: what is read as a frame at the front of a stream is a frame's spelling.
 pub fn frame_is_front()
-    ensures { FrameIsFront }
+    ensures { law.FrameIsFront }
 {}
 
 /// A law: a part of a frame, from its front on, is read neither as a frame nor as bad.
 pub fn part_is_partial()
-    ensures { PartIsPartial }
+    ensures { law.PartIsPartial }
 {}
 
 /// A law: what is read as a part of a frame is one, from its front on. Only while one, two or three of the four bytes
 /// of its length are there, the length may still turn out too long.
 pub fn partial_is_part()
-    ensures { PartialIsPart }
+    ensures { law.PartialIsPart }
 {}
 
 /// A law: only no bytes at all are read as nothing.
 pub fn empty_is_nothing()
-    ensures { EmptyIsNothing }
+    ensures { law.EmptyIsNothing }
 {}
 
 /// A law: a fault of a header is read exactly where the header has it, and all that stands before it is allowed.
 pub fn bad_is_fault()
-    ensures { BadIsFault }
+    ensures { law.BadIsFault }
 {}
 
 /// A law: each stream is a list of frames and a rest that begins with none.
 pub fn has_reading()
-    ensures { HasReading }
+    ensures { law.HasReading }
 {}
 
 /// A law: the frames of a stream are the longest list of frames that it begins with.
 pub fn longest_reading()
-    ensures { LongestReading }
+    ensures { law.LongestReading }
 {}
 
 /// A law: a stream has one list of frames, and one rest.
 pub fn one_reading()
-    ensures { OneReading }
+    ensures { law.OneReading }
 {}
 
 /// A law: bytes that no frame begins with stay so, whatever comes behind them.
 #[tactic(auto, using(crate::proofs::FrameLaws::bad_stays))]
 pub fn bad_stays()
-    ensures { BadStays }
+    ensures { law.BadStays }
 {}

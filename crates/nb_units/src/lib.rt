@@ -10,7 +10,10 @@
 //! a field is read exactly where its spelling stands, when each fault comes, and that a stream of bytes has one list of
 //! frames, is proved by the functions of [`laws`] and [`frames`].
 //!
-//! Left to others: which fields make an order, an entry or a message, which values each may have, and the reading of
+//! How wide fields are stands in [`width`]; how long a memo is at most is [`MAX_MEMO`], and every other limit is a sum of it and
+//! of widths. [`is_reason`] tests the code of a reason for which an order is refused.
+//!
+//! Left to others: in which order fields make an order, an entry or a message, which values each may have, and the reading of
 //! frames from a stream that comes in pieces.
 #![tactic(auto)]
 
@@ -21,21 +24,26 @@ mod epoid;
 pub mod frames;
 mod ids;
 pub mod laws;
+mod limits;
 mod malformed;
 mod memory;
 mod number;
 mod pen;
+mod reason;
 mod small;
+pub mod width;
 
 pub use blob::Blob;
 pub use buffer::{Buffer, MAX_BUFFER};
 pub use cut::{Cut, CutFault};
 pub use epoid::Epoid;
 pub use ids::{AcctId, Digest, PartyId, Price, Secret, Tag};
-pub use malformed::Malformed;
+pub use limits::{MAX_HIDDEN, MAX_MEMO, MAX_ORDER};
+pub use malformed::{Malformed, allow};
 pub use memory::{NoMemory, room};
 pub use number::u32_of;
 pub use pen::Pen;
+pub use reason::{FIRST_REASON, LAST_REASON, is_reason};
 pub use small::{MAX_SMALL, Small};
 
 #[cfg(test)]

@@ -2,10 +2,17 @@ ghost use Rattle.std.specs.Prelude.{◌≡◌, ◌≤◌, IsOk, OnOk, OnErr, vec
 ghost use Rattle.nb_units.specs.Room.{spare_of};
 
 use std::alloc::{AllocError, AllocFailed};
+use std::fmt;
 
 /// There was no memory for what a call had to make or to keep.
 #[derive(Clone, Copy, PartialEq, Eq, Debug)]
 pub struct NoMemory;
+
+impl fmt::Display for NoMemory {
+    fn fmt<W: fmt::Write>(&self, f: &mut fmt::Formatter<W>) -> fmt::Result {
+        write!(f, "there is no memory")
+    }
+}
 
 impl From<AllocError> for NoMemory {
     fn from(_error: AllocError) -> NoMemory {

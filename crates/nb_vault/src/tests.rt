@@ -7,10 +7,10 @@ use Comes::*;
 use Part::*;
 use nb_book::{Book, Entry};
 use nb_endorse::{Receipt, Refusal, Reply, ReplyKeys};
-use nb_epo::{MAX_HIDDEN, MAX_ORDER, Order, sign_order, write_order};
+use nb_epo::{Order, sign_order, write_order};
 use nb_escrow::{Decision, Head, decide};
 use nb_seal::{hmac, seal, sha};
-use nb_units::{AcctId, Buffer, Digest, Epoid, PartyId, Price, Small};
+use nb_units::{AcctId, Buffer, Digest, Epoid, MAX_HIDDEN, MAX_ORDER, PartyId, Price, Small};
 use std::alloc::Global;
 use std::process::Abort;
 use std::test::Fail;
@@ -242,7 +242,7 @@ fn endorsed(alloc: Global, request: &mut Request, changes: &[Change]) -> Result<
     request.order.hidden = hidden;
     sign_order(&mut request.order, &[0x44; 32]);
     let mut order = Vec::with_capacity(alloc, MAX_ORDER)?;
-    if request.order.hidden.as_slice().len() > MAX_HIDDEN as usize {
+    if request.order.hidden.as_slice().len() > MAX_HIDDEN {
         return Err("no hidden part has more".into());
     }
     write_order(&request.order, &mut order);
