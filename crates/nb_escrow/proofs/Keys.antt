@@ -176,7 +176,7 @@ module _ (p : Epoid) (id : PartyId) (key : List ℕ) where
 -- ---- the verdict
 
 -- an authentic query over enough entries passes all tests
-passes : (H : List Entry) (head : Head) (body : List ℕ) (asked : StatusQuery) (is : IsAuthentic H body asked) → asked.least ≤ length H
+pub passes : (H : List Entry) (head : Head) (body : List ℕ) (asked : StatusQuery) (is : IsAuthentic H body asked) → asked.least ≤ length H
     → status_steps H head body ≡ Ok (status H head is.asker asked)
 unfolding status_steps enrolled right_tag enough_entries
 passes H head body asked is enough =

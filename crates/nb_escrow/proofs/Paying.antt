@@ -28,11 +28,11 @@ abbrev Tested : Type 0
 Tested = Result (Unit {0}) RefusalReason
 
 -- a test that fails gives its reason, and one that holds goes on
-either : (P : Tested → Type 0) (b : Bool) (why : RefusalReason) (next : Tested) → (b ≡ false → P (Err why)) → (b ≡ true → P next) → P (unless b why >>= (λ u. next))
+pub either : (P : Tested → Type 0) (b : Bool) (why : RefusalReason) (next : Tested) → (b ≡ false → P (Err why)) → (b ≡ true → P next) → P (unless b why >>= (λ u. next))
 either P true why next fails holds = holds refl
 either P false why next fails holds = fails refl
 
-last : (P : Tested → Type 0) (b : Bool) (why : RefusalReason) → (b ≡ false → P (Err why)) → (b ≡ true → P (Ok tt)) → P (unless b why)
+pub last : (P : Tested → Type 0) (b : Bool) (why : RefusalReason) → (b ≡ false → P (Err why)) → (b ≡ true → P (Ok tt)) → P (unless b why)
 last P true why fails holds = holds refl
 last P false why fails holds = fails refl
 
