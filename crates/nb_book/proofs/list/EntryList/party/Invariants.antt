@@ -1,6 +1,6 @@
 use Rattle.std.proofs.Common.{◌≡◌, drop}
 use Rattle.nb_book.specs.Searches.{first_from, party_at, party_in}
-use Rattle.nb_book.proofs.party.Party.first_in.Given as goal
+use Rattle.nb_book.proofs.list.EntryList.party.Given as goal
 
 -- what is left gives the answer of the whole list
 abbrev pub invariant-loop-i : goal.invariant-loop-i

@@ -1,6 +1,6 @@
 use Rattle.std.proofs.Common.{◌≡◌, drop}
 use Rattle.nb_book.specs.Searches.{first_from, order_at, order_in}
-use Rattle.nb_book.proofs.kept.Kept.first_in.Given as goal
+use Rattle.nb_book.proofs.list.EntryList.order.Given as goal
 
 -- what is left gives the answer of the whole list
 abbrev pub invariant-loop-i : goal.invariant-loop-i

@@ -1,6 +1,6 @@
 use Rattle.std.proofs.Common.{◌≡◌, drop}
 use Rattle.nb_book.specs.Searches.{first_from, holder_at, holder_in}
-use Rattle.nb_book.proofs.account.Account.holder_in.Given as goal
+use Rattle.nb_book.proofs.list.EntryList.holder.Given as goal
 
 -- what is left gives the answer of the whole list
 abbrev pub invariant-loop-entry : goal.invariant-loop-entry
