@@ -49,9 +49,9 @@ use Rattle.nb_escrow.specs.Laws.{IsAuthentic, IsEnrolment, IsFund, IsPayment, Is
 use Rattle.nb_escrow.specs.Orders.{endorsement_in, hidden_in, same_merchant, same_digest, settled, result, again_or_settle, order_steps}
 use Rattle.nb_escrow.specs.Payable.{IsAuthenticOrder, MaySettle, IsPayable, payment_of, IsTrueReason, refusal_of, TellsReason, digest_held}
 use Rattle.nb_escrow.specs.Payments.{payment_steps, outcome_of}
-use Rattle.nb_escrow.specs.Requests.{enrol_of, fund_of, endorsed_of}
-use Rattle.nb_escrow.specs.Settlements.{settlement_at, settlement_in, entry_with, entry_of, receipt_in_role, may_see}
-use Rattle.nb_escrow.specs.Statuses.{status}
+use Rattle.nb_escrow.specs.Requests.{enrolment_of, funding_of, endorsed_of}
+use Rattle.nb_escrow.specs.Settlements.{settlement_at, settlement_in, entry_with, settlement_entry, receipt_in_role, may_see}
+use Rattle.nb_escrow.specs.Statuses.{status_told}
 use Rattle.nb_escrow.specs.Verdict.{steps, told, verdict}
 use Rattle.nb_escrow.proofs.Holding.{enrol_place, fund_place}
 use Rattle.nb_escrow.proofs.Judging.{Answer, Comes, comes, Pays, PaymentComes, payment_comes, kept_for}
@@ -81,14 +81,14 @@ same_told a b is = cc
 module _ (H : List Entry) (head : Head) (cap kind : ℕ) (body : List ℕ) (moment : ℕ) where
   -- an order is settled now
   abbrev Settles : Decision → Entry → Type 0
-  Settles d e = (p : Presented) × MaySettle H cap body p × (d ≡ result head p (settled H p moment) (Some (entry_of (settled H p moment)))) × (entry_of (settled H p moment) ≡ e)
+  Settles d e = (p : Presented) × MaySettle H cap body p × (d ≡ result head p (settled H p moment) (Some (settlement_entry (settled H p moment)))) × (settlement_entry (settled H p moment) ≡ e)
 
   abbrev Enrols : Entry → Type 0
-  Enrols e = (asked : Enrolment) × (enrol_of body ≡ Ok asked) × (asked.tag ≡ hmac_of head.operator (codes "enro" ++ signed_part body))
+  Enrols e = (asked : Enrolment) × (enrolment_of body ≡ Ok asked) × (asked.tag ≡ hmac_of head.operator (codes "enro" ++ signed_part body))
       × (e ≡ enrol_entry asked) × LegalAfter H e × (length H < cap)
 
   abbrev Funds : Entry → Type 0
-  Funds e = (asked : Funding) × (fund_of body ≡ Ok asked) × (asked.tag ≡ hmac_of head.operator (codes "fund" ++ signed_part body))
+  Funds e = (asked : Funding) × (funding_of body ≡ Ok asked) × (asked.tag ≡ hmac_of head.operator (codes "fund" ++ signed_part body))
       × (e ≡ fund_entry asked) × LegalAfter H e × (length H < cap)
 
   -- for what a decision records an entry
@@ -133,10 +133,10 @@ module _ (H : List Entry) (head : Head) (cap kind : ℕ) (body : List ℕ) (mome
   abbrev SettledAs : Presented → Entry → Type 0
   SettledAs p e = (Pays H p moment × (e ≡ payment_of p moment)) ⊎ ((why : RefusalReason) × IsTrueReason H p moment why × (payment_steps H p moment ≡ Err why) × (e ≡ refusal_of p moment why))
 
-  settled_as : (p : Presented) → SettledAs p (entry_of (settled H p moment))
+  settled_as : (p : Presented) → SettledAs p (settlement_entry (settled H p moment))
   settled_as p = part (payment_steps H p moment) refl (payment_comes H p moment)
     where
-      part : (t : Result (Unit {0}) RefusalReason) → payment_steps H p moment ≡ t → PaymentComes H p moment t → SettledAs p (entry_of (settled H p moment))
+      part : (t : Result (Unit {0}) RefusalReason) → payment_steps H p moment ≡ t → PaymentComes H p moment t → SettledAs p (settlement_entry (settled H p moment))
       part (Ok u) is pays = inl (pays, ap (λ (t : Result (Unit {0}) RefusalReason). entry_with (settled H p moment) (outcome_of p t)) is)
       part (Err why) is true_so = inr (why, true_so, is, ap (λ (t : Result (Unit {0}) RefusalReason). entry_with (settled H p moment) (outcome_of p t)) is)
 
@@ -186,7 +186,7 @@ module _ (H : List Entry) (head : Head) (cap kind : ℕ) (body : List ℕ) (mome
   no_settlement epoid none = rw (none_is (order_in H epoid) none) refl
 
   settles_now : kind ≡ ORDER_REQUEST → (p : Presented) → MaySettle H cap body p
-      → verdict H head cap kind body moment ≡ result head p (settled H p moment) (Some (entry_of (settled H p moment)))
+      → verdict H head cap kind body moment ≡ result head p (settled H p moment) (Some (settlement_entry (settled H p moment)))
   settles_now kind_is p is =
       ap told (of_order kind_is ∙ presented p is.authentic ∙ ap (again_or_settle H head cap p moment) (no_settlement p.order.epoid is.new)
       ∙ step (room_left H cap) _ tt (room_for H cap is.room))
@@ -199,21 +199,21 @@ module _ (H : List Entry) (head : Head) (cap kind : ℕ) (body : List ℕ) (mome
   paid_so : (e : Entry) (d : Decision) → IsPayment e → RecordedFor d e → IsPaidSo e
   paid_so e d pays (inl (is, (p, settles, d_is, same))) = part (settled_as p)
     where
-      part : SettledAs p (entry_of (settled H p moment)) → IsPaidSo e
+      part : SettledAs p (settlement_entry (settled H p moment)) → IsPaidSo e
       part (inl (it, paid)) =
           (is, (p, record { settles = settles; pays = it.pays; knows = it.knows; credited = it.credited; priced = it.priced; in_time = it.in_time; covered = it.covered }, sym same ∙ paid))
       part (inr (why, true_so, is, refused)) = absurd (subst IsPayment (sym same ∙ refused) pays)
   paid_so e d pays (inr (inl (is, (asked, spelled, right, same, legal, room)))) = absurd (subst IsPayment same pays)
   paid_so e d pays (inr (inr (is, (asked, spelled, right, same, legal, room)))) = absurd (subst IsPayment same pays)
 
-  payable_pays : (p : Presented) → IsPayable H cap body moment p → entry_of (settled H p moment) ≡ payment_of p moment
+  payable_pays : (p : Presented) → IsPayable H cap body moment p → settlement_entry (settled H p moment) ≡ payment_of p moment
   payable_pays p is =
       let all : Pays H p moment = record { pays = is.pays; knows = is.knows; credited = is.credited; priced = is.priced; in_time = is.in_time; covered = is.covered } in
       ap (λ (t : Result (Unit {0}) RefusalReason). entry_with (settled H p moment) (outcome_of p t)) (pays_so p all)
 
   is_paid : (e : Entry) → IsPaidSo e → ((verdict H head cap kind body moment).entry ≡ Some e) × IsPayment e
   is_paid e (is, (p, payable, same)) =
-      let paid : entry_of (settled H p moment) ≡ e = payable_pays p payable ∙ sym same in
+      let paid : settlement_entry (settled H p moment) ≡ e = payable_pays p payable ∙ sym same in
       (ap (λ (d : Decision). d.entry) (settles_now is p payable.settles) ∙ ap (λ (x : Entry). let o : Option Entry = Some x in o) paid, subst IsPayment (sym same) tt)
 
   settles_so : (e : Entry) (d : Decision) → IsPayment e ⊎ IsRefusedOrder e → RecordedFor d e → (kind ≡ ORDER_REQUEST) × ((p : Presented) × MaySettle H cap body p)
@@ -223,7 +223,7 @@ module _ (H : List Entry) (head : Head) (cap kind : ℕ) (body : List ℕ) (mome
   settles_so e d (inl pays) (inr (inr (is, (asked, spelled, right, same, legal, room)))) = absurd (subst IsPayment same pays)
   settles_so e d (inr refuses) (inr (inr (is, (asked, spelled, right, same, legal, room)))) = absurd (subst IsRefusedOrder same refuses)
 
-  is_settled : (p : Presented) → SettledAs p (entry_of (settled H p moment)) → IsPayment (entry_of (settled H p moment)) ⊎ IsRefusedOrder (entry_of (settled H p moment))
+  is_settled : (p : Presented) → SettledAs p (settlement_entry (settled H p moment)) → IsPayment (settlement_entry (settled H p moment)) ⊎ IsRefusedOrder (settlement_entry (settled H p moment))
   is_settled p (inl (it, paid)) = inl (subst IsPayment (sym paid) tt)
   is_settled p (inr (why, true_so, is, refused)) = inr (subst IsRefusedOrder (sym refused) tt)
 
@@ -234,7 +234,7 @@ paid_exactly_where H head cap kind body moment e =
 pub settled_exactly_where : SettledExactlyWhere
 settled_exactly_where H head cap kind body moment = (
   λ all. let r = recorded H head cap kind body moment all.0 all.1 in settles_so H head cap kind body moment all.0 r.0 all.2 r.2,
-  λ is. (entry_of (settled H is.1.0 moment), ap (λ (d : Decision). d.entry) (settles_now H head cap kind body moment is.0 is.1.0 is.1.1), is_settled H head cap kind body moment is.1.0 (settled_as H head cap kind body moment is.1.0)),
+  λ is. (settlement_entry (settled H is.1.0 moment), ap (λ (d : Decision). d.entry) (settles_now H head cap kind body moment is.0 is.1.0 is.1.1), is_settled H head cap kind body moment is.1.0 (settled_as H head cap kind body moment is.1.0)),
 )
 
 pub refusals_are_true : RefusalsAreTrue
@@ -287,8 +287,8 @@ tells_reason s why is = rw is (
 pub refused_for_true_reason : RefusedForTrueReason
 refused_for_true_reason H head cap kind body moment e is refused = part (recorded H head cap kind body moment e is)
   where
-    of_order_so : (p : Presented) → MaySettle H cap body p → verdict H head cap kind body moment ≡ result head p (settled H p moment) (Some (entry_of (settled H p moment))) → entry_of (settled H p moment) ≡ e
-        → SettledAs H head cap kind body moment p (entry_of (settled H p moment))
+    of_order_so : (p : Presented) → MaySettle H cap body p → verdict H head cap kind body moment ≡ result head p (settled H p moment) (Some (settlement_entry (settled H p moment))) → settlement_entry (settled H p moment) ≡ e
+        → SettledAs H head cap kind body moment p (settlement_entry (settled H p moment))
         → (p : Presented) × (why : RefusalReason) × MaySettle H cap body p × IsTrueReason H p moment why × (e ≡ refusal_of p moment why) × TellsReason why (verdict H head cap kind body moment).reply
     of_order_so p settles v_is same (inl (pays, paid)) = absurd (subst IsRefusedOrder (sym same ∙ paid) refused)
     of_order_so p settles v_is same (inr (why, true_so, steps_is, entry_so)) = (
@@ -376,7 +376,7 @@ answered_exactly_where H head cap kind body moment = (forth (steps H head cap ki
 
     back : (kind ≡ STATUS_REQUEST) × ((asked : StatusQuery) × IsAuthentic H body asked × (asked.least ≤ length H)) → IsStatus (verdict H head cap kind body moment).reply
     back (is, (asked, authentic, least)) =
-        let same : verdict H head cap kind body moment ≡ status H head authentic.asker asked =
+        let same : verdict H head cap kind body moment ≡ status_told H head authentic.asker asked =
         ap told (ap (λ (k : ℕ). steps H head cap k body moment) is ∙ passes H head body asked authentic least) in
         subst (λ (d : Decision). IsStatus d.reply) (sym same) tt
 
@@ -403,17 +403,17 @@ module _ (H : List Entry) (legal : Legal H) (head : Head) (cap kind : ℕ) (body
       neither_so (Enrol id role acct nonce key) (inr no_pay) is = absurd no_pay
       neither_so x any is = absurd is
 
-      neither : IsPayment (entry_of (settled H p moment)) ⊎ IsRefusedOrder (entry_of (settled H p moment)) → IsEnrolment (entry_of (settled H p moment)) → ⊥
-      neither = neither_so (entry_of (settled H p moment))
+      neither : IsPayment (settlement_entry (settled H p moment)) ⊎ IsRefusedOrder (settlement_entry (settled H p moment)) → IsEnrolment (settlement_entry (settled H p moment)) → ⊥
+      neither = neither_so (settlement_entry (settled H p moment))
   enrolled_so e d enrols (inr (inl both)) = both
   enrolled_so e d enrols (inr (inr (is, (asked, spelled, right, same, next, room)))) = absurd (subst IsEnrolment same enrols)
 
-  enrol_steps_so : (asked : Enrolment) → enrol_of body ≡ Ok asked → asked.tag ≡ hmac_of head.operator (codes "enro" ++ signed_part body) → LegalAfter H (enrol_entry asked) → length H < cap
+  enrol_steps_so : (asked : Enrolment) → enrolment_of body ≡ Ok asked → asked.tag ≡ hmac_of head.operator (codes "enro" ++ signed_part body) → LegalAfter H (enrol_entry asked) → length H < cap
       → enrol_steps H head cap body ≡ Ok (done asked.acct (length H) (balance (H ++ enrol_entry asked ∷ []) asked.acct) (Some (enrol_entry asked)))
   unfolding enrol_steps
   enrol_steps_so asked spelled right next room =
       let unheld : place_in H (enrol_entry asked) ≡ None = sym (enrol_place H legal asked) ∙ ap (λ (o : Option Party). option_and_then (party_place asked) o) (none_is (party_in H asked.id) next.3) in
-      step (well_formed IN_BODY (enrol_of body)) _ asked (ap (well_formed IN_BODY) spelled)
+      step (well_formed IN_BODY (enrolment_of body)) _ asked (ap (well_formed IN_BODY) spelled)
       ∙ step (right_tag asked.tag (hmac_of head.operator (codes "enro" ++ signed_part body))) _ tt (tag_so asked.tag _ right)
       ∙ ap (again_or_enrol H cap asked) unheld
       ∙ step (numbers_free H asked.id asked.acct) _ tt (numbers_so H asked.id asked.acct next.0 next.1 next.3 next.4)
@@ -434,8 +434,8 @@ module _ (H : List Entry) (legal : Legal H) (head : Head) (cap kind : ℕ) (body
       neither_so (Fund acct amount reference) (inr no_pay) is = absurd no_pay
       neither_so x any is = absurd is
 
-      neither : IsPayment (entry_of (settled H p moment)) ⊎ IsRefusedOrder (entry_of (settled H p moment)) → IsFund (entry_of (settled H p moment)) → ⊥
-      neither = neither_so (entry_of (settled H p moment))
+      neither : IsPayment (settlement_entry (settled H p moment)) ⊎ IsRefusedOrder (settlement_entry (settled H p moment)) → IsFund (settlement_entry (settled H p moment)) → ⊥
+      neither = neither_so (settlement_entry (settled H p moment))
   funded_so e d funds (inr (inl (is, (asked, spelled, right, same, next, room)))) = absurd (subst IsFund same funds)
   funded_so e d funds (inr (inr both)) = both
 
@@ -451,12 +451,12 @@ module _ (H : List Entry) (legal : Legal H) (head : Head) (cap kind : ℕ) (body
   unfolding total_within
   within_total amount within = holds_so _ _ (le-leb (total H + amount) MAX_TOTAL within)
 
-  fund_steps_so : (asked : Funding) → fund_of body ≡ Ok asked → asked.tag ≡ hmac_of head.operator (codes "fund" ++ signed_part body) → LegalAfter H (fund_entry asked) → length H < cap
+  fund_steps_so : (asked : Funding) → funding_of body ≡ Ok asked → asked.tag ≡ hmac_of head.operator (codes "fund" ++ signed_part body) → LegalAfter H (fund_entry asked) → length H < cap
       → fund_steps H head cap body ≡ Ok (done asked.acct (length H) (balance (H ++ fund_entry asked ∷ []) asked.acct) (Some (fund_entry asked)))
   unfolding fund_steps
   fund_steps_so asked spelled right next room =
       let unheld : place_in H (fund_entry asked) ≡ None = sym (fund_place H legal asked) ∙ ap (λ (o : Option Funded). option_and_then (funded_place asked) o) (none_is (funded_in H asked.reference) next.3) in
-      step (well_formed IN_BODY (fund_of body)) _ asked (ap (well_formed IN_BODY) spelled)
+      step (well_formed IN_BODY (funding_of body)) _ asked (ap (well_formed IN_BODY) spelled)
       ∙ step (right_tag asked.tag (hmac_of head.operator (codes "fund" ++ signed_part body))) _ tt (tag_so asked.tag _ right)
       ∙ ap (again_or_fund H cap asked) unheld
       ∙ step (reference_new H asked.reference) _ tt (new_reference asked.reference next.3)

@@ -39,13 +39,13 @@ use Rattle.nb_escrow.specs.declared.settlement.Settlement.{Settlement}
 use Rattle.nb_escrow.specs.declared.status.StatusQuery.{StatusQuery}
 use Rattle.nb_escrow.specs.Checks.{signed_part, well_formed, enrolled, enrolled_as, right_tag, room_left}
 use Rattle.nb_escrow.specs.Held.{place_in, done}
-use Rattle.nb_escrow.specs.Requests.{enrol_of, fund_of, endorsed_of, query_of}
+use Rattle.nb_escrow.specs.Requests.{enrolment_of, funding_of, endorsed_of, query_of}
 use Rattle.nb_escrow.specs.Enrolments.{enrol_entry, if_unheld, numbers_free, again_or_enrol, enrol_steps}
 use Rattle.nb_escrow.specs.Fundings.{fund_entry, funded_place, if_unfunded, reference_new, account_held, total_within, again_or_fund, fund_steps}
 use Rattle.nb_escrow.specs.Orders.{endorsement_in, hidden_in, same_merchant, same_digest, settled, result, again_or_settle, order_steps}
 use Rattle.nb_escrow.specs.Payments.{payment_steps}
-use Rattle.nb_escrow.specs.Settlements.{settlement_at, settlement_of, settlement_in, entry_of}
-use Rattle.nb_escrow.specs.Statuses.{enough_entries, status, status_steps}
+use Rattle.nb_escrow.specs.Settlements.{settlement_at, settlement_of, settlement_in, settlement_entry}
+use Rattle.nb_escrow.specs.Statuses.{enough_entries, status_told, status_steps}
 use Rattle.nb_escrow.specs.Payable.{IsAsked, IsEndorsed, IsOrdered, IsSigned, IsAuthenticOrder, IsTrueReason, digest_held}
 use Rattle.nb_escrow.specs.Claims.{IsNotSealed, IsSealedBadly, IsHeld, IsFundedOtherwise, HasNoHolder, IsTooMuch, AreTooFew, IsTrueOfRequest, IsTrueOfOrder, IsTrueOfHidden, IsTrueOfPresented, IsTrueOfQuery, IsTrueOfEnrolment, IsTrueOfFunding, IsTrueRefusal}
 use Rattle.nb_escrow.specs.Laws.{IsAuthentic}
@@ -108,7 +108,7 @@ payment_comes H p moment =
 abbrev pub SettledSo : List Entry → Head → ℕ → ℕ → Presented → Decision → Type 0
 SettledSo H head cap moment p d =
     ((kept : Settlement) × (settlement_in H p.order.epoid ≡ Some kept) × (kept.digest ≡ p.digest) × (d ≡ result head p kept None))
-    ⊎ (IsNone (order_in H p.order.epoid) × (length H < cap) × (d ≡ result head p (settled H p moment) (Some (entry_of (settled H p moment)))))
+    ⊎ (IsNone (order_in H p.order.epoid) × (length H < cap) × (d ≡ result head p (settled H p moment) (Some (settlement_entry (settled H p moment)))))
 
 abbrev pub OrderComes : List Entry → Head → ℕ → List ℕ → ℕ → Answer → Type 0
 OrderComes H head cap body moment (Ok d) = (p : Presented) × IsAuthenticOrder H body p × SettledSo H head cap moment p d
@@ -195,7 +195,7 @@ order_comes H head cap body moment =
 -- ---- a status query
 
 abbrev pub QueryComes : List Entry → Head → List ℕ → Answer → Type 0
-QueryComes H head body (Ok d) = (asked : StatusQuery) × (is : IsAuthentic H body asked) × (asked.least ≤ length H) × (d ≡ status H head is.asker asked)
+QueryComes H head body (Ok d) = (asked : StatusQuery) × (is : IsAuthentic H body asked) × (asked.least ≤ length H) × (d ≡ status_told H head is.asker asked)
 QueryComes H head body (Err why) = IsTrueOfQuery H body why
 
 too_few : (H : List Entry) (asked : StatusQuery) (why : Refusal) → enough_entries H asked.least ≡ Err why → AreTooFew H asked why
@@ -226,7 +226,7 @@ query_comes H head body =
 -- ---- an enrolment
 
 abbrev pub EnrolmentComes : List Entry → Head → ℕ → List ℕ → Answer → Type 0
-EnrolmentComes H head cap body (Ok d) = (asked : Enrolment) × (enrol_of body ≡ Ok asked) × (asked.tag ≡ hmac_of head.operator (codes "enro" ++ signed_part body))
+EnrolmentComes H head cap body (Ok d) = (asked : Enrolment) × (enrolment_of body ≡ Ok asked) × (asked.tag ≡ hmac_of head.operator (codes "enro" ++ signed_part body))
     × (((at : ℕ) × (d ≡ done asked.acct at (balance H asked.acct) None))
     ⊎ (LegalAfter H (enrol_entry asked) × (length H < cap) × (d ≡ done asked.acct (length H) (balance (H ++ enrol_entry asked ∷ []) asked.acct) (Some (enrol_entry asked)))))
 EnrolmentComes H head cap body (Err why) = IsTrueOfEnrolment H head cap body why
@@ -250,7 +250,7 @@ not_free H asked why is = part (party_in H asked.id) refl (holder_in H asked.acc
         let so = fails_so (not (asked.id.0 == 0) && not (asked.acct.0 == 0)) _ why is in
         inr (inr (rw none refl, rw nobody refl, zero_so asked.id.0 asked.acct.0 so.0, so.1))
 
-enrol_again_comes : (H : List Entry) (head : Head) (cap : ℕ) (body : List ℕ) (asked : Enrolment) → enrol_of body ≡ Ok asked → asked.tag ≡ hmac_of head.operator (codes "enro" ++ signed_part body)
+enrol_again_comes : (H : List Entry) (head : Head) (cap : ℕ) (body : List ℕ) (asked : Enrolment) → enrolment_of body ≡ Ok asked → asked.tag ≡ hmac_of head.operator (codes "enro" ++ signed_part body)
     → (o : Option ℕ) → EnrolmentComes H head cap body (again_or_enrol H cap asked o)
 enrol_again_comes H head cap body asked spelled right (Some at) = (asked, spelled, right, inl (at, refl))
 enrol_again_comes H head cap body asked spelled right None =
@@ -263,15 +263,15 @@ pub enrolment_comes : (H : List Entry) (head : Head) (cap : ℕ) (body : List �
 unfolding enrol_steps
 enrolment_comes H head cap body =
     let C : Answer → Type 0 = EnrolmentComes H head cap body in
-    behind C (well_formed IN_BODY (enrol_of body)) _ (λ why is. inl (malformed IN_BODY (enrol_of body) why is)) (λ asked is.
-    let spelled : enrol_of body ≡ Ok asked = formed IN_BODY (enrol_of body) asked is in
+    behind C (well_formed IN_BODY (enrolment_of body)) _ (λ why is. inl (malformed IN_BODY (enrolment_of body) why is)) (λ asked is.
+    let spelled : enrolment_of body ≡ Ok asked = formed IN_BODY (enrolment_of body) asked is in
     behind C (right_tag asked.tag (hmac_of head.operator (codes "enro" ++ signed_part body))) _ (λ why is. inr (asked, spelled, inl (other_tag asked.tag _ why is))) (λ u is.
     enrol_again_comes H head cap body asked spelled (right_so asked.tag _ u is) (place_in H (enrol_entry asked))))
 
 -- ---- a fund
 
 abbrev pub FundingComes : List Entry → Head → ℕ → List ℕ → Answer → Type 0
-FundingComes H head cap body (Ok d) = (asked : Funding) × (fund_of body ≡ Ok asked) × (asked.tag ≡ hmac_of head.operator (codes "fund" ++ signed_part body))
+FundingComes H head cap body (Ok d) = (asked : Funding) × (funding_of body ≡ Ok asked) × (asked.tag ≡ hmac_of head.operator (codes "fund" ++ signed_part body))
     × (((at : ℕ) × (d ≡ done asked.acct at (balance H asked.acct) None))
     ⊎ (LegalAfter H (fund_entry asked) × (length H < cap) × (d ≡ done asked.acct (length H) (balance (H ++ fund_entry asked ∷ []) asked.acct) (Some (fund_entry asked)))))
 FundingComes H head cap body (Err why) = Legal H → IsTrueOfFunding H head cap body why
@@ -312,7 +312,7 @@ too_much H asked why is =
     let so = fails_so (nat_le (total H + asked.amount) MAX_TOTAL) _ why is in
     (leb-false (total H + asked.amount) MAX_TOTAL so.0, so.1)
 
-fund_again_comes : (H : List Entry) (head : Head) (cap : ℕ) (body : List ℕ) (asked : Funding) → fund_of body ≡ Ok asked → asked.tag ≡ hmac_of head.operator (codes "fund" ++ signed_part body)
+fund_again_comes : (H : List Entry) (head : Head) (cap : ℕ) (body : List ℕ) (asked : Funding) → funding_of body ≡ Ok asked → asked.tag ≡ hmac_of head.operator (codes "fund" ++ signed_part body)
     → (o : Option ℕ) → place_in H (fund_entry asked) ≡ o → FundingComes H head cap body (again_or_fund H cap asked o)
 fund_again_comes H head cap body asked spelled right (Some at) place = (asked, spelled, right, inl (at, refl))
 fund_again_comes H head cap body asked spelled right None place =
@@ -332,8 +332,8 @@ pub funding_comes : (H : List Entry) (head : Head) (cap : ℕ) (body : List ℕ)
 unfolding fund_steps
 funding_comes H head cap body =
     let C : Answer → Type 0 = FundingComes H head cap body in
-    behind C (well_formed IN_BODY (fund_of body)) _ (λ why is legal. inl (malformed IN_BODY (fund_of body) why is)) (λ asked is.
-    let spelled : fund_of body ≡ Ok asked = formed IN_BODY (fund_of body) asked is in
+    behind C (well_formed IN_BODY (funding_of body)) _ (λ why is legal. inl (malformed IN_BODY (funding_of body) why is)) (λ asked is.
+    let spelled : funding_of body ≡ Ok asked = formed IN_BODY (funding_of body) asked is in
     behind C (right_tag asked.tag (hmac_of head.operator (codes "fund" ++ signed_part body))) _ (λ why is legal. inr (asked, spelled, inl (other_tag asked.tag _ why is))) (λ u is.
     fund_again_comes H head cap body asked spelled (right_so asked.tag _ u is) (place_in H (fund_entry asked)) refl))
 

@@ -32,7 +32,7 @@ use Rattle.nb_escrow.specs.declared.order.Presented.{Presented}
 use Rattle.nb_escrow.specs.declared.settlement.Settlement.{Settlement}
 use Rattle.nb_escrow.specs.Checks.{signed_part, unless, well_formed, if_found, enrolled, enrolled_as, right_tag, room_left}
 use Rattle.nb_escrow.specs.Held.{place_in}
-use Rattle.nb_escrow.specs.Requests.{enrol_of, fund_of, endorsed_of}
+use Rattle.nb_escrow.specs.Requests.{enrolment_of, funding_of, endorsed_of}
 use Rattle.nb_escrow.specs.Enrolments.{enrol_entry, if_unheld, numbers_free, again_or_enrol, enrol_steps}
 use Rattle.nb_escrow.specs.Fundings.{fund_entry, if_unfunded, reference_new, account_held, total_within, again_or_fund, fund_steps}
 use Rattle.nb_escrow.specs.Orders.{IsPresented, endorsement_in, hidden_in, names_endorser, same_merchant, same_digest, again_or_settle, order_steps}
@@ -89,8 +89,8 @@ allowed_so : (b : Bool) (place : ℕ) (u : Unit {0}) → allowed b place ≡ Ok 
 allowed_so true place u is = refl
 allowed_so false place u is = absurd cc
 
-pub role_so : (body : List ℕ) (asked : Enrolment) → enrol_of body ≡ Ok asked → (asked.role ≡ CONSUMER) ⊎ (asked.role ≡ MERCHANT)
-unfolding enrol_of
+pub role_so : (body : List ℕ) (asked : Enrolment) → enrolment_of body ≡ Ok asked → (asked.role ≡ CONSUMER) ⊎ (asked.role ≡ MERCHANT)
+unfolding enrolment_of
 role_so body asked is =
     let id = inside (or_place (u32_at body 0)) _ asked is in
     let role = inside (or_place (u8_at body 4)) _ asked id.2 in
@@ -139,14 +139,14 @@ enrol_recorded H cap asked role None d is =
 enrol_steps_recorded : (H : List Entry) (head : Head) (cap : ℕ) (body : List ℕ) → RecordedIn H cap (enrol_steps H head cap body)
 unfolding enrol_steps
 enrol_steps_recorded H head cap body d is =
-    let asked = inside (well_formed IN_BODY (enrol_of body)) _ d is in
+    let asked = inside (well_formed IN_BODY (enrolment_of body)) _ d is in
     let signed = inside (right_tag asked.0.tag (hmac_of head.operator (codes "enro" ++ signed_part body))) _ d asked.2 in
-    enrol_recorded H cap asked.0 (role_so body asked.0 (formed IN_BODY (enrol_of body) asked.0 asked.1)) (place_in H (enrol_entry asked.0)) d signed.2
+    enrol_recorded H cap asked.0 (role_so body asked.0 (formed IN_BODY (enrolment_of body) asked.0 asked.1)) (place_in H (enrol_entry asked.0)) d signed.2
 
 -- ---- funds
 
-pub amount_so : (body : List ℕ) (asked : Funding) → fund_of body ≡ Ok asked → (1 ≤ asked.amount) × (asked.amount ≤ MAX_TOTAL)
-unfolding fund_of
+pub amount_so : (body : List ℕ) (asked : Funding) → funding_of body ≡ Ok asked → (1 ≤ asked.amount) × (asked.amount ≤ MAX_TOTAL)
+unfolding funding_of
 amount_so body asked is =
     let acct = inside (or_place (u32_at body 0)) _ asked is in
     let amount = inside (or_place (u64_at body 4)) _ asked acct.2 in
@@ -195,9 +195,9 @@ fund_recorded H cap asked amount None d is =
 fund_steps_recorded : (H : List Entry) (head : Head) (cap : ℕ) (body : List ℕ) → RecordedIn H cap (fund_steps H head cap body)
 unfolding fund_steps
 fund_steps_recorded H head cap body d is =
-    let asked = inside (well_formed IN_BODY (fund_of body)) _ d is in
+    let asked = inside (well_formed IN_BODY (funding_of body)) _ d is in
     let signed = inside (right_tag asked.0.tag (hmac_of head.operator (codes "fund" ++ signed_part body))) _ d asked.2 in
-    fund_recorded H cap asked.0 (amount_so body asked.0 (formed IN_BODY (fund_of body) asked.0 asked.1)) (place_in H (fund_entry asked.0)) d signed.2
+    fund_recorded H cap asked.0 (amount_so body asked.0 (formed IN_BODY (funding_of body) asked.0 asked.1)) (place_in H (fund_entry asked.0)) d signed.2
 
 -- ---- orders
 

@@ -26,7 +26,7 @@ use Rattle.nb_escrow.specs.declared.head.Head.{Head}
 use Rattle.nb_escrow.specs.declared.order.EndorsedOrder.{EndorsedOrder}
 use Rattle.nb_escrow.specs.declared.order.Presented.{Presented}
 use Rattle.nb_escrow.specs.declared.status.StatusQuery.{StatusQuery}
-use Rattle.nb_escrow.specs.Requests.{endorsed_of, query_of, enrol_of, fund_of}
+use Rattle.nb_escrow.specs.Requests.{endorsed_of, query_of, enrolment_of, funding_of}
 use Rattle.nb_escrow.specs.Checks.{signed_part}
 use Rattle.nb_escrow.specs.Payable.{IsAsked, IsEndorsed, IsOrdered, IsSigned, IsAuthenticOrder, digest_held}
 
@@ -120,8 +120,8 @@ IsHeld H asked r =
 -- an enrolment: its body fails; the tag is another; a number is held; the journal is full
 abbrev pub IsTrueOfEnrolment : List Entry → Head → ℕ → List ℕ → Refusal → Type 0
 IsTrueOfEnrolment H head cap body r =
-    IsMalformed IN_BODY (enrol_of body) r
-    ⊎ ((asked : Enrolment) × (enrol_of body ≡ Ok asked)
+    IsMalformed IN_BODY (enrolment_of body) r
+    ⊎ ((asked : Enrolment) × (enrolment_of body ≡ Ok asked)
     × (IsOtherTag asked.tag (hmac_of head.operator (codes "enro" ++ signed_part body)) r ⊎ IsHeld H asked r ⊎ IsFull H cap r))
 
 -- 17: a fund holds the reference with another account or amount, which are shown
@@ -140,8 +140,8 @@ IsTooMuch H asked r = (MAX_TOTAL < total H + asked.amount) × (r ≡ refusal TOT
 -- a funding: its body fails; the tag is another; the reference is held; the account is not; the total is too high; the journal is full
 abbrev pub IsTrueOfFunding : List Entry → Head → ℕ → List ℕ → Refusal → Type 0
 IsTrueOfFunding H head cap body r =
-    IsMalformed IN_BODY (fund_of body) r
-    ⊎ ((asked : Funding) × (fund_of body ≡ Ok asked)
+    IsMalformed IN_BODY (funding_of body) r
+    ⊎ ((asked : Funding) × (funding_of body ≡ Ok asked)
     × (IsOtherTag asked.tag (hmac_of head.operator (codes "fund" ++ signed_part body)) r
     ⊎ IsFundedOtherwise H asked r ⊎ HasNoHolder H asked r ⊎ IsTooMuch H asked r ⊎ IsFull H cap r))
 

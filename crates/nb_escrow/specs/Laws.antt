@@ -24,7 +24,7 @@ use Rattle.nb_escrow.specs.declared.head.Head.{Head}
 use Rattle.nb_escrow.specs.declared.order.Presented.{Presented}
 use Rattle.nb_escrow.specs.declared.settlement.RefusalReason.{RefusalReason}
 use Rattle.nb_escrow.specs.declared.status.StatusQuery.{StatusQuery}
-use Rattle.nb_escrow.specs.Requests.{query_of, enrol_of, fund_of}
+use Rattle.nb_escrow.specs.Requests.{query_of, enrolment_of, funding_of}
 use Rattle.nb_escrow.specs.Checks.{signed_part}
 use Rattle.nb_escrow.specs.Enrolments.{enrol_entry}
 use Rattle.nb_escrow.specs.Fundings.{fund_entry}
@@ -148,14 +148,14 @@ ToldExactlyWhere = (H : List Entry) (head : Head) (cap kind : ℕ) (body : List 
 abbrev pub EnrolledExactlyWhere : Type 0
 EnrolledExactlyWhere = (H : List Entry) → Legal H → (head : Head) (cap kind : ℕ) (body : List ℕ) (moment : ℕ) (entry : Entry)
     → (((verdict H head cap kind body moment).entry ≡ Some entry) × IsEnrolment entry)
-    ↔ ((kind ≡ ENROL_REQUEST) × ((asked : Enrolment) × (enrol_of body ≡ Ok asked) × (asked.tag ≡ hmac_of head.operator (codes "enro" ++ signed_part body))
+    ↔ ((kind ≡ ENROL_REQUEST) × ((asked : Enrolment) × (enrolment_of body ≡ Ok asked) × (asked.tag ≡ hmac_of head.operator (codes "enro" ++ signed_part body))
     × (entry ≡ enrol_entry asked) × LegalAfter H entry × (length H < cap)))
 
 -- The same of a fund.
 abbrev pub FundedExactlyWhere : Type 0
 FundedExactlyWhere = (H : List Entry) → Legal H → (head : Head) (cap kind : ℕ) (body : List ℕ) (moment : ℕ) (entry : Entry)
     → (((verdict H head cap kind body moment).entry ≡ Some entry) × IsFund entry)
-    ↔ ((kind ≡ FUND_REQUEST) × ((asked : Funding) × (fund_of body ≡ Ok asked) × (asked.tag ≡ hmac_of head.operator (codes "fund" ++ signed_part body))
+    ↔ ((kind ≡ FUND_REQUEST) × ((asked : Funding) × (funding_of body ≡ Ok asked) × (asked.tag ≡ hmac_of head.operator (codes "fund" ++ signed_part body))
     × (entry ≡ fund_entry asked) × LegalAfter H entry × (length H < cap)))
 
 -- A status is told exactly where the query is authentic and at least as many entries are held as it asks for.

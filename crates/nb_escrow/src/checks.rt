@@ -1,8 +1,6 @@
 // The tests that requests of several kinds share.
 
-ghost use Rattle.std.specs.Prelude.{◌≡◌, ◌≤◌, ◌<◌, ◌==◌, length, IfOk, OnOk, IsTrue, Some};
-ghost use Rattle.nb_units.specs.Fields.{allowed};
-ghost use Rattle.nb_units.specs.Reads.{Reads};
+ghost use Rattle.std.specs.Prelude.{◌≡◌, ◌≤◌, ◌<◌, ◌==◌, length, IfOk, OnOk, Some};
 ghost use Rattle.nb_endorse.specs.declared.refusal.TheConstants.{NOT_ENROLLED};
 ghost use Rattle.nb_endorse.specs.Refusals.{refusal};
 ghost use Rattle.nb_book.specs.Legal.{Legal};
@@ -14,18 +12,10 @@ use nb_book::{Book, Party};
 use nb_endorse::Refusal;
 use nb_endorse::refusal::{JOURNAL_FULL, NOT_ENROLLED, WRONG_TAG};
 use nb_seal::same;
-use nb_units::{AcctId, Malformed, PartyId, Tag};
+use nb_units::{AcctId, PartyId, Tag};
 
 // The bytes of a tag, which ends a body.
 const TAG: usize = 32;
-
-// Whether the value of the field at this place is allowed.
-pub(crate) fn allow(is: bool, place: usize) -> Result<(), Malformed>
-    ensures reads { Reads result (allowed is place) }
-    ensures holds { OnOk result (IsTrue is) }
-{
-    if is { Ok(()) } else { Err(Malformed { place }) }
-}
 
 // What the tag of a body is over, behind its label.
 pub(crate) fn signed(body: &[u8]) -> &[u8]

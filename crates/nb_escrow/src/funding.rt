@@ -5,18 +5,18 @@ ghost use Rattle.nb_book.specs.Searches.{holder_in, funded_in};
 ghost use Rattle.nb_book.specs.Legal.{LegalAfter};
 ghost use Rattle.nb_book.specs.Money.{balance, total};
 ghost use Rattle.nb_endorse.specs.Replies.{HasLawfulReceipts};
-ghost use Rattle.nb_escrow.specs.Requests.{fund_of};
+ghost use Rattle.nb_escrow.specs.Requests.{funding_of};
 ghost use Rattle.nb_escrow.specs.Held.{place_in};
 ghost use Rattle.nb_escrow.specs.Fundings.{fund_entry, funded_place, reference_new, account_held, total_within, fund_steps};
 
-use crate::checks::{allow, balance_now, check_room, check_tag, signed};
+use crate::checks::{balance_now, check_room, check_tag, signed};
 use crate::decision::Decision;
 use crate::head::Head;
 use nb_book::{Book, Entry, Funded, MAX_TOTAL};
 use nb_endorse::Refusal;
 use nb_endorse::refusal::{ACCOUNT_NOT_HELD, REFERENCE_HELD, TOTAL_TOO_HIGH};
 use nb_seal::hmac;
-use nb_units::{AcctId, Cut, Malformed, Tag};
+use nb_units::{AcctId, Cut, Malformed, Tag, allow};
 
 // What the tag of a funding is over begins with this.
 const FUND_LABEL: [u8; 4] = *b"fund";
@@ -37,9 +37,9 @@ pub struct Funding {
 impl Funding {
     /// The funding that the body spells, or the place of the first field that fails, in bytes from the body's front. An amount
     /// out of its range fails at 4.
-    #[tactic(auto, unfolding(crate::specs::Requests::fund_of))]
+    #[tactic(auto, unfolding(crate::specs::Requests::funding_of))]
     pub fn read(body: &[u8]) -> Result<Funding, Malformed>
-        ensures reads { Reads result (fund_of body.now) }
+        ensures reads { Reads result (funding_of body.now) }
         ensures amount { IfOk result (λ asked. (1 ≤ asked.amount) × (asked.amount ≤ MAX_TOTAL)) }
     {
         let mut cut = Cut::new(body);

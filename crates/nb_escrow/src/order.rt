@@ -11,13 +11,13 @@ ghost use Rattle.nb_endorse.specs.Replies.{HasLawfulReceipts};
 ghost use Rattle.nb_escrow.specs.Requests.{endorsed_of};
 ghost use Rattle.nb_escrow.specs.Checks.{well_formed, right_tag};
 ghost use Rattle.nb_escrow.specs.Orders.{IsPresented, endorsement_in, hidden_in, names_endorser, same_merchant, same_digest, unread_endorsement, unread_hidden, order_steps, settled, result as result_of};
-ghost use Rattle.nb_escrow.specs.Settlements.{settlement_in, entry_of, IsPaymentOutcome};
+ghost use Rattle.nb_escrow.specs.Settlements.{settlement_entry, IsPaymentOutcome};
 
 use crate::checks::{check_room, find_party_as};
 use crate::decision::Decision;
 use crate::head::Head;
 use crate::payment::outcome;
-use crate::settlement::Settlement;
+use crate::settlement::{Settlement, settled_before};
 use nb_book::{Book, CONSUMER, Entry, MERCHANT, Party};
 use nb_endorse::refusal::{
     IDENTIFIER_USED, IN_ENDORSEMENT, IN_HIDDEN, IN_ORDER, MALFORMED, NOT_SEALED, OTHER_MERCHANT,
@@ -119,7 +119,7 @@ impl Presented {
         requires presented { IsPresented book.now.entries self.now }
         requires new { IsNone (order_in book.now.entries self.now.order.epoid) }
         ensures settled { result ≡ settled book.now.entries self.now moment }
-        ensures legal { LegalAfter book.now.entries (entry_of result) }
+        ensures legal { LegalAfter book.now.entries (settlement_entry result) }
         ensures outcome { IsPaymentOutcome result.outcome }
     {
         Settlement {
@@ -239,19 +239,6 @@ fn check_order_tag(order: &Order, key: &Secret) -> Result<(), Refusal>
         Ok(())
     } else {
         Err(Refusal::with(WRONG_TAG, &order.tag))
-    }
-}
-
-// How the order of this identifier was settled, if it was.
-#[tactic(auto, unfolding(crate::specs::Settlements::settlement_in))]
-pub(crate) fn settled_before(book: &Book, epoid: &Epoid) -> Option<Settlement>
-    ensures found { result ≡ settlement_in book.now.entries epoid.now }
-    ensures new { result ≡ None → IsNone (order_in book.now.entries epoid.now) }
-    ensures outcome { IfSome result (λ kept. IsPaymentOutcome kept.outcome) }
-{
-    match book.order(epoid) {
-        Some(kept) => Settlement::of(&kept),
-        None => None,
     }
 }
 

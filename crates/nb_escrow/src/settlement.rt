@@ -1,11 +1,12 @@
-ghost use Rattle.std.specs.Prelude.{◌≡◌, ◌↔◌, IfSome, IsSome, None, Some};
+ghost use Rattle.std.specs.Prelude.{◌≡◌, ◌↔◌, IfSome, IsSome, IsNone, None, Some};
+ghost use Rattle.nb_book.specs.Searches.{order_in};
 ghost use Rattle.nb_endorse.specs.declared.receipt.TheConstants.{PAID_CODE};
 ghost use Rattle.nb_endorse.specs.Replies.{ReceiptKeepsRules};
 ghost use Rattle.nb_endorse.specs.Spelling.{IsReceiptCode};
-ghost use Rattle.nb_escrow.specs.Settlements.{settlement_of, entry_of, may_see, receipt_saying, receipt_in_role, receipt_of_party, IsPaymentOutcome};
+ghost use Rattle.nb_escrow.specs.Settlements.{settlement_of, settlement_in, settlement_entry, may_see, receipt_saying, receipt_in_role, receipt_of_party, IsPaymentOutcome};
 
 use nb_book::reason::{BALANCE_LOW, CONSUMER_ACCOUNT, CONSUMER_NONCE, MERCHANT_ACCOUNT};
-use nb_book::{CONSUMER, Entry, Kept, MERCHANT};
+use nb_book::{Book, CONSUMER, Entry, Kept, MERCHANT};
 use nb_endorse::{PAID_CODE, Receipt};
 use nb_units::{AcctId, Digest, Epoid, PartyId, Price, Secret};
 
@@ -114,7 +115,7 @@ impl Settlement {
 
     /// The entry that records it.
     pub fn entry(&self) -> Entry
-        ensures { result ≡ entry_of self.now }
+        ensures { result ≡ settlement_entry self.now }
     {
         let Settlement {
             digest,
@@ -218,5 +219,18 @@ fn may_see(role: u8, code: u8) -> bool
         CONSUMER_ACCOUNT | CONSUMER_NONCE | BALANCE_LOW => role == CONSUMER,
         MERCHANT_ACCOUNT => role == MERCHANT,
         _ => true,
+    }
+}
+
+// How the order of this identifier was settled, if it was.
+#[tactic(auto, unfolding(crate::specs::Settlements::settlement_in))]
+pub(crate) fn settled_before(book: &Book, epoid: &Epoid) -> Option<Settlement>
+    ensures found { result ≡ settlement_in book.now.entries epoid.now }
+    ensures new { result ≡ None → IsNone (order_in book.now.entries epoid.now) }
+    ensures outcome { IfSome result (λ kept. IsPaymentOutcome kept.outcome) }
+{
+    match book.order(epoid) {
+        Some(kept) => Settlement::of(&kept),
+        None => None,
     }
 }

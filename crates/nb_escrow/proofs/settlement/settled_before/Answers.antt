@@ -1,6 +1,6 @@
 use Rattle.std.proofs.Common.{sym, ◌∙◌}
 use Rattle.nb_escrow.proofs.Settling.{none_found, outcome_found}
-use Rattle.nb_escrow.proofs.order.settled_before.Goals as goal
+use Rattle.nb_escrow.proofs.settlement.settled_before.Goals as goal
 
 pub returns-in-Some-clause-new : goal.returns-in-Some-clause-new
 returns-in-Some-clause-new c =
