@@ -238,8 +238,8 @@ under (Err fault) f g same = refl
 
 terms_then : (bytes : List ℕ) (next : OrderTerms → Result Entry ℕ) → (terms_of bytes >>= next)
     ≡ (or_place (raw_at 32 bytes 1) >>= λ digest. or_place (raw_at 16 bytes 33) >>= λ order. or_place (u32_at bytes 49) >>= λ consumer. or_place (u32_at bytes 53) >>= λ merchant.
-       or_place (u32_at bytes 57) >>= λ product. or_place (u64_at bytes 61) >>= λ price.
-       next (record { digest = digest; epoid = epoid_of order; consumer = record { 0 = consumer }; merchant = record { 0 = merchant }; product = product; price = record { 0 = price } }))
+    or_place (u32_at bytes 57) >>= λ product. or_place (u64_at bytes 61) >>= λ price.
+    next (record { digest = digest; epoid = epoid_of order; consumer = record { 0 = consumer }; merchant = record { 0 = merchant }; product = product; price = record { 0 = price } }))
 unfolding terms_of
 terms_then bytes next =
     behind_terms (or_place (raw_at 32 bytes 1)) _ next _ (λ digest.

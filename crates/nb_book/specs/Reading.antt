@@ -1,6 +1,6 @@
 -- The entry that stands at the front of bytes, read field by field at the place of each: the entry, or the place of the
 -- first field that fails. What follows the entry is free.
-use Rattle.std.specs.Prelude.{◌≡◌, ℕ, ◌+◌, ◌==◌, ◌||◌, ◌&&◌, nat_le, if◌then◌else◌, Bool, List, length, drop, Result, Ok, Err}
+use Rattle.std.specs.Prelude.{◌≡◌, ℕ, ◌+◌, ◌==◌, ◌||◌, if◌then◌else◌, Bool, List, length, drop, Result, Ok, Err}
 use Rattle.nb_units.specs.Reading.{Reading}
 use Rattle.nb_units.specs.Fields.{◌>>=◌, u8_at, u32_at, u64_at, raw_at, or_place, allowed, moved}
 use Rattle.nb_units.specs.Epoid.{epoid_of}

@@ -1,6 +1,6 @@
 ghost use Rattle.std.specs.Prelude.{◌≡◌, ◌↔◌, IsTrue, Some};
 ghost use Rattle.nb_book.specs.Searches.{role_of, account_of, nonce_of};
-ghost use Rattle.nb_book.specs.Legal.{LegalAfter, PaidIsLegal, OrderIsNew, RolesAre, AccountsAre, PriceIsLegal, IsInTime, AccountDiffers, NonceDiffers, PriceIsOut, IsTooOld, IsTooEarly, BalanceIsLow};
+ghost use Rattle.nb_book.specs.Legal as legal;
 
 use crate::book::Book;
 use crate::entry::{CONSUMER, Entry, MERCHANT};
@@ -15,7 +15,7 @@ impl Entry {
     // Whether this entry may come after these.
     #[tactic(auto, using(crate::proofs::Summing::total_fits))]
     pub(crate) fn is_legal_after(&self, book: &Book) -> bool
-        ensures { IsTrue result ↔ LegalAfter book.now.entries self.now }
+        ensures { IsTrue result ↔ legal.LegalAfter book.now.entries self.now }
     {
         match *self {
             Entry::Enrol { id, role, acct, .. } => {
@@ -45,9 +45,7 @@ impl Entry {
                 macct,
                 moment,
                 ..
-            } => paid_is_legal(
-                book, epoid, consumer, merchant, price, cacct, macct, moment,
-            ),
+            } => paid_is_legal(book, epoid, consumer, merchant, price, cacct, macct, moment),
             Entry::Refused {
                 ref epoid,
                 consumer,
@@ -89,7 +87,7 @@ fn paid_is_legal(
     moment: u64,
 ) -> bool
     ensures { IsTrue result
-        ↔ PaidIsLegal book.now.entries epoid.now consumer merchant price cacct macct moment }
+        ↔ legal.PaidIsLegal book.now.entries epoid.now consumer merchant price cacct macct moment }
 {
     order_is_new(book, epoid, merchant)
         && roles_are(book, consumer, merchant)
@@ -100,13 +98,13 @@ fn paid_is_legal(
 }
 
 fn order_is_new(book: &Book, epoid: &Epoid, merchant: PartyId) -> bool
-    ensures { IsTrue result ↔ OrderIsNew book.now.entries epoid.now merchant }
+    ensures { IsTrue result ↔ legal.OrderIsNew book.now.entries epoid.now merchant }
 {
     book.order(epoid).is_none() && epoid.merchant == merchant
 }
 
 fn roles_are(book: &Book, consumer: PartyId, merchant: PartyId) -> bool
-    ensures { IsTrue result ↔ RolesAre book.now.entries consumer merchant }
+    ensures { IsTrue result ↔ legal.RolesAre book.now.entries consumer merchant }
 {
     has_role(book, consumer, CONSUMER) && has_role(book, merchant, MERCHANT)
 }
@@ -118,57 +116,57 @@ fn accounts_are(
     cacct: AcctId,
     macct: AcctId,
 ) -> bool
-    ensures { IsTrue result ↔ AccountsAre book.now.entries consumer merchant cacct macct }
+    ensures { IsTrue result ↔ legal.AccountsAre book.now.entries consumer merchant cacct macct }
 {
     has_account(book, consumer, u64::from(cacct.0))
         && has_account(book, merchant, u64::from(macct.0))
 }
 
 fn price_is_legal(price: Price) -> bool
-    ensures { IsTrue result ↔ PriceIsLegal price }
+    ensures { IsTrue result ↔ legal.PriceIsLegal price }
 {
     1 <= price.0 && price.0 <= MAX_PRICE
 }
 
 fn is_in_time(epoid: &Epoid, moment: u64) -> bool
-    ensures { IsTrue result ↔ IsInTime epoid.now moment }
+    ensures { IsTrue result ↔ legal.IsInTime epoid.now moment }
 {
     moment.saturating_sub(epoid.moment) <= MAX_AGE
         && epoid.moment.saturating_sub(moment) <= MAX_AHEAD
 }
 
 fn account_differs(book: &Book, id: PartyId, a: u64, b: u64) -> bool
-    ensures { IsTrue result ↔ AccountDiffers book.now.entries id a b }
+    ensures { IsTrue result ↔ legal.AccountDiffers book.now.entries id a b }
 {
     has_account(book, id, b) && a != b
 }
 
 fn nonce_differs(book: &Book, id: PartyId, a: u64, b: u64) -> bool
-    ensures { IsTrue result ↔ NonceDiffers book.now.entries id a b }
+    ensures { IsTrue result ↔ legal.NonceDiffers book.now.entries id a b }
 {
     has_nonce(book, id, b) && a != b
 }
 
 fn price_is_out(price: Price, a: u64, b: u64) -> bool
-    ensures { IsTrue result ↔ PriceIsOut price a b }
+    ensures { IsTrue result ↔ legal.PriceIsOut price a b }
 {
     a == price.0 && (a == 0 || a > MAX_PRICE) && b == MAX_PRICE
 }
 
 fn is_too_old(epoid: &Epoid, moment: u64, a: u64, b: u64) -> bool
-    ensures { IsTrue result ↔ IsTooOld epoid.now moment a b }
+    ensures { IsTrue result ↔ legal.IsTooOld epoid.now moment a b }
 {
     a == moment && b == epoid.moment && a.saturating_sub(b) > MAX_AGE
 }
 
 fn is_too_early(epoid: &Epoid, moment: u64, a: u64, b: u64) -> bool
-    ensures { IsTrue result ↔ IsTooEarly epoid.now moment a b }
+    ensures { IsTrue result ↔ legal.IsTooEarly epoid.now moment a b }
 {
     a == epoid.moment && b == moment && a.saturating_sub(b) > MAX_AHEAD
 }
 
 fn balance_is_low(book: &Book, id: PartyId, price: Price, a: u64, b: u64) -> bool
-    ensures { IsTrue result ↔ BalanceIsLow book.now.entries id price a b }
+    ensures { IsTrue result ↔ legal.BalanceIsLow book.now.entries id price a b }
 {
     match book.party(id) {
         Some(party) => a == book.balance(party.acct) && b == price.0 && a < b,

@@ -5,11 +5,14 @@ ghost use Rattle.nb_units.specs.Laws.{StandsAt};
 ghost use Rattle.nb_units.specs.Reads.{Reads};
 ghost use Rattle.nb_units.specs.Room.{spare_of};
 ghost use Rattle.nb_book.specs.declared.spelling.TheConstants.{MAX_ENTRY};
-ghost use Rattle.nb_book.specs.Spelling.{EntryKeepsRules, IsEntry, AreTerms, terms_bytes, entry_bytes, bytes_of_kind};
-ghost use Rattle.nb_book.specs.Reading.{is_role, enrol_of, fund_of, terms_of, paid_of, refused_of, entry_of, entry_at, ReadsEntry, moved_past_entry};
+ghost use Rattle.nb_book.specs.Spelling as spelling;
+ghost use Rattle.nb_book.specs.Reading as reading;
 
 use crate::entry::{CONSUMER, Entry, MERCHANT};
-use nb_units::{AcctId, Buffer, Cut, Digest, Epoid, Malformed, PartyId, Pen, Price, allow, is_reason};
+use nb_units::{
+    AcctId, Buffer, Cut, Digest, Epoid, Malformed, PartyId, Pen, Price, allow, is_reason,
+};
+use std::fmt;
 
 /// The most bytes of an entry.
 pub const MAX_ENTRY: usize = 117;
@@ -33,15 +36,21 @@ pub struct EntryFault {
     pub place: usize,
 }
 
+impl fmt::Display for EntryFault {
+    fn fmt<W: fmt::Write>(&self, f: &mut fmt::Formatter<W>) -> fmt::Result {
+        write!(f, "at byte {}: no entry stands there", self.place)
+    }
+}
+
 /// Appends the entry's bytes. It needs room for [`MAX_ENTRY`] bytes, also for a shorter entry; the role of an enrolment must
 /// be one of the two, and the code of a refusal one of [`reason`](crate::reason), as they are of every entry that is legal.
 /// It takes no memory.
 pub fn write_entry(e: &Entry, out: &mut Vec<u8>)
-    requires lawful { EntryKeepsRules e.now }
+    requires lawful { spelling.EntryKeepsRules e.now }
     requires room { MAX_ENTRY ≤ spare_of out.old }
-    ensures bytes { out.new.items ≡ out.old.items ++ entry_bytes e.now }
-    ensures fits { IsEntry e.now }
-    ensures long { length (entry_bytes e.now) ≤ MAX_ENTRY }
+    ensures bytes { out.new.items ≡ out.old.items ++ spelling.entry_bytes e.now }
+    ensures fits { spelling.IsEntry e.now }
+    ensures long { length (spelling.entry_bytes e.now) ≤ MAX_ENTRY }
     ensures room { vec_capacity out.new ≡ vec_capacity out.old }
 {
     let bytes = e.spelled();
@@ -54,12 +63,12 @@ pub fn write_entry(e: &Entry, out: &mut Vec<u8>)
 /// code that is none of [`reason`](crate::reason). After it the cut is as before.
 pub fn read_entry(cut: &mut Cut) -> Result<Entry, EntryFault>
     // The fields in their order, and the first that fails.
-    ensures reads { ReadsEntry result (entry_at cut.old.bytes cut.old.place) }
-    ensures moved { cut.new ≡ moved_past_entry cut.old result }
+    ensures reads { reading.ReadsEntry result (reading.entry_at cut.old.bytes cut.old.place) }
+    ensures moved { cut.new ≡ reading.moved_past_entry cut.old result }
 
     // An entry that is read is spelled so, and one that is spelled so is read.
-    ensures spelled { IfOk result (λ e. IsEntry e × StandsAt (entry_bytes e) cut.old.bytes cut.old.place) }
-    ensures found { (e : Entry) → IsEntry e → StandsAt (entry_bytes e) cut.old.bytes cut.old.place → result ≡ Ok e }
+    ensures spelled { IfOk result (λ e. spelling.IsEntry e × StandsAt (spelling.entry_bytes e) cut.old.bytes cut.old.place) }
+    ensures found { (e : Entry) → spelling.IsEntry e → StandsAt (spelling.entry_bytes e) cut.old.bytes cut.old.place → result ≡ Ok e }
 {
     match read_front(cut.rest()) {
         Ok(e) => {
@@ -77,9 +86,9 @@ impl Entry {
     /// The entry's bytes, at most [`MAX_ENTRY`]. The role of an enrolment must be one of the two, and the code of a refusal one of
     /// [`reason`](crate::reason), as they are of every entry that is legal. It takes no memory.
     pub fn spelled(&self) -> Buffer
-        requires { EntryKeepsRules self.now }
-        ensures bytes { result ≡ entry_bytes self.now }
-        ensures fits { IsEntry self.now }
+        requires { spelling.EntryKeepsRules self.now }
+        ensures bytes { result ≡ spelling.entry_bytes self.now }
+        ensures fits { spelling.IsEntry self.now }
         ensures long { length result ≤ MAX_ENTRY }
     {
         let mut bytes = Buffer::new();
@@ -171,8 +180,8 @@ impl Entry {
 
 // The entry at the front of the bytes.
 fn read_front(bytes: &[u8]) -> Result<Entry, Malformed>
-    ensures reads { Reads result (entry_of bytes.now) }
-    ensures spelled { IfOk result (λ e. IsEntry e × StandsAt (entry_bytes e) bytes.now 0) }
+    ensures reads { Reads result (reading.entry_of bytes.now) }
+    ensures spelled { IfOk result (λ e. spelling.IsEntry e × StandsAt (spelling.entry_bytes e) bytes.now 0) }
     ensures inside { IfErr result (λ malformed. malformed.place ≤ length bytes.now) }
 {
     read_fields(bytes)
@@ -180,7 +189,7 @@ fn read_front(bytes: &[u8]) -> Result<Entry, Malformed>
 
 #[tactic(auto, unfolding(crate::specs::Reading::entry_of))]
 fn read_fields(bytes: &[u8]) -> Result<Entry, Malformed>
-    ensures { Reads result (entry_of bytes.now) }
+    ensures { Reads result (reading.entry_of bytes.now) }
 {
     let mut cut = Cut::new(bytes);
     match cut.u8()? {
@@ -197,7 +206,7 @@ fn read_fields(bytes: &[u8]) -> Result<Entry, Malformed>
 #[tactic(auto, unfolding(crate::specs::Reading::enrol_of))]
 fn read_enrol(mut cut: Cut) -> Result<Entry, Malformed>
     requires { cut.place ≡ 1 }
-    ensures { Reads result (enrol_of cut.entry.bytes) }
+    ensures { Reads result (reading.enrol_of cut.entry.bytes) }
 {
     let id = cut.u32()?;
     let place = cut.place();
@@ -218,7 +227,7 @@ fn read_enrol(mut cut: Cut) -> Result<Entry, Malformed>
 #[tactic(auto, unfolding(crate::specs::Reading::fund_of))]
 fn read_fund(mut cut: Cut) -> Result<Entry, Malformed>
     requires { cut.place ≡ 1 }
-    ensures { Reads result (fund_of cut.entry.bytes) }
+    ensures { Reads result (reading.fund_of cut.entry.bytes) }
 {
     let acct = cut.u32()?;
     let amount = cut.u64()?;
@@ -244,8 +253,8 @@ struct OrderTerms {
 impl OrderTerms {
     fn write(&self, bytes: &mut Buffer)
         requires { length bytes.old + 68 ≤ MAX_BUFFER }
-        ensures bytes { bytes.new ≡ bytes.old ++ terms_bytes self.now }
-        ensures fits { AreTerms self.now }
+        ensures bytes { bytes.new ≡ bytes.old ++ spelling.terms_bytes self.now }
+        ensures fits { spelling.AreTerms self.now }
         ensures long { length bytes.new ≡ length bytes.old + 68 }
     {
         bytes.raw(&self.digest);
@@ -259,7 +268,7 @@ impl OrderTerms {
     #[tactic(auto, unfolding(crate::specs::Reading::terms_of))]
     fn read(cut: &mut Cut) -> Result<OrderTerms, Malformed>
         requires { cut.old.place ≡ 1 }
-        ensures reads { Reads result (terms_of cut.old.bytes) }
+        ensures reads { Reads result (reading.terms_of cut.old.bytes) }
         ensures moved { IfOk result (λ terms. cut.new ≡ moved cut.old 68) }
     {
         let digest = cut.fixed32()?;
@@ -282,7 +291,7 @@ impl OrderTerms {
 #[tactic(auto, unfolding(crate::specs::Reading::paid_of))]
 fn read_paid(mut cut: Cut) -> Result<Entry, Malformed>
     requires { cut.place ≡ 1 }
-    ensures { Reads result (paid_of cut.entry.bytes) }
+    ensures { Reads result (reading.paid_of cut.entry.bytes) }
 {
     let terms = OrderTerms::read(&mut cut)?;
     let digest = terms.digest;
@@ -307,7 +316,7 @@ fn read_paid(mut cut: Cut) -> Result<Entry, Malformed>
 #[tactic(auto, unfolding(crate::specs::Reading::refused_of))]
 fn read_refused(mut cut: Cut) -> Result<Entry, Malformed>
     requires { cut.place ≡ 1 }
-    ensures { Reads result (refused_of cut.entry.bytes) }
+    ensures { Reads result (reading.refused_of cut.entry.bytes) }
 {
     let terms = OrderTerms::read(&mut cut)?;
     let digest = terms.digest;
@@ -333,14 +342,14 @@ fn read_refused(mut cut: Cut) -> Result<Entry, Malformed>
 
 // Whether a party may have this role.
 fn is_role(role: u8) -> bool
-    ensures { result ≡ is_role role }
+    ensures { result ≡ reading.is_role role }
 {
     role == CONSUMER || role == MERCHANT
 }
 
 // How many bytes the entry is spelled in.
 fn spelled_len(e: &Entry) -> usize
-    ensures { result ≡ bytes_of_kind e.now }
+    ensures { result ≡ spelling.bytes_of_kind e.now }
 {
     match e {
         Entry::Enrol { .. } => 50,

@@ -1,6 +1,5 @@
-use Rattle.std.proofs.Common.{refl, ap, ◌∙◌}
-use Rattle.nb_units.specs.Fields.{raw_at, u32_at, u64_at, moved}
-use Rattle.nb_units.specs.Reading.{Reading}
+use Rattle.std.proofs.Common.{refl}
+use Rattle.nb_units.specs.Fields.{raw_at, u32_at, u64_at}
 use Rattle.nb_book.specs.Reading.{terms_of}
 use Rattle.nb_book.proofs.Steps.{stands, went, took}
 use Rattle.nb_book.proofs.spelling.OrderTerms.read.Goals as goal
