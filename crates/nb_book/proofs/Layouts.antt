@@ -18,14 +18,16 @@ use Rattle.nb_units.specs.Reads.{Reads}
 use Rattle.nb_units.specs.declared.malformed.Malformed.{Malformed}
 use Rattle.nb_book.specs.declared.entry.Entry.{Entry}
 use Rattle.nb_book.specs.declared.entry.Entry.TheVariants.{Enrol, Fund, Paid, Refused}
-use Rattle.nb_book.specs.declared.reason.TheConstants.{FIRST, LAST}
-use Rattle.nb_book.specs.declared.spelling.TheConstants.{ENROL, FUND, PAID, REFUSED, MAX_ENTRY}
+use Rattle.nb_units.specs.declared.reason.TheConstants.{FIRST_REASON, LAST_REASON}
+use Rattle.nb_units.specs.Reasons.{IsReason, is_reason}
+use Rattle.nb_book.specs.declared.spelling.OrderTerms.{OrderTerms}
+use Rattle.nb_book.specs.declared.spelling.TheConstants.{ENROL_ENTRY, FUND_ENTRY, PAID_ENTRY, REFUSED_ENTRY, MAX_ENTRY}
 use Rattle.nb_units.specs.declared.ids.PartyId.{PartyId}
 use Rattle.nb_units.specs.declared.ids.Price.{Price}
 use Rattle.nb_book.specs.Legal.{ReasonIsTrue}
-use Rattle.nb_book.specs.Spelling.{IsRole, IsCode, IsEntry, entry_bytes, entries_bytes, bytes_of_kind}
+use Rattle.nb_book.specs.Spelling.{IsRole, IsEntry, entry_bytes, entries_bytes, bytes_of_kind}
 use Rattle.nb_book.specs.declared.spelling.EntryFault.{EntryFault}
-use Rattle.nb_book.specs.Reading.{ReadsEntry, is_role, is_code, enrol_of, fund_of, paid_of, refused_of, behind_kind, entry_of, counted_from}
+use Rattle.nb_book.specs.Reading.{ReadsEntry, is_role, enrol_of, fund_of, terms_of, paid_of, refused_of, behind_kind, entry_of, counted_from}
 use Rattle.nb_book.specs.Laws.{EntryReadsBack, EntrySpellsBack, OneSpelling, EntryLayout, LegalKeepsRules}
 
 -- ---- the kind of an entry
@@ -174,21 +176,21 @@ role_tested : (role : ℕ) → IsRole role → (role < 2 ^ 8) × (is_role role �
 role_tested role (inl e) = (omega (arith, e), rw e refl)
 role_tested role (inr e) = (omega (arith, e), rw e refl)
 
-code_is : (code : ℕ) → is_code code ≡ true → IsCode code
+code_is : (code : ℕ) → is_reason code ≡ true → IsReason code
 code_is code e = grind (arith, leb-true)
 
-code_tested : (code : ℕ) → IsCode code → (code < 2 ^ 8) × (is_code code ≡ true)
-code_tested code is = (omega (arith, is.1), rw (le-leb FIRST code is.0, le-leb code LAST is.1) refl)
+code_tested : (code : ℕ) → IsReason code → (code < 2 ^ 8) × (is_reason code ≡ true)
+code_tested code is = (omega (arith, is.1), rw (le-leb FIRST_REASON code is.0, le-leb code LAST_REASON is.1) refl)
 
 -- ---- the four kinds
 
-abbrev enrol : Kind ENROL enrol_of
+abbrev enrol : Kind ENROL_ENTRY enrol_of
 unfolding entry_bytes enrol_of
 enrol = record {
   Parts = ((((Unit {0} × ℕ) × ℕ) × ℕ) × ℕ) × List ℕ;
-  row = mark ENROL & number4 & tested byte is_role & number4 & number8 & raw 32;
-  is_row = and_row (and_row (and_row (and_row (and_row (mark_row ENROL (omega arith)) number4_row) (tested_row byte is_role byte_row)) number4_row) number8_row) (raw_row 32);
-  within = and_within (and_within (and_within (and_within (and_within (mark_within ENROL) number4_within) (tested_within is_role byte_within)) number4_within) number8_within) (raw_within 32);
+  row = mark ENROL_ENTRY & number4 & tested byte is_role & number4 & number8 & raw 32;
+  is_row = and_row (and_row (and_row (and_row (and_row (mark_row ENROL_ENTRY (omega arith)) number4_row) (tested_row byte is_role byte_row)) number4_row) number8_row) (raw_row 32);
+  within = and_within (and_within (and_within (and_within (and_within (mark_within ENROL_ENTRY) number4_within) (tested_within is_role byte_within)) number4_within) number8_within) (raw_within 32);
   made = λ p. Enrol (record { 0 = p.0.0.0.0.1 }) p.0.0.0.1 (record { 0 = p.0.0.1 }) p.0.1 p.1;
   read_so = λ bytes. refl;
   spelled_so = λ p. refl;
@@ -197,13 +199,13 @@ enrol = record {
   fits_so = λ p f. (f.0.0.0.0.1, role_is p.0.0.0.1 f.0.0.0.1.1, f.0.0.1, f.0.1, f.1);
 }
 
-abbrev fund : Kind FUND fund_of
+abbrev fund : Kind FUND_ENTRY fund_of
 unfolding entry_bytes fund_of
 fund = record {
   Parts = ((Unit {0} × ℕ) × ℕ) × List ℕ;
-  row = mark FUND & number4 & number8 & raw 16;
-  is_row = and_row (and_row (and_row (mark_row FUND (omega arith)) number4_row) number8_row) (raw_row 16);
-  within = and_within (and_within (and_within (mark_within FUND) number4_within) number8_within) (raw_within 16);
+  row = mark FUND_ENTRY & number4 & number8 & raw 16;
+  is_row = and_row (and_row (and_row (mark_row FUND_ENTRY (omega arith)) number4_row) number8_row) (raw_row 16);
+  within = and_within (and_within (and_within (mark_within FUND_ENTRY) number4_within) number8_within) (raw_within 16);
   made = λ p. Fund (record { 0 = p.0.0.1 }) p.0.1 p.1;
   read_so = λ bytes. refl;
   spelled_so = λ p. refl;
@@ -225,17 +227,39 @@ is_order_row kind small = and_row (and_row (and_row (and_row (and_row (and_row (
 order_within : (kind : ℕ) → Within (order_row kind)
 order_within kind = and_within (and_within (and_within (and_within (and_within (and_within (mark_within kind) (raw_within 32)) epoid_within) number4_within) number4_within) number4_within) number8_within
 
-abbrev paid : Kind PAID paid_of
+-- the fields that both have are read one behind the other
+behind_terms : {A B C : Type 0} (r : Result A ℕ) (f : A → Result B ℕ) (g : B → Result C ℕ) (h : A → Result C ℕ) → ((x : A) → (f x >>= g) ≡ h x) → ((r >>= f) >>= g) ≡ (r >>= h)
+behind_terms (Ok x) f g h same = same x
+behind_terms (Err fault) f g h same = refl
+
+under : {A B : Type 0} (r : Result A ℕ) (f g : A → Result B ℕ) → ((x : A) → f x ≡ g x) → (r >>= f) ≡ (r >>= g)
+under (Ok x) f g same = same x
+under (Err fault) f g same = refl
+
+terms_then : (bytes : List ℕ) (next : OrderTerms → Result Entry ℕ) → (terms_of bytes >>= next)
+    ≡ (or_place (raw_at 32 bytes 1) >>= λ digest. or_place (raw_at 16 bytes 33) >>= λ order. or_place (u32_at bytes 49) >>= λ consumer. or_place (u32_at bytes 53) >>= λ merchant.
+    or_place (u32_at bytes 57) >>= λ product. or_place (u64_at bytes 61) >>= λ price.
+    next (record { digest = digest; epoid = epoid_of order; consumer = record { 0 = consumer }; merchant = record { 0 = merchant }; product = product; price = record { 0 = price } }))
+unfolding terms_of
+terms_then bytes next =
+    behind_terms (or_place (raw_at 32 bytes 1)) _ next _ (λ digest.
+    behind_terms (or_place (raw_at 16 bytes 33)) _ next _ (λ order.
+    behind_terms (or_place (u32_at bytes 49)) _ next _ (λ consumer.
+    behind_terms (or_place (u32_at bytes 53)) _ next _ (λ merchant.
+    behind_terms (or_place (u32_at bytes 57)) _ next _ (λ product.
+    behind_terms (or_place (u64_at bytes 61)) _ next _ (λ price. refl))))))
+
+abbrev paid : Kind PAID_ENTRY paid_of
 unfolding entry_bytes paid_of
 paid = record {
   Parts = (((Order × ℕ) × ℕ) × ℕ) × List ℕ;
-  row = order_row PAID & number4 & number4 & number8 & raw 32;
-  is_row = and_row (and_row (and_row (and_row (is_order_row PAID (omega arith)) number4_row) number4_row) number8_row) (raw_row 32);
-  within = and_within (and_within (and_within (and_within (order_within PAID) number4_within) number4_within) number8_within) (raw_within 32);
+  row = order_row PAID_ENTRY & number4 & number4 & number8 & raw 32;
+  is_row = and_row (and_row (and_row (and_row (is_order_row PAID_ENTRY (omega arith)) number4_row) number4_row) number8_row) (raw_row 32);
+  within = and_within (and_within (and_within (and_within (order_within PAID_ENTRY) number4_within) number4_within) number8_within) (raw_within 32);
   made = λ p.
       let o = p.0.0.0.0 in
       Paid o.0.0.0.0.0.1 o.0.0.0.0.1 (record { 0 = o.0.0.0.1 }) (record { 0 = o.0.0.1 }) o.0.1 (record { 0 = o.1 }) (record { 0 = p.0.0.0.1 }) (record { 0 = p.0.0.1 }) p.0.1 p.1;
-  read_so = λ bytes. refl;
+  read_so = λ bytes. under (or_place (u8_at bytes 0)) _ _ (λ k. under (allowed (k == PAID_ENTRY) 0) _ _ (λ is. sym (terms_then bytes _)));
   spelled_so = λ p. refl;
   picked = λ bytes. refl;
   wide = λ p. refl;
@@ -244,17 +268,17 @@ paid = record {
       (o.0.0.0.0.0.1, o.0.0.0.0.1, o.0.0.0.1, o.0.0.1, o.0.1, o.1, f.0.0.0.1, f.0.0.1, f.0.1, f.1);
 }
 
-abbrev refused : Kind REFUSED refused_of
+abbrev refused : Kind REFUSED_ENTRY refused_of
 unfolding entry_bytes refused_of
 refused = record {
   Parts = (((Order × ℕ) × ℕ) × ℕ) × ℕ;
-  row = order_row REFUSED & tested byte is_code & number8 & number8 & number8;
-  is_row = and_row (and_row (and_row (and_row (is_order_row REFUSED (omega arith)) (tested_row byte is_code byte_row)) number8_row) number8_row) number8_row;
-  within = and_within (and_within (and_within (and_within (order_within REFUSED) (tested_within is_code byte_within)) number8_within) number8_within) number8_within;
+  row = order_row REFUSED_ENTRY & tested byte is_reason & number8 & number8 & number8;
+  is_row = and_row (and_row (and_row (and_row (is_order_row REFUSED_ENTRY (omega arith)) (tested_row byte is_reason byte_row)) number8_row) number8_row) number8_row;
+  within = and_within (and_within (and_within (and_within (order_within REFUSED_ENTRY) (tested_within is_reason byte_within)) number8_within) number8_within) number8_within;
   made = λ p.
       let o = p.0.0.0.0 in
       Refused o.0.0.0.0.0.1 o.0.0.0.0.1 (record { 0 = o.0.0.0.1 }) (record { 0 = o.0.0.1 }) o.0.1 (record { 0 = o.1 }) p.0.0.0.1 p.0.0.1 p.0.1 p.1;
-  read_so = λ bytes. refl;
+  read_so = λ bytes. under (or_place (u8_at bytes 0)) _ _ (λ k. under (allowed (k == REFUSED_ENTRY) 0) _ _ (λ is. sym (terms_then bytes _)));
   spelled_so = λ p. refl;
   picked = λ bytes. refl;
   wide = λ p. refl;
@@ -275,24 +299,24 @@ by_kind : {P : Type 0} (k : ℕ) (bytes : List ℕ) (y : Result Entry ℕ) → b
     → ((kind : ℕ) (fields_of : List ℕ → Result Entry ℕ) → Kind kind fields_of → k ≡ kind → fields_of bytes ≡ y → P)
     → ((let none : Result Entry ℕ = Err 0 in none ≡ y) → P) → P
 by_kind k bytes y e one none =
-    either (k == ENROL) _ _ y e (λ is. one ENROL enrol_of enrol (eqb-true k ENROL is))
-    (λ a. either (k == FUND) _ _ y a (λ is. one FUND fund_of fund (eqb-true k FUND is))
-    (λ b. either (k == PAID) _ _ y b (λ is. one PAID paid_of paid (eqb-true k PAID is))
-    (λ c. either (k == REFUSED) _ _ y c (λ is. one REFUSED refused_of refused (eqb-true k REFUSED is)) none)))
+    either (k == ENROL_ENTRY) _ _ y e (λ is. one ENROL_ENTRY enrol_of enrol (eqb-true k ENROL_ENTRY is))
+    (λ a. either (k == FUND_ENTRY) _ _ y a (λ is. one FUND_ENTRY fund_of fund (eqb-true k FUND_ENTRY is))
+    (λ b. either (k == PAID_ENTRY) _ _ y b (λ is. one PAID_ENTRY paid_of paid (eqb-true k PAID_ENTRY is))
+    (λ c. either (k == REFUSED_ENTRY) _ _ y c (λ is. one REFUSED_ENTRY refused_of refused (eqb-true k REFUSED_ENTRY is)) none)))
 
 -- an entry within its limits is made of a row of one of the four
 by_entry : (P : Entry → Type 0) → ((kind : ℕ) (fields_of : List ℕ → Result Entry ℕ) (K : Kind kind fields_of) (p : K.Parts) → K.row.fits p → P (K.made p))
     → (e : Entry) → IsEntry e → P e
 unfolding enrol fund paid refused
 by_entry P one (Enrol id role acct nonce key) is =
-    one ENROL enrol_of enrol (((((tt, id.0), role), acct.0), nonce), key) (((((tt, is.0), role_tested role is.1), is.2), is.3), is.4)
-by_entry P one (Fund acct amount reference) is = one FUND fund_of fund (((tt, acct.0), amount), reference) (((tt, is.0), is.1), is.2)
+    one ENROL_ENTRY enrol_of enrol (((((tt, id.0), role), acct.0), nonce), key) (((((tt, is.0), role_tested role is.1), is.2), is.3), is.4)
+by_entry P one (Fund acct amount reference) is = one FUND_ENTRY fund_of fund (((tt, acct.0), amount), reference) (((tt, is.0), is.1), is.2)
 by_entry P one (Paid digest order consumer merchant product price cacct macct moment key) is =
-    one PAID paid_of paid
+    one PAID_ENTRY paid_of paid
     ((((((((((tt, digest), order), consumer.0), merchant.0), product), price.0), cacct.0), macct.0), moment), key)
     ((((((((((tt, is.0), is.1), is.2), is.3), is.4), is.5), is.6), is.7), is.8), is.9)
 by_entry P one (Refused digest order consumer merchant product price code a b moment) is =
-    one REFUSED refused_of refused
+    one REFUSED_ENTRY refused_of refused
     ((((((((((tt, digest), order), consumer.0), merchant.0), product), price.0), code), a), b), moment)
     ((((((((((tt, is.0), is.1), is.2), is.3), is.4), is.5), code_tested code is.6), is.7), is.8), is.9)
 
@@ -381,7 +405,7 @@ entry_layout = ((λ e is. (entry_long e is, omega (arith, entry_long e is, some_
 
 -- ---- legal entries
 
-reason_code : (H : List Entry) (epoid : Epoid) (consumer merchant : PartyId) (price : Price) (code a b moment : ℕ) → ReasonIsTrue H epoid consumer merchant price code a b moment → IsCode code
+reason_code : (H : List Entry) (epoid : Epoid) (consumer merchant : PartyId) (price : Price) (code a b moment : ℕ) → ReasonIsTrue H epoid consumer merchant price code a b moment → IsReason code
 reason_code H order consumer merchant price code a b moment is = grind arith
 
 pub legal_keeps_rules : LegalKeepsRules

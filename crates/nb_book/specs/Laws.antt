@@ -12,12 +12,13 @@ use Rattle.nb_book.specs.declared.entry.Entry.{Entry}
 use Rattle.nb_book.specs.declared.entry.Entry.TheVariants.{Enrol, Fund, Paid}
 use Rattle.nb_book.specs.declared.entry.TheConstants.{CONSUMER, MERCHANT}
 use Rattle.nb_book.specs.declared.limits.TheConstants.{MAX_CAP, MAX_TOTAL, MAX_PRICE, MAX_AGE, MAX_AHEAD}
-use Rattle.nb_book.specs.declared.reason.TheConstants.{CONSUMER_ACCOUNT, MERCHANT_ACCOUNT, PRICE_RANGE, TOO_OLD, TOO_EARLY, BALANCE_LOW, CONSUMER_NONCE, FIRST, LAST}
+use Rattle.nb_book.specs.declared.reason.TheConstants.{CONSUMER_ACCOUNT, MERCHANT_ACCOUNT, PRICE_RANGE, TOO_OLD, TOO_EARLY, BALANCE_LOW, CONSUMER_NONCE}
+use Rattle.nb_units.specs.declared.reason.TheConstants.{FIRST_REASON, LAST_REASON}
 use Rattle.nb_book.specs.Searches.{holder_in, settles}
 use Rattle.nb_book.specs.Money.{credit, debit, credits, debits, balance, total, accounts}
-use Rattle.nb_book.specs.declared.spelling.TheConstants.{ENROL, FUND, PAID, REFUSED, MAX_ENTRY, MAX_ITEM_ENTRIES}
+use Rattle.nb_book.specs.declared.spelling.TheConstants.{ENROL_ENTRY, FUND_ENTRY, PAID_ENTRY, REFUSED_ENTRY, MAX_ENTRY, MAX_ITEM_ENTRIES}
 use Rattle.nb_book.specs.Legal.{LegalAfter, Legal}
-use Rattle.nb_book.specs.Spelling.{IsEntry, KeepsRules, Spells, entry_bytes, bytes_of_kind}
+use Rattle.nb_book.specs.Spelling.{IsEntry, EntryKeepsRules, Spells, entry_bytes, bytes_of_kind}
 use Rattle.nb_book.specs.Reading.{entry_at}
 
 -- the limits and roles in numbers
@@ -26,11 +27,11 @@ LimitsAre =
     (MAX_CAP ≡ 1000000) × (MAX_TOTAL ≡ 1000000000000000000) × (MAX_PRICE ≡ 1000000000) × (MAX_AGE ≡ 900) × (MAX_AHEAD ≡ 300)
     × (CONSUMER ≡ 1) × (MERCHANT ≡ 2)
 
--- the codes of refused orders in numbers
+-- the codes of refused orders in numbers, and which are the first and the last of them
 abbrev pub ReasonsAre : Type 0
 ReasonsAre =
     (CONSUMER_ACCOUNT ≡ 31) × (MERCHANT_ACCOUNT ≡ 32) × (PRICE_RANGE ≡ 33) × (TOO_OLD ≡ 34) × (TOO_EARLY ≡ 35) × (BALANCE_LOW ≡ 36)
-    × (CONSUMER_NONCE ≡ 37) × (FIRST ≡ 31) × (LAST ≡ 37)
+    × (CONSUMER_NONCE ≡ 37) × (FIRST_REASON ≡ CONSUMER_ACCOUNT) × (LAST_REASON ≡ CONSUMER_NONCE)
 
 -- what was taken from an account is at most what came into it
 abbrev pub NoneOverdrawn : Type 0
@@ -120,8 +121,8 @@ OneSpelling =
 abbrev pub EntryLayout : Type 0
 EntryLayout =
     ((e : Entry) → IsEntry e → (length (entry_bytes e) ≡ bytes_of_kind e) × (length (entry_bytes e) ≤ MAX_ENTRY))
-    × (ENROL ∷ FUND ∷ PAID ∷ REFUSED ∷ [] ≡ 1 ∷ 2 ∷ 3 ∷ 4 ∷ []) × (MAX_ENTRY ≡ 117) × (MAX_ITEM_ENTRIES ≡ 32)
+    × (ENROL_ENTRY ∷ FUND_ENTRY ∷ PAID_ENTRY ∷ REFUSED_ENTRY ∷ [] ≡ 1 ∷ 2 ∷ 3 ∷ 4 ∷ []) × (MAX_ENTRY ≡ 117) × (MAX_ITEM_ENTRIES ≡ 32)
 
 -- an entry that may come next keeps the rules of entries, so that it can be written
 abbrev pub LegalKeepsRules : Type 0
-LegalKeepsRules = (H : List Entry) (e : Entry) → LegalAfter H e → KeepsRules e
+LegalKeepsRules = (H : List Entry) (e : Entry) → LegalAfter H e → EntryKeepsRules e

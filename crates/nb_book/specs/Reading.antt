@@ -1,24 +1,21 @@
 -- The entry that stands at the front of bytes, read field by field at the place of each: the entry, or the place of the
 -- first field that fails. What follows the entry is free.
-use Rattle.std.specs.Prelude.{◌≡◌, ℕ, ◌+◌, ◌==◌, ◌||◌, ◌&&◌, nat_le, if◌then◌else◌, Bool, List, length, drop, Result, Ok, Err}
+use Rattle.std.specs.Prelude.{◌≡◌, ℕ, ◌+◌, ◌==◌, ◌||◌, if◌then◌else◌, Bool, List, length, drop, Result, Ok, Err}
 use Rattle.nb_units.specs.Reading.{Reading}
 use Rattle.nb_units.specs.Fields.{◌>>=◌, u8_at, u32_at, u64_at, raw_at, or_place, allowed, moved}
 use Rattle.nb_units.specs.Epoid.{epoid_of}
 use Rattle.nb_book.specs.declared.entry.Entry.{Entry}
 use Rattle.nb_book.specs.declared.entry.Entry.TheVariants.{Enrol, Fund, Paid, Refused}
 use Rattle.nb_book.specs.declared.entry.TheConstants.{CONSUMER, MERCHANT}
-use Rattle.nb_book.specs.declared.reason.TheConstants.{FIRST, LAST}
-use Rattle.nb_book.specs.declared.spelling.TheConstants.{ENROL, FUND, PAID, REFUSED}
+use Rattle.nb_units.specs.Reasons.{is_reason}
+use Rattle.nb_book.specs.declared.spelling.OrderTerms.{OrderTerms}
+use Rattle.nb_book.specs.declared.spelling.TheConstants.{ENROL_ENTRY, FUND_ENTRY, PAID_ENTRY, REFUSED_ENTRY}
 use Rattle.nb_book.specs.declared.spelling.EntryFault.{EntryFault}
 use Rattle.nb_book.specs.Spelling.{entry_bytes}
 
 -- a party may have this role
 abbrev pub is_role : ℕ → Bool
 is_role role = role == CONSUMER || role == MERCHANT
-
--- a refused order may have this code
-abbrev pub is_code : ℕ → Bool
-is_code code = nat_le FIRST code && nat_le code LAST
 
 -- behind the kind of an enrolment
 unfoldable pub enrol_of : List ℕ → Result Entry ℕ
@@ -39,44 +36,52 @@ fund_of bytes = do
   reference ← or_place (raw_at 16 bytes 13)
   Ok (Fund (record { 0 = acct }) amount reference)
 
--- behind the kind of a payment
-unfoldable pub paid_of : List ℕ → Result Entry ℕ
-paid_of bytes = do
+-- what a payment and a refusal both say, behind their kind
+unfoldable pub terms_of : List ℕ → Result OrderTerms ℕ
+terms_of bytes = do
   digest ← or_place (raw_at 32 bytes 1)
   epoid ← or_place (raw_at 16 bytes 33)
   consumer ← or_place (u32_at bytes 49)
   merchant ← or_place (u32_at bytes 53)
   product ← or_place (u32_at bytes 57)
   price ← or_place (u64_at bytes 61)
+  Ok (record {
+    digest = digest;
+    epoid = epoid_of epoid;
+    consumer = record { 0 = consumer };
+    merchant = record { 0 = merchant };
+    product = product;
+    price = record { 0 = price };
+  })
+
+-- behind the kind of a payment
+unfoldable pub paid_of : List ℕ → Result Entry ℕ
+paid_of bytes = do
+  terms ← terms_of bytes
   cacct ← or_place (u32_at bytes 69)
   macct ← or_place (u32_at bytes 73)
   moment ← or_place (u64_at bytes 77)
   key ← or_place (raw_at 32 bytes 85)
-  Ok (Paid digest (epoid_of epoid) (record { 0 = consumer }) (record { 0 = merchant }) product (record { 0 = price }) (record { 0 = cacct }) (record { 0 = macct }) moment key)
+  Ok (Paid terms.digest terms.epoid terms.consumer terms.merchant terms.product terms.price (record { 0 = cacct }) (record { 0 = macct }) moment key)
 
 -- behind the kind of a refusal
 unfoldable pub refused_of : List ℕ → Result Entry ℕ
 refused_of bytes = do
-  digest ← or_place (raw_at 32 bytes 1)
-  epoid ← or_place (raw_at 16 bytes 33)
-  consumer ← or_place (u32_at bytes 49)
-  merchant ← or_place (u32_at bytes 53)
-  product ← or_place (u32_at bytes 57)
-  price ← or_place (u64_at bytes 61)
+  terms ← terms_of bytes
   code ← or_place (u8_at bytes 69)
-  code_is ← allowed (is_code code) 69
+  code_is ← allowed (is_reason code) 69
   a ← or_place (u64_at bytes 70)
   b ← or_place (u64_at bytes 78)
   moment ← or_place (u64_at bytes 86)
-  Ok (Refused digest (epoid_of epoid) (record { 0 = consumer }) (record { 0 = merchant }) product (record { 0 = price }) code a b moment)
+  Ok (Refused terms.digest terms.epoid terms.consumer terms.merchant terms.product terms.price code a b moment)
 
 -- behind a kind: the fields of that kind, or no entry has it
 abbrev pub behind_kind : ℕ → List ℕ → Result Entry ℕ
 behind_kind kind bytes =
-    if kind == ENROL then enrol_of bytes
-    else if kind == FUND then fund_of bytes
-    else if kind == PAID then paid_of bytes
-    else if kind == REFUSED then refused_of bytes
+    if kind == ENROL_ENTRY then enrol_of bytes
+    else if kind == FUND_ENTRY then fund_of bytes
+    else if kind == PAID_ENTRY then paid_of bytes
+    else if kind == REFUSED_ENTRY then refused_of bytes
     else Err 0
 
 -- the entry at the front of the bytes, or the bad place

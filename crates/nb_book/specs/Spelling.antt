@@ -7,8 +7,9 @@ use Rattle.nb_units.specs.Epoid.{IsEpoid, epoid_bytes}
 use Rattle.nb_book.specs.declared.entry.Entry.{Entry}
 use Rattle.nb_book.specs.declared.entry.Entry.TheVariants.{Enrol, Fund, Paid, Refused}
 use Rattle.nb_book.specs.declared.entry.TheConstants.{CONSUMER, MERCHANT}
-use Rattle.nb_book.specs.declared.reason.TheConstants.{FIRST, LAST}
-use Rattle.nb_book.specs.declared.spelling.TheConstants.{ENROL, FUND, PAID, REFUSED, MAX_ITEM_ENTRIES}
+use Rattle.nb_book.specs.declared.spelling.OrderTerms.{OrderTerms}
+use Rattle.nb_units.specs.Reasons.{IsReason}
+use Rattle.nb_book.specs.declared.spelling.TheConstants.{ENROL_ENTRY, FUND_ENTRY, PAID_ENTRY, REFUSED_ENTRY, MAX_ITEM_ENTRIES}
 
 -- 01 | party 4 | role 1 | account 4 | nonce 8 | key 32
 -- 02 | account 4 | amount 8 | reference 16
@@ -16,12 +17,20 @@ use Rattle.nb_book.specs.declared.spelling.TheConstants.{ENROL, FUND, PAID, REFU
 --    | moment 8 | key 32
 -- 04 | digest 32 | identifier 16 | consumer 4 | merchant 4 | product 4 | price 8 | code 1 | a 8 | b 8 | moment 8
 unfoldable pub entry_bytes : Entry → List ℕ
-entry_bytes (Enrol id role acct nonce key) = (ENROL ∷ []) ++ be4 id.0 ++ (role ∷ []) ++ be4 acct.0 ++ be8 nonce ++ key
-entry_bytes (Fund acct amount reference) = (FUND ∷ []) ++ be4 acct.0 ++ be8 amount ++ reference
+entry_bytes (Enrol id role acct nonce key) = (ENROL_ENTRY ∷ []) ++ be4 id.0 ++ (role ∷ []) ++ be4 acct.0 ++ be8 nonce ++ key
+entry_bytes (Fund acct amount reference) = (FUND_ENTRY ∷ []) ++ be4 acct.0 ++ be8 amount ++ reference
 entry_bytes (Paid digest epoid consumer merchant product price cacct macct moment key) =
-    (PAID ∷ []) ++ digest ++ epoid_bytes epoid ++ be4 consumer.0 ++ be4 merchant.0 ++ be4 product ++ be8 price.0 ++ be4 cacct.0 ++ be4 macct.0 ++ be8 moment ++ key
+    (PAID_ENTRY ∷ []) ++ digest ++ epoid_bytes epoid ++ be4 consumer.0 ++ be4 merchant.0 ++ be4 product ++ be8 price.0 ++ be4 cacct.0 ++ be4 macct.0 ++ be8 moment ++ key
 entry_bytes (Refused digest epoid consumer merchant product price code a b moment) =
-    (REFUSED ∷ []) ++ digest ++ epoid_bytes epoid ++ be4 consumer.0 ++ be4 merchant.0 ++ be4 product ++ be8 price.0 ++ (code ∷ []) ++ be8 a ++ be8 b ++ be8 moment
+    (REFUSED_ENTRY ∷ []) ++ digest ++ epoid_bytes epoid ++ be4 consumer.0 ++ be4 merchant.0 ++ be4 product ++ be8 price.0 ++ (code ∷ []) ++ be8 a ++ be8 b ++ be8 moment
+
+-- what a payment and a refusal both say, behind their kind
+abbrev pub terms_bytes : OrderTerms → List ℕ
+terms_bytes t = t.digest ++ epoid_bytes t.epoid ++ be4 t.consumer.0 ++ be4 t.merchant.0 ++ be4 t.product ++ be8 t.price.0
+
+-- each of them is within its limits
+abbrev pub AreTerms : OrderTerms → Type 0
+AreTerms t = (length t.digest ≡ 32) × IsEpoid t.epoid × (t.consumer.0 < 2 ^ 32) × (t.merchant.0 < 2 ^ 32) × (t.product < 2 ^ 32) × (t.price.0 < 2 ^ 64)
 
 -- how many bytes an entry of its kind has
 abbrev pub bytes_of_kind : Entry → ℕ
@@ -30,19 +39,16 @@ bytes_of_kind (Fund acct amount reference) = 29
 bytes_of_kind (Paid digest epoid consumer merchant product price cacct macct moment key) = 117
 bytes_of_kind (Refused digest epoid consumer merchant product price code a b moment) = 94
 
--- an entry may have this role, this code
+-- an entry may have this role
 abbrev pub IsRole : ℕ → Type 0
 IsRole role = (role ≡ CONSUMER) ⊎ (role ≡ MERCHANT)
 
-abbrev pub IsCode : ℕ → Type 0
-IsCode code = (FIRST ≤ code) × (code ≤ LAST)
-
 -- the rules of an entry beyond the widths of its fields, which every entry that a program holds fits: a role that a party
 -- may have, a code that a refused order may have
-abbrev pub KeepsRules : Entry → Type 0
-KeepsRules (Enrol id role acct nonce key) = IsRole role
-KeepsRules (Refused digest epoid consumer merchant product price code a b moment) = IsCode code
-KeepsRules other = Unit {0}
+abbrev pub EntryKeepsRules : Entry → Type 0
+EntryKeepsRules (Enrol id role acct nonce key) = IsRole role
+EntryKeepsRules (Refused digest epoid consumer merchant product price code a b moment) = IsReason code
+EntryKeepsRules other = Unit {0}
 
 -- each field of an entry is within its limits
 abbrev pub IsEntry : Entry → Type 0
@@ -55,7 +61,7 @@ IsEntry (Paid digest epoid consumer merchant product price cacct macct moment ke
 IsEntry (Refused digest epoid consumer merchant product price code a b moment) =
     (length digest ≡ 32) × IsEpoid epoid
     × (consumer.0 < 2 ^ 32) × (merchant.0 < 2 ^ 32) × (product < 2 ^ 32) × (price.0 < 2 ^ 64)
-    × IsCode code × (a < 2 ^ 64) × (b < 2 ^ 64) × (moment < 2 ^ 64)
+    × IsReason code × (a < 2 ^ 64) × (b < 2 ^ 64) × (moment < 2 ^ 64)
 
 -- entries one behind the other
 abbrev pub entries_bytes : List Entry → List ℕ

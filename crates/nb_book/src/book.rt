@@ -1,7 +1,7 @@
 ghost use Rattle.std.specs.Prelude.{◌≡◌, ◌≤◌, ◌<◌, ◌+◌, ◌↔◌, [], ◌∷◌, ◌++◌, length, IsTrue, IsOk, IfOk, IfSome, OnOk, OnErr};
 ghost use Rattle.nb_book.specs.declared.limits.TheConstants.{MAX_CAP, MAX_TOTAL};
-ghost use Rattle.nb_book.specs.Searches.{party_in, funded_in, order_in};
-ghost use Rattle.nb_book.specs.Money.{account_in, total};
+ghost use Rattle.nb_book.specs.Searches.{party_in, holder_in, funded_in, order_in};
+ghost use Rattle.nb_book.specs.Money.{account_in, balance, total};
 ghost use Rattle.nb_book.specs.Legal.{LegalAfter, Legal};
 
 use crate::account::Account;
@@ -9,6 +9,7 @@ use crate::entry::Entry;
 use crate::funded::Funded;
 use crate::kept::Kept;
 use crate::limits::{MAX_CAP, MAX_TOTAL};
+use crate::list::EntryList;
 use crate::party::Party;
 use nb_units::{AcctId, Epoid, NoMemory, PartyId};
 use std::alloc::Global;
@@ -17,9 +18,9 @@ use std::marker::Model;
 /// The entries of a house in order, at most as many as its cap.
 #[derive(Drop)]
 pub struct Book {
-    entries: Vec<Entry>,
+    list: EntryList,
     cap: u32,
-    // How many entries more the vector has the room for.
+    // How many entries more the list has the room for.
     spare: u32,
 }
 
@@ -31,15 +32,15 @@ impl Model for Book {
 
     ghost Value = { Ledger };
 
-    ghost view = { λ b. record { entries = b.entries.items; cap = b.cap; spare = b.spare; places = vec_capacity b.entries } };
+    ghost view = { λ b. record { entries = b.list.entries.items; cap = b.cap; spare = b.spare; places = vec_capacity b.list.entries } };
 
     ghost invariant = { λ b. record {
-      within : vec_len b.entries ≤ b.cap;
+      within : vec_len b.list.entries ≤ b.cap;
       some : 1 ≤ b.cap;
       most : b.cap ≤ MAX_CAP;
-      legal : Legal b.entries.items;
+      legal : Legal b.list.entries.items;
       promised : b.spare ≤ MAX_CAP;
-      room : vec_len b.entries + b.spare ≤ vec_capacity b.entries;
+      room : vec_len b.list.entries + b.spare ≤ vec_capacity b.list.entries;
     } };
 }
 
@@ -56,7 +57,7 @@ impl Book {
         ensures spare { IfOk result (λ book. book.spare ≡ 0) }
     {
         Ok(Book {
-            entries: Vec::new(alloc),
+            list: EntryList::new(alloc),
             cap,
             spare: 0,
         })
@@ -67,7 +68,7 @@ impl Book {
         ensures found { result ≡ party_in self.now.entries id }
         ensures legal { Legal self.now.entries }
     {
-        Party::first_in(self.entries.as_slice(), id)
+        self.list.party(id)
     }
 
     /// The account of this number with its balance now, if a party holds it.
@@ -76,7 +77,27 @@ impl Book {
         ensures within { IfSome result (λ account. account.balance ≤ total self.now.entries) }
         ensures legal { Legal self.now.entries }
     {
-        Account::first_in(self.entries.as_slice(), id)
+        let party = self.holder(id)?;
+        Some(Account {
+            party,
+            balance: self.balance(id),
+        })
+    }
+
+    // Who holds the account of this number.
+    pub(crate) fn holder(&self, id: AcctId) -> Option<PartyId>
+        ensures found { result ≡ holder_in self.now.entries id }
+        ensures legal { Legal self.now.entries }
+    {
+        self.list.holder(id)
+    }
+
+    // What is in the account of this number.
+    pub(crate) fn balance(&self, id: AcctId) -> u64
+        ensures balance { result ≡ balance self.now.entries id }
+        ensures legal { Legal self.now.entries }
+    {
+        self.list.balance(id)
     }
 
     /// The fund of this reference, if there is one.
@@ -84,7 +105,7 @@ impl Book {
         ensures found { result ≡ funded_in self.now.entries r.now }
         ensures legal { Legal self.now.entries }
     {
-        Funded::first_in(self.entries.as_slice(), r)
+        self.list.reference(r)
     }
 
     /// The payment or refusal of the order of this identifier, if there is one.
@@ -92,7 +113,7 @@ impl Book {
         ensures found { result ≡ order_in self.now.entries epoid.now }
         ensures legal { Legal self.now.entries }
     {
-        Kept::first_in(self.entries.as_slice(), epoid)
+        self.list.order(epoid)
     }
 
     /// How many entries are held.
@@ -101,7 +122,7 @@ impl Book {
         ensures within { result ≤ self.now.cap }
         ensures legal { Legal self.now.entries }
     {
-        self.entries.len() as u32
+        self.list.len() as u32
     }
 
     /// How many entries can be held.
@@ -119,14 +140,14 @@ impl Book {
         ensures most { result ≤ MAX_TOTAL }
         ensures legal { Legal self.now.entries }
     {
-        Entry::total_of(self.entries.as_slice())
+        self.list.total()
     }
 
     /// Whether the entry may come next, by what the entries say: whether the cap is reached is not tested.
     pub fn legal(&self, e: &Entry) -> bool
         ensures { IsTrue result ↔ LegalAfter self.now.entries e.now }
     {
-        e.is_legal_after(self.entries.as_slice())
+        e.is_legal_after(self)
     }
 
     /// Makes the spare at least `n`. After `NoMemory` the book is as before.
@@ -140,7 +161,7 @@ impl Book {
         ensures had { n ≤ self.old.spare → IsOk result }
     {
         if self.spare < n {
-            self.entries.reserve(n as usize)?;
+            self.list.reserve(n as usize)?;
             self.spare = n;
         }
         Ok(())
@@ -156,7 +177,7 @@ impl Book {
         ensures spare { self.new.spare + 1 ≡ self.old.spare }
         ensures places { self.new.places ≡ self.old.places }
     {
-        self.entries.push_reserved(*e);
+        self.list.push(e);
         self.spare -= 1;
     }
 }

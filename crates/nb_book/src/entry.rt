@@ -1,6 +1,6 @@
-ghost use Rattle.std.specs.Prelude.{◌≡◌, ◌<◌, ◌^◌};
+ghost use Rattle.std.specs.Prelude.{◌≡◌};
 ghost use Rattle.nb_book.specs.Searches.{settles};
-ghost use Rattle.nb_book.specs.Money.{credit, debit, total};
+ghost use Rattle.nb_book.specs.Money.{credit, debit};
 
 use nb_units::{AcctId, Digest, Epoid, PartyId, Price, Secret};
 
@@ -61,20 +61,6 @@ pub enum Entry {
 }
 
 impl Entry {
-    // All that these entries brought into the house.
-    pub(crate) fn total_of(entries: &[Entry]) -> u64
-        requires { total entries.now < 2 ^ 64 }
-        ensures { result ≡ total entries.now }
-    {
-        let mut sum = 0;
-        for entry in entries {
-            if let Entry::Fund { amount, .. } = entry {
-                sum += *amount;
-            }
-        }
-        sum
-    }
-
     // What this entry brings into the account.
     pub(crate) fn credit(&self, id: AcctId) -> u64
         ensures { result ≡ credit id self.now }

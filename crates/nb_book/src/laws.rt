@@ -1,98 +1,98 @@
 //! What holds of every Legal list, and of the bytes of entries. Each function here does nothing: its contract is the law.
 
-ghost use Rattle.nb_book.specs.Laws.{LimitsAre, ReasonsAre, NoneOverdrawn, BalancesMakeTotal, BalancesFit, TotalFits, UnheldIsEmpty, BalanceAfter, PaymentMoves, StaysLegal, EnrolledOnce, OpenedOnce, FundedOnce, SettledOnce, EntryReadsBack, EntrySpellsBack, OneSpelling, EntryLayout, LegalKeepsRules};
+ghost use Rattle.nb_book.specs.Laws as law;
 
 /// The limits and the roles in numbers.
 pub fn limits()
-    ensures { LimitsAre }
+    ensures { law.LimitsAre }
 {}
 
 /// The codes of refused orders in numbers.
 pub fn reasons()
-    ensures { ReasonsAre }
+    ensures { law.ReasonsAre }
 {}
 
 /// No balance is below zero: what was taken from an account is at most what came into it.
 pub fn none_overdrawn()
-    ensures { NoneOverdrawn }
+    ensures { law.NoneOverdrawn }
 {}
 
 /// No money is made or lost: the balances of all enrolled accounts sum to the total of the funds.
 pub fn balances_make_total()
-    ensures { BalancesMakeTotal }
+    ensures { law.BalancesMakeTotal }
 {}
 
 /// No account has more than the house took in.
 pub fn balances_fit()
-    ensures { BalancesFit }
+    ensures { law.BalancesFit }
 {}
 
 /// The total of the funds is at most [`MAX_TOTAL`](crate::MAX_TOTAL), so that it and every balance fit 8 bytes.
 pub fn total_fits()
-    ensures { TotalFits }
+    ensures { law.TotalFits }
 {}
 
 /// An account that nobody holds has nothing in it.
 pub fn unheld_is_empty()
-    ensures { UnheldIsEmpty }
+    ensures { law.UnheldIsEmpty }
 {}
 
 /// An entry changes each balance by what it brings to the account and what it takes from it.
 pub fn balance_after()
-    ensures { BalanceAfter }
+    ensures { law.BalanceAfter }
 {}
 
 /// A payment takes its price from the consumer's account, brings it into the merchant's, and leaves all others.
 pub fn payment_moves()
-    ensures { PaymentMoves }
+    ensures { law.PaymentMoves }
 {}
 
 /// A list stays Legal when an entry that is legal next comes after it.
 pub fn stays_legal()
-    ensures { StaysLegal }
+    ensures { law.StaysLegal }
 {}
 
 /// A party is enrolled at most once.
 pub fn enrolled_once()
-    ensures { EnrolledOnce }
+    ensures { law.EnrolledOnce }
 {}
 
 /// An account is opened at most once.
 pub fn opened_once()
-    ensures { OpenedOnce }
+    ensures { law.OpenedOnce }
 {}
 
 /// A reference stands in at most one fund.
 pub fn funded_once()
-    ensures { FundedOnce }
+    ensures { law.FundedOnce }
 {}
 
 /// An order is paid or refused at most once: an identifier stands in at most one of these entries.
 pub fn settled_once()
-    ensures { SettledOnce }
+    ensures { law.SettledOnce }
 {}
 
 /// An entry that stands at a place of bytes is read there as that entry.
 pub fn entry_reads_back()
-    ensures { EntryReadsBack }
+    ensures { law.EntryReadsBack }
 {}
 
 /// What is read as an entry at a place of bytes is within its limits, and its spelling stands there.
 pub fn entry_spells_back()
-    ensures { EntrySpellsBack }
+    ensures { law.EntrySpellsBack }
 {}
 
 /// Bytes begin with the spelling of at most one entry, and an item of a journal spells one list of entries.
 pub fn one_spelling()
-    ensures { OneSpelling }
+    ensures { law.OneSpelling }
 {}
 
 /// An entry has as many bytes as its kind says; the kinds and limits in numbers.
 pub fn entry_layout()
-    ensures { EntryLayout }
+    ensures { law.EntryLayout }
 {}
 
 /// An entry that may come next has a role and a code that can be spelled.
 pub fn legal_keeps_rules()
-    ensures { LegalKeepsRules }
+    ensures { law.LegalKeepsRules }
 {}

@@ -24,6 +24,7 @@ mod kept;
 pub mod laws;
 mod legal;
 mod limits;
+mod list;
 mod party;
 pub mod reason;
 mod spelling;

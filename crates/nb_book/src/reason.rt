@@ -22,9 +22,3 @@ pub const BALANCE_LOW: u8 = 36;
 
 /// The nonce that the consumer showed is not its own: `a` is the one shown, `b` its own.
 pub const CONSUMER_NONCE: u8 = 37;
-
-/// The least of these codes.
-pub const FIRST: u8 = CONSUMER_ACCOUNT;
-
-/// The greatest of them.
-pub const LAST: u8 = CONSUMER_NONCE;

@@ -1,15 +1,18 @@
-ghost use Rattle.std.specs.Prelude.{◌≡◌, ◌≤◌, ◌++◌, length, vec_capacity, IfOk, IfErr, Ok};
-ghost use Rattle.nb_units.specs.Fields.{allowed};
+ghost use Rattle.std.specs.Prelude.{◌≡◌, ◌≤◌, ◌+◌, ◌++◌, length, vec_capacity, IfOk, IfErr, Ok};
+ghost use Rattle.nb_units.specs.declared.buffer.TheConstants.{MAX_BUFFER};
+ghost use Rattle.nb_units.specs.Fields.{moved};
 ghost use Rattle.nb_units.specs.Laws.{StandsAt};
 ghost use Rattle.nb_units.specs.Reads.{Reads};
 ghost use Rattle.nb_units.specs.Room.{spare_of};
 ghost use Rattle.nb_book.specs.declared.spelling.TheConstants.{MAX_ENTRY};
-ghost use Rattle.nb_book.specs.Spelling.{KeepsRules, IsEntry, entry_bytes, bytes_of_kind};
-ghost use Rattle.nb_book.specs.Reading.{is_role, is_code, enrol_of, fund_of, paid_of, refused_of, entry_of, entry_at, ReadsEntry, moved_past_entry};
+ghost use Rattle.nb_book.specs.Spelling as spelling;
+ghost use Rattle.nb_book.specs.Reading as reading;
 
 use crate::entry::{CONSUMER, Entry, MERCHANT};
-use crate::reason::{FIRST, LAST};
-use nb_units::{AcctId, Buffer, Cut, Epoid, Malformed, PartyId, Pen, Price};
+use nb_units::{
+    AcctId, Buffer, Cut, Digest, Epoid, Malformed, PartyId, Pen, Price, allow, is_reason,
+};
+use std::fmt;
 
 /// The most bytes of an entry.
 pub const MAX_ENTRY: usize = 117;
@@ -18,13 +21,13 @@ pub const MAX_ENTRY: usize = 117;
 pub const MAX_ITEM_ENTRIES: usize = 32;
 
 // The first byte of an entry, its kind.
-const ENROL: u8 = 1;
+const ENROL_ENTRY: u8 = 1;
 
-const FUND: u8 = 2;
+const FUND_ENTRY: u8 = 2;
 
-const PAID: u8 = 3;
+const PAID_ENTRY: u8 = 3;
 
-const REFUSED: u8 = 4;
+const REFUSED_ENTRY: u8 = 4;
 
 /// No entry stands at the front of a cut. The place is that of the first field that fails, in bytes from the front of the
 /// cut's slice.
@@ -33,15 +36,21 @@ pub struct EntryFault {
     pub place: usize,
 }
 
+impl fmt::Display for EntryFault {
+    fn fmt<W: fmt::Write>(&self, f: &mut fmt::Formatter<W>) -> fmt::Result {
+        write!(f, "at byte {}: no entry stands there", self.place)
+    }
+}
+
 /// Appends the entry's bytes. It needs room for [`MAX_ENTRY`] bytes, also for a shorter entry; the role of an enrolment must
 /// be one of the two, and the code of a refusal one of [`reason`](crate::reason), as they are of every entry that is legal.
 /// It takes no memory.
 pub fn write_entry(e: &Entry, out: &mut Vec<u8>)
-    requires lawful { KeepsRules e.now }
+    requires lawful { spelling.EntryKeepsRules e.now }
     requires room { MAX_ENTRY ≤ spare_of out.old }
-    ensures bytes { out.new.items ≡ out.old.items ++ entry_bytes e.now }
-    ensures fits { IsEntry e.now }
-    ensures long { length (entry_bytes e.now) ≤ MAX_ENTRY }
+    ensures bytes { out.new.items ≡ out.old.items ++ spelling.entry_bytes e.now }
+    ensures fits { spelling.IsEntry e.now }
+    ensures long { length (spelling.entry_bytes e.now) ≤ MAX_ENTRY }
     ensures room { vec_capacity out.new ≡ vec_capacity out.old }
 {
     let bytes = e.spelled();
@@ -54,12 +63,12 @@ pub fn write_entry(e: &Entry, out: &mut Vec<u8>)
 /// code that is none of [`reason`](crate::reason). After it the cut is as before.
 pub fn read_entry(cut: &mut Cut) -> Result<Entry, EntryFault>
     // The fields in their order, and the first that fails.
-    ensures reads { ReadsEntry result (entry_at cut.old.bytes cut.old.place) }
-    ensures moved { cut.new ≡ moved_past_entry cut.old result }
+    ensures reads { reading.ReadsEntry result (reading.entry_at cut.old.bytes cut.old.place) }
+    ensures moved { cut.new ≡ reading.moved_past_entry cut.old result }
 
     // An entry that is read is spelled so, and one that is spelled so is read.
-    ensures spelled { IfOk result (λ e. IsEntry e × StandsAt (entry_bytes e) cut.old.bytes cut.old.place) }
-    ensures found { (e : Entry) → IsEntry e → StandsAt (entry_bytes e) cut.old.bytes cut.old.place → result ≡ Ok e }
+    ensures spelled { IfOk result (λ e. spelling.IsEntry e × StandsAt (spelling.entry_bytes e) cut.old.bytes cut.old.place) }
+    ensures found { (e : Entry) → spelling.IsEntry e → StandsAt (spelling.entry_bytes e) cut.old.bytes cut.old.place → result ≡ Ok e }
 {
     match read_front(cut.rest()) {
         Ok(e) => {
@@ -77,9 +86,9 @@ impl Entry {
     /// The entry's bytes, at most [`MAX_ENTRY`]. The role of an enrolment must be one of the two, and the code of a refusal one of
     /// [`reason`](crate::reason), as they are of every entry that is legal. It takes no memory.
     pub fn spelled(&self) -> Buffer
-        requires { KeepsRules self.now }
-        ensures bytes { result ≡ entry_bytes self.now }
-        ensures fits { IsEntry self.now }
+        requires { spelling.EntryKeepsRules self.now }
+        ensures bytes { result ≡ spelling.entry_bytes self.now }
+        ensures fits { spelling.IsEntry self.now }
         ensures long { length result ≤ MAX_ENTRY }
     {
         let mut bytes = Buffer::new();
@@ -91,7 +100,7 @@ impl Entry {
                 nonce,
                 key,
             } => {
-                bytes.u8(ENROL);
+                bytes.u8(ENROL_ENTRY);
                 bytes.u32(id.0);
                 bytes.u8(*role);
                 bytes.u32(acct.0);
@@ -103,7 +112,7 @@ impl Entry {
                 amount,
                 reference,
             } => {
-                bytes.u8(FUND);
+                bytes.u8(FUND_ENTRY);
                 bytes.u32(acct.0);
                 bytes.u64(*amount);
                 bytes.raw(reference);
@@ -120,13 +129,17 @@ impl Entry {
                 moment,
                 key,
             } => {
-                bytes.u8(PAID);
-                bytes.raw(digest);
-                bytes.raw(&epoid.write());
-                bytes.u32(consumer.0);
-                bytes.u32(merchant.0);
-                bytes.u32(*product);
-                bytes.u64(price.0);
+                bytes.u8(PAID_ENTRY);
+                let digest = *digest;
+                let terms = OrderTerms {
+                    digest,
+                    epoid: *epoid,
+                    consumer: *consumer,
+                    merchant: *merchant,
+                    product: *product,
+                    price: *price,
+                };
+                terms.write(&mut bytes);
                 bytes.u32(cacct.0);
                 bytes.u32(macct.0);
                 bytes.u64(*moment);
@@ -144,13 +157,17 @@ impl Entry {
                 b,
                 moment,
             } => {
-                bytes.u8(REFUSED);
-                bytes.raw(digest);
-                bytes.raw(&epoid.write());
-                bytes.u32(consumer.0);
-                bytes.u32(merchant.0);
-                bytes.u32(*product);
-                bytes.u64(price.0);
+                bytes.u8(REFUSED_ENTRY);
+                let digest = *digest;
+                let terms = OrderTerms {
+                    digest,
+                    epoid: *epoid,
+                    consumer: *consumer,
+                    merchant: *merchant,
+                    product: *product,
+                    price: *price,
+                };
+                terms.write(&mut bytes);
                 bytes.u8(*code);
                 bytes.u64(*a);
                 bytes.u64(*b);
@@ -163,8 +180,8 @@ impl Entry {
 
 // The entry at the front of the bytes.
 fn read_front(bytes: &[u8]) -> Result<Entry, Malformed>
-    ensures reads { Reads result (entry_of bytes.now) }
-    ensures spelled { IfOk result (λ e. IsEntry e × StandsAt (entry_bytes e) bytes.now 0) }
+    ensures reads { Reads result (reading.entry_of bytes.now) }
+    ensures spelled { IfOk result (λ e. spelling.IsEntry e × StandsAt (spelling.entry_bytes e) bytes.now 0) }
     ensures inside { IfErr result (λ malformed. malformed.place ≤ length bytes.now) }
 {
     read_fields(bytes)
@@ -172,14 +189,14 @@ fn read_front(bytes: &[u8]) -> Result<Entry, Malformed>
 
 #[tactic(auto, unfolding(crate::specs::Reading::entry_of))]
 fn read_fields(bytes: &[u8]) -> Result<Entry, Malformed>
-    ensures { Reads result (entry_of bytes.now) }
+    ensures { Reads result (reading.entry_of bytes.now) }
 {
     let mut cut = Cut::new(bytes);
     match cut.u8()? {
-        ENROL => read_enrol(cut),
-        FUND => read_fund(cut),
-        PAID => read_paid(cut),
-        REFUSED => read_refused(cut),
+        ENROL_ENTRY => read_enrol(cut),
+        FUND_ENTRY => read_fund(cut),
+        PAID_ENTRY => read_paid(cut),
+        REFUSED_ENTRY => read_refused(cut),
         _ => Err(Malformed { place: 0 }),
     }
 }
@@ -189,7 +206,7 @@ fn read_fields(bytes: &[u8]) -> Result<Entry, Malformed>
 #[tactic(auto, unfolding(crate::specs::Reading::enrol_of))]
 fn read_enrol(mut cut: Cut) -> Result<Entry, Malformed>
     requires { cut.place ≡ 1 }
-    ensures { Reads result (enrol_of cut.entry.bytes) }
+    ensures { Reads result (reading.enrol_of cut.entry.bytes) }
 {
     let id = cut.u32()?;
     let place = cut.place();
@@ -210,7 +227,7 @@ fn read_enrol(mut cut: Cut) -> Result<Entry, Malformed>
 #[tactic(auto, unfolding(crate::specs::Reading::fund_of))]
 fn read_fund(mut cut: Cut) -> Result<Entry, Malformed>
     requires { cut.place ≡ 1 }
-    ensures { Reads result (fund_of cut.entry.bytes) }
+    ensures { Reads result (reading.fund_of cut.entry.bytes) }
 {
     let acct = cut.u32()?;
     let amount = cut.u64()?;
@@ -222,28 +239,73 @@ fn read_fund(mut cut: Cut) -> Result<Entry, Malformed>
     })
 }
 
+// What a payment and a refusal both say, behind their kind.
+#[derive(Clone, Copy, PartialEq, Eq, Debug)]
+struct OrderTerms {
+    digest: Digest,
+    epoid: Epoid,
+    consumer: PartyId,
+    merchant: PartyId,
+    product: u32,
+    price: Price,
+}
+
+impl OrderTerms {
+    fn write(&self, bytes: &mut Buffer)
+        requires { length bytes.old + 68 ≤ MAX_BUFFER }
+        ensures bytes { bytes.new ≡ bytes.old ++ spelling.terms_bytes self.now }
+        ensures fits { spelling.AreTerms self.now }
+        ensures long { length bytes.new ≡ length bytes.old + 68 }
+    {
+        bytes.raw(&self.digest);
+        bytes.raw(&self.epoid.write());
+        bytes.u32(self.consumer.0);
+        bytes.u32(self.merchant.0);
+        bytes.u32(self.product);
+        bytes.u64(self.price.0);
+    }
+
+    #[tactic(auto, unfolding(crate::specs::Reading::terms_of))]
+    fn read(cut: &mut Cut) -> Result<OrderTerms, Malformed>
+        requires { cut.old.place ≡ 1 }
+        ensures reads { Reads result (reading.terms_of cut.old.bytes) }
+        ensures moved { IfOk result (λ terms. cut.new ≡ moved cut.old 68) }
+    {
+        let digest = cut.fixed32()?;
+        let epoid = cut.fixed16()?;
+        let consumer = cut.u32()?;
+        let merchant = cut.u32()?;
+        let product = cut.u32()?;
+        let price = cut.u64()?;
+        Ok(OrderTerms {
+            digest,
+            epoid: Epoid::read(&epoid),
+            consumer: PartyId(consumer),
+            merchant: PartyId(merchant),
+            product,
+            price: Price(price),
+        })
+    }
+}
+
 #[tactic(auto, unfolding(crate::specs::Reading::paid_of))]
 fn read_paid(mut cut: Cut) -> Result<Entry, Malformed>
     requires { cut.place ≡ 1 }
-    ensures { Reads result (paid_of cut.entry.bytes) }
+    ensures { Reads result (reading.paid_of cut.entry.bytes) }
 {
-    let digest = cut.fixed32()?;
-    let epoid = cut.fixed16()?;
-    let consumer = cut.u32()?;
-    let merchant = cut.u32()?;
-    let product = cut.u32()?;
-    let price = cut.u64()?;
+    let terms = OrderTerms::read(&mut cut)?;
+    let digest = terms.digest;
     let cacct = cut.u32()?;
     let macct = cut.u32()?;
     let moment = cut.u64()?;
     let key = cut.fixed32()?;
     Ok(Entry::Paid {
         digest,
-        epoid: Epoid::read(&epoid),
-        consumer: PartyId(consumer),
-        merchant: PartyId(merchant),
-        product,
-        price: Price(price),
+        epoid: terms.epoid,
+        consumer: terms.consumer,
+        merchant: terms.merchant,
+        product: terms.product,
+        price: terms.price,
         cacct: AcctId(cacct),
         macct: AcctId(macct),
         moment,
@@ -254,27 +316,23 @@ fn read_paid(mut cut: Cut) -> Result<Entry, Malformed>
 #[tactic(auto, unfolding(crate::specs::Reading::refused_of))]
 fn read_refused(mut cut: Cut) -> Result<Entry, Malformed>
     requires { cut.place ≡ 1 }
-    ensures { Reads result (refused_of cut.entry.bytes) }
+    ensures { Reads result (reading.refused_of cut.entry.bytes) }
 {
-    let digest = cut.fixed32()?;
-    let epoid = cut.fixed16()?;
-    let consumer = cut.u32()?;
-    let merchant = cut.u32()?;
-    let product = cut.u32()?;
-    let price = cut.u64()?;
+    let terms = OrderTerms::read(&mut cut)?;
+    let digest = terms.digest;
     let place = cut.place();
     let code = cut.u8()?;
-    allow(is_code(code), place)?;
+    allow(is_reason(code), place)?;
     let a = cut.u64()?;
     let b = cut.u64()?;
     let moment = cut.u64()?;
     Ok(Entry::Refused {
         digest,
-        epoid: Epoid::read(&epoid),
-        consumer: PartyId(consumer),
-        merchant: PartyId(merchant),
-        product,
-        price: Price(price),
+        epoid: terms.epoid,
+        consumer: terms.consumer,
+        merchant: terms.merchant,
+        product: terms.product,
+        price: terms.price,
         code,
         a,
         b,
@@ -284,28 +342,14 @@ fn read_refused(mut cut: Cut) -> Result<Entry, Malformed>
 
 // Whether a party may have this role.
 fn is_role(role: u8) -> bool
-    ensures { result ≡ is_role role }
+    ensures { result ≡ reading.is_role role }
 {
     role == CONSUMER || role == MERCHANT
 }
 
-// Whether a refused order may have this code.
-fn is_code(code: u8) -> bool
-    ensures { result ≡ is_code code }
-{
-    FIRST <= code && code <= LAST
-}
-
-// Whether the value of the field at this place is allowed.
-fn allow(is: bool, place: usize) -> Result<(), Malformed>
-    ensures { Reads result (allowed is place) }
-{
-    if is { Ok(()) } else { Err(Malformed { place }) }
-}
-
 // How many bytes the entry is spelled in.
 fn spelled_len(e: &Entry) -> usize
-    ensures { result ≡ bytes_of_kind e.now }
+    ensures { result ≡ spelling.bytes_of_kind e.now }
 {
     match e {
         Entry::Enrol { .. } => 50,

@@ -30,7 +30,7 @@ use Rattle.nb_escrow.specs.declared.settlement.Settlement.{Settlement}
 use Rattle.nb_escrow.specs.declared.status.StatusQuery.{StatusQuery}
 use Rattle.nb_escrow.specs.Checks.{signed_part, enrolled, right_tag}
 use Rattle.nb_escrow.specs.Settlements.{settlement, settlement_at, settlement_of, settlement_in, receipt_in_role, receipt_of_party}
-use Rattle.nb_escrow.specs.Statuses.{enough_entries, status, status_steps}
+use Rattle.nb_escrow.specs.Statuses.{enough_entries, status_told, status_steps}
 use Rattle.nb_escrow.specs.Verdict.{steps, told}
 use Rattle.nb_escrow.specs.Laws.{PaysWith, GivesKey, IsAuthentic, KeyWherePaid, StatusTellsKey}
 use Rattle.nb_escrow.proofs.Settling.{settles_found}
@@ -176,8 +176,8 @@ module _ (p : Epoid) (id : PartyId) (key : List ℕ) where
 -- ---- the verdict
 
 -- an authentic query over enough entries passes all tests
-passes : (H : List Entry) (head : Head) (body : List ℕ) (asked : StatusQuery) (is : IsAuthentic H body asked) → asked.least ≤ length H
-    → status_steps H head body ≡ Ok (status H head is.asker asked)
+pub passes : (H : List Entry) (head : Head) (body : List ℕ) (asked : StatusQuery) (is : IsAuthentic H body asked) → asked.least ≤ length H
+    → status_steps H head body ≡ Ok (status_told H head is.asker asked)
 unfolding status_steps enrolled right_tag enough_entries
 passes H head body asked is enough =
     rw is.read (rw is.enrolled (rw ((bytes_eq-Decides asked.tag (hmac_of is.asker.key (codes "stat" ++ signed_part body))).1 is.signed) (rw (le-leb asked.least (length H) enough) refl)))
@@ -205,7 +205,7 @@ pub key_where_refused : (H : List Entry) (head : Head) (cap kind : ℕ) (body : 
     → Err why ≡ steps H head cap kind body moment → KeyWherePaid H body (Refused_with why)
 key_where_refused H head cap kind body moment why same is asked key authentic enough =
     let query : Err why ≡ steps H head cap STATUS_REQUEST body moment = is ∙ ap (λ (k : ℕ). steps H head cap k body moment) same in
-    absurd (not_both why (status H head authentic.asker asked) (query ∙ passes H head body asked authentic enough))
+    absurd (not_both why (status_told H head authentic.asker asked) (query ∙ passes H head body asked authentic enough))
   where
     not_both : (why : Refusal) (d : Decision) → (let r : Result Decision Refusal = Err why in r) ≡ Ok d → ⊥
     not_both why d is = cc

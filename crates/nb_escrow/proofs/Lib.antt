@@ -5,3 +5,6 @@ pub mod Settling
 pub mod Telling
 pub mod Keys
 pub mod Recording
+pub mod Tests
+pub mod Judging
+pub mod Exactly

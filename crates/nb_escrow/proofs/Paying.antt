@@ -22,17 +22,17 @@ use Rattle.nb_escrow.specs.declared.settlement.Settlement.{Settlement}
 use Rattle.nb_escrow.specs.Checks.{unless}
 use Rattle.nb_escrow.specs.Orders.{IsPresented}
 use Rattle.nb_escrow.specs.Payments.{payment_steps, outcome_of}
-use Rattle.nb_escrow.specs.Settlements.{IsPaymentOutcome, entry_of}
+use Rattle.nb_escrow.specs.Settlements.{IsPaymentOutcome, settlement_entry}
 
 abbrev Tested : Type 0
 Tested = Result (Unit {0}) RefusalReason
 
 -- a test that fails gives its reason, and one that holds goes on
-either : (P : Tested → Type 0) (b : Bool) (why : RefusalReason) (next : Tested) → (b ≡ false → P (Err why)) → (b ≡ true → P next) → P (unless b why >>= (λ u. next))
+pub either : (P : Tested → Type 0) (b : Bool) (why : RefusalReason) (next : Tested) → (b ≡ false → P (Err why)) → (b ≡ true → P next) → P (unless b why >>= (λ u. next))
 either P true why next fails holds = holds refl
 either P false why next fails holds = fails refl
 
-last : (P : Tested → Type 0) (b : Bool) (why : RefusalReason) → (b ≡ false → P (Err why)) → (b ≡ true → P (Ok tt)) → P (unless b why)
+pub last : (P : Tested → Type 0) (b : Bool) (why : RefusalReason) → (b ≡ false → P (Err why)) → (b ≡ true → P (Ok tt)) → P (unless b why)
 last P true why fails holds = holds refl
 last P false why fails holds = fails refl
 
@@ -89,14 +89,14 @@ module _ (H : List Entry) (p : Presented) (moment : ℕ) where
   shape at outcome =
       record { at = at; digest = p.digest; epoid = p.order.epoid; consumer = p.order.consumer; merchant = p.order.merchant; product = p.order.product; price = p.order.price; moment = moment; outcome = outcome }
 
-  legal_with : IsPresented H p → IsNone (order_in H p.order.epoid) → (at : ℕ) (tested : Tested) → Comes tested → LegalAfter H (entry_of (shape at (outcome_of p tested)))
+  legal_with : IsPresented H p → IsNone (order_in H p.order.epoid) → (at : ℕ) (tested : Tested) → Comes tested → LegalAfter H (settlement_entry (shape at (outcome_of p tested)))
   legal_with is new at (Ok u) comes =
       ((new, is.named), (rw is.consumer (ap Some is.buys), rw is.merchant (ap Some is.sells)), (rw is.consumer refl, rw is.merchant refl), comes.priced, comes.covered, comes.begun)
   legal_with is new at (Err why) comes = ((new, is.named), (rw is.consumer (ap Some is.buys), rw is.merchant (ap Some is.sells)), comes)
 
   pub settled_legal : IsPresented H p → IsNone (order_in H p.order.epoid) → (at : ℕ) (outcome : PaymentOutcome) → outcome ≡ outcome_of p (payment_steps H p moment)
-      → LegalAfter H (entry_of (shape at outcome))
-  settled_legal is new at outcome same = subst (λ (o : PaymentOutcome). LegalAfter H (entry_of (shape at o))) (sym same) (legal_with is new at (payment_steps H p moment) (comes is))
+      → LegalAfter H (settlement_entry (shape at outcome))
+  settled_legal is new at outcome same = subst (λ (o : PaymentOutcome). LegalAfter H (settlement_entry (shape at o))) (sym same) (legal_with is new at (payment_steps H p moment) (comes is))
 
   outcome_with : (tested : Tested) → Comes tested → IsPaymentOutcome (outcome_of p tested)
   outcome_with (Ok u) comes = tt

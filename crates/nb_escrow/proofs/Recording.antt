@@ -32,7 +32,7 @@ use Rattle.nb_escrow.specs.declared.order.Presented.{Presented}
 use Rattle.nb_escrow.specs.declared.settlement.Settlement.{Settlement}
 use Rattle.nb_escrow.specs.Checks.{signed_part, unless, well_formed, if_found, enrolled, enrolled_as, right_tag, room_left}
 use Rattle.nb_escrow.specs.Held.{place_in}
-use Rattle.nb_escrow.specs.Requests.{enrol_of, fund_of, endorsed_of}
+use Rattle.nb_escrow.specs.Requests.{enrolment_of, funding_of, endorsed_of}
 use Rattle.nb_escrow.specs.Enrolments.{enrol_entry, if_unheld, numbers_free, again_or_enrol, enrol_steps}
 use Rattle.nb_escrow.specs.Fundings.{fund_entry, if_unfunded, reference_new, account_held, total_within, again_or_fund, fund_steps}
 use Rattle.nb_escrow.specs.Orders.{IsPresented, endorsement_in, hidden_in, names_endorser, same_merchant, same_digest, again_or_settle, order_steps}
@@ -46,12 +46,12 @@ use Rattle.nb_escrow.proofs.Telling.{none_settled, status_records_none}
 -- ---- a test that goes before
 
 -- it gave what the next one goes on with
-inside : {A B E : Type 0} (r : Result A E) (f : A → Result B E) (b : B) → (r >>= f) ≡ Ok b → (x : A) × (r ≡ Ok x) × (f x ≡ Ok b)
+pub inside : {A B E : Type 0} (r : Result A E) (f : A → Result B E) (b : B) → (r >>= f) ≡ Ok b → (x : A) × (r ≡ Ok x) × (f x ≡ Ok b)
 inside (Ok x) f b is = (x, refl, is)
 inside (Err fault) f b is = absurd cc
 
 -- a part that was well formed was read
-formed : {A : Type 0} (part : ℕ) (r : Result A ℕ) (x : A) → well_formed part r ≡ Ok x → r ≡ Ok x
+pub formed : {A : Type 0} (part : ℕ) (r : Result A ℕ) (x : A) → well_formed part r ≡ Ok x → r ≡ Ok x
 formed {A} part (Ok y) x is = same y x is
   where
     same : (y x : A) → (let r : Result A Refusal = Ok y in r) ≡ Ok x → (let r : Result A ℕ = Ok y in r) ≡ Ok x
@@ -59,7 +59,7 @@ formed {A} part (Ok y) x is = same y x is
 formed part (Err place) x is = absurd cc
 
 -- what is asked for held
-held_so : {R : Type 0} (b : Bool) (why : R) (u : Unit {0}) → unless b why ≡ Ok u → b ≡ true
+pub held_so : {R : Type 0} (b : Bool) (why : R) (u : Unit {0}) → unless b why ≡ Ok u → b ≡ true
 held_so true why u is = refl
 held_so false why u is = absurd cc
 
@@ -76,10 +76,10 @@ Recorded H cap (Some e) = Fits H cap e
 abbrev RecordedIn : List Entry → ℕ → Result Decision Refusal → Type 0
 RecordedIn H cap r = (d : Decision) → r ≡ Ok d → Recorded H cap d.entry
 
-same_decision : (d d' : Decision) → (let r : Result Decision Refusal = Ok d in r) ≡ Ok d' → d ≡ d'
+pub same_decision : (d d' : Decision) → (let r : Result Decision Refusal = Ok d in r) ≡ Ok d' → d ≡ d'
 same_decision d d' is = cc
 
-room_so : (H : List Entry) (cap : ℕ) (u : Unit {0}) → room_left H cap ≡ Ok u → length H < cap
+pub room_so : (H : List Entry) (cap : ℕ) (u : Unit {0}) → room_left H cap ≡ Ok u → length H < cap
 unfolding room_left
 room_so H cap u is = ltb-true (length H) cap (held_so (nat_lt (length H) cap) _ u is)
 
@@ -89,8 +89,8 @@ allowed_so : (b : Bool) (place : ℕ) (u : Unit {0}) → allowed b place ≡ Ok 
 allowed_so true place u is = refl
 allowed_so false place u is = absurd cc
 
-role_so : (body : List ℕ) (asked : Enrolment) → enrol_of body ≡ Ok asked → (asked.role ≡ CONSUMER) ⊎ (asked.role ≡ MERCHANT)
-unfolding enrol_of
+pub role_so : (body : List ℕ) (asked : Enrolment) → enrolment_of body ≡ Ok asked → (asked.role ≡ CONSUMER) ⊎ (asked.role ≡ MERCHANT)
+unfolding enrolment_of
 role_so body asked is =
     let id = inside (or_place (u32_at body 0)) _ asked is in
     let role = inside (or_place (u8_at body 4)) _ asked id.2 in
@@ -108,7 +108,7 @@ role_so body asked is =
     either : (mine role : ℕ) → mine ≡ role → (role == CONSUMER || role == MERCHANT) ≡ true → (mine ≡ CONSUMER) ⊎ (mine ≡ MERCHANT)
     either mine role same known = grind (arith, eqb-true)
 
-free_so : (H : List Entry) (id : PartyId) (acct : AcctId) (u : Unit {0}) → numbers_free H id acct ≡ Ok u → (id.0 ≢ 0) × (acct.0 ≢ 0) × IsNone (party_in H id) × IsNone (holder_in H acct)
+pub free_so : (H : List Entry) (id : PartyId) (acct : AcctId) (u : Unit {0}) → numbers_free H id acct ≡ Ok u → (id.0 ≢ 0) × (acct.0 ≢ 0) × IsNone (party_in H id) × IsNone (holder_in H acct)
 unfolding numbers_free
 free_so H id acct u is = part (party_in H id) (holder_in H acct) is
   where
@@ -139,14 +139,14 @@ enrol_recorded H cap asked role None d is =
 enrol_steps_recorded : (H : List Entry) (head : Head) (cap : ℕ) (body : List ℕ) → RecordedIn H cap (enrol_steps H head cap body)
 unfolding enrol_steps
 enrol_steps_recorded H head cap body d is =
-    let asked = inside (well_formed IN_BODY (enrol_of body)) _ d is in
+    let asked = inside (well_formed IN_BODY (enrolment_of body)) _ d is in
     let signed = inside (right_tag asked.0.tag (hmac_of head.operator (codes "enro" ++ signed_part body))) _ d asked.2 in
-    enrol_recorded H cap asked.0 (role_so body asked.0 (formed IN_BODY (enrol_of body) asked.0 asked.1)) (place_in H (enrol_entry asked.0)) d signed.2
+    enrol_recorded H cap asked.0 (role_so body asked.0 (formed IN_BODY (enrolment_of body) asked.0 asked.1)) (place_in H (enrol_entry asked.0)) d signed.2
 
 -- ---- funds
 
-amount_so : (body : List ℕ) (asked : Funding) → fund_of body ≡ Ok asked → (1 ≤ asked.amount) × (asked.amount ≤ MAX_TOTAL)
-unfolding fund_of
+pub amount_so : (body : List ℕ) (asked : Funding) → funding_of body ≡ Ok asked → (1 ≤ asked.amount) × (asked.amount ≤ MAX_TOTAL)
+unfolding funding_of
 amount_so body asked is =
     let acct = inside (or_place (u32_at body 0)) _ asked is in
     let amount = inside (or_place (u64_at body 4)) _ asked acct.2 in
@@ -162,7 +162,7 @@ amount_so body asked is =
     both : (mine amount : ℕ) → mine ≡ amount → (nat_le 1 amount && nat_le amount MAX_TOTAL) ≡ true → (1 ≤ mine) × (mine ≤ MAX_TOTAL)
     both mine amount same known = grind (arith, leb-true)
 
-new_so : (H : List Entry) (reference : List ℕ) (u : Unit {0}) → reference_new H reference ≡ Ok u → IsNone (funded_in H reference)
+pub new_so : (H : List Entry) (reference : List ℕ) (u : Unit {0}) → reference_new H reference ≡ Ok u → IsNone (funded_in H reference)
 unfolding reference_new
 new_so H reference u is = part (funded_in H reference) is
   where
@@ -170,7 +170,7 @@ new_so H reference u is = part (funded_in H reference) is
     part None is = refl
     part (Some kept) is = absurd cc
 
-account_so : (H : List Entry) (acct : AcctId) (u : Unit {0}) → account_held H acct ≡ Ok u → IsSome (holder_in H acct)
+pub account_so : (H : List Entry) (acct : AcctId) (u : Unit {0}) → account_held H acct ≡ Ok u → IsSome (holder_in H acct)
 unfolding account_held
 account_so H acct u is = part (holder_in H acct) (held_so (is_some (holder_in H acct)) _ u is)
   where
@@ -178,7 +178,7 @@ account_so H acct u is = part (holder_in H acct) (held_so (is_some (holder_in H 
     part None is = absurd cc
     part (Some who) is = refl
 
-total_so : (H : List Entry) (amount : ℕ) (u : Unit {0}) → total_within H amount ≡ Ok u → total H + amount ≤ MAX_TOTAL
+pub total_so : (H : List Entry) (amount : ℕ) (u : Unit {0}) → total_within H amount ≡ Ok u → total H + amount ≤ MAX_TOTAL
 unfolding total_within
 total_so H amount u is = leb-true (total H + amount) MAX_TOTAL (held_so (nat_le (total H + amount) MAX_TOTAL) _ u is)
 
@@ -195,14 +195,14 @@ fund_recorded H cap asked amount None d is =
 fund_steps_recorded : (H : List Entry) (head : Head) (cap : ℕ) (body : List ℕ) → RecordedIn H cap (fund_steps H head cap body)
 unfolding fund_steps
 fund_steps_recorded H head cap body d is =
-    let asked = inside (well_formed IN_BODY (fund_of body)) _ d is in
+    let asked = inside (well_formed IN_BODY (funding_of body)) _ d is in
     let signed = inside (right_tag asked.0.tag (hmac_of head.operator (codes "fund" ++ signed_part body))) _ d asked.2 in
-    fund_recorded H cap asked.0 (amount_so body asked.0 (formed IN_BODY (fund_of body) asked.0 asked.1)) (place_in H (fund_entry asked.0)) d signed.2
+    fund_recorded H cap asked.0 (amount_so body asked.0 (formed IN_BODY (funding_of body) asked.0 asked.1)) (place_in H (fund_entry asked.0)) d signed.2
 
 -- ---- orders
 
 -- a party that was looked for in a role was found in it
-role_found : (H : List Entry) (role : ℕ) (id : PartyId) (party : Party) → enrolled_as H role id ≡ Ok party → (party_in H id ≡ Some party) × (party.role ≡ role)
+pub role_found : (H : List Entry) (role : ℕ) (id : PartyId) (party : Party) → enrolled_as H role id ≡ Ok party → (party_in H id ≡ Some party) × (party.role ≡ role)
 unfolding enrolled_as enrolled
 role_found H role id party is = part (party_in H id) is
   where
@@ -216,16 +216,16 @@ role_found H role id party is = part (party_in H id) is
         let mine : q ≡ party = same q has.2 in
         (ap (λ (x : Party). let o : Option Party = Some x in o) mine, sym (ap (λ (x : Party). x.role) mine) ∙ eqb-true q.role role (held_so (q.role == role) _ has.0 has.1))
 
-names_so : (endorser named : PartyId) (u : Unit {0}) → names_endorser endorser named ≡ Ok u → named ≡ endorser
+pub names_so : (endorser named : PartyId) (u : Unit {0}) → names_endorser endorser named ≡ Ok u → named ≡ endorser
 names_so endorser named u is = ap (λ (n : ℕ). let id : PartyId = record { 0 = n } in id) (eqb-true named.0 endorser.0 (held_so (named.0 == endorser.0) _ u is))
 
-merchant_so : (endorser : PartyId) (order : Order) (u : Unit {0}) → same_merchant endorser order ≡ Ok u → (order.merchant ≡ endorser) × (order.epoid.merchant ≡ endorser)
+pub merchant_so : (endorser : PartyId) (order : Order) (u : Unit {0}) → same_merchant endorser order ≡ Ok u → (order.merchant ≡ endorser) × (order.epoid.merchant ≡ endorser)
 unfolding same_merchant
 merchant_so endorser order u is =
     let first = inside (names_endorser endorser order.merchant) _ u is in
     (names_so endorser order.merchant first.0 first.1, names_so endorser order.epoid.merchant u first.2)
 
-none_so : (H : List Entry) (p : Epoid) → settlement_in H p ≡ None → IsNone (order_in H p)
+pub none_so : (H : List Entry) (p : Epoid) → settlement_in H p ≡ None → IsNone (order_in H p)
 none_so H p none = rw (none_settled H p none) refl
 
 order_recorded : (H : List Entry) (head : Head) (cap : ℕ) (p : Presented) (moment : ℕ) → IsPresented H p → (o : Option Settlement) → settlement_in H p.order.epoid ≡ o

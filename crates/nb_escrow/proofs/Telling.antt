@@ -35,14 +35,14 @@ use Rattle.nb_escrow.specs.declared.settlement.PaymentOutcome.TheVariants as out
 use Rattle.nb_escrow.specs.declared.enrolment.Enrolment.{Enrolment}
 use Rattle.nb_escrow.specs.declared.funding.Funding.{Funding}
 use Rattle.nb_escrow.specs.Checks.{well_formed, signed_part, unless, if_found, enrolled, enrolled_as, right_tag, room_left}
-use Rattle.nb_escrow.specs.Requests.{endorsed_of, query_of, enrol_of, fund_of}
+use Rattle.nb_escrow.specs.Requests.{endorsed_of, query_of, enrolment_of, funding_of}
 use Rattle.nb_seal.specs.Hmac.{hmac_of}
 use Rattle.nb_escrow.specs.Held.{same_entry, place_at, place_in, done}
 use Rattle.nb_escrow.specs.Enrolments.{enrol_entry, numbers_free, again_or_enrol, enrol_steps}
 use Rattle.nb_escrow.specs.Fundings.{fund_entry, reference_new, account_held, total_within, again_or_fund, fund_steps}
-use Rattle.nb_escrow.specs.Settlements.{settlement_at, settlement_of, settlement_in, entry_with, entry_of}
+use Rattle.nb_escrow.specs.Settlements.{settlement_at, settlement_of, settlement_in, entry_with, settlement_entry}
 use Rattle.nb_escrow.specs.Orders.{endorsement_in, hidden_in, same_merchant, same_digest, settled, result, again_or_settle, order_steps}
-use Rattle.nb_escrow.specs.Statuses.{enough_entries, status, status_steps}
+use Rattle.nb_escrow.specs.Statuses.{enough_entries, status_told, status_steps}
 use Rattle.nb_escrow.specs.Laws.{given_again, ToldAgain, ResultStays}
 use Rattle.nb_endorse.specs.declared.reply.Reply.TheVariants.{Result as Receipts, Refused as Refusal_told}
 use Rattle.nb_escrow.specs.Verdict.{steps, told, verdict}
@@ -167,13 +167,13 @@ fund_again H more cap asked e reply keys is = part (place_in H (fund_entry asked
 enrol_steps_again : (H more : List Entry) (head : Head) (cap : ℕ) (body : List ℕ) → Again (λ e. H ++ e ∷ more) (enrol_steps H head cap body) (λ e. enrol_steps (H ++ e ∷ more) head cap body)
 unfolding enrol_steps
 enrol_steps_again H more head cap body =
-    before (λ e. H ++ e ∷ more) (well_formed IN_BODY (enrol_of body)) _ _
+    before (λ e. H ++ e ∷ more) (well_formed IN_BODY (enrolment_of body)) _ _
     (λ asked. before (λ e. H ++ e ∷ more) (right_tag asked.tag (hmac_of head.operator (codes "enro" ++ signed_part body))) _ _ (λ u. enrol_again H more cap asked))
 
 fund_steps_again : (H more : List Entry) (head : Head) (cap : ℕ) (body : List ℕ) → Again (λ e. H ++ e ∷ more) (fund_steps H head cap body) (λ e. fund_steps (H ++ e ∷ more) head cap body)
 unfolding fund_steps
 fund_steps_again H more head cap body =
-    before (λ e. H ++ e ∷ more) (well_formed IN_BODY (fund_of body)) _ _
+    before (λ e. H ++ e ∷ more) (well_formed IN_BODY (funding_of body)) _ _
     (λ asked. before (λ e. H ++ e ∷ more) (right_tag asked.tag (hmac_of head.operator (codes "fund" ++ signed_part body))) _ _ (λ u. fund_again H more cap asked))
 
 -- ---- orders
@@ -209,13 +209,13 @@ none_settled H p none = part (order_in H p) refl none
     part (Some kept) found none = absurd (settlement_some p kept.at kept.entry (settles_found p 0 H kept found) none)
 
 -- a settlement that was recorded is found
-settled_next : (H more : List Entry) (s : Settlement) → s.at ≡ length H → settlement_in H s.epoid ≡ None → settlement_in (H ++ entry_of s ∷ more) s.epoid ≡ Some s
+settled_next : (H more : List Entry) (s : Settlement) → s.at ≡ length H → settlement_in H s.epoid ≡ None → settlement_in (H ++ settlement_entry s ∷ more) s.epoid ≡ Some s
 unfolding settlement_in
 settled_next H more s at none =
-    let kept : Kept = record { at = s.at; entry = entry_of s } in
-    let next : (n : ℕ) → n ≡ 0 + length H → order_at s.epoid n (entry_of s) ≡ Some kept =
-    λ n is. rw (settles_entry s s.outcome) (ap (λ (k : ℕ). let o : Option Kept = Some (record { at = k; entry = entry_of s }) in o) (omega (arith, is, at))) in
-    rw (found_next (order_at s.epoid) (entry_of s) more kept 0 H (none_settled H s.epoid none) next) (settlement_back s s.outcome)
+    let kept : Kept = record { at = s.at; entry = settlement_entry s } in
+    let next : (n : ℕ) → n ≡ 0 + length H → order_at s.epoid n (settlement_entry s) ≡ Some kept =
+    λ n is. rw (settles_entry s s.outcome) (ap (λ (k : ℕ). let o : Option Kept = Some (record { at = k; entry = settlement_entry s }) in o) (omega (arith, is, at))) in
+    rw (found_next (order_at s.epoid) (settlement_entry s) more kept 0 H (none_settled H s.epoid none) next) (settlement_back s s.outcome)
 
 same_digests : (digest : List ℕ) → same_digest digest digest ≡ Ok tt
 unfolding same_digest
@@ -230,8 +230,8 @@ order_again H more head cap p moment later e reply keys is = part (settlement_in
     part (Some kept) held is = absurd (none_recorded (result head p kept None) e reply keys refl (passed (same_digest kept.digest p.digest) _ _ is))
     part None none is =
         let s : Settlement = settled H p moment in
-        let same = same_decision (result head p s (Some (entry_of s))) (decided reply keys (Some e)) (passed (room_left H cap) _ _ is) in
-        let entry_is : entry_of s ≡ e = same_Some (entry_of s) e (ap (λ (d : Decision). d.entry) same) in
+        let same = same_decision (result head p s (Some (settlement_entry s))) (decided reply keys (Some e)) (passed (room_left H cap) _ _ is) in
+        let entry_is : settlement_entry s ≡ e = same_Some (settlement_entry s) e (ap (λ (d : Decision). d.entry) same) in
         rw (sym entry_is, sym (ap (λ (d : Decision). d.reply) same), sym (ap (λ (d : Decision). d.keys) same), settled_next H more s refl none) (rw (same_digests p.digest) refl)
 
 order_steps_again : (H more : List Entry) (head : Head) (cap : ℕ) (body : List ℕ) (moment later : ℕ)
@@ -262,7 +262,7 @@ status_records_none H head body =
     each_behind (well_formed IN_BODY (query_of body)) _ (λ asked.
     each_behind (enrolled H asked.asker) _ (λ asker.
     each_behind (right_tag asked.tag (hmac_of asker.key (codes "stat" ++ signed_part body))) _ (λ u.
-    each_behind (enough_entries H asked.least) _ (λ v d is. ap (λ (x : Decision). x.entry) (sym (same_decision (status H head asker asked) d is))))))
+    each_behind (enough_entries H asked.least) _ (λ v d is. ap (λ (x : Decision). x.entry) (sym (same_decision (status_told H head asker asked) d is))))))
 
 status_steps_again : (H more : List Entry) (head : Head) (body : List ℕ) → Again (λ e. H ++ e ∷ more) (status_steps H head body) (λ e. status_steps (H ++ e ∷ more) head body)
 status_steps_again H more head body e reply keys is = absurd (none-some e (sym (status_records_none H head body (decided reply keys (Some e)) is)))
@@ -320,8 +320,8 @@ order_stays H more head cap p moment later d none is = part (settlement_in H p.o
     part (Some kept) held is = rw (settlement_stays H more p.order.epoid kept held) is
     part None new is =
         let s : Settlement = settled H p moment in
-        let same = same_decision (result head p s (Some (entry_of s))) d (passed (room_left H cap) _ _ is) in
-        absurd (none-some (entry_of s) (sym (ap (λ (x : Decision). x.entry) same ∙ none)))
+        let same = same_decision (result head p s (Some (settlement_entry s))) d (passed (room_left H cap) _ _ is) in
+        absurd (none-some (settlement_entry s) (sym (ap (λ (x : Decision). x.entry) same ∙ none)))
 
 order_steps_stay : (H more : List Entry) (head : Head) (cap : ℕ) (body : List ℕ) (moment later : ℕ) → Stays (order_steps H head cap body moment) (order_steps (H ++ more) head cap body later)
 unfolding order_steps

@@ -20,7 +20,7 @@ use Rattle.nb_escrow.specs.Checks.{well_formed, unsealed}
 use Rattle.nb_escrow.specs.Orders.{endorsement_in, hidden_in, unread_endorsement, unread_hidden}
 
 -- the two tests, one behind the other
-abbrev tested : {A : Type 0} → (List ℕ → Result A ℕ) → ℕ → List ℕ → List ℕ → List ℕ → Result A Refusal
+abbrev pub tested : {A : Type 0} → (List ℕ → Result A ℕ) → ℕ → List ℕ → List ℕ → List ℕ → Result A Refusal
 tested reading part key label bytes = unsealed key label bytes >>= (λ plain. well_formed part (reading plain))
 
 -- where the bytes are the seal of a text

@@ -15,7 +15,7 @@ use Rattle.nb_escrow.specs.declared.decision.Decision.{Decision}
 use Rattle.nb_endorse.specs.declared.refusal.Refusal.{Refusal}
 use Rattle.nb_endorse.specs.declared.refusal.TheConstants.{IN_BODY, PARTY_HELD}
 use Rattle.nb_escrow.specs.declared.enrolment.Enrolment.{Enrolment}
-use Rattle.nb_escrow.specs.Requests.{enrol_of}
+use Rattle.nb_escrow.specs.Requests.{enrolment_of}
 use Rattle.nb_escrow.specs.Checks.{signed_part, well_formed, right_tag, room_left, unless}
 use Rattle.nb_endorse.specs.Refusals.{refusal}
 use Rattle.nb_escrow.specs.Held.{place_in, done}
@@ -52,6 +52,6 @@ again_or_enrol H cap asked None = do
 -- not held, 16 and 20
 unfoldable pub enrol_steps : List Entry → Head → ℕ → List ℕ → Result Decision Refusal
 enrol_steps H head cap body = do
-  asked ← well_formed IN_BODY (enrol_of body)
+  asked ← well_formed IN_BODY (enrolment_of body)
   signed ← right_tag asked.tag (hmac_of head.operator (codes "enro" ++ signed_part body))
   again_or_enrol H cap asked (place_in H (enrol_entry asked))

@@ -14,7 +14,7 @@ use Rattle.nb_escrow.specs.declared.decision.Decision.{Decision}
 use Rattle.nb_endorse.specs.declared.refusal.Refusal.{Refusal}
 use Rattle.nb_endorse.specs.declared.refusal.TheConstants.{IN_BODY, REFERENCE_HELD, ACCOUNT_NOT_HELD, TOTAL_TOO_HIGH}
 use Rattle.nb_escrow.specs.declared.funding.Funding.{Funding}
-use Rattle.nb_escrow.specs.Requests.{fund_of}
+use Rattle.nb_escrow.specs.Requests.{funding_of}
 use Rattle.nb_escrow.specs.Checks.{signed_part, well_formed, right_tag, room_left, unless}
 use Rattle.nb_endorse.specs.Refusals.{refusal}
 use Rattle.nb_escrow.specs.Held.{place_in, done}
@@ -58,6 +58,6 @@ again_or_fund H cap asked None = do
 -- held, 17, 18, 19 and 20
 unfoldable pub fund_steps : List Entry → Head → ℕ → List ℕ → Result Decision Refusal
 fund_steps H head cap body = do
-  asked ← well_formed IN_BODY (fund_of body)
+  asked ← well_formed IN_BODY (funding_of body)
   signed ← right_tag asked.tag (hmac_of head.operator (codes "fund" ++ signed_part body))
   again_or_fund H cap asked (place_in H (fund_entry asked))

@@ -3,23 +3,33 @@ use Rattle.std.specs.Prelude.{◌≡◌, ◌↔◌, ◌⊎◌, ℕ, ◌<◌, ◌
 use Rattle.std.specs.List.{Any}
 use Rattle.std.specs.Option.{option_to_list}
 use Rattle.nb_units.specs.declared.epoid.Epoid.{Epoid}
-use Rattle.nb_units.specs.declared.frames.TheConstants.{ORDER_REQUEST, STATUS_REQUEST}
+use Rattle.nb_units.specs.declared.frames.TheConstants.{ORDER_REQUEST, STATUS_REQUEST, ENROL_REQUEST, FUND_REQUEST}
 use Rattle.nb_units.specs.declared.ids.PartyId.{PartyId}
 use Rattle.nb_seal.specs.Hmac.{hmac_of}
 use Rattle.nb_book.specs.declared.entry.Entry.{Entry}
-use Rattle.nb_book.specs.declared.entry.Entry.TheVariants.{Paid}
+use Rattle.nb_book.specs.declared.entry.Entry.TheVariants.{Enrol, Fund, Paid, Refused}
+use Rattle.nb_book.specs.declared.kept.Kept.{Kept}
 use Rattle.nb_book.specs.declared.party.Party.{Party}
 use Rattle.nb_book.specs.Legal.{LegalAfter, Legal}
 use Rattle.nb_book.specs.Money.{balance}
-use Rattle.nb_book.specs.Searches.{party_in}
+use Rattle.nb_book.specs.Searches.{party_in, order_in}
 use Rattle.nb_endorse.specs.declared.receipt.Receipt.{Receipt}
 use Rattle.nb_endorse.specs.declared.reply.Reply.{Reply}
-use Rattle.nb_endorse.specs.declared.reply.Reply.TheVariants.{Result as Receipts, Done, Status}
+use Rattle.nb_endorse.specs.declared.refusal.Refusal.{Refusal}
+use Rattle.nb_endorse.specs.declared.reply.Reply.TheVariants.{Result as Receipts, Done, Status, Refused as Told}
 use Rattle.nb_endorse.specs.declared.reply.ReplyKeys.{ReplyKeys}
+use Rattle.nb_escrow.specs.declared.enrolment.Enrolment.{Enrolment}
+use Rattle.nb_escrow.specs.declared.funding.Funding.{Funding}
 use Rattle.nb_escrow.specs.declared.head.Head.{Head}
+use Rattle.nb_escrow.specs.declared.order.Presented.{Presented}
+use Rattle.nb_escrow.specs.declared.settlement.RefusalReason.{RefusalReason}
 use Rattle.nb_escrow.specs.declared.status.StatusQuery.{StatusQuery}
-use Rattle.nb_escrow.specs.Requests.{query_of}
+use Rattle.nb_escrow.specs.Requests.{query_of, enrolment_of, funding_of}
 use Rattle.nb_escrow.specs.Checks.{signed_part}
+use Rattle.nb_escrow.specs.Enrolments.{enrol_entry}
+use Rattle.nb_escrow.specs.Fundings.{fund_entry}
+use Rattle.nb_escrow.specs.Payable.{IsAuthenticOrder, MaySettle, IsPayable, payment_of, IsTrueReason, refusal_of, TellsReason, digest_held}
+use Rattle.nb_escrow.specs.Claims.{IsTrueRefusal}
 use Rattle.nb_escrow.specs.Verdict.{verdict}
 
 -- What a verdict records is legal after the entries that it was taken over, and there is room for it.
@@ -74,3 +84,87 @@ KeyWherePaid H body reply = (asked : StatusQuery) (key : List ℕ) → IsAuthent
 abbrev pub StatusTellsKey : Type 0
 StatusTellsKey = (H : List Entry) → Legal H → (head : Head) (cap : ℕ) (body : List ℕ) (moment : ℕ)
     → KeyWherePaid H body (verdict H head cap STATUS_REQUEST body moment).reply
+
+-- ---- exactly where
+
+-- an entry of each kind
+abbrev pub IsEnrolment : Entry → Type 0
+IsEnrolment (Enrol id role acct nonce key) = Unit {0}
+IsEnrolment other = ⊥
+
+abbrev pub IsFund : Entry → Type 0
+IsFund (Fund acct amount reference) = Unit {0}
+IsFund other = ⊥
+
+abbrev pub IsPayment : Entry → Type 0
+IsPayment (Paid digest epoid consumer merchant product price cacct macct moment key) = Unit {0}
+IsPayment other = ⊥
+
+abbrev pub IsRefusedOrder : Entry → Type 0
+IsRefusedOrder (Refused digest epoid consumer merchant product price code a b moment) = Unit {0}
+IsRefusedOrder other = ⊥
+
+-- the reply is the receipts of an order, the reply is a status
+abbrev pub AreReceipts : Reply → Type 0
+AreReceipts (Receipts merchant consumer) = Unit {0}
+AreReceipts other = ⊥
+
+abbrev pub IsStatus : Reply → Type 0
+IsStatus (Status place epoid receipt) = Unit {0}
+IsStatus other = ⊥
+
+-- an entry that is recorded for a request, if any, is a payment exactly where the request is an endorsed order that is payable, and it is
+-- the payment of that order
+abbrev pub PaidWherePayable : List Entry → ℕ → ℕ → List ℕ → ℕ → Option Entry → Type 0
+PaidWherePayable H cap kind body moment recorded = (entry : Entry)
+    → ((recorded ≡ Some entry) × IsPayment entry)
+    ↔ ((kind ≡ ORDER_REQUEST) × ((p : Presented) × IsPayable H cap body moment p × (entry ≡ payment_of p moment)))
+
+-- What a verdict records is so.
+abbrev pub PaidExactlyWhere : Type 0
+PaidExactlyWhere = (H : List Entry) (head : Head) (cap kind : ℕ) (body : List ℕ) (moment : ℕ)
+    → PaidWherePayable H cap kind body moment (verdict H head cap kind body moment).entry
+
+-- An order is recorded, as paid or as refused, exactly where it may be settled.
+abbrev pub SettledExactlyWhere : Type 0
+SettledExactlyWhere = (H : List Entry) (head : Head) (cap kind : ℕ) (body : List ℕ) (moment : ℕ)
+    → ((entry : Entry) × ((verdict H head cap kind body moment).entry ≡ Some entry) × (IsPayment entry ⊎ IsRefusedOrder entry))
+    ↔ ((kind ≡ ORDER_REQUEST) × ((p : Presented) × MaySettle H cap body p))
+
+-- The reason of an order that is recorded as refused is true of the entries and of the order, and is what its receipts tell.
+abbrev pub RefusedForTrueReason : Type 0
+RefusedForTrueReason = (H : List Entry) (head : Head) (cap kind : ℕ) (body : List ℕ) (moment : ℕ) (entry : Entry)
+    → (verdict H head cap kind body moment).entry ≡ Some entry → IsRefusedOrder entry
+    → (p : Presented) × (why : RefusalReason) × MaySettle H cap body p × IsTrueReason H p moment why × (entry ≡ refusal_of p moment why)
+    × TellsReason why (verdict H head cap kind body moment).reply
+
+-- An order is told its result and nothing is recorded exactly where it is authentic, and an entry that has its digest settles its identifier.
+abbrev pub ToldExactlyWhere : Type 0
+ToldExactlyWhere = (H : List Entry) (head : Head) (cap kind : ℕ) (body : List ℕ) (moment : ℕ)
+    → (AreReceipts (verdict H head cap kind body moment).reply × ((verdict H head cap kind body moment).entry ≡ None))
+    ↔ ((kind ≡ ORDER_REQUEST) × ((p : Presented) × (kept : Kept) × IsAuthenticOrder H body p × (order_in H p.order.epoid ≡ Some kept) × (digest_held kept.entry ≡ Some p.digest)))
+
+-- Over a Legal list an enrolment is recorded exactly where it is asked for under the operator's tag, may come next, and there is room.
+abbrev pub EnrolledExactlyWhere : Type 0
+EnrolledExactlyWhere = (H : List Entry) → Legal H → (head : Head) (cap kind : ℕ) (body : List ℕ) (moment : ℕ) (entry : Entry)
+    → (((verdict H head cap kind body moment).entry ≡ Some entry) × IsEnrolment entry)
+    ↔ ((kind ≡ ENROL_REQUEST) × ((asked : Enrolment) × (enrolment_of body ≡ Ok asked) × (asked.tag ≡ hmac_of head.operator (codes "enro" ++ signed_part body))
+    × (entry ≡ enrol_entry asked) × LegalAfter H entry × (length H < cap)))
+
+-- The same of a fund.
+abbrev pub FundedExactlyWhere : Type 0
+FundedExactlyWhere = (H : List Entry) → Legal H → (head : Head) (cap kind : ℕ) (body : List ℕ) (moment : ℕ) (entry : Entry)
+    → (((verdict H head cap kind body moment).entry ≡ Some entry) × IsFund entry)
+    ↔ ((kind ≡ FUND_REQUEST) × ((asked : Funding) × (funding_of body ≡ Ok asked) × (asked.tag ≡ hmac_of head.operator (codes "fund" ++ signed_part body))
+    × (entry ≡ fund_entry asked) × LegalAfter H entry × (length H < cap)))
+
+-- A status is told exactly where the query is authentic and at least as many entries are held as it asks for.
+abbrev pub AnsweredExactlyWhere : Type 0
+AnsweredExactlyWhere = (H : List Entry) (head : Head) (cap kind : ℕ) (body : List ℕ) (moment : ℕ)
+    → IsStatus (verdict H head cap kind body moment).reply
+    ↔ ((kind ≡ STATUS_REQUEST) × ((asked : StatusQuery) × IsAuthentic H body asked × (asked.least ≤ length H)))
+
+-- Over a Legal list each refusal is true: what its code claims holds of the entries and of the request, and so do its numbers.
+abbrev pub RefusalsAreTrue : Type 0
+RefusalsAreTrue = (H : List Entry) → Legal H → (head : Head) (cap kind : ℕ) (body : List ℕ) (moment : ℕ) (why : Refusal)
+    → (verdict H head cap kind body moment).reply ≡ Told why → IsTrueRefusal H head cap kind body why

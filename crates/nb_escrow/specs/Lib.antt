@@ -9,4 +9,6 @@ pub mod Payments
 pub mod Orders
 pub mod Statuses
 pub mod Verdict
+pub mod Payable
+pub mod Claims
 pub mod Laws

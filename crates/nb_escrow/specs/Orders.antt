@@ -27,7 +27,7 @@ use Rattle.nb_escrow.specs.declared.order.Presented.{Presented}
 use Rattle.nb_escrow.specs.declared.settlement.Settlement.{Settlement}
 use Rattle.nb_escrow.specs.Requests.{endorsed_of}
 use Rattle.nb_escrow.specs.Checks.{unless, well_formed, enrolled_as, unsealed, right_tag, room_left}
-use Rattle.nb_escrow.specs.Settlements.{settlement_in, entry_of, receipt_in_role}
+use Rattle.nb_escrow.specs.Settlements.{settlement_in, settlement_entry, receipt_in_role}
 use Rattle.nb_escrow.specs.Payments.{payment_steps, outcome_of}
 
 -- the endorsement is a seal under the merchant's key, and what it seals is in its grammar
@@ -103,7 +103,7 @@ again_or_settle H head cap p moment (Some kept) = do
   Ok (result head p kept None)
 again_or_settle H head cap p moment None = do
   room ← room_left H cap
-  Ok (result head p (settled H p moment) (Some (entry_of (settled H p moment))))
+  Ok (result head p (settled H p moment) (Some (settlement_entry (settled H p moment))))
 
 -- the tests of an endorsed order, and what its parties are told and what is recorded. The refusals of its lines, in order: 10;
 -- 11; 12, 10; 10; 11; 13; 14; 12, 10; and then 15 where it was settled before, 20 where it was not

@@ -29,8 +29,8 @@ query_of body = do
   Ok (record { asker = record { 0 = asker }; epoid = epoid_of epoid; least = least; tag = tag })
 
 -- the operator enrols a party: id 4 | role 1, 1 or 2 | account 4 | nonce 8 | key 32 | tag 32
-unfoldable pub enrol_of : List ℕ → Result Enrolment ℕ
-enrol_of body = do
+unfoldable pub enrolment_of : List ℕ → Result Enrolment ℕ
+enrolment_of body = do
   id ← or_place (u32_at body 0)
   role ← or_place (u8_at body 4)
   known ← allowed (role == CONSUMER || role == MERCHANT) 4
@@ -42,8 +42,8 @@ enrol_of body = do
   Ok (record { id = record { 0 = id }; role = role; acct = record { 0 = acct }; nonce = nonce; key = key; tag = tag })
 
 -- the operator puts money into an account: account 4 | amount 8, from 1 to 10^18 | reference 16 | tag 32
-unfoldable pub fund_of : List ℕ → Result Funding ℕ
-fund_of body = do
+unfoldable pub funding_of : List ℕ → Result Funding ℕ
+funding_of body = do
   acct ← or_place (u32_at body 0)
   amount ← or_place (u64_at body 4)
   known ← allowed (nat_le 1 amount && nat_le amount MAX_TOTAL) 4

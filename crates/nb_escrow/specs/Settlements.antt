@@ -1,5 +1,5 @@
 -- How an order was settled, and what its two parties are told of it.
-use Rattle.std.specs.Prelude.{ℕ, ◌≤◌, ◌==◌, ◌||◌, Bool, true, List, Option, Some, None, if◌then◌else◌}
+use Rattle.std.specs.Prelude.{ℕ, ◌==◌, ◌||◌, Bool, true, List, Option, Some, None, if◌then◌else◌}
 use Rattle.std.specs.Option.{option_and_then}
 use Rattle.nb_units.specs.declared.epoid.Epoid.{Epoid}
 use Rattle.nb_units.specs.declared.ids.PartyId.{PartyId}
@@ -58,8 +58,8 @@ entry_with s (Paid cacct macct key) = entries.Paid s.digest s.epoid s.consumer s
 entry_with s (Refused reason) = entries.Refused s.digest s.epoid s.consumer s.merchant s.product s.price reason.code reason.a reason.b s.moment
 
 -- the entry that records a settlement
-abbrev pub entry_of : Settlement → Entry
-entry_of s = entry_with s s.outcome
+abbrev pub settlement_entry : Settlement → Entry
+settlement_entry s = entry_with s s.outcome
 
 -- the code of a receipt: paid, or the reason's
 abbrev pub code_of : PaymentOutcome → ℕ

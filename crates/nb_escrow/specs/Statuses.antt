@@ -21,8 +21,8 @@ unfoldable pub enough_entries : List Entry → ℕ → Result (Unit {0}) Refusal
 enough_entries H least = unless (nat_le least (length H)) (refusal TOO_FEW_ENTRIES (length H) least)
 
 -- who asks is told how many entries there are, and given its receipt where the order was settled and names it
-abbrev pub status : List Entry → Head → Party → StatusQuery → Decision
-status H head asker asked = record {
+abbrev pub status_told : List Entry → Head → Party → StatusQuery → Decision
+status_told H head asker asked = record {
   reply = Status (length H) asked.epoid (receipt_of_party asked.asker (settlement_in H asked.epoid));
   keys = record { house = head.house; first = asker.key; second = NO_KEY };
   entry = None;
@@ -35,4 +35,4 @@ status_steps H head body = do
   asker ← enrolled H asked.asker
   signed ← right_tag asked.tag (hmac_of asker.key (codes "stat" ++ signed_part body))
   known ← enough_entries H asked.least
-  Ok (status H head asker asked)
+  Ok (status_told H head asker asked)

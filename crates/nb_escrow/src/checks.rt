@@ -1,35 +1,25 @@
 // The tests that requests of several kinds share.
 
-ghost use Rattle.std.specs.Prelude.{◌≡◌, ◌≤◌, ◌<◌, ◌==◌, length, IfOk, OnOk, IsTrue, Some};
-ghost use Rattle.nb_units.specs.Fields.{allowed};
-ghost use Rattle.nb_units.specs.Reads.{Reads};
+ghost use Rattle.std.specs.Prelude.{◌≡◌, ◌≤◌, ◌<◌, ◌==◌, length, IfOk, OnOk, Some};
 ghost use Rattle.nb_endorse.specs.declared.refusal.TheConstants.{NOT_ENROLLED};
 ghost use Rattle.nb_endorse.specs.Refusals.{refusal};
 ghost use Rattle.nb_book.specs.Legal.{Legal};
 ghost use Rattle.nb_book.specs.Money.{balance, total};
 ghost use Rattle.nb_book.specs.Searches.{party_in};
-ghost use Rattle.nb_escrow.specs.Checks.{unless, enrolled, enrolled_as, signed_part, right_tag, room_left};
+ghost use Rattle.nb_escrow.specs.Checks as tests;
 
 use nb_book::{Book, Party};
 use nb_endorse::Refusal;
 use nb_endorse::refusal::{JOURNAL_FULL, NOT_ENROLLED, WRONG_TAG};
 use nb_seal::same;
-use nb_units::{AcctId, Malformed, PartyId, Tag};
+use nb_units::{AcctId, PartyId, Tag};
 
 // The bytes of a tag, which ends a body.
 const TAG: usize = 32;
 
-// Whether the value of the field at this place is allowed.
-pub(crate) fn allow(is: bool, place: usize) -> Result<(), Malformed>
-    ensures reads { Reads result (allowed is place) }
-    ensures holds { OnOk result (IsTrue is) }
-{
-    if is { Ok(()) } else { Err(Malformed { place }) }
-}
-
 // What the tag of a body is over, behind its label.
 pub(crate) fn signed(body: &[u8]) -> &[u8]
-    ensures { result.now ≡ signed_part body.now }
+    ensures { result.now ≡ tests.signed_part body.now }
 {
     body.split_at(body.len().saturating_sub(TAG)).0
 }
@@ -37,7 +27,7 @@ pub(crate) fn signed(body: &[u8]) -> &[u8]
 // The party of this number, in either role.
 #[tactic(auto, unfolding(crate::specs::Checks::enrolled))]
 pub(crate) fn find_party(book: &Book, id: PartyId) -> Result<Party, Refusal>
-    ensures test { result ≡ enrolled book.now.entries id }
+    ensures test { result ≡ tests.enrolled book.now.entries id }
     ensures found { IfOk result (λ party. party_in book.now.entries id ≡ Some party) }
     ensures list { Legal book.now.entries }
 {
@@ -50,7 +40,7 @@ pub(crate) fn find_party(book: &Book, id: PartyId) -> Result<Party, Refusal>
 // The party of this number, in this role.
 #[tactic(auto, unfolding(crate::specs::Checks::enrolled_as))]
 pub(crate) fn find_party_as(book: &Book, role: u8, id: PartyId) -> Result<Party, Refusal>
-    ensures test { result ≡ enrolled_as book.now.entries role id }
+    ensures test { result ≡ tests.enrolled_as book.now.entries role id }
     ensures found { IfOk result (λ party. party_in book.now.entries id ≡ Some party) }
     ensures role { IfOk result (λ party. party.role ≡ role) }
 {
@@ -60,7 +50,7 @@ pub(crate) fn find_party_as(book: &Book, role: u8, id: PartyId) -> Result<Party,
 }
 
 fn check_role(party: &Party, role: u8, id: PartyId) -> Result<(), Refusal>
-    ensures test { result ≡ unless (party.now.role == role) (refusal NOT_ENROLLED id.0 0) }
+    ensures test { result ≡ tests.unless (party.now.role == role) (refusal NOT_ENROLLED id.0 0) }
     ensures role { OnOk result (party.now.role ≡ role) }
 {
     if party.role == role {
@@ -72,7 +62,7 @@ fn check_role(party: &Party, role: u8, id: PartyId) -> Result<(), Refusal>
 
 #[tactic(auto, unfolding(crate::specs::Checks::right_tag))]
 pub(crate) fn check_tag(given: &Tag, wanted: &Tag) -> Result<(), Refusal>
-    ensures { result ≡ right_tag given.now wanted.now }
+    ensures { result ≡ tests.right_tag given.now wanted.now }
 {
     if same(given, wanted) {
         Ok(())
@@ -83,7 +73,7 @@ pub(crate) fn check_tag(given: &Tag, wanted: &Tag) -> Result<(), Refusal>
 
 #[tactic(auto, unfolding(crate::specs::Checks::room_left))]
 pub(crate) fn check_room(book: &Book) -> Result<(), Refusal>
-    ensures test { result ≡ room_left book.now.entries book.now.cap }
+    ensures test { result ≡ tests.room_left book.now.entries book.now.cap }
     ensures room { OnOk result (length book.now.entries < book.now.cap) }
 {
     if book.len() < book.cap() {

@@ -3,7 +3,7 @@ ghost use Rattle.nb_units.specs.declared.frames.TheConstants.{STATUS_REQUEST};
 ghost use Rattle.nb_book.specs.Legal.{Legal, LegalAfter};
 ghost use Rattle.nb_endorse.specs.Replies.{HasLawfulReceipts};
 ghost use Rattle.nb_escrow.specs.Held.{done as done_at};
-ghost use Rattle.nb_escrow.specs.Laws.{KeyWherePaid};
+ghost use Rattle.nb_escrow.specs.Laws.{KeyWherePaid, PaidWherePayable};
 ghost use Rattle.nb_escrow.specs.Verdict.{steps, verdict};
 
 use crate::enrolment::decide_enrolment;
@@ -34,6 +34,9 @@ pub fn decide(book: &Book, head: &Head, kind: u8, body: &[u8], moment: u64) -> D
     ensures legal { IfSome result.entry (LegalAfter book.now.entries) }
     ensures room { IsSome result.entry → length book.now.entries < book.now.cap }
     ensures receipts { HasLawfulReceipts result.reply }
+
+    // A payment is recorded exactly where the request is an endorsed order that is payable over these entries.
+    ensures paid { PaidWherePayable book.now.entries book.now.cap kind body.now moment result.entry }
 
     // To an authentic status query, over at least as many entries as it asks for, a key is given exactly where an entry pays the
     // order with it and names who asks.

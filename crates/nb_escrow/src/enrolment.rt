@@ -4,18 +4,18 @@ ghost use Rattle.nb_book.specs.declared.entry.TheConstants.{CONSUMER, MERCHANT};
 ghost use Rattle.nb_book.specs.Searches.{party_in, holder_in};
 ghost use Rattle.nb_book.specs.Legal.{LegalAfter};
 ghost use Rattle.nb_endorse.specs.Replies.{HasLawfulReceipts};
-ghost use Rattle.nb_escrow.specs.Requests.{enrol_of};
+ghost use Rattle.nb_escrow.specs.Requests.{enrolment_of};
 ghost use Rattle.nb_escrow.specs.Held.{place_in};
 ghost use Rattle.nb_escrow.specs.Enrolments.{enrol_entry, party_place, numbers_free, enrol_steps};
 
-use crate::checks::{allow, balance_now, check_room, check_tag, signed};
+use crate::checks::{balance_now, check_room, check_tag, signed};
 use crate::decision::Decision;
 use crate::head::Head;
 use nb_book::{Book, CONSUMER, Entry, MERCHANT, Party};
 use nb_endorse::Refusal;
 use nb_endorse::refusal::PARTY_HELD;
 use nb_seal::hmac;
-use nb_units::{AcctId, Cut, Malformed, PartyId, Secret, Tag};
+use nb_units::{AcctId, Cut, Malformed, PartyId, Secret, Tag, allow};
 
 // What the tag of an enrolment is over begins with this.
 const ENROL_LABEL: [u8; 4] = *b"enro";
@@ -40,9 +40,9 @@ pub struct Enrolment {
 impl Enrolment {
     /// The enrolment that the body spells, or the place of the first field that fails, in bytes from the body's front. A role
     /// other than the two fails at 4.
-    #[tactic(auto, unfolding(crate::specs::Requests::enrol_of))]
+    #[tactic(auto, unfolding(crate::specs::Requests::enrolment_of))]
     pub fn read(body: &[u8]) -> Result<Enrolment, Malformed>
-        ensures reads { Reads result (enrol_of body.now) }
+        ensures reads { Reads result (enrolment_of body.now) }
         ensures role { IfOk result (λ asked. (asked.role ≡ CONSUMER) ⊎ (asked.role ≡ MERCHANT)) }
     {
         let mut cut = Cut::new(body);

@@ -5,18 +5,18 @@ ghost use Rattle.nb_book.specs.Searches.{holder_in, funded_in};
 ghost use Rattle.nb_book.specs.Legal.{LegalAfter};
 ghost use Rattle.nb_book.specs.Money.{balance, total};
 ghost use Rattle.nb_endorse.specs.Replies.{HasLawfulReceipts};
-ghost use Rattle.nb_escrow.specs.Requests.{fund_of};
+ghost use Rattle.nb_escrow.specs.Requests.{funding_of};
 ghost use Rattle.nb_escrow.specs.Held.{place_in};
-ghost use Rattle.nb_escrow.specs.Fundings.{fund_entry, funded_place, reference_new, account_held, total_within, fund_steps};
+ghost use Rattle.nb_escrow.specs.Fundings as fundings;
 
-use crate::checks::{allow, balance_now, check_room, check_tag, signed};
+use crate::checks::{balance_now, check_room, check_tag, signed};
 use crate::decision::Decision;
 use crate::head::Head;
 use nb_book::{Book, Entry, Funded, MAX_TOTAL};
 use nb_endorse::Refusal;
 use nb_endorse::refusal::{ACCOUNT_NOT_HELD, REFERENCE_HELD, TOTAL_TOO_HIGH};
 use nb_seal::hmac;
-use nb_units::{AcctId, Cut, Malformed, Tag};
+use nb_units::{AcctId, Cut, Malformed, Tag, allow};
 
 // What the tag of a funding is over begins with this.
 const FUND_LABEL: [u8; 4] = *b"fund";
@@ -37,9 +37,9 @@ pub struct Funding {
 impl Funding {
     /// The funding that the body spells, or the place of the first field that fails, in bytes from the body's front. An amount
     /// out of its range fails at 4.
-    #[tactic(auto, unfolding(crate::specs::Requests::fund_of))]
+    #[tactic(auto, unfolding(crate::specs::Requests::funding_of))]
     pub fn read(body: &[u8]) -> Result<Funding, Malformed>
-        ensures reads { Reads result (fund_of body.now) }
+        ensures reads { Reads result (funding_of body.now) }
         ensures amount { IfOk result (λ asked. (1 ≤ asked.amount) × (asked.amount ≤ MAX_TOTAL)) }
     {
         let mut cut = Cut::new(body);
@@ -60,7 +60,7 @@ impl Funding {
 
     /// The entry that is recorded for it.
     pub fn entry(&self) -> Entry
-        ensures { result ≡ fund_entry self.now }
+        ensures { result ≡ fundings.fund_entry self.now }
     {
         Entry::Fund {
             acct: self.acct,
@@ -71,7 +71,7 @@ impl Funding {
 
     // The place of the fund that has this reference, where that is equal to this one.
     fn place_of(&self, funded: &Funded) -> Option<u64>
-        ensures { result ≡ funded_place self.now funded.now }
+        ensures { result ≡ fundings.funded_place self.now funded.now }
     {
         let same = funded.acct == self.acct && funded.amount == self.amount;
         if same { Some(funded.at) } else { None }
@@ -81,7 +81,7 @@ impl Funding {
 // The tests of a funding, in order.
 #[tactic(auto, unfolding(crate::specs::Fundings::fund_steps))]
 pub(crate) fn decide_funding(book: &Book, head: &Head, body: &[u8]) -> Result<Decision, Refusal>
-    ensures steps { result ≡ fund_steps book.now.entries head.now book.now.cap body.now }
+    ensures steps { result ≡ fundings.fund_steps book.now.entries head.now book.now.cap body.now }
     ensures legal { IfOk result (λ decision. IfSome decision.entry (LegalAfter book.now.entries)) }
     ensures room { IfOk result (λ decision. IsSome decision.entry → length book.now.entries < book.now.cap) }
     ensures receipts { IfOk result (λ decision. HasLawfulReceipts decision.reply) }
@@ -103,14 +103,14 @@ pub(crate) fn decide_funding(book: &Book, head: &Head, body: &[u8]) -> Result<De
 // What is in the account once the fund is recorded.
 fn balance_after(book: &Book, asked: &Funding) -> u64
     requires { total book.now.entries + asked.now.amount ≤ MAX_TOTAL }
-    ensures { result ≡ balance (book.now.entries ++ fund_entry asked.now ∷ []) asked.now.acct }
+    ensures { result ≡ balance (book.now.entries ++ fundings.fund_entry asked.now ∷ []) asked.now.acct }
 {
     balance_now(book, asked.acct) + asked.amount
 }
 
 // The place of an equal fund, if there is one.
 fn funded_at(book: &Book, asked: &Funding) -> Option<u64>
-    ensures { result ≡ place_in book.now.entries (fund_entry asked.now) }
+    ensures { result ≡ place_in book.now.entries (fundings.fund_entry asked.now) }
 {
     match book.reference(&asked.reference) {
         Some(funded) => asked.place_of(&funded),
@@ -120,7 +120,7 @@ fn funded_at(book: &Book, asked: &Funding) -> Option<u64>
 
 #[tactic(auto, unfolding(crate::specs::Fundings::reference_new))]
 fn check_reference(book: &Book, reference: &[u8; 16]) -> Result<(), Refusal>
-    ensures test { result ≡ reference_new book.now.entries reference.now }
+    ensures test { result ≡ fundings.reference_new book.now.entries reference.now }
     ensures free { OnOk result (IsNone (funded_in book.now.entries reference.now)) }
 {
     match book.reference(reference) {
@@ -131,7 +131,7 @@ fn check_reference(book: &Book, reference: &[u8; 16]) -> Result<(), Refusal>
 
 #[tactic(auto, unfolding(crate::specs::Fundings::account_held))]
 fn check_held(book: &Book, acct: AcctId) -> Result<(), Refusal>
-    ensures test { result ≡ account_held book.now.entries acct }
+    ensures test { result ≡ fundings.account_held book.now.entries acct }
     ensures held { OnOk result (IsSome (holder_in book.now.entries acct)) }
 {
     if book.account(acct).is_some() {
@@ -143,7 +143,7 @@ fn check_held(book: &Book, acct: AcctId) -> Result<(), Refusal>
 
 #[tactic(auto, unfolding(crate::specs::Fundings::total_within))]
 fn check_total(book: &Book, amount: u64) -> Result<(), Refusal>
-    ensures test { result ≡ total_within book.now.entries amount }
+    ensures test { result ≡ fundings.total_within book.now.entries amount }
     ensures fits { OnOk result (total book.now.entries + amount ≤ MAX_TOTAL) }
 {
     if amount <= MAX_TOTAL - book.total() {

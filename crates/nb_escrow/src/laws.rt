@@ -1,27 +1,69 @@
 //! What holds of every verdict. Each function here does nothing: its contract is the law.
 
-ghost use Rattle.nb_escrow.specs.Laws.{RecordsLegal, ResultStays, StatusTellsKey, ToldAgain};
+ghost use Rattle.nb_escrow.specs.Laws as law;
 
 /// A request whose entry was recorded is given the same reply under the same keys when it comes
 /// again, at any moment and whatever was recorded since, and no second entry is made of it. What it is told of a balance is
 /// the balance by then.
 pub fn told_again()
-    ensures { ToldAgain }
+    ensures { law.ToldAgain }
 {}
 
 /// The result of an order stays: whenever its request comes again, and whatever was recorded behind, the reply is the same under
 /// the same keys, and nothing is recorded. So are its bytes, which are a function of the two.
 pub fn result_stays()
-    ensures { ResultStays }
+    ensures { law.ResultStays }
 {}
 
 /// To an authentic status query, over a Legal list of at least as many entries as it asks for, the reply gives a key exactly
 /// where an entry pays the order with that key and names who asks.
 pub fn status_tells_key()
-    ensures { StatusTellsKey }
+    ensures { law.StatusTellsKey }
 {}
 
 /// What a verdict records is legal after the entries that it was taken over, and there is room for it.
 pub fn records_legal()
-    ensures { RecordsLegal }
+    ensures { law.RecordsLegal }
+{}
+
+/// A payment is recorded exactly where the request is an endorsed order whose parties are enrolled in their roles, whose seals
+/// open to what is spelled as it should be, whose merchant endorses it, whose tag is right, whose identifier is new, for which
+/// there is room, which shows the accounts and the nonce that are enrolled, and whose price, moments and balance are in range.
+pub fn paid_exactly_where()
+    ensures { law.PaidExactlyWhere }
+{}
+
+/// An order is recorded, as paid or as refused, exactly where it is authentic, its identifier is new, and there is room.
+pub fn settled_exactly_where()
+    ensures { law.SettledExactlyWhere }
+{}
+
+/// What an order is refused for is true of the entries and of the order, and is what its receipts tell.
+pub fn refused_for_true_reason()
+    ensures { law.RefusedForTrueReason }
+{}
+
+/// An order is told its result, and nothing recorded, exactly where it is authentic and was settled with its digest before.
+pub fn told_exactly_where()
+    ensures { law.ToldExactlyWhere }
+{}
+
+/// An enrolment is recorded exactly where it has the operator's tag, may come next, and there is room for it.
+pub fn enrolled_exactly_where()
+    ensures { law.EnrolledExactlyWhere }
+{}
+
+/// A fund is recorded exactly where it has the operator's tag, may come next, and there is room for it.
+pub fn funded_exactly_where()
+    ensures { law.FundedExactlyWhere }
+{}
+
+/// A status is told exactly where the query is authentic and as many entries are held as it asks for.
+pub fn answered_exactly_where()
+    ensures { law.AnsweredExactlyWhere }
+{}
+
+/// What each refusal claims is true of the entries and of the request, and so are the numbers and the bytes that it shows.
+pub fn refusals_are_true()
+    ensures { law.RefusalsAreTrue }
 {}

@@ -10,14 +10,14 @@ ghost use Rattle.nb_endorse.specs.declared.refusal.TheConstants.{IN_ORDER};
 ghost use Rattle.nb_endorse.specs.Replies.{HasLawfulReceipts};
 ghost use Rattle.nb_escrow.specs.Requests.{endorsed_of};
 ghost use Rattle.nb_escrow.specs.Checks.{well_formed, right_tag};
-ghost use Rattle.nb_escrow.specs.Orders.{IsPresented, endorsement_in, hidden_in, names_endorser, same_merchant, same_digest, unread_endorsement, unread_hidden, order_steps, settled, result as result_of};
-ghost use Rattle.nb_escrow.specs.Settlements.{settlement_in, entry_of, IsPaymentOutcome};
+ghost use Rattle.nb_escrow.specs.Orders as orders;
+ghost use Rattle.nb_escrow.specs.Settlements.{settlement_entry, IsPaymentOutcome};
 
 use crate::checks::{check_room, find_party_as};
 use crate::decision::Decision;
 use crate::head::Head;
 use crate::payment::outcome;
-use crate::settlement::Settlement;
+use crate::settlement::{Settlement, settled_before};
 use nb_book::{Book, CONSUMER, Entry, MERCHANT, Party};
 use nb_endorse::refusal::{
     IDENTIFIER_USED, IN_ENDORSEMENT, IN_HIDDEN, IN_ORDER, MALFORMED, NOT_SEALED, OTHER_MERCHANT,
@@ -83,7 +83,7 @@ pub(crate) fn decide_order(
     body: &[u8],
     moment: u64,
 ) -> Result<Decision, Refusal>
-    ensures steps { result ≡ order_steps book.now.entries head.now book.now.cap body.now moment }
+    ensures steps { result ≡ orders.order_steps book.now.entries head.now book.now.cap body.now moment }
     ensures legal { IfOk result (λ decision. IfSome decision.entry (LegalAfter book.now.entries)) }
     ensures room { IfOk result (λ decision. IsSome decision.entry → length book.now.entries < book.now.cap) }
     ensures receipts { IfOk result (λ decision. HasLawfulReceipts decision.reply) }
@@ -116,10 +116,10 @@ pub(crate) fn decide_order(
 impl Presented {
     // How the order is settled, which is new.
     fn settle(&self, book: &Book, moment: u64) -> Settlement
-        requires presented { IsPresented book.now.entries self.now }
+        requires presented { orders.IsPresented book.now.entries self.now }
         requires new { IsNone (order_in book.now.entries self.now.order.epoid) }
-        ensures settled { result ≡ settled book.now.entries self.now moment }
-        ensures legal { LegalAfter book.now.entries (entry_of result) }
+        ensures settled { result ≡ orders.settled book.now.entries self.now moment }
+        ensures legal { LegalAfter book.now.entries (settlement_entry result) }
         ensures outcome { IsPaymentOutcome result.outcome }
     {
         Settlement {
@@ -138,7 +138,7 @@ impl Presented {
     // What both parties are told of a settlement.
     fn result(&self, head: &Head, settlement: &Settlement, entry: Option<Entry>) -> Decision
         requires { IsPaymentOutcome settlement.now.outcome }
-        ensures result { result ≡ result_of head.now self.now settlement.now entry }
+        ensures result { result ≡ orders.result head.now self.now settlement.now entry }
         ensures receipts { HasLawfulReceipts result.reply }
     {
         Decision {
@@ -160,7 +160,7 @@ impl Presented {
 #[tactic(auto, unfolding(crate::specs::Orders::endorsement_in))]
 fn open_endorsement(sealed: &Buffer, key: &Secret) -> Result<Endorsement, Refusal>
     requires { length sealed.now ≤ MAX_SEALED }
-    ensures { result ≡ endorsement_in key.now sealed.now }
+    ensures { result ≡ orders.endorsement_in key.now sealed.now }
 {
     match read_sealed(sealed.as_slice(), key) {
         Ok(endorsement) => Ok(endorsement),
@@ -170,7 +170,7 @@ fn open_endorsement(sealed: &Buffer, key: &Secret) -> Result<Endorsement, Refusa
 
 // The refusal of an endorsement that was not read.
 fn unread_endorsement(fault: SealedFault) -> Refusal
-    ensures { result ≡ unread_endorsement fault }
+    ensures { result ≡ orders.unread_endorsement fault }
 {
     match fault {
         SealedFault::BadSeal { iv } => Refusal::with(NOT_SEALED, &iv),
@@ -193,7 +193,7 @@ fn read_endorsed(bytes: &Small) -> Result<Order, Refusal>
 #[tactic(auto, unfolding(crate::specs::Orders::hidden_in))]
 fn open_hidden(sealed: &Small, key: &Secret) -> Result<Hidden, Refusal>
     requires { length sealed.now ≤ MAX_HIDDEN }
-    ensures { result ≡ hidden_in key.now sealed.now }
+    ensures { result ≡ orders.hidden_in key.now sealed.now }
 {
     match reveal(sealed.as_slice(), key) {
         Ok(hidden) => Ok(hidden),
@@ -203,7 +203,7 @@ fn open_hidden(sealed: &Small, key: &Secret) -> Result<Hidden, Refusal>
 
 // The refusal of a hidden part that was not read.
 fn unread_hidden(fault: RevealFault) -> Refusal
-    ensures { result ≡ unread_hidden fault }
+    ensures { result ≡ orders.unread_hidden fault }
 {
     match fault {
         RevealFault::BadSeal { iv } => Refusal::with(NOT_SEALED, &iv),
@@ -213,7 +213,7 @@ fn unread_hidden(fault: RevealFault) -> Refusal
 
 #[tactic(auto, unfolding(crate::specs::Orders::same_merchant))]
 fn check_merchant(endorser: PartyId, order: &Order) -> Result<(), Refusal>
-    ensures test { result ≡ same_merchant endorser order.now }
+    ensures test { result ≡ orders.same_merchant endorser order.now }
     ensures same { OnOk result ((order.now.merchant ≡ endorser) × (order.now.epoid.merchant ≡ endorser)) }
 {
     check_named(endorser, order.merchant)?;
@@ -221,7 +221,7 @@ fn check_merchant(endorser: PartyId, order: &Order) -> Result<(), Refusal>
 }
 
 fn check_named(endorser: PartyId, merchant: PartyId) -> Result<(), Refusal>
-    ensures test { result ≡ names_endorser endorser merchant }
+    ensures test { result ≡ orders.names_endorser endorser merchant }
     ensures same { OnOk result (merchant ≡ endorser) }
 {
     if merchant == endorser {
@@ -242,22 +242,9 @@ fn check_order_tag(order: &Order, key: &Secret) -> Result<(), Refusal>
     }
 }
 
-// How the order of this identifier was settled, if it was.
-#[tactic(auto, unfolding(crate::specs::Settlements::settlement_in))]
-pub(crate) fn settled_before(book: &Book, epoid: &Epoid) -> Option<Settlement>
-    ensures found { result ≡ settlement_in book.now.entries epoid.now }
-    ensures new { result ≡ None → IsNone (order_in book.now.entries epoid.now) }
-    ensures outcome { IfSome result (λ kept. IsPaymentOutcome kept.outcome) }
-{
-    match book.order(epoid) {
-        Some(kept) => Settlement::of(&kept),
-        None => None,
-    }
-}
-
 #[tactic(auto, unfolding(crate::specs::Orders::same_digest))]
 fn check_digest(kept: &Digest, digest: &Digest) -> Result<(), Refusal>
-    ensures { result ≡ same_digest kept.now digest.now }
+    ensures { result ≡ orders.same_digest kept.now digest.now }
 {
     if kept == digest {
         Ok(())

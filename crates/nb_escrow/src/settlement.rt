@@ -1,11 +1,12 @@
-ghost use Rattle.std.specs.Prelude.{◌≡◌, ◌↔◌, IfSome, IsSome, None, Some};
+ghost use Rattle.std.specs.Prelude.{◌≡◌, ◌↔◌, IfSome, IsSome, IsNone, None, Some};
+ghost use Rattle.nb_book.specs.Searches.{order_in};
 ghost use Rattle.nb_endorse.specs.declared.receipt.TheConstants.{PAID_CODE};
 ghost use Rattle.nb_endorse.specs.Replies.{ReceiptKeepsRules};
 ghost use Rattle.nb_endorse.specs.Spelling.{IsReceiptCode};
-ghost use Rattle.nb_escrow.specs.Settlements.{settlement_of, entry_of, may_see, receipt_saying, receipt_in_role, receipt_of_party, IsPaymentOutcome};
+ghost use Rattle.nb_escrow.specs.Settlements as told;
 
 use nb_book::reason::{BALANCE_LOW, CONSUMER_ACCOUNT, CONSUMER_NONCE, MERCHANT_ACCOUNT};
-use nb_book::{CONSUMER, Entry, Kept, MERCHANT};
+use nb_book::{Book, CONSUMER, Entry, Kept, MERCHANT};
 use nb_endorse::{PAID_CODE, Receipt};
 use nb_units::{AcctId, Digest, Epoid, PartyId, Price, Secret};
 
@@ -60,7 +61,7 @@ pub struct Settlement {
 impl Settlement {
     /// How an entry that was found settled its order. `None` where the entry is an enrolment or a fund, which settle none.
     pub fn of(kept: &Kept) -> Option<Settlement>
-        ensures { result ≡ settlement_of kept.now }
+        ensures { result ≡ told.settlement_of kept.now }
     {
         let at = kept.at;
         match kept.entry {
@@ -114,7 +115,7 @@ impl Settlement {
 
     /// The entry that records it.
     pub fn entry(&self) -> Entry
-        ensures { result ≡ entry_of self.now }
+        ensures { result ≡ told.settlement_entry self.now }
     {
         let Settlement {
             digest,
@@ -158,8 +159,8 @@ impl Settlement {
     /// from 31 to 37.
     #[tactic(auto, unfolding(crate::specs::Settlements::receipt_in_role))]
     pub fn receipt_in_role(&self, role: u8) -> Receipt
-        requires { IsPaymentOutcome self.now.outcome }
-        ensures receipt { result ≡ receipt_in_role role self.now }
+        requires { told.IsPaymentOutcome self.now.outcome }
+        ensures receipt { result ≡ told.receipt_in_role role self.now }
         ensures lawful { ReceiptKeepsRules result }
     {
         match self.outcome {
@@ -175,7 +176,7 @@ impl Settlement {
         requires code { IsReceiptCode code }
         requires keyed { IsSome key ↔ (code ≡ PAID_CODE) }
         requires showing { code ≡ PAID_CODE → shown ≡ None }
-        ensures receipt { result ≡ receipt_saying self.now code key shown }
+        ensures receipt { result ≡ told.receipt_saying self.now code key shown }
         ensures lawful { ReceiptKeepsRules result }
     {
         Receipt {
@@ -195,8 +196,8 @@ impl Settlement {
     /// The receipt of this party, in the role in which the settlement names it; `None` where it does not. A reason has to have
     /// one of the codes of receipts, from 31 to 37.
     pub fn receipt_of_party(&self, id: PartyId) -> Option<Receipt>
-        requires { IsPaymentOutcome self.now.outcome }
-        ensures receipt { result ≡ receipt_of_party id (Some self.now) }
+        requires { told.IsPaymentOutcome self.now.outcome }
+        ensures receipt { result ≡ told.receipt_of_party id (Some self.now) }
         ensures lawful { IfSome result ReceiptKeepsRules }
     {
         if self.consumer == id {
@@ -212,11 +213,24 @@ impl Settlement {
 // Whether the party in this role is shown the numbers of a reason.
 #[tactic(auto, unfolding(crate::specs::Settlements::may_see))]
 fn may_see(role: u8, code: u8) -> bool
-    ensures { result ≡ may_see role code }
+    ensures { result ≡ told.may_see role code }
 {
     match code {
         CONSUMER_ACCOUNT | CONSUMER_NONCE | BALANCE_LOW => role == CONSUMER,
         MERCHANT_ACCOUNT => role == MERCHANT,
         _ => true,
+    }
+}
+
+// How the order of this identifier was settled, if it was.
+#[tactic(auto, unfolding(crate::specs::Settlements::settlement_in))]
+pub(crate) fn settled_before(book: &Book, epoid: &Epoid) -> Option<Settlement>
+    ensures found { result ≡ told.settlement_in book.now.entries epoid.now }
+    ensures new { result ≡ None → IsNone (order_in book.now.entries epoid.now) }
+    ensures outcome { IfSome result (λ kept. told.IsPaymentOutcome kept.outcome) }
+{
+    match book.order(epoid) {
+        Some(kept) => Settlement::of(&kept),
+        None => None,
     }
 }

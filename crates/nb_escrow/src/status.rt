@@ -3,12 +3,12 @@ ghost use Rattle.nb_units.specs.Reads.{Reads};
 ghost use Rattle.nb_book.specs.Legal.{Legal};
 ghost use Rattle.nb_endorse.specs.Replies.{HasLawfulReceipts};
 ghost use Rattle.nb_escrow.specs.Requests.{query_of};
-ghost use Rattle.nb_escrow.specs.Statuses.{enough_entries, status, status_steps};
+ghost use Rattle.nb_escrow.specs.Statuses.{enough_entries, status_told, status_steps};
 
 use crate::checks::{check_tag, find_party, signed};
 use crate::decision::Decision;
 use crate::head::Head;
-use crate::order::settled_before;
+use crate::settlement::settled_before;
 use nb_book::{Book, Party};
 use nb_endorse::refusal::TOO_FEW_ENTRIES;
 use nb_endorse::{Refusal, Reply, ReplyKeys};
@@ -81,7 +81,7 @@ fn check_entries(book: &Book, least: u64) -> Result<(), Refusal>
 
 // What who asks is told.
 fn status_of(book: &Book, head: &Head, asker: &Party, asked: &StatusQuery) -> Decision
-    ensures status { result ≡ status book.now.entries head.now asker.now asked.now }
+    ensures status { result ≡ status_told book.now.entries head.now asker.now asked.now }
     ensures receipts { HasLawfulReceipts result.reply }
 {
     let receipt = match settled_before(book, &asked.epoid) {

@@ -1,5 +1,5 @@
 use Rattle.std.proofs.Common.{refl, sym, ◌∙◌}
-use Rattle.nb_units.specs.Fields.{raw_at, u8_at, u32_at, u64_at}
+use Rattle.nb_units.specs.Fields.{u8_at, u64_at}
 use Rattle.nb_book.specs.Reading.{refused_of}
 use Rattle.nb_book.proofs.Steps.{stands, went, took, passed}
 use Rattle.nb_book.proofs.spelling.read_refused.Goals as goal
@@ -7,27 +7,15 @@ use Rattle.nb_book.proofs.spelling.read_refused.Goals as goal
 pub returns : goal.returns
 unfolding refused_of
 returns c =
-    let s1 = stands c.args.cut 1 c.requires in
-    let s33 = went 32 c.in_ok-digest.ensures.moved s1 in
-    let s49 = went 16 c.in_ok-epoid.ensures.moved s33 in
-    let s53 = went 4 c.in_ok-consumer.ensures.moved s49 in
-    let s57 = went 4 c.in_ok-merchant.ensures.moved s53 in
-    let s61 = went 4 c.in_ok-product.ensures.moved s57 in
-    let s69 = went 8 c.in_ok-price.ensures.moved s61 in
+    let s69 = went 68 c.in_ok-terms.ensures.moved (stands c.args.cut 1 c.requires) in
     let s70 = went 1 c.in_ok-code.ensures.moved s69 in
     let s78 = went 8 c.in_ok-a.ensures.moved s70 in
     let s86 = went 8 c.in_ok-b.ensures.moved s78 in
     rw (
-      took (raw_at 32) s1 c.in_ok-digest.ensures.value,
-      took (raw_at 16) s33 c.in_ok-epoid.ensures.value,
-      took u32_at s49 c.in_ok-consumer.ensures.value,
-      took u32_at s53 c.in_ok-merchant.ensures.value,
-      took u32_at s57 c.in_ok-product.ensures.value,
-      took u64_at s61 c.in_ok-price.ensures.value,
+      c.in_ok-terms.ensures.reads,
       took u8_at s69 c.in_ok-code.ensures.value,
-      sym c.is_code.ensures ∙ passed c.is_code.result c.place-place.result tt c.in_ok-allow.ensures,
+      sym c.is_reason.ensures ∙ passed c.is_reason.result c.place-place.result tt c.in_ok-allow.ensures.reads,
       took u64_at s70 c.in_ok-a.ensures.value,
       took u64_at s78 c.in_ok-b.ensures.value,
       took u64_at s86 c.in_ok-moment.ensures.value,
-      c.read.ensures.value,
     ) refl
