@@ -1,6 +1,6 @@
 -- The proofs of the trait Disk's laws, for a disk in memory and for one that does not tell. They stand in specs and call no
 -- tactic, since an `impl` may cite no proof of its own crate.
-use Rattle.std.specs.Prelude.{◌≡◌, ℕ, zero, suc, ◌+◌, ◌≤◌, List, [], ◌∷◌, ◌++◌, Option, Some, None, IfSome, length, take, drop}
+use Rattle.std.specs.Prelude.{◌≡◌, ℕ, zero, suc, ◌+◌, ◌<◌, ◌≤◌, ◌^◌, List, [], ◌∷◌, ◌++◌, Option, Some, None, IfSome, length, take, drop}
 use Rattle.std.proofs.Common.{refl, sym, ap, subst, ◌∙◌, zero-le, suc-le-suc}
 use Rattle.std.proofs.Math.Nat.{le_refl, zero-add, suc-add}
 use Rattle.std.proofs.Math.Seq.{take-length, take_all}
@@ -77,6 +77,10 @@ content_now start steps c is =
 -- a disk that does not tell has no content
 pub untold : (c : List ℕ) → None ≡ Some c → ⊥
 untold c is = subst (λ (told : Option (List ℕ)). IfSome told (λ _. ⊥)) is tt
+
+-- so its content is as short as one likes
+pub untold_fits : (c : List ℕ) → None ≡ Some c → length c < 2 ^ 63
+untold_fits c is = subst (λ (told : Option (List ℕ)). IfSome told (λ _. length c < 2 ^ 63)) is tt
 
 -- ---- what is left
 

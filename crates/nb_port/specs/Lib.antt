@@ -3,6 +3,7 @@ pub mod Source
 pub mod Sink
 pub mod Tells
 pub mod Disk
+pub mod File
 pub mod Images
 pub mod Clock
 pub mod Calls

@@ -7,6 +7,7 @@ mod cuts;
 mod faults;
 mod making;
 mod stops;
+mod syncs;
 
 use nb_port::{
     Clock, Disk, Fill, MemClock, MemDisk, MemSink, MemSource, ReadOut, Sink, Source, WriteOut,

@@ -5,15 +5,15 @@ ghost use Rattle.nb_port.specs.DiskLaws.{untold};
 ghost use Rattle.nb_port.specs.Faults.{Rose};
 
 use super::*;
-use nb_port::{Disk, DiskOut, DiskRead, FileDisk};
-use std::fs::OpenOptions;
+use nb_port::{Disk, DiskOut, DiskRead, FileDisk, StdFile};
+use std::fs::{File, OpenOptions};
 use std::path::PathBuf;
 use std::{env, fs, process};
 
 // A disk over a file that makes so many calls, and fails from then on.
 #[derive(Drop)]
 struct Stopping {
-    disk: FileDisk,
+    disk: FileDisk<StdFile>,
     left: u64,
     faults: u64,
 }
@@ -92,13 +92,13 @@ fn temporary(rt: &HostRuntime, name: &str) -> Result<PathBuf, Fail> {
 }
 
 // The file as a disk.
-fn disk_over(rt: &HostRuntime, path: &PathBuf) -> Result<FileDisk, Fail> {
-    Ok(FileDisk::over(
-        OpenOptions::new()
-            .read(true)
-            .write(true)
-            .open(rt, path.as_path())?,
-    ))
+fn disk_over(rt: &HostRuntime, path: &PathBuf) -> Result<FileDisk<StdFile>, Fail> {
+    let file = OpenOptions::new()
+        .read(true)
+        .write(true)
+        .open(rt, path.as_path())?;
+    let folder = File::open(rt, env::temp_dir(rt)?.as_path())?;
+    Ok(FileDisk::over(file, folder))
 }
 
 // Opens the journal in a file over so many calls, and appends two items, up to the first append that fails: how many were

@@ -1,44 +1,106 @@
-ghost use Rattle.std.specs.Prelude.{◌≡◌, ◌<◌, ◌≤◌, ◌+◌, ◌^◌, IfSome, None, length};
-ghost use Rattle.nb_port.specs.Disk.{DiskGives, WriteGives};
+ghost use Rattle.std.specs.Prelude.{◌≡◌, ◌≢◌, ◌<◌, ◌≤◌, ◌+◌, ◌^◌, IfSome, None, length, take};
+ghost use Rattle.nb_port.specs.Disk.{DiskGives, WriteGives, MayTear, wrote_at};
 ghost use Rattle.nb_port.specs.Faults.{Rose};
+ghost use Rattle.nb_port.specs.File.{Within, ReadsPart};
+ghost use Rattle.nb_port.specs.System.{StaysFailed, WritesFrom};
+ghost use Rattle.nb_port.specs.declared.disk.DiskRead.TheVariants as reads;
 ghost use Rattle.nb_port.specs.declared.disk.DiskOut.TheVariants as outs;
 ghost use Rattle.nb_port.specs.DiskLaws.{untold};
 
 use crate::disk::{Disk, DiskOut, DiskRead};
+use crate::file::{FileRead, FileWrite, PositionalFile};
+use crate::system::file::StdFile;
 use std::fs::File;
-use std::io;
 use std::marker::Model;
-use std::os::unix::fs::FileExt;
 
-// No file has a byte beyond this place.
+// No file has a byte behind this place.
 const LAST_PLACE: u64 = i64::MAX as u64;
 
-/// A disk over an open file.
+/// What a disk knows of its file.
+#[derive(Clone, Copy, PartialEq, Eq, Debug)]
+pub enum FileState {
+    /// No call was made: what is kept in memory of it may not be what the device has.
+    Unprepared,
+    /// It was prepared, and each sync since was done.
+    Prepared,
+    /// A sync failed, or preparing did. No call is made of it any more.
+    Failed,
+}
+
+/// A disk over an open file. The first call prepares the file. Once that, or a sync, failed, each call fails.
 #[derive(Drop)]
-pub struct FileDisk {
-    file: File,
+pub struct FileDisk<F: PositionalFile + Drop> {
+    file: F,
+    state: FileState,
     faults: u64,
 }
 
-impl Model for FileDisk {
-    ghost use Rattle.nb_port.specs.System.{Adapter};
-    ghost use Rattle.std.specs.declared.fs.File.{File};
+impl<F: PositionalFile + Drop> Model for FileDisk<F> {
+    ghost use Rattle.std.specs.Prelude.{◌≡◌};
+    ghost use Rattle.nb_port.specs.System.{FileAdapter};
+    ghost use Rattle.nb_port.specs.declared.system.disk.FileState.TheVariants as states;
 
-    ghost Value = { Adapter File };
+    ghost Value = { FileAdapter F };
 
-    ghost view = { λ d. record { over = d.file; faults = d.faults } };
+    ghost view = { λ d. record { file = d.file; state = d.state; faults = d.faults } };
+
+    ghost invariant = { λ d. d.state ≡ states.Prepared → F.faithful d.file × F.named d.file };
 }
 
-impl FileDisk {
-    /// A disk whose bytes are those of `file`, of which no call failed.
-    pub fn over(file: File) -> FileDisk
-        ensures { result ≡ record { over = file; faults = 0 } }
+impl FileDisk<StdFile> {
+    /// A disk whose bytes are those of `file`, which lies in `folder`. No call was made.
+    pub fn over(file: File, folder: File) -> FileDisk<StdFile>
+        ensures { result ≡ record { file = record { file = file; folder = folder }; state = FileState.Unprepared; faults = 0 } }
     {
-        FileDisk { file, faults: 0 }
+        FileDisk::of(StdFile::over(file, folder))
     }
 }
 
-impl Disk for FileDisk {
+impl<F: PositionalFile + Drop> FileDisk<F> {
+    /// A disk whose bytes are those of `file`. No call was made.
+    pub fn of(file: F) -> FileDisk<F>
+        ensures { result ≡ record { file = file; state = FileState.Unprepared; faults = 0 } }
+    {
+        FileDisk {
+            file,
+            state: FileState::Unprepared,
+            faults: 0,
+        }
+    }
+
+    /// The file, handed back.
+    pub fn into_file(self) -> F
+        ensures { result ≡ self.file }
+    {
+        self.file
+    }
+
+    // Prepares the file where no call was made yet.
+    fn ready(&mut self) -> DiskOut
+        ensures done { result ≡ outs.Done → (self.new.state ≡ FileState.Prepared) × (self.new.faults ≡ self.old.faults) }
+        ensures failed { result ≡ outs.Failed → (self.new.state ≡ FileState.Failed) × Rose self.old.faults self.new.faults }
+        ensures prepared { self.old.state ≡ FileState.Prepared → self.new ≡ self.old }
+        ensures durable { self.old.state ≡ FileState.Unprepared → result ≡ outs.Done → F.durable self.new.file ≡ F.content self.new.file }
+        ensures stays { StaysFailed self.old self.new (result ≡ outs.Failed) }
+        ensures count { self.old.faults ≤ self.new.faults }
+    {
+        match self.state {
+            FileState::Prepared => return DiskOut::Done,
+            FileState::Failed => {}
+            FileState::Unprepared => match prepare(&mut self.file) {
+                DiskOut::Done => {
+                    self.state = FileState::Prepared;
+                    return DiskOut::Done;
+                }
+                DiskOut::Failed => self.state = FileState::Failed,
+            },
+        }
+        self.faults = self.faults.saturating_add(1);
+        DiskOut::Failed
+    }
+}
+
+impl<F: PositionalFile + Drop> Disk for FileDisk<F> {
     ghost tells = { record {
       faults = λ d. d.faults;
       content = λ _. None;
@@ -57,22 +119,89 @@ impl Disk for FileDisk {
         self.faults
     }
 
-    fn read(&mut self, place: u64, buf: &mut [u8]) -> DiskRead {
-        read_whole(&self.file, &mut self.faults, place, buf)
+    fn read(&mut self, place: u64, buf: &mut [u8]) -> DiskRead
+        ensures bytes { DiskGives self.old.faults self.new.faults (F.content self.new.file) place (length buf.old) buf.new result }
+        ensures kept { self.old.state ≡ FileState.Prepared → (self.new.state ≡ FileState.Prepared) × (F.content self.new.file ≡ F.content self.old.file) }
+        ensures first { result ≢ reads.Failed → self.new.state ≡ FileState.Prepared }
+        ensures stays { StaysFailed self.old self.new (result ≡ reads.Failed) }
+        ensures count { self.old.faults ≤ self.new.faults }
+    {
+        match self.ready() {
+            DiskOut::Done => {}
+            DiskOut::Failed => return DiskRead::Failed,
+        }
+        read_whole(&mut self.file, &mut self.faults, place, buf)
     }
 
-    fn write(&mut self, place: u64, piece: &[u8]) -> DiskOut {
-        write_whole(&self.file, &mut self.faults, place, piece)
+    fn write(&mut self, place: u64, piece: &[u8]) -> DiskOut
+        requires small { place + length piece.now < 2 ^ 63 }
+        ensures told { result ≡ outs.Failed → Rose self.old.faults self.new.faults }
+        ensures bytes { WritesFrom F.content self.old self.new place piece.now result }
+        ensures kept { self.old.state ≡ FileState.Prepared → self.new.state ≡ FileState.Prepared }
+        ensures first { result ≡ outs.Done → self.new.state ≡ FileState.Prepared }
+        ensures stays { StaysFailed self.old self.new (result ≡ outs.Failed) }
+        ensures count { self.old.faults ≤ self.new.faults }
+    {
+        match self.ready() {
+            DiskOut::Done => {}
+            DiskOut::Failed => return DiskOut::Failed,
+        }
+        write_whole(&mut self.file, &mut self.faults, place, piece)
     }
 
-    fn sync(&mut self) -> DiskOut {
-        sync_file(&self.file, &mut self.faults)
+    fn sync(&mut self) -> DiskOut
+        ensures durable { result ≡ outs.Done → (self.new.state ≡ FileState.Prepared) × (F.durable self.new.file ≡ F.content self.new.file) }
+        ensures kept { self.old.state ≡ FileState.Prepared → F.content self.new.file ≡ F.content self.old.file }
+        ensures failed { result ≡ outs.Failed → (self.new.state ≡ FileState.Failed) × Rose self.old.faults self.new.faults }
+        ensures stays { StaysFailed self.old self.new (result ≡ outs.Failed) }
+        ensures count { self.old.faults ≤ self.new.faults }
+    {
+        if self.state != FileState::Prepared {
+            // Preparing syncs.
+            return self.ready();
+        }
+        match self.file.sync_all() {
+            DiskOut::Done => DiskOut::Done,
+            DiskOut::Failed => {
+                self.state = FileState::Failed;
+                self.faults = self.faults.saturating_add(1);
+                DiskOut::Failed
+            }
+        }
+    }
+}
+
+// Syncs the file, drops what is kept of it in memory, and syncs its folder.
+fn prepare<F: PositionalFile>(file: &mut F) -> DiskOut
+    ensures { result ≡ outs.Done → F.faithful file.new × F.named file.new × (F.durable file.new ≡ F.content file.new) }
+{
+    match file.sync_all() {
+        DiskOut::Done => {}
+        DiskOut::Failed => return DiskOut::Failed,
+    }
+    match file.drop_pages() {
+        DiskOut::Done => {}
+        DiskOut::Failed => return DiskOut::Failed,
+    }
+    match file.sync_folder() {
+        DiskOut::Done => DiskOut::Done,
+        DiskOut::Failed => DiskOut::Failed,
     }
 }
 
 // Reads the bytes of `file` from `place` on until `buf` is full or the file ends.
-fn read_whole<F: FileExt>(file: &F, faults: &mut u64, place: u64, buf: &mut [u8]) -> DiskRead
-    ensures gives { DiskGives faults.old faults.new None place (length buf.old) buf.new result }
+fn read_whole<F: PositionalFile>(
+    file: &mut F,
+    faults: &mut u64,
+    place: u64,
+    buf: &mut [u8],
+) -> DiskRead
+    requires faithful { F.faithful file.old }
+    requires named { F.named file.old }
+    ensures gives { DiskGives faults.old faults.new (F.content file.old) place (length buf.old) buf.new result }
+    ensures content { F.content file.new ≡ F.content file.old }
+    ensures faithful { F.faithful file.new }
+    ensures named { F.named file.new }
     ensures count { faults.old ≤ faults.new }
 {
     let mut done = 0;
@@ -81,43 +210,62 @@ fn read_whole<F: FileExt>(file: &F, faults: &mut u64, place: u64, buf: &mut [u8]
         if at > LAST_PLACE {
             return DiskRead::Got(done);
         }
-        match read_part(file, faults, at, &mut buf[done..]) {
-            DiskRead::Got(0) => return DiskRead::Got(done),
-            DiskRead::Got(n) => done += n,
-            DiskRead::Failed => return DiskRead::Failed,
+        match read_part(file, faults, at, buf.split_at_mut(done).1) {
+            Some(0) => return DiskRead::Got(done),
+            Some(n) => done += n,
+            None => return DiskRead::Failed,
         }
     }
     DiskRead::Got(done)
 }
 
-// One read of `file` that is not interrupted. `faults` counts those that failed.
-fn read_part<F: FileExt>(file: &F, faults: &mut u64, place: u64, buf: &mut [u8]) -> DiskRead
-    ensures gives { DiskGives faults.old faults.new None place (length buf.old) buf.new result }
+// One read of `file` that is not interrupted: how many bytes it gave. `faults` counts those that failed.
+fn read_part<F: PositionalFile>(
+    file: &mut F,
+    faults: &mut u64,
+    place: u64,
+    buf: &mut [u8],
+) -> Option<usize>
+    requires faithful { F.faithful file.old }
+    requires named { F.named file.old }
+    requires small { place < 2 ^ 63 }
+    ensures some { IfSome result (λ n. (n ≤ length buf.old) × ReadsPart (F.content file.old) place (length buf.old) buf.new n) }
+    ensures none { result ≡ None → Rose faults.old faults.new }
+    ensures content { F.content file.new ≡ F.content file.old }
+    ensures faithful { F.faithful file.new }
+    ensures named { F.named file.new }
     ensures count { faults.old ≤ faults.new }
 {
     for _ in 0..u64::MAX {
-        match file.read_at(buf, place) {
-            Ok(n) => return DiskRead::Got(n),
-            Err(error) => {
-                *faults = faults.saturating_add(1);
-                if error.kind() != io::ErrorKind::Interrupted {
-                    return DiskRead::Failed;
-                }
-            }
+        match file.read_at(place, buf) {
+            FileRead::Got(n) => return Some(n),
+            FileRead::Interrupted => *faults = faults.saturating_add(1),
+            FileRead::Failed => break,
         }
     }
-    DiskRead::Failed
+    *faults = faults.saturating_add(1);
+    None
 }
 
 // Writes all of the piece to `file`, from `place` on.
-fn write_whole<F: FileExt>(file: &F, faults: &mut u64, place: u64, piece: &[u8]) -> DiskOut
-    requires { place + length piece.now < 2 ^ 63 }
-    ensures gives { WriteGives faults.old faults.new None None place piece.now result }
+fn write_whole<F: PositionalFile>(
+    file: &mut F,
+    faults: &mut u64,
+    place: u64,
+    piece: &[u8],
+) -> DiskOut
+    requires faithful { F.faithful file.old }
+    requires named { F.named file.old }
+    requires small { place + length piece.now < 2 ^ 63 }
+    ensures gives { Within (F.content file.old) place → WriteGives faults.old faults.new (F.content file.old) (F.content file.new) place piece.now result }
+    ensures failed { result ≡ outs.Failed → Rose faults.old faults.new }
+    ensures faithful { F.faithful file.new }
+    ensures named { F.named file.new }
     ensures count { faults.old ≤ faults.new }
 {
     let mut done = 0;
     'writing: while done < piece.len() {
-        match write_part(file, faults, place + done as u64, &piece[done..]) {
+        match write_part(file, faults, place + done as u64, piece.split_at(done).1) {
             Some(n) => done += n,
             None => return DiskOut::Failed,
         }
@@ -127,21 +275,33 @@ fn write_whole<F: FileExt>(file: &F, faults: &mut u64, place: u64, piece: &[u8])
 
 // One write of `file` that is not interrupted: how many bytes of the piece were written, at least one. `faults` counts those
 // that failed or wrote nothing.
-fn write_part<F: FileExt>(file: &F, faults: &mut u64, place: u64, piece: &[u8]) -> Option<usize>
-    requires { 1 ≤ length piece.now }
-    ensures some { IfSome result (λ n. (1 ≤ n) × (n ≤ length piece.now)) }
-    ensures none { result ≡ None → Rose faults.old faults.new }
+fn write_part<F: PositionalFile>(
+    file: &mut F,
+    faults: &mut u64,
+    place: u64,
+    piece: &[u8],
+) -> Option<usize>
+    requires faithful { F.faithful file.old }
+    requires named { F.named file.old }
+    requires some { 1 ≤ length piece.now }
+    requires small { place + length piece.now < 2 ^ 63 }
+    ensures some { IfSome result (λ n. (1 ≤ n) × (n ≤ length piece.now) × (Within (F.content file.old) place → F.content file.new ≡ wrote_at (F.content file.old) place (take n piece.now))) }
+    ensures none { result ≡ None → Rose faults.old faults.new × (Within (F.content file.old) place → MayTear (F.content file.old) (F.content file.new) place (length piece.now)) }
+    ensures faithful { F.faithful file.new }
+    ensures named { F.named file.new }
     ensures count { faults.old ≤ faults.new }
 {
     for _ in 0..u64::MAX {
-        match file.write_at(piece, place) {
-            Ok(0) => break,
-            Ok(n) => return Some(n),
-            Err(error) => {
+        match file.write_at(place, piece) {
+            FileWrite::Took(0) => {
                 *faults = faults.saturating_add(1);
-                if error.kind() != io::ErrorKind::Interrupted {
-                    return None;
-                }
+                return None;
+            }
+            FileWrite::Took(n) => return Some(n),
+            FileWrite::Interrupted => *faults = faults.saturating_add(1),
+            FileWrite::Failed => {
+                *faults = faults.saturating_add(1);
+                return None;
             }
         }
     }
@@ -149,206 +309,5 @@ fn write_part<F: FileExt>(file: &F, faults: &mut u64, place: u64, piece: &[u8]) 
     None
 }
 
-// Makes all that was written to `file` reach the device.
-fn sync_file(file: &File, faults: &mut u64) -> DiskOut
-    ensures failed { result ≡ outs.Failed → Rose faults.old faults.new }
-    ensures count { faults.old ≤ faults.new }
-{
-    for _ in 0..u64::MAX {
-        match file.sync_all() {
-            Ok(()) => return DiskOut::Done,
-            Err(error) => {
-                *faults = faults.saturating_add(1);
-                if error.kind() != io::ErrorKind::Interrupted {
-                    return DiskOut::Failed;
-                }
-            }
-        }
-    }
-    DiskOut::Failed
-}
-
 #[cfg(test)]
-mod tests {
-    use super::*;
-    use std::cell::Cell;
-    use std::fs::OpenOptions;
-    use std::path::PathBuf;
-    use std::test::Fail;
-    use std::{env, fs, process};
-
-    // Reads two bytes a call at most, and is interrupted at its second call.
-    #[derive(Drop)]
-    struct Slow {
-        bytes: &'static [u8],
-        calls: Cell<u32>,
-    }
-
-    impl FileExt for Slow {
-        fn read_at(&self, buf: &mut [u8], offset: u64) -> io::Result<usize> {
-            let calls = self.calls.get().saturating_add(1);
-            self.calls.set(calls);
-            if calls == 2 {
-                return Err(io::ErrorKind::Interrupted.into());
-            }
-            let at = self.bytes.len().min(offset as usize);
-            let (_, rest) = self.bytes.split_at(at);
-            let n = rest.len().min(buf.len()).min(2);
-            buf[..n].copy_from_slice(&rest[..n]);
-            Ok(n)
-        }
-
-        fn write_at(&self, _buf: &[u8], _offset: u64) -> io::Result<usize> {
-            Err(io::ErrorKind::Other.into())
-        }
-    }
-
-    #[test]
-    fn goes_on_behind_a_short_read(rt: HostRuntime) {
-        let slow = Slow {
-            bytes: b"abcdefg",
-            calls: Cell::new(0),
-        };
-        let mut faults = 0;
-        let mut buf = [0u8; 5];
-        assert_eq!(rt;
-            read_whole(&slow, &mut faults, 1, &mut buf),
-            DiskRead::Got(5)
-        );
-        assert_eq!(rt; &buf, b"bcdef");
-        assert_eq!(rt; faults, 1);
-        assert_eq!(rt;
-            read_whole(&slow, &mut faults, 4, &mut buf),
-            DiskRead::Got(3)
-        );
-        assert_eq!(rt; &buf, b"efgef");
-        assert_eq!(rt; faults, 1);
-    }
-
-    // Writes two bytes a call at most. It is interrupted at its second call, and from its fifth on it takes nothing.
-    #[derive(Drop)]
-    struct Narrow {
-        bytes: Cell<[u8; 8]>,
-        calls: Cell<u32>,
-    }
-
-    impl FileExt for Narrow {
-        fn read_at(&self, _buf: &mut [u8], _offset: u64) -> io::Result<usize> {
-            Err(io::ErrorKind::Other.into())
-        }
-
-        fn write_at(&self, buf: &[u8], offset: u64) -> io::Result<usize> {
-            let calls = self.calls.get().saturating_add(1);
-            self.calls.set(calls);
-            if calls == 2 {
-                return Err(io::ErrorKind::Interrupted.into());
-            }
-            let mut bytes = self.bytes.get();
-            let at = bytes.len().min(offset as usize);
-            let n = (bytes.len() - at).min(buf.len()).min(2);
-            if calls >= 5 || n == 0 {
-                return Ok(0);
-            }
-            bytes[at..at + n].copy_from_slice(&buf[..n]);
-            self.bytes.set(bytes);
-            Ok(n)
-        }
-    }
-
-    #[test]
-    fn goes_on_behind_a_short_write(rt: HostRuntime) {
-        let narrow = Narrow {
-            bytes: Cell::new(*b"........"),
-            calls: Cell::new(0),
-        };
-        let mut faults = 0;
-        assert_eq!(rt;
-            write_whole(&narrow, &mut faults, 1, b"abcde"),
-            DiskOut::Done
-        );
-        assert_eq!(rt; &narrow.bytes.get(), b".abcde..");
-        assert_eq!(rt; faults, 1);
-        assert_eq!(rt; write_whole(&narrow, &mut faults, 0, b"z"), DiskOut::Failed);
-        assert_eq!(rt; &narrow.bytes.get(), b".abcde..");
-        assert_eq!(rt; faults, 2);
-    }
-
-    // A path in the folder for temporary files, which no other process uses.
-    fn temporary(rt: &HostRuntime, name: &str) -> Result<PathBuf, Fail> {
-        let name = format!(in rt.alloc(); "nb_port-{name}-{}", process::id(rt.process()))?;
-        Ok(env::temp_dir(rt)?.join(rt.alloc(), name.as_str())?)
-    }
-
-    #[test]
-    fn writes_a_file(rt: HostRuntime) -> Result<(), Fail> {
-        let path = temporary(&rt, "write")?;
-        fs::write(&rt, path.as_path(), "")?;
-        let file = OpenOptions::new()
-            .read(true)
-            .write(true)
-            .open(&rt, path.as_path())?;
-        let mut disk = FileDisk::over(file);
-        let mut buf = [0u8; 16];
-        for (place, piece, content) in [
-            (0, "abcd", "abcd"),
-            (4, "efg", "abcdefg"),
-            (2, "XYZ", "abXYZfg"),
-            (6, "hij", "abXYZfhij"),
-        ] {
-            assert_eq!(rt; disk.write(place, piece.as_bytes()), DiskOut::Done);
-            assert_eq!(rt; disk.sync(), DiskOut::Done);
-            let want = content.as_bytes();
-            assert_eq!(rt; disk.read(0, &mut buf), DiskRead::Got(want.len()));
-            assert!(rt; buf.starts_with(want));
-        }
-        assert_eq!(rt; disk.fault_count(), 0);
-        fs::remove_file(&rt, path.as_path())?;
-        Ok(())
-    }
-
-    #[test]
-    fn fails_where_it_may_not_write(rt: HostRuntime) -> Result<(), Fail> {
-        let path = temporary(&rt, "fail")?;
-        fs::write(&rt, path.as_path(), "abc")?;
-        let mut disk = FileDisk::over(File::open(&rt, path.as_path())?);
-        let mut buf = [0u8; 4];
-        assert_eq!(rt; disk.write(1, b"z"), DiskOut::Failed);
-        assert_eq!(rt; disk.fault_count(), 1);
-        assert_eq!(rt; disk.read(0, &mut buf), DiskRead::Got(3));
-        assert_eq!(rt; &buf, b"abc\0");
-        fs::remove_file(&rt, path.as_path())?;
-        Ok(())
-    }
-
-    // A device that keeps nothing cannot be synced.
-    #[test]
-    fn fails_where_it_may_not_sync(rt: HostRuntime) -> Result<(), Fail> {
-        let file = OpenOptions::new().write(true).open(&rt, "/dev/null")?;
-        let mut disk = FileDisk::over(file);
-        assert_eq!(rt; disk.sync(), DiskOut::Failed);
-        assert_eq!(rt; disk.fault_count(), 1);
-        Ok(())
-    }
-
-    #[test]
-    fn reads_a_file(rt: HostRuntime) -> Result<(), Fail> {
-        let path = temporary(&rt, "read")?;
-        fs::write(&rt, path.as_path(), "abcdef")?;
-        let mut disk = FileDisk::over(File::open(&rt, path.as_path())?);
-        let mut buf = [0u8; 4];
-        for (place, want) in [
-            (1, DiskRead::Got(4)),
-            (4, DiskRead::Got(2)),
-            (u64::MAX, DiskRead::Got(0)),
-        ] {
-            assert_eq!(rt; disk.read(place, &mut buf), want);
-        }
-        assert_eq!(rt; &buf, b"efde");
-        assert_eq!(rt; disk.fault_count(), 0);
-        let mut unreadable = FileDisk::over(fs::create(&rt, path.as_path())?);
-        assert_eq!(rt; unreadable.read(0, &mut buf), DiskRead::Failed);
-        assert_eq!(rt; unreadable.fault_count(), 1);
-        fs::remove_file(&rt, path.as_path())?;
-        Ok(())
-    }
-}
+mod tests;

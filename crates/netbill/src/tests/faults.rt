@@ -6,18 +6,18 @@ ghost use Rattle.std.specs.Prelude.{◌≤◌, IfOk};
 use super::*;
 
 // Five of these are recorded, one behind the other.
-const FRAMES: [&str; 6] = [ENROL_1, ENROL_2, FUND_500, ORDER_500, ENROL_3, STATUS_1];
+pub(super) const FRAMES: [&str; 6] = [ENROL_1, ENROL_2, FUND_500, ORDER_500, ENROL_3, STATUS_1];
 
-const REPLIES: [&str; 6] = [DONE_1, DONE_2, DONE_500, PAID_500, DONE_3, SEEN_1];
+pub(super) const REPLIES: [&str; 6] = [DONE_1, DONE_2, DONE_500, PAID_500, DONE_3, SEEN_1];
 
 // What the same frames are told when all is recorded.
-const AGAIN: [&str; 6] = [DONE_1, DONE_2_500, DONE_SPENT, PAID_500, DONE_3, SEEN_1];
+pub(super) const AGAIN: [&str; 6] = [DONE_1, DONE_2_500, DONE_SPENT, PAID_500, DONE_3, SEEN_1];
 
 // The journal with them all.
 pub(super) const WHOLE: [&str; 7] = [FRONT, ITEM_1, ITEM_2, ITEM_500, ITEM_PAID, ITEM_3, SHUT];
 
 // This frame so often, one behind the other.
-fn repeated(alloc: Global, frame: &str, times: usize) -> Result<Vec<u8>, Fail> {
+pub(super) fn repeated(alloc: Global, frame: &str, times: usize) -> Result<Vec<u8>, Fail> {
     let frame = hex::decode(alloc, frame)?;
     let mut all = Vec::new(alloc);
     for _ in 0..times {
@@ -44,7 +44,7 @@ pub(super) fn opening(alloc: Global, content: &[u8]) -> Result<u64, Fail>
 }
 
 // Appends the refusal with this code that shows two numbers.
-fn refuse(out: &mut Vec<u8>, code: u8, a: u64, b: u64) -> Result<(), Fail> {
+pub(super) fn refuse(out: &mut Vec<u8>, code: u8, a: u64, b: u64) -> Result<(), Fail> {
     out.extend_from_slice(b"NB\x01\x10\0\0\0\x31")?;
     out.push(code)?;
     out.extend_from_slice(&a.to_be_bytes())?;
