@@ -4,7 +4,7 @@ ghost use Rattle.nb_msgs.specs.declared.reply.TheConstants.{REPLY_ROOM};
 ghost use Rattle.nb_units.specs.Room.{spare_of};
 ghost use Rattle.nb_vault.specs.Turns.{refused};
 ghost use Rattle.nb_vault.specs.Vaults.{Keeps, StandsForState, request_of, state_of};
-ghost use Rattle.nb_batch.specs.Batch.{MaySend, StepIs, AnswersWith, Served, FaultOf, StepFaultOf};
+ghost use Rattle.nb_batch.specs.Batch as batch;
 ghost use Rattle.nb_batch.specs.Numbers.{LimitIs};
 
 use crate::send::{Sent, send_reply};
@@ -54,14 +54,14 @@ pub fn serve<D: Disk, S: Source, K: Sink, C: Clock>(
     sink: &mut K,
     clock: &mut C,
 ) -> BatchEnd
-    ensures served { Served D.tells house.old house.new
+    ensures served { batch.Served D.tells house.old house.new
         (record { left = S.left source.old; sent = K.sent sink.old; moments = C.moments clock.old })
         (record { left = S.left source.new; sent = K.sent sink.new; moments = C.moments clock.new }) result }
     ensures origin { house.new.origin ≡ house.old.origin }
     ensures disk { D.tells.faults house.old.disk ≤ D.tells.faults house.new.disk }
     ensures source { S.faults source.old ≤ S.faults source.new }
     ensures sink { K.faults sink.old ≤ K.faults sink.new }
-    ensures fault { FaultOf (S.faults source.old) (S.faults source.new) (K.faults sink.old) (K.faults sink.new) result }
+    ensures fault { batch.FaultOf (S.faults source.old) (S.faults source.new) (K.faults sink.old) (K.faults sink.new) result }
 {
     // What a stop leaves at the start is what every vault keeps.
     house.witness();
@@ -88,7 +88,7 @@ fn answer_next<D: Disk, S: Source, K: Sink, C: Clock>(
     clock: &mut C,
 ) -> Step
     requires { REPLY_ROOM ≤ vec_capacity reply.old }
-    ensures step { StepIs D.tells house.old house.new
+    ensures step { batch.StepIs D.tells house.old house.new
         (record { left = S.left source.old; sent = K.sent sink.old; moments = C.moments clock.old })
         (record { left = S.left source.new; sent = K.sent sink.new; moments = C.moments clock.new }) result }
     ensures origin { house.new.origin ≡ house.old.origin }
@@ -100,7 +100,7 @@ fn answer_next<D: Disk, S: Source, K: Sink, C: Clock>(
     ensures disk { D.tells.faults house.old.disk ≤ D.tells.faults house.new.disk }
     ensures source { S.faults source.old ≤ S.faults source.new }
     ensures sink { K.faults sink.old ≤ K.faults sink.new }
-    ensures fault { StepFaultOf (S.faults source.old) (S.faults source.new) (K.faults sink.old) (K.faults sink.new) result }
+    ensures fault { batch.StepFaultOf (S.faults source.old) (S.faults source.new) (K.faults sink.old) (K.faults sink.new) result }
 {
     // Where nothing is done, a stop leaves what every vault keeps.
     house.witness();
@@ -131,11 +131,11 @@ fn answer_with<D: Disk>(
 )
     requires empty { reply.old.items ≡ [] }
     requires room { REPLY_ROOM ≤ spare_of reply.old }
-    ensures answers { AnswersWith D.tells house.old house.new (request_of kind body.now moment) reply.new.items }
+    ensures answers { batch.AnswersWith D.tells house.old house.new (request_of kind body.now moment) reply.new.items }
     ensures origin { house.new.origin ≡ house.old.origin }
     ensures any_moment { LeavesOnly D.tells house.old.disk house.new.disk
         (λ image. StandsForState house.old image ⊎ StandsForState house.new image) }
-    ensures durable { MaySend D.tells house.new reply.new.items }
+    ensures durable { batch.MaySend D.tells house.new reply.new.items }
     ensures keeps { Keeps D.tells house.new }
     ensures quiet { state_of house.new ≡ state_of house.old → D.tells.content house.new.disk ≡ D.tells.content house.old.disk }
     ensures room { vec_capacity reply.new ≡ vec_capacity reply.old }

@@ -5,7 +5,7 @@ ghost use Rattle.nb_run.specs.declared.ending.TheConstants.{CLEAN, BAD_WORDS, SO
 ghost use Rattle.nb_run.specs.Ending.{ending, status, place, status_of};
 ghost use Rattle.nb_run.specs.Words.{IsBatch, IsInit, IsCommand};
 ghost use Rattle.nb_run.specs.Init.{IsHeadInput, HasNoJournal};
-ghost use Rattle.nb_run.specs.Run.{InitIs, BatchIs, IsJournal, IsWholeInput, IsStatus, unopened};
+ghost use Rattle.nb_run.specs.Run as runs;
 
 use crate::ending::{
     BAD_INPUT, BAD_WORDS, CLEAN, DISK_FAILED, Ending, FRAME_LIMIT, NO_JOURNAL, OUT_OF_MEMORY,
@@ -29,7 +29,7 @@ pub fn run<S: Source, K: Sink, D: Disk, C: Clock>(
     disk: D,
     clock: &mut C,
 ) -> (Outcome, D)
-    ensures status { IsStatus (status result.0) }
+    ensures status { runs.IsStatus (status result.0) }
 
     // Status 2: the words, and nothing else; nothing is touched.
     ensures words { (status result.0 ≡ BAD_WORDS) ↔ (IsCommand (map string_bytes words.now) → ⊥) }
@@ -45,7 +45,7 @@ pub fn run<S: Source, K: Sink, D: Disk, C: Clock>(
 
     // What making a journal comes to. It sends nothing and asks for no moment, and nothing is written over a journal that is there.
     ensures init { (cap : ℕ) → IsInit (map string_bytes words.now) cap
-        → InitIs D.tells (S.left source.old) (S.left source.new) (S.faults source.old) (S.faults source.new) disk result.1 cap (ending result.0) }
+        → runs.InitIs D.tells (S.left source.old) (S.left source.new) (S.faults source.old) (S.faults source.new) disk result.1 cap (ending result.0) }
     ensures silent { (cap : ℕ) → IsInit (map string_bytes words.now) cap
         → (sink.new ≡ sink.old) × (clock.new ≡ clock.old) × SparesJournal D.tells disk result.1 }
 
@@ -56,7 +56,7 @@ pub fn run<S: Source, K: Sink, D: Disk, C: Clock>(
 
     // What a batch comes to.
     ensures batch { IsBatch (map string_bytes words.now)
-        → BatchIs D.tells disk result.1
+        → runs.BatchIs D.tells disk result.1
         (record { left = S.left source.old; sent = K.sent sink.old; moments = C.moments clock.old })
         (record { left = S.left source.new; sent = K.sent sink.new; moments = C.moments clock.new }) (ending result.0) }
 
@@ -65,7 +65,7 @@ pub fn run<S: Source, K: Sink, D: Disk, C: Clock>(
         → (source.new ≡ source.old) × (sink.new ≡ sink.old) × (clock.new ≡ clock.old) }
 
     // Whole frames alone over a journal, and nothing that fails: all is done, unless memory is wanting.
-    ensures complete { IsBatch (map string_bytes words.now) → IsJournal (D.tells.content disk) → IsWholeInput (S.left source.old)
+    ensures complete { IsBatch (map string_bytes words.now) → runs.IsJournal (D.tells.content disk) → runs.IsWholeInput (S.left source.old)
         → (Rose (S.faults source.old) (S.faults source.new) → ⊥) → (Rose (K.faults sink.old) (K.faults sink.new) → ⊥) → (Rose (D.tells.faults disk) (D.tells.faults result.1) → ⊥)
         → (status result.0 ≡ CLEAN) ⊎ (status result.0 ≡ OUT_OF_MEMORY) }
 {
@@ -91,7 +91,7 @@ fn answer_batch<S: Source, K: Sink, D: Disk, C: Clock>(
     disk: D,
     clock: &mut C,
 ) -> (Ending, D)
-    ensures batch { BatchIs D.tells disk result.1
+    ensures batch { runs.BatchIs D.tells disk result.1
         (record { left = S.left source.old; sent = K.sent sink.old; moments = C.moments clock.old })
         (record { left = S.left source.new; sent = K.sent sink.new; moments = C.moments clock.new }) result.0 }
     ensures counts { (S.faults source.old ≤ S.faults source.new) × (K.faults sink.old ≤ K.faults sink.new) × (D.tells.faults disk ≤ D.tells.faults result.1) }
@@ -99,7 +99,7 @@ fn answer_batch<S: Source, K: Sink, D: Disk, C: Clock>(
     ensures sink { result.0.status ≡ SINK_FAILED → Rose (K.faults sink.old) (K.faults sink.new) }
     ensures fault { result.0.status ≡ DISK_FAILED → Rose (D.tells.faults disk) (D.tells.faults result.1) }
     ensures closed { (result.0.status ≡ NO_JOURNAL) ⊎ (result.0.status ≡ DISK_FAILED) → (source.new ≡ source.old) × (sink.new ≡ sink.old) × (clock.new ≡ clock.old) }
-    ensures complete { IsJournal (D.tells.content disk) → IsWholeInput (S.left source.old)
+    ensures complete { runs.IsJournal (D.tells.content disk) → runs.IsWholeInput (S.left source.old)
         → (Rose (S.faults source.old) (S.faults source.new) → ⊥) → (Rose (K.faults sink.old) (K.faults sink.new) → ⊥) → (Rose (D.tells.faults disk) (D.tells.faults result.1) → ⊥)
         → (result.0.status ≡ CLEAN) ⊎ (result.0.status ≡ OUT_OF_MEMORY) }
 {
@@ -115,7 +115,7 @@ fn answer_batch<S: Source, K: Sink, D: Disk, C: Clock>(
 
 // How the run ends where the house was not opened.
 fn unopened(fault: VaultFault) -> Ending
-    ensures { result ≡ unopened fault }
+    ensures { result ≡ runs.unopened fault }
 {
     match fault {
         VaultFault::Unborn { .. } => Ending::at_no_place(NO_JOURNAL),

@@ -20,10 +20,7 @@ pub fn command_of(words: &[String]) -> Option<Command>
         return Some(Command::Batch);
     }
     if words.len() == 3 && is_init(words[0].as_str()) && is_name(words[1].as_str()) {
-        return match number_of(words[2].as_str()) {
-            Some(cap) => Some(Command::Init { cap }),
-            None => None,
-        };
+        return number_of(words[2].as_str()).map(|cap| Command::Init { cap });
     }
     None
 }
@@ -65,10 +62,7 @@ fn number_of(word: &str) -> Option<u32>
     if !is_plain(word.as_bytes()) {
         return None;
     }
-    match word.parse::<u32>() {
-        Ok(n) => Some(n),
-        Err(_) => None,
-    }
+    word.parse().ok()
 }
 
 // Whether the word is not empty and has neither a plus nor a leading zero.

@@ -6,3 +6,4 @@ pub mod Answering
 pub mod Restoring
 pub mod HoldingLaws
 pub mod Founding
+pub mod Paying

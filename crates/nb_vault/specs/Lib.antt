@@ -9,3 +9,4 @@ pub mod Parts
 pub mod Restoring
 pub mod Opens
 pub mod Numbers
+pub mod Paying

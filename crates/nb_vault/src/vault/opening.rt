@@ -11,6 +11,7 @@ use nb_escrow::Head;
 use nb_journal::{Journal, MAGIC_BYTES, OpenFault, Opened};
 use nb_port::Disk;
 use std::alloc::Global;
+use std::fmt;
 
 /// Why no vault was opened.
 #[derive(Clone, Copy, PartialEq, Eq, Debug)]
@@ -27,6 +28,24 @@ pub enum VaultFault {
     DiskFault { before: u64, after: u64 },
     /// There was no memory.
     NoMemory,
+}
+
+impl fmt::Display for VaultFault {
+    fn fmt<W: fmt::Write>(&self, f: &mut fmt::Formatter<W>) -> fmt::Result {
+        match self {
+            VaultFault::Unborn { .. } => write!(f, "there is no journal"),
+            VaultFault::Damaged { item, place } => {
+                write!(f, "the journal is damaged at byte {place}, in item {item}")
+            }
+            VaultFault::BadEntry { item } => {
+                write!(f, "item {item} of the journal has an entry that is not legal there")
+            }
+            VaultFault::DiskFault { before, after } => {
+                write!(f, "the disk failed: its count of faults went from {before} to {after}")
+            }
+            VaultFault::NoMemory => write!(f, "out of memory"),
+        }
+    }
 }
 
 impl<D: Disk> Vault<D> {
