@@ -2,7 +2,7 @@
 use Rattle.std.proofs.Common.{◌≡◌, ◌≢◌, ℕ, List, take, drop, Option, Some, None, IfSome, sym, ap, ◌∙◌}
 use Rattle.std.specs.Prelude.{replicate}
 use Rattle.std.proofs.lemmas.List.{drop_at}
-use Rattle.nb_journal.specs.Scanning.{NoTerms, FrontIs, FrontGives}
+use Rattle.nb_journal.specs.Scanning.{NoTerms, FrontFrom, FrontGives}
 use Rattle.nb_journal.specs.declared.opening.front.FrontRead.{FrontRead}
 use Rattle.nb_journal.specs.declared.opening.front.FrontRead.TheVariants as fronts
 
@@ -12,7 +12,7 @@ no_zeros bytes rest zeros behind back other = λ cap head are is.
     other (back ∙ ap (drop 80) (behind ∙ ap (drop 4) is) ∙ drop_at head (replicate 4 0) 80 are.whole)
 
 -- what the first bytes say is so of the content
-pub front_gives : (before after : ℕ) (told : Option (List ℕ)) (bytes : List ℕ) (front : FrontRead) → FrontIs bytes front → IfSome told (λ image. bytes ≡ take 96 image) → FrontGives before after told front
+pub front_gives : (before after : ℕ) (told : Option (List ℕ)) (bytes : List ℕ) (front : FrontRead) → FrontFrom bytes front → IfSome told (λ image. bytes ≡ take 96 image) → FrontGives before after told front
 front_gives before after None bytes (fronts.Is t) says reads = (says.0, tt)
 front_gives before after None bytes (fronts.Unborn found) says reads = (says.0, tt)
 front_gives before after None bytes fronts.Missing says reads = tt

@@ -10,9 +10,9 @@ use Rattle.nb_port.specs.Disk.{Only}
 use Rattle.nb_journal.specs.Layout.{open_gate, front_bytes, AreTerms, item_bytes, up_to_gate}
 use Rattle.nb_journal.specs.Stands.{Stands}
 use Rattle.nb_journal.specs.Reading.{Seen, Shut, Item, Broken, first_of, behind_gate, item_of, Holds}
-use Rattle.nb_journal.specs.Scanning.{AreItems, IsWhole}
+use Rattle.nb_journal.specs.Scanning.{AreItems, IsWholeJournal}
 use Rattle.nb_journal.specs.States.{IsOver}
-use Rattle.nb_journal.specs.Opening.{Opens}
+use Rattle.nb_journal.specs.Opening.{OpensJournal}
 use Rattle.nb_journal.specs.declared.opening.Opened.{Opened}
 use Rattle.nb_journal.proofs.Telling.{some_each}
 
@@ -48,7 +48,7 @@ shut_gate (gate ∷ rest) seen = (gate, rest, tested (gate == open_gate) refl, r
     tested false test = eqb-false gate open_gate test
 
 -- a whole content stands for its items
-pub whole_stands : (image : List ℕ) (cap : ℕ) (head : List ℕ) (items : List (List ℕ)) (place : ℕ) → IsWhole image cap head items place → Stands (front_bytes cap head) items image
+pub whole_stands : (image : List ℕ) (cap : ℕ) (head : List ℕ) (items : List (List ℕ)) (place : ℕ) → IsWholeJournal image cap head items place → Stands (front_bytes cap head) items image
 whole_stands image cap head items place whole =
     let behind = shut_gate (drop place image) whole.read.shut in
     let front = front_bytes cap head in
@@ -69,8 +69,8 @@ front_length cap head are = omega (arith, are.whole, length-append head (replica
 
 -- the journal over what was read
 pub opens : {D : Type 0} (tells : DiskTells D) (disk mid : D) (most place count : ℕ) (o : Opened D) → AreTerms o.cap o.head → AreItems o.cap o.items.items place
-    → IfSome (tells.content disk) (λ image. IsWhole image o.cap o.head o.items.items place) → tells.content mid ≡ tells.content disk → Only (tells.content disk) (tells.allowed mid) → count ≡ length o.items.items → IsOver mid place count o.cap most o.journal
-    → Opens tells disk most o
+    → IfSome (tells.content disk) (λ image. IsWholeJournal image o.cap o.head o.items.items place) → tells.content mid ≡ tells.content disk → Only (tells.content disk) (tells.allowed mid) → count ≡ length o.items.items → IsOver mid place count o.cap most o.journal
+    → OpensJournal tells disk most o
 opens tells disk mid most place count o terms items whole same only counts over =
     let told : tells.content o.journal.disk ≡ tells.content disk = ap tells.content over.disk ∙ same in
     record {
@@ -81,12 +81,12 @@ opens tells disk mid most place count o terms items whole same only counts over 
         place = over.gate ∙ gate;
         count = over.len ∙ counts;
         bytes = subst (λ (t : Option (List ℕ)). IfSome t (Stands (front_bytes o.cap o.head) o.items.items)) (sym told)
-            (some_each (tells.content disk) (λ image. IsWhole image o.cap o.head o.items.items place) (Stands (front_bytes o.cap o.head) o.items.items) (λ image is. whole_stands image o.cap o.head o.items.items place is) whole);
+            (some_each (tells.content disk) (λ image. IsWholeJournal image o.cap o.head o.items.items place) (Stands (front_bytes o.cap o.head) o.items.items) (λ image is. whole_stands image o.cap o.head o.items.items place is) whole);
         only = λ image is. told ∙ only image (subst (λ d. tells.allowed d image) over.disk is);
       };
       cap = over.cap;
       room = over.room;
-      holds = some_each (tells.content disk) (λ image. IsWhole image o.cap o.head o.items.items place) (λ image. Holds image o.cap o.head o.items.items) (λ image is. record { terms = terms; front = is.front; found = is.read.found }) whole;
+      holds = some_each (tells.content disk) (λ image. IsWholeJournal image o.cap o.head o.items.items place) (λ image. Holds image o.cap o.head o.items.items) (λ image is. record { terms = terms; front = is.front; found = is.read.found }) whole;
     }
   where
     gate : place ≡ length (up_to_gate (front_bytes o.cap o.head) o.items.items)

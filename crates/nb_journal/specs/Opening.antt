@@ -11,7 +11,7 @@ use Rattle.nb_journal.specs.Reading.{Holds, IsUnborn, IsDamaged}
 use Rattle.nb_journal.specs.States.{AtRest}
 
 -- the journal is at rest with the items of the content, and these are what the content holds
-pub record Opens {D : Type 0} (tells : DiskTells D)
+pub record OpensJournal {D : Type 0} (tells : DiskTells D)
     (disk : D) (max_bytes : ℕ) (o : Opened D) : Type 0 where
   pub terms : AreTerms o.cap o.head
   pub fit : AllByRecursion IsItem o.items.items
@@ -29,7 +29,7 @@ OpenFails tells old new opens.NoMemory = ⊤
 
 -- by cases on the result
 abbrev pub OpenGives : {D : Type 0} → DiskTells D → D → ℕ → Result (Opened D) (OpenFault × D) → Type 0
-OpenGives tells disk room (Ok o) = Opens tells disk room o
+OpenGives tells disk room (Ok o) = OpensJournal tells disk room o
 OpenGives tells disk room (Err e) = OpenFails tells disk e.1 e.0
 
 -- the disk, in the journal or given back

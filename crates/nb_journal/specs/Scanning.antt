@@ -90,11 +90,11 @@ pub record TermsAre (bytes : List ℕ) (t : Terms) : Type 0 where
   pub spelled : bytes ≡ terms t.cap t.head
 
 -- from the first bytes of an image, all of them or ninety-six
-abbrev pub FrontIs : List ℕ → FrontRead → Type 0
-FrontIs bytes (fronts.Is t) = AreTerms t.cap t.head × (bytes ≡ front_bytes t.cap t.head)
-FrontIs bytes (fronts.Unborn found) = (found ≢ magic) × ((image : List ℕ) → bytes ≡ take FRONT image → IsUnborn image found)
-FrontIs bytes fronts.Missing = (image : List ℕ) → bytes ≡ take FRONT image → (found_in image ≡ magic) × NoFront image
-FrontIs bytes fronts.Failed = ⊥
+abbrev pub FrontFrom : List ℕ → FrontRead → Type 0
+FrontFrom bytes (fronts.Is t) = AreTerms t.cap t.head × (bytes ≡ front_bytes t.cap t.head)
+FrontFrom bytes (fronts.Unborn found) = (found ≢ magic) × ((image : List ℕ) → bytes ≡ take FRONT image → IsUnborn image found)
+FrontFrom bytes fronts.Missing = (image : List ℕ) → bytes ≡ take FRONT image → (found_in image ≡ magic) × NoFront image
+FrontFrom bytes fronts.Failed = ⊥
 
 -- the front of a content
 abbrev pub FrontGives : ℕ → ℕ → Option (List ℕ) → FrontRead → Type 0
@@ -104,14 +104,14 @@ FrontGives before after content fronts.Missing = IfSome content (λ image. (foun
 FrontGives before after content fronts.Failed = Rose before after
 
 -- a journal's whole content: its front, and all that stands behind it
-pub record IsWhole (image : List ℕ) (cap : ℕ) (head : List ℕ) (items : List (List ℕ)) (place : ℕ) : Type 0 where
+pub record IsWholeJournal (image : List ℕ) (cap : ℕ) (head : List ℕ) (items : List (List ℕ)) (place : ℕ) : Type 0 where
   pub front : take FRONT image ≡ front_bytes cap head
   pub read : AllRead image cap items place
 
 -- a content, and what a stop leaves of it
 abbrev pub ContentsGive : ℕ → ℕ → Option (List ℕ) → (List ℕ → Type 0) → ContentsRead → Type 0
 ContentsGive before after content images (contents.Whole t items place) =
-    AreTerms t.cap t.head × AreItems t.cap items.items place × Only content images × IfSome content (λ image. IsWhole image t.cap t.head items.items place)
+    AreTerms t.cap t.head × AreItems t.cap items.items place × Only content images × IfSome content (λ image. IsWholeJournal image t.cap t.head items.items place)
 ContentsGive before after content images (contents.Unborn found) = (found ≢ magic) × IfSome content (λ image. IsUnborn image found)
 ContentsGive before after content images (contents.Damaged item place) = IfSome content (λ image. IsDamaged image item place)
 ContentsGive before after content images contents.Failed = Rose before after

@@ -8,6 +8,8 @@ mod state;
 #[cfg(test)]
 mod testing;
 
+use std::fmt;
+
 /// A journal on a disk.
 #[derive(Drop)]
 pub struct Journal<D> {
@@ -61,4 +63,29 @@ pub enum Settled {
 pub struct StillStale {
     pub before: u64,
     pub after: u64,
+}
+
+impl fmt::Display for AppendFault {
+    fn fmt<W: fmt::Write>(&self, f: &mut fmt::Formatter<W>) -> fmt::Result {
+        match self {
+            AppendFault::Full { cap } => write!(f, "the journal has its {cap} items"),
+            AppendFault::TooBig { len, room } => {
+                write!(f, "an item of {len} bytes, where {room} are allowed")
+            }
+            AppendFault::DiskFault { before, after } => write!(
+                f,
+                "the disk failed: {before} faults became {after}"
+            ),
+        }
+    }
+}
+
+impl fmt::Display for StillStale {
+    fn fmt<W: fmt::Write>(&self, f: &mut fmt::Formatter<W>) -> fmt::Result {
+        write!(
+            f,
+            "the disk failed, and an item is still in doubt: {} faults became {}",
+            self.before, self.after
+        )
+    }
 }

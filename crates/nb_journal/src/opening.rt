@@ -14,6 +14,7 @@ use crate::opening::contents::{ContentsRead, read_contents};
 use nb_port::Disk;
 use nb_units::Blob;
 use std::alloc::Global;
+use std::fmt;
 
 /// A journal that was opened, and what it holds.
 #[derive(Drop)]
@@ -40,6 +41,23 @@ pub enum OpenFault {
     DiskFault { before: u64, after: u64 },
     /// There was no memory for the items, or for the place where one is laid out.
     NoMemory,
+}
+
+impl fmt::Display for OpenFault {
+    fn fmt<W: fmt::Write>(&self, f: &mut fmt::Formatter<W>) -> fmt::Result {
+        match self {
+            OpenFault::Unborn { .. } => f.write_str("there is no journal"),
+            OpenFault::Damaged { item, place } => write!(
+                f,
+                "the journal is damaged at item {item}, place {place}"
+            ),
+            OpenFault::DiskFault { before, after } => write!(
+                f,
+                "the disk failed: {before} faults became {after}"
+            ),
+            OpenFault::NoMemory => f.write_str("out of memory"),
+        }
+    }
 }
 
 impl<D: Disk> Journal<D> {

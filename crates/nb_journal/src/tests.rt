@@ -1,15 +1,14 @@
 // Bytes from the layout of a journal, and not from the program.
 
-mod appending;
 mod damage;
 mod faults;
-mod files;
 mod making;
 
 use super::*;
-use nb_port::{Fill, MemDisk};
+use nb_port::MemDisk;
 use nb_units::Blob;
 use std::alloc::Global;
+use std::process::Abort;
 use std::test::Fail;
 
 // Three items, of 50, 29 and 5 bytes.
@@ -26,15 +25,6 @@ const GATED: &[u8] = b"\xA5\0\0\0\x32The first item is fifty bytes long, counted
 const SECOND_BODY: &[u8] = b"\0\0\0\x1DTwenty-nine bytes, the second\0";
 
 const THIRD_BODY: &[u8] = b"\0\0\0\x05Five.\0";
-
-// What may stand where it is not sure what stays.
-const FILLS: [Fill; 5] = [
-    Fill::Old,
-    Fill::New,
-    Fill::Byte(0),
-    Fill::Byte(0xA5),
-    Fill::Byte(1),
-];
 
 // The bytes of a journal of at most four items, whose head is 80 times 11, and then these bytes.
 fn journal_of(alloc: Global, behind: &[&[u8]]) -> Result<Vec<u8>, Fail> {
@@ -93,12 +83,4 @@ fn append(journal: &mut Journal<MemDisk>, item: &[u8]) -> Result<Result<(), Appe
         return Err(Fail::new("the gate is past the content"));
     }
     Ok(journal.append(item))
-}
-
-// The image at a moment, where the calls go that far.
-fn image_at(alloc: Global, disk: &MemDisk, moment: u64, fill: Fill) -> Result<Blob, Fail> {
-    if moment / 2 + moment % 2 > disk.calls() {
-        return Err(Fail::new("the calls do not go that far"));
-    }
-    Ok(disk.image(alloc, moment, fill)?)
 }

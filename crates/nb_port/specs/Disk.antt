@@ -18,9 +18,9 @@ ReadsContent None place room buf n = ⊤
 ReadsContent (Some content) place room buf n = (n ≡ min room (length content - place)) × (take n buf ≡ take n (drop place content))
 
 -- the count of faults before and after, the content, the place, the room for bytes, the bytes there now
-abbrev pub DiskGives : ℕ → ℕ → Option (List ℕ) → ℕ → ℕ → List ℕ → DiskRead → Type 0
-DiskGives before after content place room buf (reads.Got n) = (n ≤ room) × ReadsContent content place room buf n
-DiskGives before after content place room buf reads.Failed = Rose before after
+abbrev pub DiskReadGives : ℕ → ℕ → Option (List ℕ) → ℕ → ℕ → List ℕ → DiskRead → Type 0
+DiskReadGives before after content place room buf (reads.Got n) = (n ≤ room) × ReadsContent content place room buf n
+DiskReadGives before after content place room buf reads.Failed = Rose before after
 
 -- ---- writing
 
@@ -47,9 +47,9 @@ MayTear (Some old) None place n = ⊥
 MayTear (Some old) (Some new) place n = Torn place n old new × (length new ≤ max (length old) (place + n))
 
 -- the counts of faults, the contents before and after, the place, the bytes
-abbrev pub WriteGives : ℕ → ℕ → Option (List ℕ) → Option (List ℕ) → ℕ → List ℕ → DiskOut → Type 0
-WriteGives before after old new place piece outs.Done = new ≡ wrote_at old place piece
-WriteGives before after old new place piece outs.Failed = Rose before after × MayTear old new place (length piece)
+abbrev pub DiskWriteGives : ℕ → ℕ → Option (List ℕ) → Option (List ℕ) → ℕ → List ℕ → DiskOut → Type 0
+DiskWriteGives before after old new place piece outs.Done = new ≡ wrote_at old place piece
+DiskWriteGives before after old new place piece outs.Failed = Rose before after × MayTear old new place (length piece)
 
 -- ---- images
 
@@ -70,9 +70,9 @@ abbrev pub NoneLost : (List ℕ → Type 0) → (List ℕ → Type 0) → Type 0
 NoneLost old new = (c : List ℕ) → old c → new c
 
 -- the counts of faults, the content, the images before and after
-abbrev pub SyncGives : ℕ → ℕ → Option (List ℕ) → (List ℕ → Type 0) → (List ℕ → Type 0) → DiskOut → Type 0
-SyncGives before after content old new outs.Done = Only content new
-SyncGives before after content old new outs.Failed = Rose before after × SameImages old new
+abbrev pub DiskSyncGives : ℕ → ℕ → Option (List ℕ) → (List ℕ → Type 0) → (List ℕ → Type 0) → DiskOut → Type 0
+DiskSyncGives before after content old new outs.Done = Only content new
+DiskSyncGives before after content old new outs.Failed = Rose before after × SameImages old new
 
 -- each new image is an old one after a step
 abbrev pub Follows : (List ℕ → List ℕ → Type 0) → (List ℕ → Type 0) → (List ℕ → Type 0) → Type 0

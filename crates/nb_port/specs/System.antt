@@ -1,6 +1,6 @@
 -- What an adapter over an object of std is seen as.
 use Rattle.std.specs.Prelude.{◌≡◌, ℕ, List, Option}
-use Rattle.nb_port.specs.Disk.{WriteGives}
+use Rattle.nb_port.specs.Disk.{DiskWriteGives}
 use Rattle.nb_port.specs.File.{Within}
 use Rattle.nb_port.specs.declared.disk.DiskOut.{DiskOut}
 use Rattle.nb_port.specs.declared.system.disk.FileState.{FileState}
@@ -25,4 +25,4 @@ StaysFailed old new told = old.state ≡ states.Failed → (new.file ≡ old.fil
 abbrev pub WritesFrom : {F : Type 0} → (F → Option (List ℕ)) → FileAdapter F → FileAdapter F → ℕ → List ℕ → DiskOut → Type 0
 WritesFrom content old new place piece out =
     (before : Option (List ℕ)) × (old.state ≡ states.Prepared → before ≡ content old.file)
-    × (Within before place → WriteGives old.faults new.faults before (content new.file) place piece out)
+    × (Within before place → DiskWriteGives old.faults new.faults before (content new.file) place piece out)

@@ -1,5 +1,5 @@
 ghost use Rattle.std.specs.Prelude.{◌≡◌, ℕ, ◌≤◌, ◌<◌, ◌+◌, ◌^◌, List, Option, Some, IfSome, length};
-ghost use Rattle.nb_port.specs.Disk.{DiskGives, WriteGives, SyncGives, Torn};
+ghost use Rattle.nb_port.specs.Disk.{DiskReadGives, DiskWriteGives, DiskSyncGives, Torn};
 ghost use Rattle.nb_port.specs.Tells.{DiskTells};
 ghost use Rattle.nb_port.specs.Disk.{SameImages, NoneNew, NoneLost, Follows, Elapses};
 
@@ -33,7 +33,7 @@ pub trait Disk {
     /// Reads the bytes from `place` on to the front of `buf`, as many as it holds and the content has: none, which is
     /// `Got(0)`, where the place is the content's end or past it. What a stop may leave stays as it is.
     fn read(&mut self, place: u64, buf: &mut [u8]) -> DiskRead
-        ensures gives { DiskGives (tells.faults self.old) (tells.faults self.new) (tells.content self.old) place
+        ensures gives { DiskReadGives (tells.faults self.old) (tells.faults self.new) (tells.content self.old) place
             (length buf.old) buf.new result }
         ensures content { tells.content self.new ≡ tells.content self.old }
         ensures images { SameImages (tells.allowed self.old) (tells.allowed self.new) }
@@ -45,7 +45,7 @@ pub trait Disk {
     fn write(&mut self, place: u64, piece: &[u8]) -> DiskOut
         requires inside { IfSome (tells.content self.old) (λ bytes. place ≤ length bytes) }
         requires small { place + length piece.now < 2 ^ 63 }
-        ensures gives { WriteGives (tells.faults self.old) (tells.faults self.new) (tells.content self.old) (tells.content self.new)
+        ensures gives { DiskWriteGives (tells.faults self.old) (tells.faults self.new) (tells.content self.old) (tells.content self.new)
             place piece.now result }
         ensures images { Follows (Torn place (length piece.now)) (tells.allowed self.old) (tells.allowed self.new) }
         ensures kept { NoneLost (tells.allowed self.old) (tells.allowed self.new) }
@@ -54,7 +54,7 @@ pub trait Disk {
 
     /// Makes all that was written stay. A sync that failed leaves what a stop may leave as it is.
     fn sync(&mut self) -> DiskOut
-        ensures gives { SyncGives (tells.faults self.old) (tells.faults self.new) (tells.content self.old)
+        ensures gives { DiskSyncGives (tells.faults self.old) (tells.faults self.new) (tells.content self.old)
             (tells.allowed self.old) (tells.allowed self.new) result }
         ensures content { tells.content self.new ≡ tells.content self.old }
         ensures images { NoneNew (tells.allowed self.old) (tells.allowed self.new) }

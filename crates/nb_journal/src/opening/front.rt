@@ -3,7 +3,7 @@
 ghost use Rattle.std.specs.Prelude.{◌≡◌, ◌≤◌, ◌-◌, length, IfSome, IfNone};
 ghost use Rattle.nb_journal.specs.declared.limits.TheConstants.{FRONT, MAGIC_BYTES};
 ghost use Rattle.nb_journal.specs.Reading.{found_in};
-ghost use Rattle.nb_journal.specs.Scanning.{FrontIs, FrontGives, TermsAre, NoTerms};
+ghost use Rattle.nb_journal.specs.Scanning.{FrontFrom, FrontGives, TermsAre, NoTerms};
 ghost use Rattle.nb_journal.specs.Time.{Untouched};
 
 use crate::limits::{CAP, FRONT, HEAD, MAGIC, MAGIC_BYTES, MAX_CAP, ZEROS};
@@ -45,7 +45,7 @@ pub(crate) fn read_front<D: Disk>(disk: &mut D) -> FrontRead
 // What the bytes are, where these are all of an image, or the first ninety-six of them.
 fn front_of(bytes: &[u8]) -> FrontRead
     requires { length bytes.now ≤ FRONT }
-    ensures { FrontIs bytes.now result }
+    ensures { FrontFrom bytes.now result }
 {
     let found = first_eight(bytes);
     if !same_bytes(&found, &MAGIC) {

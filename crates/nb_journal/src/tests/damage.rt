@@ -2,100 +2,139 @@
 
 use super::*;
 
-// Two items, of 50 and of 29 bytes: gates at 96, 151 and 185, and the end at 186.
-#[test]
-fn tells_where_it_is_cut(rt: HostRuntime) -> Result<(), Fail> {
-    let alloc = rt.alloc();
-    let whole = journal_of(alloc, &[GATED, b"\xA5", SECOND_BODY])?;
-    assert_eq!(rt; whole.len(), 186);
+// A journal of items of 50 and of 29 bytes, whose gates stand at 96, 151 and 185, cut at a length: up to which the first fault is
+// this one.
+static CUTS: [(usize, OpenFault); 5] = [
+    (8, OpenFault::Unborn { found: [0; 8] }),
+    (96, OpenFault::Damaged { item: 0, place: 8 }),
+    (151, OpenFault::Damaged { item: 0, place: 96 }),
+    (
+        185,
+        OpenFault::Damaged {
+            item: 1,
+            place: 151,
+        },
+    ),
+    (
+        186,
+        OpenFault::Damaged {
+            item: 2,
+            place: 185,
+        },
+    ),
+];
 
-    let unborn: [[u8; 8]; 8] = [
-        *b"\0\0\0\0\0\0\0\0",
-        *b"N\0\0\0\0\0\0\0",
-        *b"NB\0\0\0\0\0\0",
-        *b"NBJ\0\0\0\0\0",
-        *b"NBJR\0\0\0\0",
-        *b"NBJRN\0\0\0",
-        *b"NBJRNL\0\0",
-        *b"NBJRNL0\0",
-    ];
-    for i in 0..8 {
-        match items_of(alloc, whole.as_slice().split_at(i.min(whole.len())).0)? {
-            Ok(_) => return Err(Fail::new("it is a journal")),
-            Err(fault) => assert_eq!(rt; fault, OpenFault::Unborn { found: unborn[i] }, "at {i}"),
+// A byte of the front that is another, or what stands behind the front, where a journal has at most four items: and the fault.
+static FAULTS: [(usize, u8, &'static [u8], OpenFault); 11] = [
+    (
+        0,
+        b'n',
+        b"\0",
+        OpenFault::Unborn {
+            found: *b"nBJRNL01",
+        },
+    ),
+    (8, 1, b"\0", OpenFault::Damaged { item: 0, place: 8 }),
+    (11, 0, b"\0", OpenFault::Damaged { item: 0, place: 8 }),
+    (95, 1, b"\0", OpenFault::Damaged { item: 0, place: 8 }),
+    (95, 0, b"", OpenFault::Damaged { item: 0, place: 96 }),
+    (
+        95,
+        0,
+        b"\xA5\0\0\0",
+        OpenFault::Damaged { item: 0, place: 96 },
+    ),
+    (
+        95,
+        0,
+        b"\xA5\0\x20\0\x01_",
+        OpenFault::Damaged { item: 0, place: 96 },
+    ),
+    (
+        95,
+        0,
+        b"\xA5\0\0\0\x02a",
+        OpenFault::Damaged { item: 0, place: 96 },
+    ),
+    (
+        95,
+        0,
+        b"\xA5\0\0\0\x01a",
+        OpenFault::Damaged {
+            item: 1,
+            place: 102,
+        },
+    ),
+    (
+        95,
+        0,
+        b"\xA5\0\0\0\x01a\xA5\0\0\0\x01",
+        OpenFault::Damaged {
+            item: 1,
+            place: 102,
+        },
+    ),
+    (
+        95,
+        0,
+        b"\xA5\0\0\0\0\xA5\0\0\0\0\xA5\0\0\0\0\xA5\0\0\0\0\xA5\0\0\0\0\0",
+        OpenFault::Damaged {
+            item: 4,
+            place: 116,
+        },
+    ),
+];
+
+// The content is opened to this fault.
+fn is_told(
+    rt: &impl Abort,
+    alloc: Global,
+    case: usize,
+    content: &[u8],
+    want: OpenFault,
+) -> Result<(), Fail> {
+    match items_of(alloc, content)? {
+        Ok(_) => Err(Fail::new("it is a journal")),
+        Err(fault) => {
+            assert_eq!(rt; fault, want, "case {case}");
+            Ok(())
         }
     }
-
-    // Up to which length, and the item and place that are told.
-    let damaged: [(usize, u32, u64); 4] = [(96, 0, 8), (151, 0, 96), (185, 1, 151), (186, 2, 185)];
-    let mut from = 8;
-    for (to, item, place) in damaged {
-        for n in from..to {
-            match items_of(alloc, whole.as_slice().split_at(n.min(whole.len())).0)? {
-                Ok(_) => return Err(Fail::new("it is a journal")),
-                Err(fault) => assert_eq!(rt; fault, OpenFault::Damaged { item, place }, "at {n}"),
-            }
-        }
-        from = to;
-    }
-
-    assert!(rt; holds(alloc, whole.as_slice(), &[FIRST, SECOND])?);
-    Ok(())
 }
 
-// The first fault behind the front, and its place. The journals hold up to four items.
 #[test]
 fn tells_the_first_fault(rt: HostRuntime) -> Result<(), Fail> {
     let alloc = rt.alloc();
-    let cases: [(&[u8], u32, u64); 7] = [
-        (b"", 0, 96),
-        (b"\xA5\0\0\0", 0, 96),
-        (b"\xA5\0\x20\0\x01_", 0, 96),
-        (b"\xA5\0\0\0\x02a", 0, 96),
-        (b"\xA5\0\0\0\x01a", 1, 102),
-        (b"\xA5\0\0\0\x01a\xA5\0\0\0\x01", 1, 102),
-        (
-            b"\xA5\0\0\0\0\xA5\0\0\0\0\xA5\0\0\0\0\xA5\0\0\0\0\xA5\0\0\0\0\0",
-            4,
-            116,
-        ),
-    ];
-    for (behind, item, place) in cases {
-        let image = journal_of(alloc, &[behind])?;
-        match items_of(alloc, image.as_slice())? {
-            Ok(_) => return Err(Fail::new("it is a journal")),
-            Err(fault) => assert_eq!(rt; fault, OpenFault::Damaged { item, place }),
+    let whole = journal_of(alloc, &[GATED, b"\xA5", SECOND_BODY])?;
+    let mut from = 0;
+    for (to, want) in &CUTS {
+        for n in from..*to {
+            let front = whole.as_slice().split_at(n.min(whole.len())).0;
+            let want = match want {
+                OpenFault::Unborn { .. } => OpenFault::Unborn {
+                    found: padded(front),
+                },
+                other => *other,
+            };
+            is_told(&rt, alloc, n, front, want)?;
         }
+        from = *to;
+    }
+    assert!(rt; holds(alloc, whole.as_slice(), &[FIRST, SECOND])?);
+    for (case, (at, byte, behind, want)) in FAULTS.iter().enumerate() {
+        let mut image = journal_of(alloc, &[*behind])?;
+        if let Some(there) = image.get_mut(*at) {
+            *there = *byte;
+        }
+        is_told(&rt, alloc, case, image.as_slice(), *want)?;
     }
     Ok(())
 }
 
-// A byte of the front that is another.
-#[test]
-fn tells_a_bad_front(rt: HostRuntime) -> Result<(), Fail> {
-    let alloc = rt.alloc();
-    let cases: [(usize, u8, OpenFault); 4] = [
-        (
-            0,
-            b'n',
-            OpenFault::Unborn {
-                found: *b"nBJRNL01",
-            },
-        ),
-        (11, 0, OpenFault::Damaged { item: 0, place: 8 }),
-        (8, 1, OpenFault::Damaged { item: 0, place: 8 }),
-        (95, 1, OpenFault::Damaged { item: 0, place: 8 }),
-    ];
-    for (at, byte, want) in cases {
-        let mut image = journal_of(alloc, &[b"\0"])?;
-        if at >= image.len() {
-            return Err(Fail::new("it is past the image"));
-        }
-        image[at] = byte;
-        match items_of(alloc, image.as_slice())? {
-            Ok(_) => return Err(Fail::new("it is a journal")),
-            Err(fault) => assert_eq!(rt; fault, want),
-        }
-    }
-    Ok(())
+// Fewer than eight bytes, with zeros behind them.
+fn padded(bytes: &[u8]) -> [u8; 8] {
+    let mut all = [0; 8];
+    let n = bytes.len().min(8);
+    all[..n].copy_from_slice(&bytes[..n]);
+    all
 }

@@ -120,32 +120,3 @@ fn settles_after_a_fault(rt: HostRuntime) -> Result<(), Fail> {
     }
     Ok(())
 }
-
-// A stop at any moment of the append, and of settling, with any fill.
-#[test]
-fn a_stop_leaves_one_item_or_both(rt: HostRuntime) -> Result<(), Fail> {
-    let alloc = rt.alloc();
-    let one = journal_of(alloc, &[GATED, b"\0"])?;
-    for case in &CASES {
-        let mut journal = open(alloc, one.as_slice(), case.fails)?;
-        assert!(rt; append(&mut journal, SECOND)?.is_err());
-        for (want, _) in case.settles {
-            assert_eq!(rt; journal.settle(), *want);
-        }
-        let disk = journal.into_disk();
-        let last = disk.calls();
-        for moment in 10..2 * last + 1 {
-            for fill in FILLS {
-                let image = image_at(alloc, &disk, moment, fill)?;
-                let image = image.as_slice();
-                if !holds(alloc, image, &[FIRST])? {
-                    assert!(rt; holds(alloc, image, &[FIRST, SECOND])?);
-                }
-                if moment == 2 * last {
-                    assert!(rt; holds(alloc, image, case.items)?);
-                }
-            }
-        }
-    }
-    Ok(())
-}

@@ -1,5 +1,5 @@
 ghost use Rattle.std.specs.Prelude.{◌≡◌, ◌≢◌, ◌<◌, ◌≤◌, ◌+◌, ◌^◌, IfSome, None, length, take};
-ghost use Rattle.nb_port.specs.Disk.{DiskGives, WriteGives, MayTear, wrote_at};
+ghost use Rattle.nb_port.specs.Disk.{DiskReadGives, DiskWriteGives, MayTear, wrote_at};
 ghost use Rattle.nb_port.specs.Faults.{Rose};
 ghost use Rattle.nb_port.specs.File.{Within, ReadsPart};
 ghost use Rattle.nb_port.specs.System.{StaysFailed, WritesFrom};
@@ -120,7 +120,7 @@ impl<F: PositionalFile + Drop> Disk for FileDisk<F> {
     }
 
     fn read(&mut self, place: u64, buf: &mut [u8]) -> DiskRead
-        ensures bytes { DiskGives self.old.faults self.new.faults (F.content self.new.file) place (length buf.old) buf.new result }
+        ensures bytes { DiskReadGives self.old.faults self.new.faults (F.content self.new.file) place (length buf.old) buf.new result }
         ensures kept { self.old.state ≡ FileState.Prepared → (self.new.state ≡ FileState.Prepared) × (F.content self.new.file ≡ F.content self.old.file) }
         ensures first { result ≢ reads.Failed → self.new.state ≡ FileState.Prepared }
         ensures stays { StaysFailed self.old self.new (result ≡ reads.Failed) }
@@ -198,7 +198,7 @@ fn read_whole<F: PositionalFile>(
 ) -> DiskRead
     requires faithful { F.faithful file.old }
     requires named { F.named file.old }
-    ensures gives { DiskGives faults.old faults.new (F.content file.old) place (length buf.old) buf.new result }
+    ensures gives { DiskReadGives faults.old faults.new (F.content file.old) place (length buf.old) buf.new result }
     ensures content { F.content file.new ≡ F.content file.old }
     ensures faithful { F.faithful file.new }
     ensures named { F.named file.new }
@@ -257,7 +257,7 @@ fn write_whole<F: PositionalFile>(
     requires faithful { F.faithful file.old }
     requires named { F.named file.old }
     requires small { place + length piece.now < 2 ^ 63 }
-    ensures gives { Within (F.content file.old) place → WriteGives faults.old faults.new (F.content file.old) (F.content file.new) place piece.now result }
+    ensures gives { Within (F.content file.old) place → DiskWriteGives faults.old faults.new (F.content file.old) (F.content file.new) place piece.now result }
     ensures failed { result ≡ outs.Failed → Rose faults.old faults.new }
     ensures faithful { F.faithful file.new }
     ensures named { F.named file.new }
