@@ -1,6 +1,5 @@
 pub mod Backing
 pub mod Moments
-pub mod Parts
 pub mod Tears
 pub mod Stops
 pub mod Ranges

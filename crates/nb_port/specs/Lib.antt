@@ -3,11 +3,9 @@ pub mod Source
 pub mod Sink
 pub mod Tells
 pub mod Disk
-pub mod File
 pub mod Images
 pub mod Clock
 pub mod Calls
 pub mod Memory
 pub mod Laws
-pub mod System
 pub mod DiskLaws

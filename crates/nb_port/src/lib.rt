@@ -17,26 +17,18 @@
 //! made fail, and no others, but for want of memory. A [`MemDisk`] keeps a record of its calls, and gives an image at each
 //! moment, with what a [`Fill`] says in place of the bytes that are not sure to stay.
 //!
-//! [`StdSource`], [`StdSink`] and [`SystemClock`] stand over std's objects, and a [`FileDisk`] over a [`PositionalFile`]: the calls
-//! that it makes of a file, one each of the system. They tell nothing of content and images, since no contract can say what a
-//! file or a terminal gives or takes; but where a reader, a writer or a [`PositionalFile`] tells its bytes, their clauses speak
-//! of these. A [`FileDisk`] prepares its file before it reads or writes it, and makes no call of it any more once that or a sync
-//! failed. What is trusted of [`StdFile`] and [`SystemClock`] is one line for each call of the system.
+//! Left to others: the adapters to the system, of which none tells its content.
 #![tactic(auto)]
 
 mod clock;
 mod disk;
-mod file;
 pub mod laws;
 mod memory;
 mod sink;
 mod source;
-mod system;
 
 pub use clock::Clock;
 pub use disk::{Disk, DiskOut, DiskRead};
-pub use file::{FileRead, FileWrite, PositionalFile};
 pub use memory::{DiskStep, Fill, MemClock, MemDisk, MemSink, MemSource};
 pub use sink::{Sink, WriteOut};
 pub use source::{ReadOut, Source};
-pub use system::{FileDisk, FileState, StdFile, StdSink, StdSource, SystemClock};

@@ -7,7 +7,8 @@ ghost use Rattle.nb_port.specs.DiskLaws.{untold_fits};
 
 use super::faults::{AGAIN, FRAMES, REPLIES, WHOLE, refuse, repeated};
 use super::*;
-use nb_port::{DiskOut, FileDisk, FileRead, FileWrite, PositionalFile};
+use nb_port::DiskOut;
+use nb_system::{FileDisk, FileRead, FileWrite, PositionalFile};
 
 // No journal here is longer.
 const SIZE: usize = 1024;

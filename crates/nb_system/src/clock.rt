@@ -1,0 +1,62 @@
+ghost use Rattle.std.specs.Prelude.{◌≡◌, None};
+
+use std::marker::Model;
+use std::rt::Clock;
+use std::time::{SystemTime, UNIX_EPOCH};
+
+/// The system's clock.
+#[derive(Drop)]
+pub struct SystemClock<R: Clock + Drop> {
+    rt: R,
+}
+
+impl<R: Clock + Drop> Model for SystemClock<R> {
+    ghost Value = { R };
+
+    ghost view = { λ c. c.rt };
+}
+
+impl<R: Clock + Drop> SystemClock<R> {
+    /// The clock of the runtime `rt`. It gives 0 where the system knows no time, or one before 1970.
+    pub fn over(rt: R) -> SystemClock<R>
+        ensures { result ≡ rt }
+    {
+        SystemClock { rt }
+    }
+}
+
+impl<R: Clock + Drop> nb_port::Clock for SystemClock<R> {
+    ghost moments = { λ _. None };
+
+    fn now(&mut self) -> u64 {
+        match SystemTime::now(&self.rt) {
+            Ok(now) => match now.duration_since(UNIX_EPOCH) {
+                Ok(passed) => passed.as_secs(),
+                Err(_) => 0,
+            },
+            Err(_) => 0,
+        }
+    }
+}
+
+#[cfg(test)]
+mod tests {
+    use super::*;
+    use nb_port::Clock;
+    use std::test::Fail;
+
+    // 2020-01-01 00:00 UTC
+    const YEAR_2020: u64 = 1_577_836_800;
+
+    // 2200-01-01 00:00 UTC
+    const YEAR_2200: u64 = 7_258_118_400;
+
+    #[test]
+    fn gives_seconds_between_2020_and_2200(rt: HostRuntime) -> Result<(), Fail> {
+        let mut clock = SystemClock::over(rt.clone()?);
+        let now = clock.now();
+        assert!(rt; YEAR_2020 < now);
+        assert!(rt; now < YEAR_2200);
+        Ok(())
+    }
+}

@@ -1,0 +1,78 @@
+ghost use Rattle.std.specs.Prelude.{◌≡◌, ⊤, None, if◌then◌else◌};
+ghost use Rattle.nb_port.specs.DiskLaws.{untold_fits};
+
+use crate::file::{FileRead, FileWrite, PositionalFile};
+use nb_port::DiskOut;
+use std::fs::File;
+use std::io;
+use std::os::fd::AsRawFd;
+use std::os::unix::fs::FileExt;
+
+/// A file of std and its folder.
+#[derive(Drop)]
+pub struct StdFile {
+    file: File,
+    folder: File,
+}
+
+impl StdFile {
+    /// The file, in this folder.
+    pub fn over(file: File, folder: File) -> StdFile
+        ensures { result ≡ record { file = file; folder = folder } }
+    {
+        StdFile { file, folder }
+    }
+}
+
+impl PositionalFile for StdFile {
+    ghost content = { λ _. None };
+
+    ghost durable = { λ _. None };
+
+    ghost synced = { λ _. ⊤ };
+
+    ghost faithful = { λ _. ⊤ };
+
+    ghost named = { λ _. ⊤ };
+
+    ghost fits = { λ _ bytes is. untold_fits bytes is };
+
+    fn read_at(&mut self, place: u64, buf: &mut [u8]) -> FileRead {
+        match self.file.read_at(buf, place) {
+            Ok(n) => FileRead::Got(n),
+            Err(error) if error.kind() == io::ErrorKind::Interrupted => FileRead::Interrupted,
+            Err(_) => FileRead::Failed,
+        }
+    }
+
+    fn write_at(&mut self, place: u64, piece: &[u8]) -> FileWrite {
+        match self.file.write_at(piece, place) {
+            Ok(n) => FileWrite::Took(n),
+            Err(error) if error.kind() == io::ErrorKind::Interrupted => FileWrite::Interrupted,
+            Err(_) => FileWrite::Failed,
+        }
+    }
+
+    fn sync_all(&mut self) -> DiskOut {
+        done_if(self.file.sync_all().is_ok())
+    }
+
+    fn drop_pages(&mut self) -> DiskOut {
+        done_if(libc::posix_fadvise(self.file.as_raw_fd(), 0, 0, libc::POSIX_FADV_DONTNEED) == 0)
+    }
+
+    fn sync_folder(&mut self) -> DiskOut {
+        done_if(self.folder.sync_all().is_ok())
+    }
+}
+
+// What a call that worked, or failed, gives.
+fn done_if(worked: bool) -> DiskOut
+    ensures { result ≡ (if worked then DiskOut.Done else DiskOut.Failed) }
+{
+    if worked {
+        DiskOut::Done
+    } else {
+        DiskOut::Failed
+    }
+}
