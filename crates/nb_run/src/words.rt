@@ -62,7 +62,10 @@ fn number_of(word: &str) -> Option<u32>
     if !is_plain(word.as_bytes()) {
         return None;
     }
-    word.parse().ok()
+    match word.parse::<u32>() {
+        Ok(n) => Some(n),
+        Err(_) => None,
+    }
 }
 
 // Whether the word is not empty and has neither a plus nor a leading zero.
