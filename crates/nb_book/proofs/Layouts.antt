@@ -27,7 +27,7 @@ use Rattle.nb_units.specs.declared.ids.Price.{Price}
 use Rattle.nb_book.specs.Legal.{ReasonIsTrue}
 use Rattle.nb_book.specs.Spelling.{IsRole, IsEntry, entry_bytes, entries_bytes, bytes_of_kind}
 use Rattle.nb_book.specs.declared.spelling.EntryFault.{EntryFault}
-use Rattle.nb_book.specs.Reading.{ReadsEntry, is_role, enrol_of, fund_of, terms_of, paid_of, refused_of, behind_kind, entry_of, counted_from}
+use Rattle.nb_book.specs.Reading.{ReadsEntry, is_role, enrol_of, fund_of, terms_of, paid_of, refused_of, entry_of_kind, entry_of, counted_from}
 use Rattle.nb_book.specs.Laws.{EntryReadsBack, EntrySpellsBack, OneSpelling, EntryLayout, LegalKeepsRules}
 
 -- ---- the kind of an entry
@@ -140,7 +140,7 @@ record Kind (kind : ℕ) (fields_of : List ℕ → Result Entry ℕ) : Type 1 wh
   read_so : (bytes : List ℕ) → row.read Entry bytes 0 (λ p. Ok (made p)) ≡ (or_place (u8_at bytes 0) >>= λ k. allowed (k == kind) 0 >>= λ is. fields_of bytes)
   spelled_so : (p : Parts) → row.spelled p ≡ entry_bytes (made p)
   fits_so : (p : Parts) → row.fits p → IsEntry (made p)
-  picked : (bytes : List ℕ) → behind_kind kind bytes ≡ fields_of bytes
+  picked : (bytes : List ℕ) → entry_of_kind kind bytes ≡ fields_of bytes
   wide : (p : Parts) → row.behind 0 p ≡ bytes_of_kind (made p)
 
 -- behind its kind the row is read as its fields
@@ -295,7 +295,7 @@ either true a b y e first second = first refl e
 either false a b y e first second = second e
 
 -- what is read behind a kind is read as that of one of the four, or tells the place of the kind
-by_kind : {P : Type 0} (k : ℕ) (bytes : List ℕ) (y : Result Entry ℕ) → behind_kind k bytes ≡ y
+by_kind : {P : Type 0} (k : ℕ) (bytes : List ℕ) (y : Result Entry ℕ) → entry_of_kind k bytes ≡ y
     → ((kind : ℕ) (fields_of : List ℕ → Result Entry ℕ) → Kind kind fields_of → k ≡ kind → fields_of bytes ≡ y → P)
     → ((let none : Result Entry ℕ = Err 0 in none ≡ y) → P) → P
 by_kind k bytes y e one none =
@@ -324,7 +324,7 @@ by_entry P one (Refused digest order consumer merchant product price code a b mo
 pub front_found : (bytes : List ℕ) (e : Entry) → AreBytes bytes → entry_of bytes ≡ Ok e → IsEntry e × StandsAt (entry_bytes e) bytes 0
 unfolding entry_of
 front_found bytes e are is =
-    let k = read_found (u8_at bytes 0) (λ kind. behind_kind kind bytes) e is in
+    let k = read_found (u8_at bytes 0) (λ kind. entry_of_kind kind bytes) e is in
     by_kind k.0 bytes (Ok e) k.2 (λ kind fields_of K same read. kind_found K bytes e are (k.1 ∙ ap Ok same) read) (λ none. absurd cc)
 
 -- what stands at the front is read
@@ -338,7 +338,7 @@ pub front_within : (bytes : List ℕ) (bad : ℕ) → entry_of bytes ≡ Err bad
 unfolding entry_of
 front_within bytes bad e = which (u8_at bytes 0) refl e
   where
-    which : (r : Result ℕ CutFault) → u8_at bytes 0 ≡ r → (or_place r >>= λ kind. behind_kind kind bytes) ≡ Err bad → bad ≤ length bytes
+    which : (r : Result ℕ CutFault) → u8_at bytes 0 ≡ r → (or_place r >>= λ kind. entry_of_kind kind bytes) ≡ Err bad → bad ≤ length bytes
     which (Ok k) is e =
         by_kind k bytes (Err bad) e (λ kind fields_of K same read. kind_within K bytes bad (is ∙ ap Ok same) read) (λ none. let same : 0 ≡ bad = err_is 0 bad none in omega (arith, same))
     which (Err fault) is e =

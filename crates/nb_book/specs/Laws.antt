@@ -28,8 +28,8 @@ LimitsAre =
     × (CONSUMER ≡ 1) × (MERCHANT ≡ 2)
 
 -- the codes of refused orders in numbers, and which are the first and the last of them
-abbrev pub ReasonsAre : Type 0
-ReasonsAre =
+abbrev pub ReasonCodesAre : Type 0
+ReasonCodesAre =
     (CONSUMER_ACCOUNT ≡ 31) × (MERCHANT_ACCOUNT ≡ 32) × (PRICE_RANGE ≡ 33) × (TOO_OLD ≡ 34) × (TOO_EARLY ≡ 35) × (BALANCE_LOW ≡ 36)
     × (CONSUMER_NONCE ≡ 37) × (FIRST_REASON ≡ CONSUMER_ACCOUNT) × (LAST_REASON ≡ CONSUMER_NONCE)
 

@@ -76,8 +76,8 @@ refused_of bytes = do
   Ok (Refused terms.digest terms.epoid terms.consumer terms.merchant terms.product terms.price code a b moment)
 
 -- behind a kind: the fields of that kind, or no entry has it
-abbrev pub behind_kind : ℕ → List ℕ → Result Entry ℕ
-behind_kind kind bytes =
+abbrev pub entry_of_kind : ℕ → List ℕ → Result Entry ℕ
+entry_of_kind kind bytes =
     if kind == ENROL_ENTRY then enrol_of bytes
     else if kind == FUND_ENTRY then fund_of bytes
     else if kind == PAID_ENTRY then paid_of bytes
@@ -88,7 +88,7 @@ behind_kind kind bytes =
 unfoldable pub entry_of : List ℕ → Result Entry ℕ
 entry_of bytes = do
   kind ← or_place (u8_at bytes 0)
-  behind_kind kind bytes
+  entry_of_kind kind bytes
 
 -- the same, with its bad place counted from this one on
 abbrev pub counted_from : ℕ → Result Entry ℕ → Result Entry ℕ

@@ -29,8 +29,8 @@ abbrev pub terms_bytes : OrderTerms → List ℕ
 terms_bytes t = t.digest ++ epoid_bytes t.epoid ++ be4 t.consumer.0 ++ be4 t.merchant.0 ++ be4 t.product ++ be8 t.price.0
 
 -- each of them is within its limits
-abbrev pub AreTerms : OrderTerms → Type 0
-AreTerms t = (length t.digest ≡ 32) × IsEpoid t.epoid × (t.consumer.0 < 2 ^ 32) × (t.merchant.0 < 2 ^ 32) × (t.product < 2 ^ 32) × (t.price.0 < 2 ^ 64)
+abbrev pub AreOrderTerms : OrderTerms → Type 0
+AreOrderTerms t = (length t.digest ≡ 32) × IsEpoid t.epoid × (t.consumer.0 < 2 ^ 32) × (t.merchant.0 < 2 ^ 32) × (t.product < 2 ^ 32) × (t.price.0 < 2 ^ 64)
 
 -- how many bytes an entry of its kind has
 abbrev pub bytes_of_kind : Entry → ℕ

@@ -9,7 +9,7 @@ pub fn limits()
 
 /// The codes of refused orders in numbers.
 pub fn reasons()
-    ensures { law.ReasonsAre }
+    ensures { law.ReasonCodesAre }
 {}
 
 /// No balance is below zero: what was taken from an account is at most what came into it.

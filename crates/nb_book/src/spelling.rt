@@ -254,7 +254,7 @@ impl OrderTerms {
     fn write(&self, bytes: &mut Buffer)
         requires { length bytes.old + 68 ≤ MAX_BUFFER }
         ensures bytes { bytes.new ≡ bytes.old ++ spelling.terms_bytes self.now }
-        ensures fits { spelling.AreTerms self.now }
+        ensures fits { spelling.AreOrderTerms self.now }
         ensures long { length bytes.new ≡ length bytes.old + 68 }
     {
         bytes.raw(&self.digest);

@@ -45,9 +45,9 @@ use Rattle.nb_escrow.specs.Claims.{IsTrueRefusal}
 use Rattle.nb_escrow.specs.Enrolments.{enrol_entry, party_place, numbers_free, again_or_enrol, enrol_steps}
 use Rattle.nb_escrow.specs.Fundings.{fund_entry, funded_place, reference_new, account_held, total_within, again_or_fund, fund_steps}
 use Rattle.nb_escrow.specs.Held.{place_in, done}
-use Rattle.nb_escrow.specs.Laws.{IsAuthentic, IsEnrolment, IsFund, IsPayment, IsRefusedOrder, AreReceipts, IsStatus, PaidExactlyWhere, SettledExactlyWhere, RefusedForTrueReason, ToldExactlyWhere, EnrolledExactlyWhere, FundedExactlyWhere, AnsweredExactlyWhere, RefusalsAreTrue}
+use Rattle.nb_escrow.specs.Laws.{IsAuthentic, IsEnrolment, IsFund, IsPayment, IsRefusedOrder, AreReceipts, IsStatusReply, PaidExactlyWhere, PayableIsTold, SettledExactlyWhere, RefusedForTrueReason, ToldExactlyWhere, EnrolledExactlyWhere, FundedExactlyWhere, AnsweredExactlyWhere, RefusalsAreTrue}
 use Rattle.nb_escrow.specs.Orders.{endorsement_in, hidden_in, same_merchant, same_digest, settled, result, again_or_settle, order_steps}
-use Rattle.nb_escrow.specs.Payable.{IsAuthenticOrder, MaySettle, IsPayable, payment_of, IsTrueReason, refusal_of, TellsReason, digest_held}
+use Rattle.nb_escrow.specs.Payable.{IsAuthenticOrder, MaySettle, IsPayable, payment_of, TellsPayment, IsTrueReason, refusal_of, TellsReason, digest_held}
 use Rattle.nb_escrow.specs.Payments.{payment_steps, outcome_of}
 use Rattle.nb_escrow.specs.Requests.{enrolment_of, funding_of, endorsed_of}
 use Rattle.nb_escrow.specs.Settlements.{settlement_at, settlement_in, entry_with, settlement_entry, receipt_in_role, may_see}
@@ -231,6 +231,18 @@ pub paid_exactly_where : PaidExactlyWhere
 paid_exactly_where H head cap kind body moment e =
     (λ both. let r = recorded H head cap kind body moment e both.0 in paid_so H head cap kind body moment e r.0 both.1 r.2, is_paid H head cap kind body moment e)
 
+tells_payment : (p : Presented) (s : Settlement) (cacct macct : AcctId) → s.outcome ≡ outcome.Paid cacct macct p.endorsement.key
+    → TellsPayment p (Receipts (receipt_in_role MERCHANT s) (receipt_in_role CONSUMER s))
+unfolding receipt_in_role
+tells_payment p s cacct macct is = rw is (refl, refl, refl, refl)
+
+pub payable_is_told : PayableIsTold
+payable_is_told H head cap body moment p is =
+    let all : Pays H p moment = record { pays = is.pays; knows = is.knows; credited = is.credited; priced = is.priced; in_time = is.in_time; covered = is.covered } in
+    let paid = ap (outcome_of p) (pays_so H head cap ORDER_REQUEST body moment p all) in
+    subst (TellsPayment p) (sym (ap (λ (d : Decision). d.reply) (settles_now H head cap ORDER_REQUEST body moment refl p is.settles)))
+    (tells_payment p (settled H p moment) p.consumer.acct p.merchant.acct paid)
+
 pub settled_exactly_where : SettledExactlyWhere
 settled_exactly_where H head cap kind body moment = (
   λ all. let r = recorded H head cap kind body moment all.0 all.1 in settles_so H head cap kind body moment all.0 r.0 all.2 r.2,
@@ -358,10 +370,10 @@ told_exactly_where H head cap kind body moment = (λ both. forth (steps H head c
 pub answered_exactly_where : AnsweredExactlyWhere
 answered_exactly_where H head cap kind body moment = (forth (steps H head cap kind body moment) (comes H head cap kind body moment), back)
   where
-    replies : (d d' : Decision) → d ≡ d' → IsStatus d.reply → IsStatus d'.reply
-    replies d d' same is = subst (λ (x : Decision). IsStatus x.reply) same is
+    replies : (d d' : Decision) → d ≡ d' → IsStatusReply d.reply → IsStatusReply d'.reply
+    replies d d' same is = subst (λ (x : Decision). IsStatusReply x.reply) same is
 
-    answered : (d : Decision) → Comes H head cap kind body moment (Ok d) → IsStatus d.reply → (kind ≡ STATUS_REQUEST) × ((asked : StatusQuery) × IsAuthentic H body asked × (asked.least ≤ length H))
+    answered : (d : Decision) → Comes H head cap kind body moment (Ok d) → IsStatusReply d.reply → (kind ≡ STATUS_REQUEST) × ((asked : StatusQuery) × IsAuthentic H body asked × (asked.least ≤ length H))
     answered d (inl (is, (p, authentic, inl (s, held, same, d_is)))) it = absurd (replies d _ d_is it)
     answered d (inl (is, (p, authentic, inr (new, room, d_is)))) it = absurd (replies d _ d_is it)
     answered d (inr (inl (is, (asked, authentic, least, d_is)))) it = (is, (asked, authentic, least))
@@ -370,15 +382,15 @@ answered_exactly_where H head cap kind body moment = (forth (steps H head cap ki
     answered d (inr (inr (inr (is, (asked, spelled, right, inl (at, d_is)))))) it = absurd (replies d _ d_is it)
     answered d (inr (inr (inr (is, (asked, spelled, right, inr (next, room, d_is)))))) it = absurd (replies d _ d_is it)
 
-    forth : (r : Answer) → Comes H head cap kind body moment r → IsStatus (told r).reply → (kind ≡ STATUS_REQUEST) × ((asked : StatusQuery) × IsAuthentic H body asked × (asked.least ≤ length H))
+    forth : (r : Answer) → Comes H head cap kind body moment r → IsStatusReply (told r).reply → (kind ≡ STATUS_REQUEST) × ((asked : StatusQuery) × IsAuthentic H body asked × (asked.least ≤ length H))
     forth (Ok d) it is = answered d it is
     forth (Err why) it is = absurd is
 
-    back : (kind ≡ STATUS_REQUEST) × ((asked : StatusQuery) × IsAuthentic H body asked × (asked.least ≤ length H)) → IsStatus (verdict H head cap kind body moment).reply
+    back : (kind ≡ STATUS_REQUEST) × ((asked : StatusQuery) × IsAuthentic H body asked × (asked.least ≤ length H)) → IsStatusReply (verdict H head cap kind body moment).reply
     back (is, (asked, authentic, least)) =
         let same : verdict H head cap kind body moment ≡ status_told H head authentic.asker asked =
         ap told (ap (λ (k : ℕ). steps H head cap k body moment) is ∙ passes H head body asked authentic least) in
-        subst (λ (d : Decision). IsStatus d.reply) (sym same) tt
+        subst (λ (d : Decision). IsStatusReply d.reply) (sym same) tt
 
 -- ---- an enrolment
 

@@ -46,7 +46,7 @@ use Rattle.nb_escrow.specs.Orders.{endorsement_in, hidden_in, same_merchant, sam
 use Rattle.nb_escrow.specs.Payments.{payment_steps}
 use Rattle.nb_escrow.specs.Settlements.{settlement_at, settlement_of, settlement_in, settlement_entry}
 use Rattle.nb_escrow.specs.Statuses.{enough_entries, status_told, status_steps}
-use Rattle.nb_escrow.specs.Payable.{IsAsked, IsEndorsed, IsOrdered, IsSigned, IsAuthenticOrder, IsTrueReason, digest_held}
+use Rattle.nb_escrow.specs.Payable.{IsAsked, IsEndorsed, IsOrdered, IsSignedOrder, IsAuthenticOrder, IsTrueReason, digest_held}
 use Rattle.nb_escrow.specs.Claims.{IsNotSealed, IsSealedBadly, IsHeld, IsFundedOtherwise, HasNoHolder, IsTooMuch, AreTooFew, IsTrueOfRequest, IsTrueOfOrder, IsTrueOfHidden, IsTrueOfPresented, IsTrueOfQuery, IsTrueOfEnrolment, IsTrueOfFunding, IsTrueRefusal}
 use Rattle.nb_escrow.specs.Laws.{IsAuthentic}
 use Rattle.nb_escrow.specs.Verdict.{steps}
@@ -178,7 +178,7 @@ order_comes H head cap body moment =
     let names = merchant_so request.merchant order u is in
     behind C (right_tag order.tag (order_tag consumer.key order)) _
     (λ why is. inr (inl (inr (request, merchant, endorsement, order, ordered, inr (inr (consumer, buyer.0, other_tag order.tag (order_tag consumer.key order) why is)))))) (λ v is.
-    let signed : IsSigned H body request merchant endorsement order consumer = record {
+    let signed : IsSignedOrder H body request merchant endorsement order consumer = record {
       ordered = ordered;
       enrolled = buyer.0;
       buys = buyer.1;

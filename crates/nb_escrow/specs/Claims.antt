@@ -28,7 +28,7 @@ use Rattle.nb_escrow.specs.declared.order.Presented.{Presented}
 use Rattle.nb_escrow.specs.declared.status.StatusQuery.{StatusQuery}
 use Rattle.nb_escrow.specs.Requests.{endorsed_of, query_of, enrolment_of, funding_of}
 use Rattle.nb_escrow.specs.Checks.{signed_part}
-use Rattle.nb_escrow.specs.Payable.{IsAsked, IsEndorsed, IsOrdered, IsSigned, IsAuthenticOrder, digest_held}
+use Rattle.nb_escrow.specs.Payable.{IsAsked, IsEndorsed, IsOrdered, IsSignedOrder, IsAuthenticOrder, digest_held}
 
 -- ---- what several kinds claim
 
@@ -88,7 +88,7 @@ IsTrueOfOrder H body r =
 -- its hidden part is no seal, or fails
 abbrev pub IsTrueOfHidden : List Entry → List ℕ → Refusal → Type 0
 IsTrueOfHidden H body r =
-    (request : EndorsedOrder) × (merchant : Party) × (endorsement : Endorsement) × (order : Order) × (consumer : Party) × IsSigned H body request merchant endorsement order consumer
+    (request : EndorsedOrder) × (merchant : Party) × (endorsement : Endorsement) × (order : Order) × (consumer : Party) × IsSignedOrder H body request merchant endorsement order consumer
     × (IsNotSealed consumer.key (codes "hide") order.hidden r ⊎ IsSealedBadly IN_HIDDEN hidden_of consumer.key (codes "hide") order.hidden r)
 
 -- it is authentic, and its identifier is used, or it is new and there is no room

@@ -28,7 +28,7 @@ use Rattle.nb_escrow.specs.Requests.{query_of, enrolment_of, funding_of}
 use Rattle.nb_escrow.specs.Checks.{signed_part}
 use Rattle.nb_escrow.specs.Enrolments.{enrol_entry}
 use Rattle.nb_escrow.specs.Fundings.{fund_entry}
-use Rattle.nb_escrow.specs.Payable.{IsAuthenticOrder, MaySettle, IsPayable, payment_of, IsTrueReason, refusal_of, TellsReason, digest_held}
+use Rattle.nb_escrow.specs.Payable.{IsAuthenticOrder, MaySettle, IsPayable, payment_of, TellsPayment, IsTrueReason, refusal_of, TellsReason, digest_held}
 use Rattle.nb_escrow.specs.Claims.{IsTrueRefusal}
 use Rattle.nb_escrow.specs.Verdict.{verdict}
 
@@ -109,9 +109,9 @@ abbrev pub AreReceipts : Reply → Type 0
 AreReceipts (Receipts merchant consumer) = Unit {0}
 AreReceipts other = ⊥
 
-abbrev pub IsStatus : Reply → Type 0
-IsStatus (Status place epoid receipt) = Unit {0}
-IsStatus other = ⊥
+abbrev pub IsStatusReply : Reply → Type 0
+IsStatusReply (Status place epoid receipt) = Unit {0}
+IsStatusReply other = ⊥
 
 -- an entry that is recorded for a request, if any, is a payment exactly where the request is an endorsed order that is payable, and it is
 -- the payment of that order
@@ -124,6 +124,11 @@ PaidWherePayable H cap kind body moment recorded = (entry : Entry)
 abbrev pub PaidExactlyWhere : Type 0
 PaidExactlyWhere = (H : List Entry) (head : Head) (cap kind : ℕ) (body : List ℕ) (moment : ℕ)
     → PaidWherePayable H cap kind body moment (verdict H head cap kind body moment).entry
+
+-- A payable order is told that it is paid.
+abbrev pub PayableIsTold : Type 0
+PayableIsTold = (H : List Entry) (head : Head) (cap : ℕ) (body : List ℕ) (moment : ℕ) (p : Presented) → IsPayable H cap body moment p
+    → TellsPayment p (verdict H head cap ORDER_REQUEST body moment).reply
 
 -- An order is recorded, as paid or as refused, exactly where it may be settled.
 abbrev pub SettledExactlyWhere : Type 0
@@ -161,7 +166,7 @@ FundedExactlyWhere = (H : List Entry) → Legal H → (head : Head) (cap kind : 
 -- A status is told exactly where the query is authentic and at least as many entries are held as it asks for.
 abbrev pub AnsweredExactlyWhere : Type 0
 AnsweredExactlyWhere = (H : List Entry) (head : Head) (cap kind : ℕ) (body : List ℕ) (moment : ℕ)
-    → IsStatus (verdict H head cap kind body moment).reply
+    → IsStatusReply (verdict H head cap kind body moment).reply
     ↔ ((kind ≡ STATUS_REQUEST) × ((asked : StatusQuery) × IsAuthentic H body asked × (asked.least ≤ length H)))
 
 -- Over a Legal list each refusal is true: what its code claims holds of the entries and of the request, and so do its numbers.

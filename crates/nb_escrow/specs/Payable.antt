@@ -13,6 +13,7 @@ use Rattle.nb_epo.specs.declared.order.Order.{Order}
 use Rattle.nb_epo.specs.Reading.{order_of, hidden_of}
 use Rattle.nb_epo.specs.Tags.{order_tag}
 use Rattle.nb_endorse.specs.declared.endorsement.Endorsement.{Endorsement}
+use Rattle.nb_endorse.specs.declared.receipt.TheConstants.{PAID_CODE}
 use Rattle.nb_endorse.specs.declared.reply.Reply.{Reply}
 use Rattle.nb_endorse.specs.declared.reply.Reply.TheVariants.{Result as Receipts}
 use Rattle.nb_endorse.specs.Reading.{endorsement_of}
@@ -40,7 +41,7 @@ pub record IsOrdered (H : List Entry) (body : List ℕ) (request : EndorsedOrder
   pub spelled : order_of endorsement.order ≡ Ok order
 
 -- which a party that is enrolled as a consumer signed, for the merchant that endorses it
-pub record IsSigned (H : List Entry) (body : List ℕ) (request : EndorsedOrder) (merchant : Party) (endorsement : Endorsement) (order : Order) (consumer : Party) : Type 0 where
+pub record IsSignedOrder (H : List Entry) (body : List ℕ) (request : EndorsedOrder) (merchant : Party) (endorsement : Endorsement) (order : Order) (consumer : Party) : Type 0 where
   pub ordered : IsOrdered H body request merchant endorsement order
   pub enrolled : party_in H order.consumer ≡ Some consumer
   pub buys : consumer.role ≡ CONSUMER
@@ -51,7 +52,7 @@ pub record IsSigned (H : List Entry) (body : List ℕ) (request : EndorsedOrder)
 -- an endorsed order is authentic over these entries: it is so, and its hidden part is sealed under the consumer's key
 pub record IsAuthenticOrder (H : List Entry) (body : List ℕ) (p : Presented) : Type 0 where
   pub request : EndorsedOrder
-  pub signed : IsSigned H body request p.merchant p.endorsement p.order p.consumer
+  pub signed : IsSignedOrder H body request p.merchant p.endorsement p.order p.consumer
   pub opens : OpensAs hidden_of p.consumer.key (codes "hide") p.order.hidden (Ok p.hidden)
   pub hashed : p.digest ≡ endorsement_digest p.endorsement
 
@@ -74,6 +75,13 @@ pub record IsPayable (H : List Entry) (cap : ℕ) (body : List ℕ) (moment : �
 -- the payment of it
 abbrev pub payment_of : Presented → ℕ → Entry
 payment_of p moment = entries.Paid p.digest p.order.epoid p.order.consumer p.order.merchant p.order.product p.order.price p.consumer.acct p.merchant.acct moment p.endorsement.key
+
+-- both receipts say paid, and have the key of the endorsement
+abbrev pub TellsPayment : Presented → Reply → Type 0
+TellsPayment p (Receipts merchant consumer) =
+    (merchant.code ≡ PAID_CODE) × (consumer.code ≡ PAID_CODE)
+    × (merchant.key ≡ Some p.endorsement.key) × (consumer.key ≡ Some p.endorsement.key)
+TellsPayment p other = ⊥
 
 -- what the reason says is true: 31, 37 and 32 show what was named and what is enrolled, 33 the price and the highest, 34 and 35 the
 -- later moment and the earlier, 36 the balance and the price

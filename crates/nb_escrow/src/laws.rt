@@ -33,6 +33,11 @@ pub fn paid_exactly_where()
     ensures { law.PaidExactlyWhere }
 {}
 
+/// Both parties of a payable order are told that it is paid, with the key of the endorsement.
+pub fn payable_is_told()
+    ensures { law.PayableIsTold }
+{}
+
 /// An order is recorded, as paid or as refused, exactly where it is authentic, its identifier is new, and there is room.
 pub fn settled_exactly_where()
     ensures { law.SettledExactlyWhere }
