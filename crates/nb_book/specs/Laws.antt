@@ -11,7 +11,8 @@ use Rattle.nb_units.specs.Laws.{StandsAt}
 use Rattle.nb_book.specs.declared.entry.Entry.{Entry}
 use Rattle.nb_book.specs.declared.entry.Entry.TheVariants.{Enrol, Fund, Paid}
 use Rattle.nb_book.specs.declared.entry.TheConstants.{CONSUMER, MERCHANT}
-use Rattle.nb_book.specs.declared.limits.TheConstants.{MAX_CAP, MAX_TOTAL, MAX_PRICE, MAX_AGE, MAX_AHEAD}
+use Rattle.nb_units.specs.declared.limits.TheConstants.{MAX_CAP}
+use Rattle.nb_book.specs.declared.limits.TheConstants.{MAX_TOTAL, MAX_PRICE, MAX_AGE, MAX_AHEAD}
 use Rattle.nb_book.specs.declared.reason.TheConstants.{CONSUMER_ACCOUNT, MERCHANT_ACCOUNT, PRICE_RANGE, TOO_OLD, TOO_EARLY, BALANCE_LOW, CONSUMER_NONCE}
 use Rattle.nb_units.specs.declared.reason.TheConstants.{FIRST_REASON, LAST_REASON}
 use Rattle.nb_book.specs.Searches.{holder_in, settles}

@@ -1,5 +1,6 @@
 ghost use Rattle.std.specs.Prelude.{◌≡◌, ◌≤◌, ◌<◌, ◌+◌, ◌↔◌, [], ◌∷◌, ◌++◌, length, IsTrue, IsOk, IfOk, IfSome, OnOk, OnErr};
-ghost use Rattle.nb_book.specs.declared.limits.TheConstants.{MAX_CAP, MAX_TOTAL};
+ghost use Rattle.nb_units.specs.declared.limits.TheConstants.{MAX_CAP};
+ghost use Rattle.nb_book.specs.declared.limits.TheConstants.{MAX_TOTAL};
 ghost use Rattle.nb_book.specs.Searches.{party_in, holder_in, funded_in, order_in};
 ghost use Rattle.nb_book.specs.Money.{account_in, balance, total};
 ghost use Rattle.nb_book.specs.Legal.{LegalAfter, Legal};
@@ -26,7 +27,7 @@ pub struct Book {
 
 impl Model for Book {
     ghost use Rattle.std.specs.Prelude.{◌≤◌, ◌+◌, vec_len, vec_capacity};
-    ghost use Rattle.nb_book.specs.declared.limits.TheConstants.{MAX_CAP};
+    ghost use Rattle.nb_units.specs.declared.limits.TheConstants.{MAX_CAP};
     ghost use Rattle.nb_book.specs.Ledger.{Ledger};
     ghost use Rattle.nb_book.specs.Legal.{Legal};
 

@@ -1,10 +1,7 @@
 ghost use Rattle.std.specs.Prelude.{◌≡◌};
 ghost use Rattle.nb_escrow.specs.Head.{head_of};
 
-use nb_units::Secret;
-
-/// The bytes of a head.
-pub const HEAD: usize = 80;
+use nb_units::{HEAD, Secret};
 
 // The bytes of the house's key, and of the operator's.
 const KEY: usize = 32;

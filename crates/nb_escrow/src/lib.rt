@@ -31,7 +31,7 @@ mod status;
 pub use decision::{Decision, decide};
 pub use enrolment::Enrolment;
 pub use funding::Funding;
-pub use head::{HEAD, Head};
+pub use head::Head;
 pub use order::{EndorsedOrder, Presented};
 pub use settlement::{PaymentOutcome, RefusalReason, Settlement};
 pub use status::StatusQuery;

@@ -3,7 +3,8 @@ use Rattle.std.specs.Prelude.{◌≡◌, ℕ, ◌+◌, ◌≤◌, List, ◌∷�
 use Rattle.std.specs.List.{AllByRecursion}
 use Rattle.nb_units.specs.Fields.{be4}
 use Rattle.nb_units.specs.Frames.{AreBytes}
-use Rattle.nb_journal.specs.declared.limits.TheConstants.{FRONT, HEAD, MAX_ITEM, MAX_CAP}
+use Rattle.nb_units.specs.declared.limits.TheConstants.{HEAD, MAX_CAP}
+use Rattle.nb_journal.specs.declared.limits.TheConstants.{FRONT, MAX_ITEM}
 use Rattle.nb_journal.specs.Layout.{magic, front_bytes, AreTerms, IsItem, item_bytes}
 use Rattle.nb_journal.specs.Reading.{Holds, IsDamaged, IsUnborn}
 use Rattle.nb_journal.specs.Stands.{Stands}

@@ -2,7 +2,8 @@
 use Rattle.std.specs.Prelude.{◌≡◌, ℕ, ◌≤◌, List, [], ◌∷◌, ◌++◌, length, replicate}
 use Rattle.std.specs.List.{flat_map}
 use Rattle.nb_units.specs.Fields.{be4, sized}
-use Rattle.nb_journal.specs.declared.limits.TheConstants.{HEAD, MAX_ITEM, MAX_CAP}
+use Rattle.nb_units.specs.declared.limits.TheConstants.{HEAD, MAX_CAP}
+use Rattle.nb_journal.specs.declared.limits.TheConstants.{MAX_ITEM}
 
 -- what a journal begins with, NBJRNL01
 abbrev pub magic : List ℕ

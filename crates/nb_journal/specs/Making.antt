@@ -7,7 +7,7 @@ use Rattle.nb_journal.specs.declared.making.InitFault.{InitFault}
 use Rattle.nb_journal.specs.declared.making.InitFault.TheVariants as inits
 use Rattle.nb_journal.specs.declared.making.MagicRead.{MagicRead}
 use Rattle.nb_journal.specs.declared.making.MagicRead.TheVariants as magics
-use Rattle.nb_journal.specs.declared.limits.TheConstants.{MAX_CAP}
+use Rattle.nb_units.specs.declared.limits.TheConstants.{MAX_CAP}
 use Rattle.nb_journal.specs.Layout.{magic, front_bytes}
 use Rattle.nb_journal.specs.Reading.{found_in}
 use Rattle.nb_journal.specs.Stands.{Stands}

@@ -1,5 +1,6 @@
 ghost use Rattle.std.specs.Prelude.{ℕ, ◌≡◌, ◌≤◌, ◌<◌, ◌+◌, ◌*◌, true, length};
-ghost use Rattle.nb_journal.specs.declared.limits.TheConstants.{FRONT, AROUND, MAX_ITEM, MAX_CAP};
+ghost use Rattle.nb_units.specs.declared.limits.TheConstants.{MAX_CAP};
+ghost use Rattle.nb_journal.specs.declared.limits.TheConstants.{FRONT, AROUND, MAX_ITEM};
 
 mod appending;
 mod resting;

@@ -1,3 +1,5 @@
+pub use nb_units::{HEAD, MAX_CAP};
+
 /// What a journal begins with, `NBJRNL01`.
 pub const MAGIC: [u8; MAGIC_BYTES] = *b"NBJRNL01";
 
@@ -6,9 +8,6 @@ pub const MAGIC_BYTES: usize = 8;
 
 /// The bytes of a cap.
 pub const CAP: usize = 4;
-
-/// The bytes of a head.
-pub const HEAD: usize = 80;
 
 /// The zeros behind a head.
 pub const ZEROS: usize = 4;
@@ -27,9 +26,6 @@ pub const AROUND: u64 = LEAD as u64;
 
 /// The most bytes of an item.
 pub const MAX_ITEM: u32 = 2_097_152;
-
-/// The most items of a journal.
-pub const MAX_CAP: u32 = 1_000_000;
 
 /// A gate that is open.
 pub const OPEN: u8 = 0xA5;

@@ -4,7 +4,7 @@ use Rattle.std.specs.Io.KnownBytes.{Consumes, Keeps, IsAtEnd}
 use Rattle.std.proofs.KnownBytes.{Consumes-trans, Consumes-kept}
 use Rattle.std.proofs.lemmas.List.{length-take-le}
 use Rattle.std.proofs.Math.Seq.{take-append-add, take-append_seam}
-use Rattle.nb_journal.specs.declared.limits.TheConstants.{HEAD}
+use Rattle.nb_units.specs.declared.limits.TheConstants.{HEAD}
 use Rattle.nb_run.specs.declared.init.HeadRead.{HeadRead}
 use Rattle.nb_run.specs.declared.init.HeadRead.TheVariants as reads
 use Rattle.nb_run.specs.Init.{TookOther, TookPart, HeadGives, CountedAs}

@@ -5,7 +5,7 @@ use Rattle.std.proofs.lemmas.List.{length-append}
 use Rattle.std.proofs.lemmas.Option.{same_Some}
 use Rattle.nb_port.specs.Tells.{DiskTells}
 use Rattle.nb_port.specs.Faults.{Rose}
-use Rattle.nb_journal.specs.declared.limits.TheConstants.{HEAD}
+use Rattle.nb_units.specs.declared.limits.TheConstants.{HEAD}
 use Rattle.nb_journal.specs.Layout.{magic}
 use Rattle.nb_journal.specs.Making.{IsCap}
 use Rattle.nb_journal.specs.Reading.{found_in}

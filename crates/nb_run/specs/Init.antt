@@ -4,7 +4,7 @@ use Rattle.std.specs.Io.KnownBytes.{Consumes, IsAtEnd}
 use Rattle.nb_port.specs.Tells.{DiskTells}
 use Rattle.nb_port.specs.Disk.{SameImages, wrote_at}
 use Rattle.nb_port.specs.Faults.{Rose}
-use Rattle.nb_journal.specs.declared.limits.TheConstants.{HEAD}
+use Rattle.nb_units.specs.declared.limits.TheConstants.{HEAD}
 use Rattle.nb_journal.specs.Layout.{magic, front_bytes}
 use Rattle.nb_journal.specs.Making.{IsCap}
 use Rattle.nb_journal.specs.Reading.{found_in}

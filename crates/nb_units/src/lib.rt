@@ -38,7 +38,7 @@ pub use buffer::{Buffer, MAX_BUFFER};
 pub use cut::{Cut, CutFault};
 pub use epoid::Epoid;
 pub use ids::{AcctId, Digest, PartyId, Price, Secret, Tag};
-pub use limits::{MAX_HIDDEN, MAX_MEMO, MAX_ORDER};
+pub use limits::{HEAD, MAX_CAP, MAX_HIDDEN, MAX_MEMO, MAX_ORDER};
 pub use malformed::{Malformed, allow};
 pub use memory::{NoMemory, room};
 pub use number::u32_of;

@@ -1,6 +1,13 @@
-//! The most bytes of what parties write. All of it follows from [`MAX_MEMO`] and the widths of the fields.
+//! How many entries a house may hold, how long its head is, and the most bytes of what parties write. These follow from [`MAX_MEMO`] and
+//! the widths of the fields.
 
 use crate::width::{ACCOUNT, DIGEST, EPOID, LENGTH, MONEY, NONCE, PARTY, PRODUCT, SEAL, TAG};
+
+/// The most entries that a house can be made for, and the most items of its journal.
+pub const MAX_CAP: u32 = 1_000_000;
+
+/// The bytes of the head of a house.
+pub const HEAD: usize = 80;
 
 /// The most bytes of a memo, which is a party's own note.
 pub const MAX_MEMO: usize = 64;

@@ -1,7 +1,7 @@
 // The entries of a journal's items, into a book.
 
 ghost use Rattle.std.specs.Prelude.{◌≡◌, ◌≤◌, [], length};
-ghost use Rattle.nb_book.specs.declared.limits.TheConstants.{MAX_CAP};
+ghost use Rattle.nb_units.specs.declared.limits.TheConstants.{MAX_CAP};
 ghost use Rattle.nb_vault.specs.Restoring.{ItemGives, ItemsRestore, IsList};
 
 use nb_book::{Book, MAX_ITEM_ENTRIES, read_entry};

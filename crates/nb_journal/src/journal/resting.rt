@@ -1,5 +1,6 @@
 ghost use Rattle.std.specs.Prelude.{◌≤◌, ◌+◌, ◌*◌, IfOk, IfErr, ◌≡◌};
-ghost use Rattle.nb_journal.specs.declared.limits.TheConstants.{FRONT, AROUND, MAX_ITEM, MAX_CAP};
+ghost use Rattle.nb_units.specs.declared.limits.TheConstants.{MAX_CAP};
+ghost use Rattle.nb_journal.specs.declared.limits.TheConstants.{FRONT, AROUND, MAX_ITEM};
 ghost use Rattle.nb_journal.specs.States.{IsOver};
 
 use crate::journal::Journal;

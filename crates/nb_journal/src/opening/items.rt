@@ -1,7 +1,7 @@
 // The items of a journal, from the first gate on.
 
 ghost use Rattle.std.specs.Prelude.{◌≤◌};
-ghost use Rattle.nb_journal.specs.declared.limits.TheConstants.{MAX_CAP};
+ghost use Rattle.nb_units.specs.declared.limits.TheConstants.{MAX_CAP};
 ghost use Rattle.nb_journal.specs.Scanning.{ItemsGive};
 ghost use Rattle.nb_journal.specs.Time.{Untouched};
 

@@ -1,6 +1,6 @@
 use Rattle.std.proofs.Common.{◌+◌, ◌-◌, ◌≤◌, ◌≡◌, length, take}
 use Rattle.std.specs.Io.KnownBytes.{Consumes}
-use Rattle.nb_journal.specs.declared.limits.TheConstants.{HEAD}
+use Rattle.nb_units.specs.declared.limits.TheConstants.{HEAD}
 use Rattle.nb_run.proofs.init.read_head.Given as goal
 
 -- what was taken so far are the first bytes
