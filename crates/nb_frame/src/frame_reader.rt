@@ -3,7 +3,7 @@ ghost use Rattle.std.specs.Int.{w32, from_be_bytes};
 ghost use Rattle.std.specs.Io.KnownBytes.{Consumes};
 ghost use Rattle.nb_units.specs.declared.frames.TheConstants.{HEADER};
 ghost use Rattle.nb_units.specs.Frames.{Partial, front_of};
-ghost use Rattle.nb_frame.specs.Reader.{NextIs, Took, FilledIs, FrontIs, EndsIn};
+ghost use Rattle.nb_frame.specs.Reader as reader;
 
 use nb_port::{ReadOut, Source};
 use nb_units::frames::{FIRST_MAGIC, HEADER, LAST_KIND, MAX_BODY, SECOND_MAGIC, VERSION};
@@ -44,7 +44,7 @@ impl Front {
     // What stands at the front of these bytes.
     #[tactic(auto, unfolding(nb_units::specs::Frames::front_of))]
     fn of(bytes: &[u8]) -> Front
-        ensures { FrontIs result (front_of bytes.now) }
+        ensures { reader.FrontIs result (front_of bytes.now) }
     {
         if bytes.is_empty() {
             return Front::Empty;
@@ -122,7 +122,7 @@ impl FrameReader {
     /// any answer but a frame the next call begins behind what was taken, which may lie within a frame.
     pub fn next<S: Source>(&mut self, source: &mut S) -> Next
         ensures took { Consumes (S.left source.old) (S.left source.new) self.new }
-        ensures gives { NextIs (S.faults source.old) (S.faults source.new) self.new (S.left source.new) result }
+        ensures gives { reader.NextIs (S.faults source.old) (S.faults source.new) self.new (S.left source.new) result }
         ensures count { S.faults source.old ≤ S.faults source.new }
     {
         self.held.clear();
@@ -150,7 +150,7 @@ impl FrameReader {
 fn next_frame<S: Source>(held: &mut Vec<u8>, source: &mut S) -> Next
     requires { held.old.items ≡ [] }
     ensures took { Consumes (S.left source.old) (S.left source.new) held.new.items }
-    ensures gives { NextIs (S.faults source.old) (S.faults source.new) held.new.items (S.left source.new) result }
+    ensures gives { reader.NextIs (S.faults source.old) (S.faults source.new) held.new.items (S.left source.new) result }
     ensures count { S.faults source.old ≤ S.faults source.new }
 {
     match fill(held, source, HEADER) {
@@ -172,8 +172,8 @@ fn next_frame<S: Source>(held: &mut Vec<u8>, source: &mut S) -> Next
 fn next_body<S: Source>(held: &mut Vec<u8>, source: &mut S) -> Next
     requires header { length held.old.items ≡ HEADER }
     requires good { front_of held.old.items ≡ Partial }
-    ensures took { Took (S.left source.old) (S.left source.new) held.old.items held.new.items }
-    ensures gives { NextIs (S.faults source.old) (S.faults source.new) held.new.items (S.left source.new) result }
+    ensures took { reader.Took (S.left source.old) (S.left source.new) held.old.items held.new.items }
+    ensures gives { reader.NextIs (S.faults source.old) (S.faults source.new) held.new.items (S.left source.new) result }
     ensures count { S.faults source.old ≤ S.faults source.new }
 {
     let len = body_len(held.as_slice());
@@ -188,8 +188,8 @@ fn next_body<S: Source>(held: &mut Vec<u8>, source: &mut S) -> Next
 // Takes so many bytes more from the source, or as many as it has.
 fn fill<S: Source>(held: &mut Vec<u8>, source: &mut S, count: usize) -> Filled
     requires { vec_len held.old + count < 2 ^ 63 }
-    ensures took { Took (S.left source.old) (S.left source.new) held.old.items held.new.items }
-    ensures filled { FilledIs (S.faults source.old) (S.faults source.new) (length held.old.items) count (length held.new.items) (S.left source.new) result }
+    ensures took { reader.Took (S.left source.old) (S.left source.new) held.old.items held.new.items }
+    ensures filled { reader.FilledIs (S.faults source.old) (S.faults source.new) (length held.old.items) count (length held.new.items) (S.left source.new) result }
     ensures count { S.faults source.old ≤ S.faults source.new }
 {
     if held.reserve(count).is_err() {
@@ -211,7 +211,7 @@ fn fill<S: Source>(held: &mut Vec<u8>, source: &mut S, count: usize) -> Filled
 // What the end of the stream leaves behind fewer bytes than a header has.
 fn at_end(held: &[u8]) -> Next
     requires { length held.now < HEADER }
-    ensures { EndsIn held.now result }
+    ensures { reader.EndsIn held.now result }
 {
     match Front::of(held) {
         Front::Empty => Next::End,
