@@ -1,6 +1,6 @@
 // A file as Linux keeps it. Its pages stand in memory, and a sync brings what was written since the last one to the device. One
 // that fails brings nothing there and forgets that it was written: a later sync is then done, and a read gives what the device
-// does not have.
+// does not have. One read or write moves seven bytes at most, and each third of them may be interrupted.
 
 ghost use Rattle.std.specs.Prelude.{⊤, None, ◌≤◌, ◌+◌, ◌-◌};
 ghost use Rattle.nb_port.specs.DiskLaws.{untold_fits};
@@ -23,6 +23,8 @@ struct Kernel {
     // how many syncs, of the file and of its folder, and advices were asked for, and which of them fails
     asked: u64,
     fails: u64,
+    // how many reads and writes there were, counted where each third is interrupted
+    moved: Option<u64>,
 }
 
 impl Kernel {
@@ -39,6 +41,26 @@ impl Kernel {
             device_len: len,
             asked: 0,
             fails,
+            moved: None,
+        }
+    }
+
+    // The same machine, where each third read or write is interrupted.
+    fn interrupting(self) -> Kernel {
+        Kernel {
+            moved: Some(0),
+            ..self
+        }
+    }
+
+    // Whether one more read or write is interrupted.
+    fn is_interrupted(&mut self) -> bool {
+        match self.moved {
+            None => false,
+            Some(count) => {
+                self.moved = Some(count.wrapping_add(1));
+                count % 3 == 2
+            }
         }
     }
 
@@ -54,13 +76,13 @@ impl Kernel {
     }
 }
 
-// Where the bytes of a place on stand, of which there are so many and up to this end.
+// Where the bytes of a place on stand that one call moves, of which there are so many and up to this end.
 fn range(place: u64, count: usize, end: usize) -> (usize, usize)
     ensures { (result.0 ≤ result.1) × (result.1 ≤ SIZE) × (result.1 - result.0 ≤ count) }
 {
     let end = end.min(SIZE);
     let at = place.min(end as u64) as usize;
-    (at, at + (end - at).min(count))
+    (at, at + (end - at).min(count).min(7))
 }
 
 impl PositionalFile for Kernel {
@@ -77,12 +99,18 @@ impl PositionalFile for Kernel {
     ghost fits = { λ _ bytes is. untold_fits bytes is };
 
     fn read_at(&mut self, place: u64, buf: &mut [u8]) -> FileRead {
+        if self.is_interrupted() {
+            return FileRead::Interrupted;
+        }
         let (at, end) = range(place, buf.len(), self.len);
         buf[..end - at].copy_from_slice(&self.pages[at..end]);
         FileRead::Got(end - at)
     }
 
     fn write_at(&mut self, place: u64, piece: &[u8]) -> FileWrite {
+        if self.is_interrupted() {
+            return FileWrite::Interrupted;
+        }
         let (at, end) = range(place, piece.len(), SIZE);
         self.pages[at..end].copy_from_slice(&piece[..end - at]);
         for i in at..end {
@@ -156,7 +184,7 @@ fn goes_on(rt: &impl Abort, alloc: Global, call: u64, kernel: Kernel) -> Result<
     let frames = bytes(alloc, &FRAMES)?;
     let again = bytes(alloc, &AGAIN)?;
     let whole = bytes(alloc, &WHOLE)?;
-    let second = answer_on(alloc, kernel, frames.as_slice())?;
+    let second = answer_on(alloc, kernel.interrupting(), frames.as_slice())?;
     assert_eq!(rt; second.ending, GOOD, "{call}");
     assert_eq!(rt; second.kernel.kept(), whole.as_slice(), "{call}");
     let third = answer_on(
