@@ -29,7 +29,7 @@ use Rattle.nb_batch.specs.declared.batch.BatchEnd.{BatchEnd}
 use Rattle.nb_batch.specs.declared.batch.BatchEnd.TheVariants.{Clean, ReadFault, WriteFault, BadInput, NoMemory, FrameLimit}
 use Rattle.nb_batch.specs.declared.batch.Step.TheVariants as step
 use Rattle.nb_batch.specs.Send.{SentPart}
-use Rattle.nb_batch.specs.Batch.{frame_of, moment_of, Outside, Gave, Stepped, Stopped, StepIs, EndsAs, CountsAs, Wrote, Served, StandsInRun, Holds, GoesThrough, last_disk}
+use Rattle.nb_batch.specs.Batch.{frame_of, moment_of, Outside, Gave, Stepped, Stopped, StepIs, EndsAs, CountsAs, Wrote, Served, StandsInRun, HoldsState, GoesThrough, last_disk}
 
 -- these requests were answered, and the house came to these states
 pub record Went {D : Type 0} (tells : DiskTells D) (old new : Chronicled D) (before after : Outside) (answered : List Answered) (states : List State) (disks : List D) : Type 0 where
@@ -136,7 +136,7 @@ stands_now old mid new states image same_mid same_new last is = ⊎_elim
 -- one disk more
 through_more : {D : Type 0} (tells : DiskTells D) (head : List ℕ) (cap : ℕ) (first next : State) (disk behind : D) (states : List State) (disks : List D) → GoesThrough tells head cap first disk states disks
     → LeavesOnly tells (last_disk disk disks) behind (λ image. StandsForEither head cap (last_state first states).entries (last_state first states).doubt image ⊎ StandsForEither head cap next.entries next.doubt image)
-    → Holds tells head cap next behind → GoesThrough tells head cap first disk (states ++ next ∷ []) (disks ++ behind ∷ [])
+    → HoldsState tells head cap next behind → GoesThrough tells head cap first disk (states ++ next ∷ []) (disks ++ behind ∷ [])
 through_more tells head cap first next disk behind [] [] is leaves holds = (is, leaves, holds)
 through_more tells head cap first next disk behind (s ∷ states) (d ∷ disks) is leaves holds = (is.0, is.1, through_more tells head cap s next d behind states disks is.2 leaves holds)
 through_more tells head cap first next disk behind [] (d ∷ disks) is leaves holds = absurd is

@@ -10,7 +10,7 @@ use Rattle.nb_escrow.specs.Head.{head_of}
 use Rattle.nb_vault.specs.Holdings.{StandsFor, StandsForEither}
 use Rattle.nb_vault.specs.Rules.{house_rules}
 use Rattle.nb_vault.specs.Turns.{Request, Ruling, State, Mark, At, Fault, Worn, NoMemory as Starved, Answered, Turn, Run, Decides}
-use Rattle.nb_batch.specs.Batch.{Holds, GoesThrough, last_disk}
+use Rattle.nb_batch.specs.Batch.{HoldsState, GoesThrough, last_disk}
 use Rattle.nb_batch.specs.Acknowledged.{StandsForMore, Stays, AcknowledgedStays}
 
 -- the entries of a state begin with these
@@ -27,7 +27,7 @@ over_begins : (base over : List Entry) (state : State) → Begins base state →
 over_begins base over state begins settled = ⊎_elim
     (λ (is : over ≡ state.entries). let r : (rest : List Entry) × (over ≡ base ++ rest) = (begins.0, is ∙ begins.1) in r)
     (λ (is : over ≡ state.entries ++ state.doubt).
-        let r : (rest : List Entry) × (over ≡ base ++ rest) = (begins.0 ++ state.doubt, is ∙ ap (λ (xs : List Entry). xs ++ state.doubt) begins.1 ∙ append_assoc base begins.0 state.doubt) in r)
+    let r : (rest : List Entry) × (over ≡ base ++ rest) = (begins.0 ++ state.doubt, is ∙ ap (λ (xs : List Entry). xs ++ state.doubt) begins.1 ∙ append_assoc base begins.0 state.doubt) in r)
     settled
 
 -- behind a turn
@@ -69,7 +69,7 @@ module _ {D : Type 0} (tells : DiskTells D) (only_now : (d : D) (c : List ℕ) �
   stays_on since base first disk (a ∷ answered) (s ∷ states) [] run through begins le here image left = absurd through
 
   -- the disk at the front holds the state
-  holds_first : (first : State) (disk : D) (states : List State) (disks : List D) → GoesThrough tells head cap first disk states disks → Holds tells head cap first disk
+  holds_first : (first : State) (disk : D) (states : List State) (disks : List D) → GoesThrough tells head cap first disk states disks → HoldsState tells head cap first disk
   holds_first first disk [] [] through = through
   holds_first first disk (s ∷ states) (d ∷ disks) through = through.0
   holds_first first disk [] (d ∷ disks) through = absurd through

@@ -52,15 +52,15 @@ pub record StandsInRun (head : List ℕ) (cap : ℕ) (first : State) (states : L
   pub stands : StandsForEither head cap state.entries state.doubt image
 
 -- what a stop may leave of the disk stands for the entries of the state, without those in doubt in it or with them
-abbrev pub Holds : {D : Type 0} → DiskTells D → List ℕ → ℕ → State → D → Type 0
-Holds tells head cap state disk = (image : List ℕ) → tells.allowed disk image → StandsForEither head cap state.entries state.doubt image
+abbrev pub HoldsState : {D : Type 0} → DiskTells D → List ℕ → ℕ → State → D → Type 0
+HoldsState tells head cap state disk = (image : List ℕ) → tells.allowed disk image → StandsForEither head cap state.entries state.doubt image
 
 -- from a disk that holds the first state a batch came to these disks, one for each state of its run and each holding its own. A stop
 -- since one of them and up to the next leaves what stands for the state of the one or of the other
 abbrev pub GoesThrough : {D : Type 0} → DiskTells D → List ℕ → ℕ → State → D → List State → List D → Type 0
-GoesThrough tells head cap first disk [] [] = Holds tells head cap first disk
+GoesThrough tells head cap first disk [] [] = HoldsState tells head cap first disk
 GoesThrough tells head cap first disk (next ∷ states) (behind ∷ disks) =
-    Holds tells head cap first disk
+    HoldsState tells head cap first disk
     × LeavesOnly tells disk behind (λ image. StandsForEither head cap first.entries first.doubt image ⊎ StandsForEither head cap next.entries next.doubt image)
     × GoesThrough tells head cap next behind states disks
 GoesThrough tells head cap first disk [] (behind ∷ disks) = ⊥

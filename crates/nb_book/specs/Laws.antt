@@ -23,8 +23,8 @@ use Rattle.nb_book.specs.Spelling.{IsEntry, EntryKeepsRules, Spells, entry_bytes
 use Rattle.nb_book.specs.Reading.{entry_at}
 
 -- the limits and roles in numbers
-abbrev pub LimitsAre : Type 0
-LimitsAre =
+abbrev pub BookLimitsAre : Type 0
+BookLimitsAre =
     (MAX_CAP ≡ 1000000) × (MAX_TOTAL ≡ 1000000000000000000) × (MAX_PRICE ≡ 1000000000) × (MAX_AGE ≡ 900) × (MAX_AHEAD ≡ 300)
     × (CONSUMER ≡ 1) × (MERCHANT ≡ 2)
 

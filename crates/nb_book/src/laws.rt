@@ -4,7 +4,7 @@ ghost use Rattle.nb_book.specs.Laws as law;
 
 /// The limits and the roles in numbers.
 pub fn limits()
-    ensures { law.LimitsAre }
+    ensures { law.BookLimitsAre }
 {}
 
 /// The codes of refused orders in numbers.

@@ -38,8 +38,8 @@ abbrev pub ReceiptIsAsLong : Type 0
 ReceiptIsAsLong = (s : Signed) → IsSigned s → length (signed_bytes s) + 32 ≡ RECEIPT_BYTES
 
 -- the limits and the labels
-abbrev pub LimitsAre : Type 0
-LimitsAre = (MAX_SEALED ≡ 420) × (RECEIPT_BYTES ≡ 167) × (ENDORSE_LABEL ≡ codes "endo") × (RECEIPT_LABEL ≡ codes "rcpt")
+abbrev pub EndorsementLimitsAre : Type 0
+EndorsementLimitsAre = (MAX_SEALED ≡ 420) × (RECEIPT_BYTES ≡ 167) × (ENDORSE_LABEL ≡ codes "endo") × (RECEIPT_LABEL ≡ codes "rcpt")
 
 -- the code of a paid order, and what stands before a field and in place of one
 abbrev pub CodesOfReceiptsAre : Type 0

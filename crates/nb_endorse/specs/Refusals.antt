@@ -1,11 +1,11 @@
 -- What a refusal shows, and the numbers of its codes.
 use Rattle.std.specs.Prelude.{◌≡◌, ℕ, List, [], ◌∷◌, replicate}
-use Rattle.nb_endorse.specs.declared.refusal.TheConstants.{SHOWN, MALFORMED, IN_BODY, IN_ENDORSEMENT, IN_ORDER, IN_HIDDEN, NOT_ENROLLED, NOT_SEALED, OTHER_MERCHANT, WRONG_TAG, IDENTIFIER_USED, PARTY_HELD, REFERENCE_HELD, ACCOUNT_NOT_HELD, TOTAL_TOO_HIGH, JOURNAL_FULL, TOO_FEW_ENTRIES, DISK_FAULT, WORN, NO_MEMORY, NOT_SERVED}
+use Rattle.nb_endorse.specs.declared.refusal.TheConstants.{SHOWN_BYTES, MALFORMED, IN_BODY, IN_ENDORSEMENT, IN_ORDER, IN_HIDDEN, NOT_ENROLLED, NOT_SEALED, OTHER_MERCHANT, WRONG_TAG, IDENTIFIER_USED, PARTY_HELD, REFERENCE_HELD, ACCOUNT_NOT_HELD, TOTAL_TOO_HIGH, JOURNAL_FULL, TOO_FEW_ENTRIES, DISK_FAULT, WORN, NO_MEMORY, NOT_SERVED}
 use Rattle.nb_endorse.specs.declared.refusal.Refusal.{Refusal}
 
 -- what is not shown
 abbrev pub zeros : List ℕ
-zeros = replicate SHOWN 0
+zeros = replicate SHOWN_BYTES 0
 
 -- a refusal that shows two numbers
 abbrev pub refusal : ℕ → ℕ → ℕ → Refusal

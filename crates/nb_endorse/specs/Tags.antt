@@ -16,5 +16,5 @@ abbrev pub receipt_tag : List ℕ → Receipt → List ℕ
 receipt_tag house r = hmac_of house (codes "rcpt" ++ receipt_bytes r)
 
 -- the receipt with that tag
-abbrev pub signed : List ℕ → Receipt → Signed
-signed house r = record { receipt = r; tag = receipt_tag house r }
+abbrev pub signed_receipt : List ℕ → Receipt → Signed
+signed_receipt house r = record { receipt = r; tag = receipt_tag house r }

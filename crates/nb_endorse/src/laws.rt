@@ -39,6 +39,6 @@ pub fn receipt_is_as_long()
 
 /// A law: the limits and the labels in numbers and texts, and the codes of receipts.
 pub fn limits()
-    ensures limits { law.LimitsAre }
+    ensures limits { law.EndorsementLimitsAre }
     ensures codes { law.CodesOfReceiptsAre }
 {}

@@ -28,8 +28,8 @@ mod sealed;
 
 pub use endorsement::{Endorsement, MAX_SEALED, digest_of, read_sealed, write_sealed};
 pub use receipt::{
-    NO_KEY, PAID_CODE, RECEIPT_BYTES, Receipt, SIGNED_BYTES, Signed, read_receipt, receipt_tag_ok,
-    seal_receipt, sign_receipt, write_receipt,
+    ABSENT, NO_KEY, PAID_CODE, PRESENT, RECEIPT_BYTES, Receipt, SIGNED_BYTES, Signed, read_receipt,
+    receipt_tag_ok, seal_receipt, sign_receipt, write_receipt,
 };
 pub use refusal::Refusal;
 pub use reply::{Reply, ReplyKeys};

@@ -8,7 +8,7 @@ ghost use Rattle.nb_endorse.specs.Spelling as spelling;
 ghost use Rattle.nb_endorse.specs.Reading as reading;
 ghost use Rattle.nb_endorse.specs.Replies.{ReceiptKeepsRules};
 ghost use Rattle.nb_endorse.specs.Sealed.{ReadsSealed};
-ghost use Rattle.nb_endorse.specs.Tags.{receipt_tag, signed};
+ghost use Rattle.nb_endorse.specs.Tags.{receipt_tag, signed_receipt};
 
 use crate::sealed::SealedFault;
 use nb_seal::{hmac, same, seal_to, unseal_to};
@@ -40,10 +40,11 @@ pub const RECEIPT_BYTES: usize = SEAL + SIGNED_BYTES;
 // A receipt is sealed under this label, and what its tag is over begins with it.
 const RECEIPT_LABEL: [u8; 4] = *b"rcpt";
 
-// Before a field that is not there, and before one that is.
-const ABSENT: u8 = 0;
+/// Before a field that is not there.
+pub const ABSENT: u8 = 0;
 
-const PRESENT: u8 = 1;
+/// Before a field that is there.
+pub const PRESENT: u8 = 1;
 
 /// What stands in place of a key that is not there: zeros.
 pub const NO_KEY: Secret = [0; 32];
@@ -97,7 +98,7 @@ impl Signed {
 
 /// The receipt with its tag: the HMAC-SHA-256 (RFC 2104) of "rcpt" and the receipt's bytes, under the house's key.
 pub fn sign_receipt(r: &Receipt, house: &Secret) -> Signed
-    ensures { result ≡ signed house.now r.now }
+    ensures { result ≡ signed_receipt house.now r.now }
 {
     Signed {
         receipt: *r,

@@ -1,5 +1,5 @@
 ghost use Rattle.std.specs.Prelude.{◌≡◌};
-ghost use Rattle.nb_endorse.specs.declared.refusal.TheConstants.{SHOWN};
+ghost use Rattle.nb_endorse.specs.declared.refusal.TheConstants.{SHOWN_BYTES};
 ghost use Rattle.nb_endorse.specs.Refusals.{refusal, refusal_with, CodesAre, PartsAre};
 
 use nb_units::Malformed;
@@ -72,7 +72,7 @@ pub const NO_MEMORY: u8 = 52;
 pub const NOT_SERVED: u8 = 53;
 
 /// The bytes that a refusal shows.
-pub const SHOWN: usize = 32;
+pub const SHOWN_BYTES: usize = 32;
 
 /// Why a request is refused, or its turn failed: a code, one byte wide, and what it shows. What a code does not show is zeros.
 #[derive(Clone, Copy, PartialEq, Eq, Debug)]
@@ -83,7 +83,7 @@ pub struct Refusal {
     /// The second number that is shown, 8 bytes wide.
     pub b: u64,
     /// The bytes that are shown.
-    pub x: [u8; SHOWN],
+    pub x: [u8; SHOWN_BYTES],
 }
 
 impl Refusal {
@@ -95,12 +95,12 @@ impl Refusal {
             code,
             a,
             b,
-            x: [0; SHOWN],
+            x: [0; SHOWN_BYTES],
         }
     }
 
     /// A refusal that shows 32 bytes.
-    pub fn with(code: u8, x: &[u8; SHOWN]) -> Refusal
+    pub fn with(code: u8, x: &[u8; SHOWN_BYTES]) -> Refusal
         ensures { result ≡ refusal_with code x.now }
     {
         Refusal {
@@ -128,5 +128,5 @@ impl From<Malformed> for Refusal {
 pub fn codes()
     ensures codes { CodesAre }
     ensures parts { PartsAre }
-    ensures shown { SHOWN ≡ 32 }
+    ensures shown { SHOWN_BYTES ≡ 32 }
 {}

@@ -7,7 +7,7 @@ use Rattle.nb_epo.specs.declared.order.Order.{Order}
 use Rattle.nb_epo.specs.declared.hidden.Hidden.{Hidden}
 use Rattle.nb_epo.specs.Spelling.{IsOrder, order_bytes, IsHidden, hidden_bytes}
 use Rattle.nb_epo.specs.Reading.{order_of, hidden_of}
-use Rattle.nb_epo.specs.Tags.{order_tag, signed}
+use Rattle.nb_epo.specs.Tags.{order_tag, signed_order}
 
 -- what was spelled of an order is read as that order
 abbrev pub OrderReadsBack : Type 0
@@ -40,7 +40,7 @@ LengthsAre = ((o : Order) → IsOrder o → length (order_bytes o) ≡ 168 + len
 
 -- an order that was signed has the tag that it is tested against
 abbrev pub SignedIsRight : Type 0
-SignedIsRight = (key : List ℕ) (o : Order) → (signed key o).tag ≡ order_tag key (signed key o)
+SignedIsRight = (key : List ℕ) (o : Order) → (signed_order key o).tag ≡ order_tag key (signed_order key o)
 
 -- the labels in texts
 abbrev pub LabelsAre : Type 0

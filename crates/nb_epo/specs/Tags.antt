@@ -12,8 +12,8 @@ abbrev pub order_tag : List ℕ → Order → List ℕ
 order_tag key o = hmac_of key (codes "ordr" ++ untagged_bytes o)
 
 -- the order with that tag
-abbrev pub signed : List ℕ → Order → Order
-signed key o = record o { tag = order_tag key o }
+abbrev pub signed_order : List ℕ → Order → Order
+signed_order key o = record o { tag = order_tag key o }
 
 -- the digest of an account and its nonce
 abbrev pub account_digest_of : AcctId → ℕ → List ℕ

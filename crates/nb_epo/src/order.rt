@@ -4,7 +4,7 @@ ghost use Rattle.nb_units.specs.Reads.{Reads};
 ghost use Rattle.nb_units.specs.declared.limits.TheConstants.{MAX_HIDDEN, MAX_ORDER};
 ghost use Rattle.nb_epo.specs.Spelling.{IsOrder, untagged_bytes, order_bytes};
 ghost use Rattle.nb_epo.specs.Reading.{order_of};
-ghost use Rattle.nb_epo.specs.Tags.{order_tag, signed};
+ghost use Rattle.nb_epo.specs.Tags.{order_tag, signed_order};
 
 use nb_seal::{hmac, same};
 use nb_units::{
@@ -102,7 +102,7 @@ fn read_fields(bytes: &[u8]) -> Result<Order, Malformed>
 /// Sets the tag to the one that the order has under the consumer's key: the HMAC-SHA-256 (RFC 2104) of "ordr" and the
 /// order's bytes before the tag.
 pub fn sign_order(o: &mut Order, key: &Secret)
-    ensures { o.new ≡ signed key.now o.old }
+    ensures { o.new ≡ signed_order key.now o.old }
 {
     o.tag = tag_of(o, key);
 }

@@ -12,10 +12,8 @@ use nb_book::{Book, Party};
 use nb_endorse::Refusal;
 use nb_endorse::refusal::{JOURNAL_FULL, NOT_ENROLLED, WRONG_TAG};
 use nb_seal::same;
+use nb_units::width::TAG;
 use nb_units::{AcctId, PartyId, Tag};
-
-// The bytes of a tag, which ends a body.
-const TAG: usize = 32;
 
 // What the tag of a body is over, behind its label.
 pub(crate) fn signed(body: &[u8]) -> &[u8]

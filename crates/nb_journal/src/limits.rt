@@ -1,3 +1,4 @@
+pub use nb_units::width::LENGTH;
 pub use nb_units::{HEAD, MAX_CAP};
 
 /// What a journal begins with, `NBJRNL01`.
@@ -14,9 +15,6 @@ pub const ZEROS: usize = 4;
 
 /// The bytes before the first gate: magic, cap, head, zeros.
 pub const FRONT: u64 = 96;
-
-/// The bytes of the length of an item.
-pub const LENGTH: usize = 4;
 
 /// The bytes of a gate and of the length behind it.
 pub const LEAD: usize = 1 + LENGTH;

@@ -32,11 +32,8 @@ impl fmt::Display for InitFault {
         match self {
             InitFault::BadCap { cap } => write!(f, "no journal has a cap of {cap}"),
             InitFault::Exists { .. } => f.write_str("there is a journal"),
-            InitFault::LookFailed { before, after }
-            | InitFault::DiskFault { before, after } => write!(
-                f,
-                "the disk failed: {before} faults became {after}"
-            ),
+            InitFault::LookFailed { before, after } | InitFault::DiskFault { before, after } =>
+                write!(f, "the disk failed: {before} faults became {after}"),
         }
     }
 }

@@ -14,11 +14,11 @@ use Rattle.nb_endorse.specs.declared.reply.Reply.{Reply}
 use Rattle.nb_endorse.specs.declared.reply.Reply.TheVariants.{Result, Status, Grant, Done, Refused}
 use Rattle.nb_endorse.specs.declared.reply.ReplyKeys.{ReplyKeys}
 use Rattle.nb_endorse.specs.Spelling.{signed_bytes}
-use Rattle.nb_endorse.specs.Tags.{signed}
+use Rattle.nb_endorse.specs.Tags.{signed_receipt}
 
 -- a receipt, signed by the house and sealed for a party
 abbrev pub sealed_receipt : List ℕ → List ℕ → Receipt → List ℕ
-sealed_receipt house key r = seal_of key (codes "rcpt") (signed_bytes (signed house r))
+sealed_receipt house key r = seal_of key (codes "rcpt") (signed_bytes (signed_receipt house r))
 
 -- the merchant's receipt 167, behind its length | the consumer's 167, behind its length
 abbrev pub result_frame : ReplyKeys → Receipt → Receipt → Frame
@@ -28,7 +28,7 @@ result_frame keys merchant consumer =
 -- a receipt behind the byte that says whether there is one, signed by the house: has 1, 0 or 1 | receipt and tag 135, where there is one
 abbrev pub receipt_text : List ℕ → Option Receipt → List ℕ
 receipt_text house None = 0 ∷ []
-receipt_text house (Some r) = 1 ∷ signed_bytes (signed house r)
+receipt_text house (Some r) = 1 ∷ signed_bytes (signed_receipt house r)
 
 -- a status before it is sealed: place 8 | identifier 16 | the receipt, where there is one
 abbrev pub status_bytes : List ℕ → ℕ → Epoid → Option Receipt → List ℕ

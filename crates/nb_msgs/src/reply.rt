@@ -3,13 +3,14 @@ ghost use Rattle.nb_seal.specs.Seal.{seal_of};
 ghost use Rattle.nb_units.specs.Room.{spare_of};
 ghost use Rattle.nb_units.specs.declared.frames.TheConstants.{LAST_KIND};
 ghost use Rattle.nb_endorse.specs.Replies.{HasLawfulReceipts, ReceiptKeepsRules};
-ghost use Rattle.nb_msgs.specs.Limits.{LimitsAre};
+ghost use Rattle.nb_msgs.specs.Limits.{ReplyLimitsAre};
 ghost use Rattle.nb_msgs.specs.ReplyBytes as layout;
 ghost use Rattle.nb_msgs.specs.declared.reply.TheConstants.{MOST_BODY, REPLY_ROOM, LONGEST_REPLY, MOST_TEXT, MOST_STATUS};
 
 use crate::grant::grant_body;
 use nb_endorse::{
-    RECEIPT_BYTES, Receipt, Refusal, Reply, ReplyKeys, SIGNED_BYTES, seal_receipt, sign_receipt,
+    ABSENT, PRESENT, RECEIPT_BYTES, Receipt, Refusal, Reply, ReplyKeys, SIGNED_BYTES, seal_receipt,
+    sign_receipt,
 };
 use nb_frame::write_frame;
 use nb_seal::seal_to;
@@ -35,12 +36,7 @@ const MOST_TEXT: usize = PLACE + EPOID + FLAG + SIGNED_BYTES;
 const MOST_STATUS: usize = SEAL + MOST_TEXT;
 
 // The status of an order is sealed under this label.
-const STATUS_LABEL: [u8; 4] = *b"stat";
-
-// Before a receipt that is not there, and before one that is.
-const ABSENT: u8 = 0;
-
-const PRESENT: u8 = 1;
+const STATUS_SEAL_LABEL: [u8; 4] = *b"stat";
 
 /// Appends the frame of a reply, which needs room for [`REPLY_ROOM`] bytes and takes no memory. A result, a status and a
 /// grant are sealed under the keys, and the receipts in them are signed. Each receipt must have a code that receipts have, a
@@ -116,7 +112,12 @@ fn status_body(place: u64, epoid: &Epoid, receipt: &Option<Receipt>, keys: &Repl
 {
     let plain = status_text(place, epoid, receipt, &keys.house);
     let mut sealed = [0u8; MOST_STATUS];
-    let n = seal_to(&keys.first, &STATUS_LABEL, plain.as_slice(), &mut sealed);
+    let n = seal_to(
+        &keys.first,
+        &STATUS_SEAL_LABEL,
+        plain.as_slice(),
+        &mut sealed,
+    );
     let mut body = Buffer::new();
     body.raw(sealed.split_at(n).0);
     body
@@ -168,5 +169,5 @@ fn refusal_body(refusal: &Refusal) -> Buffer
 
 /// A law: the limits of replies in numbers.
 pub fn limits()
-    ensures { LimitsAre }
+    ensures { ReplyLimitsAre }
 {}

@@ -14,7 +14,7 @@ use Rattle.nb_journal.specs.Time.{Unwritten}
 use Rattle.nb_vault.specs.declared.line.Line.{Line}
 use Rattle.nb_vault.specs.declared.origin.Origin.{Origin}
 use Rattle.nb_vault.specs.Holdings.{StandsForEither}
-use Rattle.nb_vault.specs.Opens.{OpensAs}
+use Rattle.nb_vault.specs.Opens.{VaultOpensAs}
 use Rattle.nb_vault.specs.Rules.{house_rules}
 use Rattle.nb_vault.specs.Turns.{Request, Ruling, State, Mark, At, Fault, Worn, NoMemory as Starved, Answered, Turn, Run, last_state, replies, decided, AllDecided, IsDecided, IsFaultless, NoneFaulty, failure_of, failures_of}
 use Rattle.nb_vault.specs.Vaults.{Chronicled, state_of, entries_in, doubt_in, Keeps}
@@ -170,7 +170,7 @@ opened_rests {D} v lines fresh =
 
 module _ {D : Type 0} (tells : DiskTells D) where
   pub batch_of : ((d : D) (c : List ℕ) → tells.left d (tells.moment d) c → tells.allowed d c) → (end : BatchEnd) (disk : D) (opened house : Chronicled D) (before after : Outside)
-      → OpensAs tells disk opened → Unwritten tells disk opened.disk → tells.faults disk ≤ tells.faults opened.disk
+      → VaultOpensAs tells disk opened → Unwritten tells disk opened.disk → tells.faults disk ≤ tells.faults opened.disk
       → Served tells opened house before after end → Keeps tells house → house.origin ≡ opened.origin
       → Batch tells disk house.disk before after (at_no_place (status_of end))
   batch_of only_now end disk opened house before after opens unwritten count s keeps same =

@@ -41,5 +41,5 @@ XoredInPieces = (key front rest : List ℕ) (place : ℕ)
     → xored key place (front ++ rest) ≡ xored key place front ++ xored key (place + length front) rest
 
 -- the limits in numbers
-abbrev pub LimitsAre : Type 0
-LimitsAre = (CODE_BYTES ≡ 32) × (BLOCK_BYTES ≡ 64) × (MAX_TEXT ≡ 2 ^ 39) × (MAX_KEYSTREAM ≡ 2 ^ 40)
+abbrev pub SealLimitsAre : Type 0
+SealLimitsAre = (CODE_BYTES ≡ 32) × (BLOCK_BYTES ≡ 64) × (MAX_TEXT ≡ 2 ^ 39) × (MAX_KEYSTREAM ≡ 2 ^ 40)

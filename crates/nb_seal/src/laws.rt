@@ -37,5 +37,5 @@ pub fn xored_in_pieces()
 
 /// The limits in numbers.
 pub fn limits()
-    ensures { law.LimitsAre }
+    ensures { law.SealLimitsAre }
 {}

@@ -81,8 +81,8 @@ abbrev pub EpoidSpellsBack : Type 0
 EpoidSpellsBack = (bytes : List ℕ) → length bytes ≡ 16 → AreBytes bytes → epoid_bytes (epoid_of bytes) ≡ bytes
 
 -- the most bytes of a memo, of a hidden part, sealed, of an order, of a small list and of a buffer
-abbrev pub LimitsAre : Type 0
-LimitsAre = (MAX_MEMO ≡ 64) × (MAX_HIDDEN ≡ 112) × (MAX_ORDER ≡ 280) × (MAX_SMALL ≡ 280) × (MAX_BUFFER ≡ 604)
+abbrev pub FieldLimitsAre : Type 0
+FieldLimitsAre = (MAX_MEMO ≡ 64) × (MAX_HIDDEN ≡ 112) × (MAX_ORDER ≡ 280) × (MAX_SMALL ≡ 280) × (MAX_BUFFER ≡ 604)
 
 -- the least and the greatest code of a reason
 abbrev pub ReasonsAre : Type 0

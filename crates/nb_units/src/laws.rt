@@ -60,6 +60,6 @@ pub fn epoid_spells_back()
 
 /// A law: the limits in numbers, and the least and the greatest code of a reason.
 pub fn limits()
-    ensures limits { law.LimitsAre }
+    ensures limits { law.FieldLimitsAre }
     ensures reasons { law.ReasonsAre }
 {}

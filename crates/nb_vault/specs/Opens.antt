@@ -43,7 +43,7 @@ VaultOpenFails tells old new (opens.DiskFault before after) = (before ≡ tells.
 VaultOpenFails tells old new opens.NoMemory = ⊤
 
 -- nothing was done yet, the content stands for the entries, and a stop leaves nothing else
-pub record OpensAs {D : Type 0} (tells : DiskTells D) (disk : D) (v : Chronicled D) : Type 0 where
+pub record VaultOpensAs {D : Type 0} (tells : DiskTells D) (disk : D) (v : Chronicled D) : Type 0 where
   pub lines : v.lines ≡ []
   pub count : v.origin.faults ≡ tells.faults disk
   pub stands : IfSome (tells.content disk) (StandsFor v.origin.head v.origin.cap v.origin.entries)
@@ -52,7 +52,7 @@ pub record OpensAs {D : Type 0} (tells : DiskTells D) (disk : D) (v : Chronicled
 
 -- by cases on the result
 abbrev pub VaultOpenGives : {D : Type 0} → DiskTells D → D → Result (Chronicled D) (VaultFault × D) → Type 0
-VaultOpenGives tells disk (Ok v) = OpensAs tells disk v
+VaultOpenGives tells disk (Ok v) = VaultOpensAs tells disk v
 VaultOpenGives tells disk (Err e) = VaultOpenFails tells disk e.1 e.0
 
 -- what comes of a content that stands for these entries: they are opened, or the disk failed, or there was no memory

@@ -38,10 +38,16 @@ impl fmt::Display for VaultFault {
                 write!(f, "the journal is damaged at byte {place}, in item {item}")
             }
             VaultFault::BadEntry { item } => {
-                write!(f, "item {item} of the journal has an entry that is not legal there")
+                write!(
+                    f,
+                    "item {item} of the journal has an entry that is not legal there"
+                )
             }
             VaultFault::DiskFault { before, after } => {
-                write!(f, "the disk failed: its count of faults went from {before} to {after}")
+                write!(
+                    f,
+                    "the disk failed: its count of faults went from {before} to {after}"
+                )
             }
             VaultFault::NoMemory => write!(f, "out of memory"),
         }
