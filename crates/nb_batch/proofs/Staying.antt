@@ -75,6 +75,14 @@ module _ {D : Type 0} (tells : DiskTells D) (only_now : (d : D) (c : List ℕ) �
   holds_first first disk [] (d ∷ disks) through = absurd through
   holds_first first disk (s ∷ states) [] through = absurd through
 
+  -- what was there at the start
+  pub opening_stays : (first : State) (opened : D) (answered : List Answered) (states : List State) (disks : List D) → Run (house_rules (head_of head) cap) first answered states → GoesThrough tells head cap first opened states disks
+      → (image : List ℕ) → tells.left (last_disk opened disks) (tells.moment opened) image → StandsForMore head cap first.entries image
+  opening_stays first opened answered states disks run through image left =
+      let begins : Begins first.entries first = ([], sym (append-nil first.entries)) in
+      stays_on (tells.moment opened) first.entries first opened answered states disks run through begins (omega arith)
+      (λ c now. more_in head cap first.entries first c begins (holds_first first opened states disks through c (only_now opened c now))) image left
+
   -- the first turn of what is left
   stays_here : (first state : State) (disk : D) (request : Request) (place : ℕ) (reply : List ℕ) (answered : List Answered) (states : List State) (disks : List D)
       → Turn (house_rules (head_of head) cap) first request (At place) reply state → Run (house_rules (head_of head) cap) state answered states → GoesThrough tells head cap state disk states disks

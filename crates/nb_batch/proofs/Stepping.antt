@@ -1,5 +1,5 @@
 -- One step of a batch, from what its calls ensure.
-use Rattle.std.proofs.Common.{◌≡◌, ◌⊎◌, ℕ, ◌≤◌, List, [], ◌++◌, length, drop, Option, refl, sym, ap, subst, ◌∙◌, inl, inr, arith}
+use Rattle.std.proofs.Common.{◌≡◌, ◌⊎◌, ℕ, ◌≤◌, List, [], ◌++◌, length, take, drop, Option, refl, sym, ap, subst, ◌∙◌, inl, inr, arith}
 use Rattle.std.specs.Prelude.{slice_index}
 use Rattle.std.specs.Option.{option_to_list}
 use Rattle.std.specs.Io.KnownBytes.{Consumes, IsAtEnd}
@@ -12,13 +12,18 @@ use Rattle.nb_endorse.specs.declared.refusal.TheConstants.{DISK_FAULT, WORN, NO_
 use Rattle.nb_frame.proofs.Reading.{partial_not_whole}
 use Rattle.nb_frame.specs.Reader.{HoldsFrame}
 use Rattle.nb_vault.specs.declared.vault.Answer.TheVariants as answers
-use Rattle.nb_vault.specs.Turns.{Request, Mark, At, Fault, Worn, NoMemory, Turn, failure_of, refused}
+use Rattle.nb_vault.specs.Turns.{Request, Ruling, State, Mark, At, Fault, Worn, NoMemory, Turn, failure_of, refused}
 use Rattle.nb_journal.proofs.Moments.{started}
 use Rattle.nb_journal.specs.Time.{LeavesOnly}
 use Rattle.nb_vault.proofs.Resting.{leaves_more}
-use Rattle.nb_vault.specs.Vaults.{Chronicled, Keeps, StandsForState, state_of, rules_of, request_of, TurnOf, FaultWithin}
+use Rattle.nb_vault.specs.Vaults.{Chronicled, Keeps, IsDurable, StandsForState, state_of, entries_in, rules_of, request_of, TurnOf, FaultWithin}
 use Rattle.nb_batch.proofs.Serving.{nothing_whole}
-use Rattle.nb_batch.specs.Batch.{AnswersWith, Outside, Stepped, Stopped, EndsBadly}
+use Rattle.nb_vault.specs.declared.origin.Origin.{Origin}
+use Rattle.nb_vault.specs.Rules.{house_rules}
+use Rattle.nb_escrow.specs.Head.{head_of}
+use Rattle.nb_book.specs.declared.entry.Entry.{Entry}
+use Rattle.std.proofs.Math.Seq.{take-append_seam}
+use Rattle.nb_batch.specs.Batch.{MaySend, AnswersWith, Outside, Stepped, Stopped, EndsBadly}
 
 -- the frame that is held, by what the reader says of it
 pub holds_frame : (held body : List ℕ) (kind : ℕ) → HoldsFrame held → kind ≡ slice_index held 3 → body ≡ drop HEADER held
@@ -64,6 +69,24 @@ module _ {D : Type 0} (tells : DiskTells D) (old new : Chronicled D) (request : 
   pub starved : (out out' sent : List ℕ) → out ≡ [] → TurnOf old new request out out' answers.NoMemory → tells.faults old.disk ≤ tells.faults new.disk → sent ≡ out' ++ refused NO_MEMORY 0 0 → AnswersWith tells old new request sent
   starved out out' sent none is rises put =
       answers_with NoMemory (refused NO_MEMORY 0 0) sent is.0 rises (put ∙ ap (λ (xs : List ℕ). xs ++ refused NO_MEMORY 0 0) (is.1 ∙ none))
+
+-- a decided reply may be sent
+pub may_send : {D : Type 0} (tells : DiskTells D) (old new : Chronicled D) (request : Request) (out sent : List ℕ) (place : ℕ) → out ≡ [] → new.origin ≡ old.origin → IsDurable tells new
+    → TurnOf old new request out sent (answers.Answered place) → MaySend tells new sent
+may_send tells old new request out sent place none same durable is =
+    let d = is.1.1 in
+    let rules : rules_of old ≡ rules_of new = ap (λ (o : Origin). house_rules (head_of o.head) o.cap) (sym same) in
+    let entries : entries_in new ≡ d.over ++ option_to_list (rules_of old d.over request).entry = ap (λ (s : State). s.entries) d.left in
+    let front : d.over ≡ take place (entries_in new) =
+    sym (ap (take place) entries ∙ ap (λ (n : ℕ). take n (d.over ++ option_to_list (rules_of old d.over request).entry)) d.at ∙ take-append_seam d.over (option_to_list (rules_of old d.over request).entry)) in
+    let T : (List Entry → Request → Ruling) → List Entry → Type 0 = λ rs over. sent ≡ (rs over request).reply in
+    let R : (List Entry → Request → Ruling) → List Entry → Type 0 = λ rs over. entries_in new ≡ over ++ option_to_list (rs over request).entry in
+    inl (durable, record {
+      request = request;
+      place = place;
+      told = subst (T (rules_of new)) front (subst (λ rs. T rs d.over) rules (is.2 ∙ ap (λ (xs : List ℕ). xs ++ is.0) none ∙ d.told));
+      recorded = subst (R (rules_of new)) front (subst (λ rs. R rs d.over) rules entries);
+    })
 
 -- ---- one step
 

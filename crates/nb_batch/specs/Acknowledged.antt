@@ -22,6 +22,14 @@ pub record Stays {D : Type 0} (tells : DiskTells D) (head : List ℕ) (cap : ℕ
   pub recorded : state.entries ≡ take place state.entries ++ option_to_list (house_rules (head_of head) cap (take place state.entries) request).entry
   pub images : (image : List ℕ) → tells.left last (tells.moment disk) image → StandsForMore head cap state.entries image
 
+-- each image that a stop since opening leaves of the last disk stands for a list that begins with the entries at the start: what earlier
+-- batches recorded stays
+abbrev pub OpeningStays : {D : Type 0} → DiskTells D → Type 0
+OpeningStays {D} tells =
+    (head : List ℕ) (cap : ℕ) (first : State) (opened : D) (answered : List Answered) (states : List State) (disks : List D)
+    → Run (house_rules (head_of head) cap) first answered states → GoesThrough tells head cap first opened states disks
+    → (image : List ℕ) → tells.left (last_disk opened disks) (tells.moment opened) image → StandsForMore head cap first.entries image
+
 -- so it is of each turn of a batch that decided
 abbrev pub AcknowledgedStays : {D : Type 0} → DiskTells D → Type 0
 AcknowledgedStays {D} tells =

@@ -13,7 +13,7 @@ use Rattle.nb_book.specs.declared.entry.Entry.{Entry}
 use Rattle.nb_endorse.specs.declared.refusal.TheConstants.{DISK_FAULT, WORN, NO_MEMORY}
 use Rattle.nb_vault.specs.Holdings.{StandsForEither}
 use Rattle.nb_vault.specs.Turns.{Request, State, Mark, Answered, Turn, Run, last_state, IsStateOf, replies, failure_of, failures_of, refused}
-use Rattle.nb_vault.specs.Vaults.{Chronicled, state_of, rules_of, IsDurable}
+use Rattle.nb_vault.specs.Vaults.{Chronicled, state_of, entries_in, rules_of, IsDurable}
 use Rattle.nb_batch.specs.declared.batch.TheConstants.{MOST_FRAMES}
 use Rattle.nb_batch.specs.declared.batch.BatchEnd.{BatchEnd}
 use Rattle.nb_batch.specs.declared.batch.BatchEnd.TheVariants.{Clean, ReadFault, WriteFault, BadInput, NoMemory, FrameLimit}
@@ -83,9 +83,17 @@ pub record AnswersWith {D : Type 0} (tells : DiskTells D) (old new : Chronicled 
 abbrev pub IsUndecided : List ℕ → Type 0
 IsUndecided reply = (a b : ℕ) × ((reply ≡ refused DISK_FAULT a b) ⊎ (reply ≡ refused WORN a b) ⊎ (reply ≡ refused NO_MEMORY a b))
 
--- a reply may be sent over this house: each image that a stop may leave by now stands for its entries; or nothing was decided
+-- the reply is the verdict's on a request over the entries that stand before a place, and what the verdict records stands there
+pub record IsRecorded {D : Type 0} (house : Chronicled D) (reply : List ℕ) : Type 0 where
+  pub request : Request
+  pub place : ℕ
+  pub told : reply ≡ (rules_of house (take place (entries_in house)) request).reply
+  pub recorded : entries_in house ≡ take place (entries_in house) ++ option_to_list (rules_of house (take place (entries_in house)) request).entry
+
+-- a reply may be sent: what it tells of is recorded in this house, and each image that a stop may leave by now stands for the entries
+-- of the house; or nothing was decided
 abbrev pub MaySend : {D : Type 0} → DiskTells D → Chronicled D → List ℕ → Type 0
-MaySend tells house reply = IsDurable tells house ⊎ IsUndecided reply
+MaySend tells house reply = (IsDurable tells house × IsRecorded house reply) ⊎ IsUndecided reply
 
 -- a frame was taken, the clock was asked, and a turn answered it
 pub record Stepped {D : Type 0} (tells : DiskTells D) (old new : Chronicled D) (before after : Outside) : Type 0 where

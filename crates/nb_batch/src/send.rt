@@ -12,8 +12,8 @@ pub enum Sent {
     Failed,
 }
 
-/// Sends the reply of `house` to a request. A decided one is not sent before each image that a stop may leave stands for the
-/// entries of the house.
+/// Sends the reply of `house` to a request. A decided one is not sent before what it tells of is recorded in the house, and each
+/// image that a stop may leave stands for the entries of the house.
 pub fn send_reply<D: Disk, K: Sink>(_house: &Vault<D>, sink: &mut K, reply: &[u8]) -> Sent
     requires durable { MaySend D.tells _house.now reply.now }
     ensures sent { SentIs (K.faults sink.old) (K.faults sink.new) (K.sent sink.old) (K.sent sink.new) reply.now result }

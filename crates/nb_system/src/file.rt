@@ -39,7 +39,7 @@ pub trait PositionalFile {
     /// What the device has of it; None where the file does not tell.
     ghost durable: { Self → Option (List ℕ) };
 
-    /// All that was ever written was synced.
+    /// No page that was written is left to be written to the device.
     ghost synced: { Self → Type 0 };
 
     /// Nothing is kept in memory that differs from the device, but for what was written since the last sync.

@@ -5,6 +5,8 @@ ghost use Rattle.nb_vault.specs.Opens.{WholeIsGood};
 ghost use Rattle.nb_vault.specs.Numbers.{FaultLimitIs};
 ghost use Rattle.nb_vault.specs.Paying.{PayableIsPaid};
 
+use nb_port::Disk;
+
 /// An image stands for one list of entries, with one head and one cap.
 pub fn one_list()
     ensures { OneList }
@@ -15,9 +17,10 @@ pub fn whole_is_good()
     ensures { WholeIsGood }
 {}
 
-/// An order that is payable is paid, or memory is wanting, in each turn that is not worn and in which no call of the disk fails.
-pub fn payable_is_paid()
-    ensures { PayableIsPaid }
+/// An order that is payable is paid, and both its receipts say so, in each answer of a vault that is not worn and in which the count
+/// of the disk does not rise; or memory is wanting.
+pub fn payable_is_paid<D: Disk>()
+    ensures { PayableIsPaid D.tells }
 {}
 
 /// The limit of a vault in numbers.

@@ -1,7 +1,7 @@
 use Rattle.std.proofs.Common.{ℕ, ◌++◌, ap, ◌∙◌}
 use Rattle.nb_endorse.specs.declared.refusal.TheConstants.{WORN}
 use Rattle.nb_vault.specs.Turns.{refused}
-use Rattle.nb_batch.proofs.Stepping.{answered, failed, worn, starved}
+use Rattle.nb_batch.proofs.Stepping.{answered, may_send, failed, worn, starved}
 use Rattle.nb_batch.proofs.batch.answer_with.Goals as goal
 
 pub returns-in-Answered-clause-answers : goal.returns-in-Answered-clause-answers
@@ -15,3 +15,7 @@ returns-in-Worn-clause-answers g c = worn g.D.Disk.tells c.args.house.now c.answ
 
 pub returns-in-NoMemory-clause-answers : goal.returns-in-NoMemory-clause-answers
 returns-in-NoMemory-clause-answers g c = starved g.D.Disk.tells c.args.house.now c.answer.new.self _ c.args.reply.now.items c.answer.new.out.items _ c.requires.empty c.in-NoMemory.ensures.turn c.in-NoMemory.ensures.count c.refuse-in-NoMemory.ensures.bytes
+
+pub returns-in-Answered-clause-durable : goal.returns-in-Answered-clause-durable
+returns-in-Answered-clause-durable g c =
+    may_send g.D.Disk.tells c.args.house.now c.answer.new.self _ c.args.reply.now.items c.answer.new.out.items _ c.requires.empty c.answer.ensures.origin c.in-Answered.ensures.durable c.in-Answered.ensures.turn
