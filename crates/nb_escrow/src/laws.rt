@@ -1,6 +1,7 @@
 //! What holds of every verdict. Each function here does nothing: its contract is the law.
 
 ghost use Rattle.nb_escrow.specs.Laws as law;
+ghost use Rattle.nb_escrow.specs.Replies as replies;
 
 /// A request whose entry was recorded is given the same reply under the same keys when it comes
 /// again, at any moment and whatever was recorded since, and no second entry is made of it. What it is told of a balance is
@@ -71,4 +72,15 @@ pub fn answered_exactly_where()
 /// What each refusal claims is true of the entries and of the request, and so are the numbers and the bytes that it shows.
 pub fn refusals_are_true()
     ensures { law.RefusalsAreTrue }
+{}
+
+/// The keys of a reply are those of its parties. The receipts of an order have the house's own key, and then the merchant's and
+/// the consumer's, as enrolled; a status has the house's, and then that of who asks; any other reply has none.
+pub fn keys_are_the_parties()
+    ensures { replies.KeysAreTheParties }
+{}
+
+/// A kind that is none of the four that are served is refused, shown, and records nothing.
+pub fn other_kinds_are_refused()
+    ensures { replies.OtherKindsAreRefused }
 {}
