@@ -58,7 +58,7 @@ use Rattle.nb_escrow.proofs.Judging.{Answer, Comes, comes, Pays, PaymentComes, p
 use Rattle.nb_escrow.proofs.Keys.{passes}
 use Rattle.nb_escrow.proofs.Tests.{step, holds_so, in_role, sealed_so, same_merchants, tag_so, room_for, same_digests}
 
-none_is : {A : Type 0} (o : Option A) → IsNone o → o ≡ None
+pub none_is : {A : Type 0} (o : Option A) → IsNone o → o ≡ None
 none_is None none = refl
 none_is (Some x) none = absurd cc
 
@@ -270,7 +270,7 @@ refusals_are_true H legal head cap kind body moment why = part (steps H head cap
 
 -- ---- what a refused order is told
 
-tells_reason : (s : Settlement) (why : RefusalReason) → s.outcome ≡ outcome.Refused why → TellsReason why (Receipts (receipt_in_role MERCHANT s) (receipt_in_role CONSUMER s))
+pub tells_reason : (s : Settlement) (why : RefusalReason) → s.outcome ≡ outcome.Refused why → TellsReason why (Receipts (receipt_in_role MERCHANT s) (receipt_in_role CONSUMER s))
 unfolding receipt_in_role may_see
 tells_reason s why is = rw is (
   refl,

@@ -114,7 +114,7 @@ abbrev pub OrderComes : List Entry → Head → ℕ → List ℕ → ℕ → Ans
 OrderComes H head cap body moment (Ok d) = (p : Presented) × IsAuthenticOrder H body p × SettledSo H head cap moment p d
 OrderComes H head cap body moment (Err why) = IsTrueOfRequest H body why ⊎ IsTrueOfOrder H body why ⊎ IsTrueOfHidden H body why ⊎ IsTrueOfPresented H cap body why
 
-digest_at : (at : ℕ) (e : Entry) (s : Settlement) → settlement_at at e ≡ Some s → digest_held e ≡ Some s.digest
+pub digest_at : (at : ℕ) (e : Entry) (s : Settlement) → settlement_at at e ≡ Some s → digest_held e ≡ Some s.digest
 digest_at at (Enrol id role acct nonce key) s is = absurd (none-some s is)
 digest_at at (Fund acct amount reference) s is = absurd (none-some s is)
 digest_at at (Paid digest epoid consumer merchant product price cacct macct moment key) s is = ap (λ (x : Settlement). let o : Option (List ℕ) = Some x.digest in o) (same_Some _ s is)

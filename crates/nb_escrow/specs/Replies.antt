@@ -1,6 +1,6 @@
 -- What holds of every reply: the keys that it is given under, and what it tells of the entries and of the request. No test of the
 -- verdict is cited here.
-use Rattle.std.specs.Prelude.{◌≡◌, ◌≢◌, ◌↔◌, ◌⊎◌, ℕ, ◌∷◌, ◌++◌, ◌==◌, ◌||◌, List, length, codes, Option, Some, None, Ok, IsSome, if◌then◌else◌}
+use Rattle.std.specs.Prelude.{◌≡◌, ◌≢◌, ◌↔◌, ◌⊎◌, ℕ, ◌∷◌, ◌++◌, List, length, codes, Option, Some, None, Ok, IsSome}
 use Rattle.std.specs.Option.{option_to_list}
 use Rattle.nb_units.specs.declared.epoid.Epoid.{Epoid}
 use Rattle.nb_units.specs.declared.frames.TheConstants.{ORDER_REQUEST, STATUS_REQUEST, ENROL_REQUEST, FUND_REQUEST}
@@ -10,7 +10,6 @@ use Rattle.nb_seal.specs.Hmac.{hmac_of}
 use Rattle.nb_book.specs.declared.entry.Entry.{Entry}
 use Rattle.nb_book.specs.declared.entry.Entry.TheVariants as entries
 use Rattle.nb_book.specs.declared.kept.Kept.{Kept}
-use Rattle.nb_book.specs.declared.reason.TheConstants.{CONSUMER_ACCOUNT, MERCHANT_ACCOUNT, BALANCE_LOW, CONSUMER_NONCE}
 use Rattle.nb_book.specs.Money.{balance}
 use Rattle.nb_book.specs.Searches.{order_in}
 use Rattle.nb_epo.specs.declared.order.Order.{Order}
@@ -27,12 +26,13 @@ use Rattle.nb_escrow.specs.declared.enrolment.Enrolment.{Enrolment}
 use Rattle.nb_escrow.specs.declared.funding.Funding.{Funding}
 use Rattle.nb_escrow.specs.declared.head.Head.{Head}
 use Rattle.nb_escrow.specs.declared.order.Presented.{Presented}
+use Rattle.nb_escrow.specs.declared.settlement.RefusalReason.{RefusalReason}
 use Rattle.nb_escrow.specs.declared.status.StatusQuery.{StatusQuery}
 use Rattle.nb_escrow.specs.Requests.{enrolment_of, funding_of}
 use Rattle.nb_escrow.specs.Checks.{signed_part}
 use Rattle.nb_escrow.specs.Enrolments.{enrol_entry}
 use Rattle.nb_escrow.specs.Fundings.{fund_entry}
-use Rattle.nb_escrow.specs.Payable.{IsAuthenticOrder, digest_held}
+use Rattle.nb_escrow.specs.Payable.{IsAuthenticOrder, digest_held, shown_to_consumer, shown_to_merchant}
 use Rattle.nb_escrow.specs.Laws.{IsAuthentic}
 use Rattle.nb_escrow.specs.Verdict.{verdict}
 
@@ -53,6 +53,64 @@ HasKeysOfParties H head body other keys = ⊥
 abbrev pub KeysAreTheParties : Type 0
 KeysAreTheParties = (H : List Entry) (head : Head) (cap kind : ℕ) (body : List ℕ) (moment : ℕ)
     → HasKeysOfParties H head body (verdict H head cap kind body moment).reply (verdict H head cap kind body moment).keys
+
+-- ---- the receipts of an order
+
+-- the receipt that a payment or a refusal at this place is told by, where its reason shows this
+abbrev pub receipt_at : (RefusalReason → Option (ℕ × ℕ)) → ℕ → Entry → Option Receipt
+receipt_at shown at (entries.Paid digest epoid consumer merchant product price cacct macct moment key) = Some (record {
+  code = PAID_CODE;
+  consumer = consumer;
+  merchant = merchant;
+  product = product;
+  price = price;
+  epoid = epoid;
+  at = at;
+  moment = moment;
+  key = Some key;
+  shown = None;
+})
+receipt_at shown at (entries.Refused digest epoid consumer merchant product price code a b moment) = Some (record {
+  code = code;
+  consumer = consumer;
+  merchant = merchant;
+  product = product;
+  price = price;
+  epoid = epoid;
+  at = at;
+  moment = moment;
+  key = None;
+  shown = shown (record { code = code; a = a; b = b });
+})
+receipt_at shown at other = None
+
+-- the merchant's receipt, the consumer's receipt of an entry that was found
+abbrev pub merchant_receipt : Kept → Option Receipt
+merchant_receipt kept = receipt_at shown_to_merchant kept.at kept.entry
+
+abbrev pub consumer_receipt : Kept → Option Receipt
+consumer_receipt kept = receipt_at shown_to_consumer kept.at kept.entry
+
+-- a receipt names the order, and that it was settled at this place and moment
+abbrev pub NamesOrder : Order → ℕ → ℕ → Receipt → Type 0
+NamesOrder order at moment r =
+    (r.consumer ≡ order.consumer) × (r.merchant ≡ order.merchant) × (r.product ≡ order.product) × (r.price ≡ order.price) × (r.epoid ≡ order.epoid)
+    × (r.at ≡ at) × (r.moment ≡ moment)
+
+-- the receipts of an order are those of the entry that settles its identifier and has its digest, among the entries held and the one
+-- recorded now. Where one is recorded now they name the order, the place behind the entries held, and the moment
+abbrev pub TellsOrder : List Entry → List ℕ → ℕ → Option Entry → Reply → Type 0
+TellsOrder H body moment recorded (Receipts merchant consumer) =
+    (p : Presented) × (kept : Kept) × IsAuthenticOrder H body p
+    × (order_in (H ++ option_to_list recorded) p.order.epoid ≡ Some kept) × (digest_held kept.entry ≡ Some p.digest)
+    × (merchant_receipt kept ≡ Some merchant) × (consumer_receipt kept ≡ Some consumer)
+    × (IsSome recorded → NamesOrder p.order (length H) moment merchant × NamesOrder p.order (length H) moment consumer)
+TellsOrder H body moment recorded other = Unit {0}
+
+-- The receipts of every verdict are so.
+abbrev pub ReceiptsNameTheOrder : Type 0
+ReceiptsNameTheOrder = (H : List Entry) (head : Head) (cap kind : ℕ) (body : List ℕ) (moment : ℕ)
+    → TellsOrder H body moment (verdict H head cap kind body moment).entry (verdict H head cap kind body moment).reply
 
 -- ---- a kind that is not served
 

@@ -80,6 +80,13 @@ pub fn keys_are_the_parties()
     ensures { replies.KeysAreTheParties }
 {}
 
+/// The receipts of an order are those of the entry that settles its identifier and has its digest, among the entries held and the
+/// one recorded now. Where one is recorded now, both name the order: its consumer, merchant, product, price and identifier, with the
+/// number of the entries held as its place, and the moment.
+pub fn receipts_name_the_order()
+    ensures { replies.ReceiptsNameTheOrder }
+{}
+
 /// A kind that is none of the four that are served is refused, shown, and records nothing.
 pub fn other_kinds_are_refused()
     ensures { replies.OtherKindsAreRefused }
