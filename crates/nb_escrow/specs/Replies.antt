@@ -2,7 +2,6 @@
 -- verdict is cited here.
 use Rattle.std.specs.Prelude.{◌≡◌, ◌≢◌, ◌↔◌, ◌⊎◌, ℕ, ◌∷◌, ◌++◌, List, length, codes, Option, Some, None, Ok, IsSome}
 use Rattle.std.specs.Option.{option_to_list}
-use Rattle.nb_units.specs.declared.epoid.Epoid.{Epoid}
 use Rattle.nb_units.specs.declared.frames.TheConstants.{ORDER_REQUEST, STATUS_REQUEST, ENROL_REQUEST, FUND_REQUEST}
 use Rattle.nb_units.specs.declared.ids.AcctId.{AcctId}
 use Rattle.nb_units.specs.declared.ids.PartyId.{PartyId}
@@ -21,7 +20,6 @@ use Rattle.nb_endorse.specs.declared.reply.Reply.TheVariants.{Result as Receipts
 use Rattle.nb_endorse.specs.declared.reply.ReplyKeys.{ReplyKeys}
 use Rattle.nb_endorse.specs.Keys.{no_keys}
 use Rattle.nb_endorse.specs.Refusals.{refusal}
-use Rattle.nb_escrow.specs.declared.decision.Decision.{Decision}
 use Rattle.nb_escrow.specs.declared.enrolment.Enrolment.{Enrolment}
 use Rattle.nb_escrow.specs.declared.funding.Funding.{Funding}
 use Rattle.nb_escrow.specs.declared.head.Head.{Head}
@@ -111,6 +109,55 @@ TellsOrder H body moment recorded other = Unit {0}
 abbrev pub ReceiptsNameTheOrder : Type 0
 ReceiptsNameTheOrder = (H : List Entry) (head : Head) (cap kind : ℕ) (body : List ℕ) (moment : ℕ)
     → TellsOrder H body moment (verdict H head cap kind body moment).entry (verdict H head cap kind body moment).reply
+
+-- ---- an entry of the operator's
+
+-- the entry stands in the list, and so many before it
+abbrev pub StandsAt : List Entry → ℕ → Entry → Type 0
+StandsAt all at e = (before : List Entry) × (after : List Entry) × (all ≡ before ++ e ∷ after) × (length before ≡ at)
+
+-- the body asks for this entry, which is of this account, and has the operator's tag
+abbrev pub OperatorAsks : Head → ℕ → List ℕ → AcctId → Entry → Type 0
+OperatorAsks head kind body acct e =
+    ((kind ≡ ENROL_REQUEST) × ((asked : Enrolment) × (enrolment_of body ≡ Ok asked) × (asked.tag ≡ hmac_of head.operator (codes "enro" ++ signed_part body))
+    × (acct ≡ asked.acct) × (e ≡ enrol_entry asked)))
+    ⊎ ((kind ≡ FUND_REQUEST) × ((asked : Funding) × (funding_of body ≡ Ok asked) × (asked.tag ≡ hmac_of head.operator (codes "fund" ++ signed_part body))
+    × (acct ≡ asked.acct) × (e ≡ fund_entry asked)))
+
+-- an entry that is told as done is asked for by the operator, and stands at the place told among the entries held and the one recorded
+-- now, which is then the last; the balance is that of its account over these
+abbrev pub TellsEntry : List Entry → Head → ℕ → List ℕ → Option Entry → Reply → Type 0
+TellsEntry H head kind body recorded (Done acct at amount) =
+    (e : Entry) × OperatorAsks head kind body acct e
+    × StandsAt (H ++ option_to_list recorded) at e × (amount ≡ balance (H ++ option_to_list recorded) acct)
+    × (IsSome recorded → (recorded ≡ Some e) × (at ≡ length H))
+TellsEntry H head kind body recorded other = Unit {0}
+
+-- What every verdict tells as done is so.
+abbrev pub DoneTellsTheEntry : Type 0
+DoneTellsTheEntry = (H : List Entry) (head : Head) (cap kind : ℕ) (body : List ℕ) (moment : ℕ)
+    → TellsEntry H head kind body (verdict H head cap kind body moment).entry (verdict H head cap kind body moment).reply
+
+-- ---- a status
+
+-- the receipt of a party of an entry that was found: the consumer's, where it names the party so, or else the merchant's
+abbrev pub IsReceiptFor : PartyId → Kept → Receipt → Type 0
+IsReceiptFor id kept r =
+    ((consumer_receipt kept ≡ Some r) × (r.consumer ≡ id))
+    ⊎ ((merchant_receipt kept ≡ Some r) × (r.consumer ≢ id) × (r.merchant ≡ id))
+
+-- a status tells the number of entries and the identifier asked for, and has a receipt exactly where an entry settles that and names
+-- who asks, whose receipt it is
+abbrev pub TellsStatus : List Entry → List ℕ → Reply → Type 0
+TellsStatus H body (Status place epoid receipt) =
+    (asked : StatusQuery) × IsAuthentic H body asked × (place ≡ length H) × (epoid ≡ asked.epoid)
+    × ((r : Receipt) → (receipt ≡ Some r) ↔ ((kept : Kept) × (order_in H asked.epoid ≡ Some kept) × IsReceiptFor asked.asker kept r))
+TellsStatus H body other = Unit {0}
+
+-- The status that any verdict tells is so.
+abbrev pub StatusTellsTheOrder : Type 0
+StatusTellsTheOrder = (H : List Entry) (head : Head) (cap kind : ℕ) (body : List ℕ) (moment : ℕ)
+    → TellsStatus H body (verdict H head cap kind body moment).reply
 
 -- ---- a kind that is not served
 

@@ -87,6 +87,19 @@ pub fn receipts_name_the_order()
     ensures { replies.ReceiptsNameTheOrder }
 {}
 
+/// A done reply is given only to an enrolment or a fund that has the operator's tag, for its account. The place told is one at which
+/// the entry asked for stands, among the entries held and the one recorded now, and the balance that of the account over these. An
+/// entry that is recorded now is the one asked for, and the place told is its own.
+pub fn done_tells_the_entry()
+    ensures { replies.DoneTellsTheEntry }
+{}
+
+/// A status tells the number of entries and the identifier asked for, and has a receipt exactly where an entry settles that identifier
+/// and names who asks: the receipt of that party.
+pub fn status_tells_the_order()
+    ensures { replies.StatusTellsTheOrder }
+{}
+
 /// A kind that is none of the four that are served is refused, shown, and records nothing.
 pub fn other_kinds_are_refused()
     ensures { replies.OtherKindsAreRefused }
