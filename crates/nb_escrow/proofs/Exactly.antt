@@ -58,7 +58,7 @@ use Rattle.nb_escrow.proofs.Judging.{Answer, Comes, comes, Pays, PaymentComes, p
 use Rattle.nb_escrow.proofs.Keys.{passes}
 use Rattle.nb_escrow.proofs.Tests.{step, holds_so, in_role, sealed_so, same_merchants, tag_so, room_for, same_digests}
 
-none_is : {A : Type 0} (o : Option A) → IsNone o → o ≡ None
+pub none_is : {A : Type 0} (o : Option A) → IsNone o → o ≡ None
 none_is None none = refl
 none_is (Some x) none = absurd cc
 
@@ -107,11 +107,11 @@ module _ (H : List Entry) (head : Head) (cap kind : ℕ) (body : List ℕ) (mome
   recorded_for d e (inl (is, (p, authentic, inr (new, room, d_is)))) some =
       inl (is, (p, record { authentic = authentic; new = new; room = room }, d_is, entry_is d _ _ e d_is refl some))
   recorded_for d e (inr (inl (is, (asked, authentic, least, d_is)))) some = absurd (silent d _ e d_is refl some)
-  recorded_for d e (inr (inr (inl (is, (asked, spelled, right, inl (at, d_is)))))) some = absurd (silent d _ e d_is refl some)
+  recorded_for d e (inr (inr (inl (is, (asked, spelled, right, inl (at, place, d_is)))))) some = absurd (silent d _ e d_is refl some)
   recorded_for d e (inr (inr (inl (is, (asked, spelled, right, inr (legal, room, d_is)))))) some =
       let same : enrol_entry asked ≡ e = entry_is d _ _ e d_is refl some in
       inr (inl (is, (asked, spelled, right, sym same, subst (LegalAfter H) same legal, room)))
-  recorded_for d e (inr (inr (inr (is, (asked, spelled, right, inl (at, d_is)))))) some = absurd (silent d _ e d_is refl some)
+  recorded_for d e (inr (inr (inr (is, (asked, spelled, right, inl (at, place, d_is)))))) some = absurd (silent d _ e d_is refl some)
   recorded_for d e (inr (inr (inr (is, (asked, spelled, right, inr (legal, room, d_is)))))) some =
       let same : fund_entry asked ≡ e = entry_is d _ _ e d_is refl some in
       inr (inr (is, (asked, spelled, right, sym same, subst (LegalAfter H) same legal, room)))
@@ -259,9 +259,9 @@ refusals_are_true H legal head cap kind body moment why = part (steps H head cap
     not_told d (inl (is, (p, authentic, inl (kept, held, same, d_is)))) told_so = receipts_tell_not _ _ why (replies d _ d_is told_so)
     not_told d (inl (is, (p, authentic, inr (new, room, d_is)))) told_so = receipts_tell_not _ _ why (replies d _ d_is told_so)
     not_told d (inr (inl (is, (asked, authentic, least, d_is)))) told_so = status_tells_not _ _ _ why (replies d _ d_is told_so)
-    not_told d (inr (inr (inl (is, (asked, spelled, right, inl (at, d_is)))))) told_so = done_tells_not _ _ _ why (replies d _ d_is told_so)
+    not_told d (inr (inr (inl (is, (asked, spelled, right, inl (at, place, d_is)))))) told_so = done_tells_not _ _ _ why (replies d _ d_is told_so)
     not_told d (inr (inr (inl (is, (asked, spelled, right, inr (next, room, d_is)))))) told_so = done_tells_not _ _ _ why (replies d _ d_is told_so)
-    not_told d (inr (inr (inr (is, (asked, spelled, right, inl (at, d_is)))))) told_so = done_tells_not _ _ _ why (replies d _ d_is told_so)
+    not_told d (inr (inr (inr (is, (asked, spelled, right, inl (at, place, d_is)))))) told_so = done_tells_not _ _ _ why (replies d _ d_is told_so)
     not_told d (inr (inr (inr (is, (asked, spelled, right, inr (next, room, d_is)))))) told_so = done_tells_not _ _ _ why (replies d _ d_is told_so)
 
     part : (r : Answer) → Comes H head cap kind body moment r → (told r).reply ≡ Told why → IsTrueRefusal H head cap kind body why
@@ -270,7 +270,7 @@ refusals_are_true H legal head cap kind body moment why = part (steps H head cap
 
 -- ---- what a refused order is told
 
-tells_reason : (s : Settlement) (why : RefusalReason) → s.outcome ≡ outcome.Refused why → TellsReason why (Receipts (receipt_in_role MERCHANT s) (receipt_in_role CONSUMER s))
+pub tells_reason : (s : Settlement) (why : RefusalReason) → s.outcome ≡ outcome.Refused why → TellsReason why (Receipts (receipt_in_role MERCHANT s) (receipt_in_role CONSUMER s))
 unfolding receipt_in_role may_see
 tells_reason s why is = rw is (
   refl,
@@ -346,9 +346,9 @@ told_exactly_where H head cap kind body moment = (λ both. forth (steps H head c
         (is, (p, kept.0, authentic, kept.1, kept.2 ∙ ap (λ (x : List ℕ). let o : Option (List ℕ) = Some x in o) same))
     told_so d (inl (is, (p, authentic, inr (new, room, d_is)))) told_it none = absurd (none-some _ (sym none ∙ ap (λ (x : Decision). x.entry) d_is))
     told_so d (inr (inl (is, (asked, authentic, least, d_is)))) told_it none = absurd (replies d _ d_is told_it)
-    told_so d (inr (inr (inl (is, (asked, spelled, right, inl (at, d_is)))))) told_it none = absurd (replies d _ d_is told_it)
+    told_so d (inr (inr (inl (is, (asked, spelled, right, inl (at, place, d_is)))))) told_it none = absurd (replies d _ d_is told_it)
     told_so d (inr (inr (inl (is, (asked, spelled, right, inr (next, room, d_is)))))) told_it none = absurd (replies d _ d_is told_it)
-    told_so d (inr (inr (inr (is, (asked, spelled, right, inl (at, d_is)))))) told_it none = absurd (replies d _ d_is told_it)
+    told_so d (inr (inr (inr (is, (asked, spelled, right, inl (at, place, d_is)))))) told_it none = absurd (replies d _ d_is told_it)
     told_so d (inr (inr (inr (is, (asked, spelled, right, inr (next, room, d_is)))))) told_it none = absurd (replies d _ d_is told_it)
 
     forth : (r : Answer) → Comes H head cap kind body moment r → AreReceipts (told r).reply → (told r).entry ≡ None
@@ -377,9 +377,9 @@ answered_exactly_where H head cap kind body moment = (forth (steps H head cap ki
     answered d (inl (is, (p, authentic, inl (s, held, same, d_is)))) it = absurd (replies d _ d_is it)
     answered d (inl (is, (p, authentic, inr (new, room, d_is)))) it = absurd (replies d _ d_is it)
     answered d (inr (inl (is, (asked, authentic, least, d_is)))) it = (is, (asked, authentic, least))
-    answered d (inr (inr (inl (is, (asked, spelled, right, inl (at, d_is)))))) it = absurd (replies d _ d_is it)
+    answered d (inr (inr (inl (is, (asked, spelled, right, inl (at, place, d_is)))))) it = absurd (replies d _ d_is it)
     answered d (inr (inr (inl (is, (asked, spelled, right, inr (next, room, d_is)))))) it = absurd (replies d _ d_is it)
-    answered d (inr (inr (inr (is, (asked, spelled, right, inl (at, d_is)))))) it = absurd (replies d _ d_is it)
+    answered d (inr (inr (inr (is, (asked, spelled, right, inl (at, place, d_is)))))) it = absurd (replies d _ d_is it)
     answered d (inr (inr (inr (is, (asked, spelled, right, inr (next, room, d_is)))))) it = absurd (replies d _ d_is it)
 
     forth : (r : Answer) → Comes H head cap kind body moment r → IsStatusReply (told r).reply → (kind ≡ STATUS_REQUEST) × ((asked : StatusQuery) × IsAuthentic H body asked × (asked.least ≤ length H))

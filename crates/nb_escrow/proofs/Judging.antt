@@ -114,7 +114,7 @@ abbrev pub OrderComes : List Entry → Head → ℕ → List ℕ → ℕ → Ans
 OrderComes H head cap body moment (Ok d) = (p : Presented) × IsAuthenticOrder H body p × SettledSo H head cap moment p d
 OrderComes H head cap body moment (Err why) = IsTrueOfRequest H body why ⊎ IsTrueOfOrder H body why ⊎ IsTrueOfHidden H body why ⊎ IsTrueOfPresented H cap body why
 
-digest_at : (at : ℕ) (e : Entry) (s : Settlement) → settlement_at at e ≡ Some s → digest_held e ≡ Some s.digest
+pub digest_at : (at : ℕ) (e : Entry) (s : Settlement) → settlement_at at e ≡ Some s → digest_held e ≡ Some s.digest
 digest_at at (Enrol id role acct nonce key) s is = absurd (none-some s is)
 digest_at at (Fund acct amount reference) s is = absurd (none-some s is)
 digest_at at (Paid digest epoid consumer merchant product price cacct macct moment key) s is = ap (λ (x : Settlement). let o : Option (List ℕ) = Some x.digest in o) (same_Some _ s is)
@@ -227,7 +227,7 @@ query_comes H head body =
 
 abbrev pub EnrolmentComes : List Entry → Head → ℕ → List ℕ → Answer → Type 0
 EnrolmentComes H head cap body (Ok d) = (asked : Enrolment) × (enrolment_of body ≡ Ok asked) × (asked.tag ≡ hmac_of head.operator (codes "enro" ++ signed_part body))
-    × (((at : ℕ) × (d ≡ done asked.acct at (balance H asked.acct) None))
+    × (((at : ℕ) × (place_in H (enrol_entry asked) ≡ Some at) × (d ≡ done asked.acct at (balance H asked.acct) None))
     ⊎ (LegalAfter H (enrol_entry asked) × (length H < cap) × (d ≡ done asked.acct (length H) (balance (H ++ enrol_entry asked ∷ []) asked.acct) (Some (enrol_entry asked)))))
 EnrolmentComes H head cap body (Err why) = IsTrueOfEnrolment H head cap body why
 
@@ -251,9 +251,9 @@ not_free H asked why is = part (party_in H asked.id) refl (holder_in H asked.acc
         inr (inr (rw none refl, rw nobody refl, zero_so asked.id.0 asked.acct.0 so.0, so.1))
 
 enrol_again_comes : (H : List Entry) (head : Head) (cap : ℕ) (body : List ℕ) (asked : Enrolment) → enrolment_of body ≡ Ok asked → asked.tag ≡ hmac_of head.operator (codes "enro" ++ signed_part body)
-    → (o : Option ℕ) → EnrolmentComes H head cap body (again_or_enrol H cap asked o)
-enrol_again_comes H head cap body asked spelled right (Some at) = (asked, spelled, right, inl (at, refl))
-enrol_again_comes H head cap body asked spelled right None =
+    → (o : Option ℕ) → place_in H (enrol_entry asked) ≡ o → EnrolmentComes H head cap body (again_or_enrol H cap asked o)
+enrol_again_comes H head cap body asked spelled right (Some at) place = (asked, spelled, right, inl (at, place, refl))
+enrol_again_comes H head cap body asked spelled right None place =
     behind (EnrolmentComes H head cap body) (numbers_free H asked.id asked.acct) _ (λ why is. inr (asked, spelled, inr (inl (not_free H asked why is)))) (λ u is.
     let numbers = free_so H asked.id asked.acct u is in
     behind (EnrolmentComes H head cap body) (room_left H cap) _ (λ why is. inr (asked, spelled, inr (inr (full_so H cap why is)))) (λ v is.
@@ -266,13 +266,13 @@ enrolment_comes H head cap body =
     behind C (well_formed IN_BODY (enrolment_of body)) _ (λ why is. inl (malformed IN_BODY (enrolment_of body) why is)) (λ asked is.
     let spelled : enrolment_of body ≡ Ok asked = formed IN_BODY (enrolment_of body) asked is in
     behind C (right_tag asked.tag (hmac_of head.operator (codes "enro" ++ signed_part body))) _ (λ why is. inr (asked, spelled, inl (other_tag asked.tag _ why is))) (λ u is.
-    enrol_again_comes H head cap body asked spelled (right_so asked.tag _ u is) (place_in H (enrol_entry asked))))
+    enrol_again_comes H head cap body asked spelled (right_so asked.tag _ u is) (place_in H (enrol_entry asked)) refl))
 
 -- ---- a fund
 
 abbrev pub FundingComes : List Entry → Head → ℕ → List ℕ → Answer → Type 0
 FundingComes H head cap body (Ok d) = (asked : Funding) × (funding_of body ≡ Ok asked) × (asked.tag ≡ hmac_of head.operator (codes "fund" ++ signed_part body))
-    × (((at : ℕ) × (d ≡ done asked.acct at (balance H asked.acct) None))
+    × (((at : ℕ) × (place_in H (fund_entry asked) ≡ Some at) × (d ≡ done asked.acct at (balance H asked.acct) None))
     ⊎ (LegalAfter H (fund_entry asked) × (length H < cap) × (d ≡ done asked.acct (length H) (balance (H ++ fund_entry asked ∷ []) asked.acct) (Some (fund_entry asked)))))
 FundingComes H head cap body (Err why) = Legal H → IsTrueOfFunding H head cap body why
 
@@ -314,7 +314,7 @@ too_much H asked why is =
 
 fund_again_comes : (H : List Entry) (head : Head) (cap : ℕ) (body : List ℕ) (asked : Funding) → funding_of body ≡ Ok asked → asked.tag ≡ hmac_of head.operator (codes "fund" ++ signed_part body)
     → (o : Option ℕ) → place_in H (fund_entry asked) ≡ o → FundingComes H head cap body (again_or_fund H cap asked o)
-fund_again_comes H head cap body asked spelled right (Some at) place = (asked, spelled, right, inl (at, refl))
+fund_again_comes H head cap body asked spelled right (Some at) place = (asked, spelled, right, inl (at, place, refl))
 fund_again_comes H head cap body asked spelled right None place =
     let C : Answer → Type 0 = FundingComes H head cap body in
     let amount = amount_so body asked spelled in

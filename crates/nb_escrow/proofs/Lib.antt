@@ -8,3 +8,4 @@ pub mod Recording
 pub mod Tests
 pub mod Judging
 pub mod Exactly
+pub mod Replying

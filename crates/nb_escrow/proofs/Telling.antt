@@ -88,7 +88,7 @@ found_stays {A = A} answer at (x ∷ es) more a found = part (answer at x) found
     part (Some b) found rest = found
 
 -- what was not found is what comes next, where that answers
-found_next : {A : Type 0} (answer : ℕ → Entry → Option A) (e : Entry) (more : List Entry) (a : A) (at : ℕ) (es : List Entry) → first_from answer at es ≡ None
+pub found_next : {A : Type 0} (answer : ℕ → Entry → Option A) (e : Entry) (more : List Entry) (a : A) (at : ℕ) (es : List Entry) → first_from answer at es ≡ None
     → ((n : ℕ) → n ≡ at + length es → answer n e ≡ Some a) → first_from answer at (es ++ e ∷ more) ≡ Some a
 found_next answer e more a at [] none next = rw (next at (omega arith)) refl
 found_next answer e more a at (x ∷ es) none next =
@@ -191,11 +191,11 @@ stays_enrolled H more role id party is = part (party_in H id) refl is
     part (Some q) found is = rw (found_stays (party_at id) 0 H more q found) is
 
 -- the entry of a settlement settles its order, and is read as that settlement
-settles_entry : (s : Settlement) (o : PaymentOutcome) → settles s.epoid (entry_with s o) ≡ true
+pub settles_entry : (s : Settlement) (o : PaymentOutcome) → settles s.epoid (entry_with s o) ≡ true
 settles_entry s (outcome.Paid cacct macct key) = same_identifier s.epoid
 settles_entry s (outcome.Refused reason) = same_identifier s.epoid
 
-settlement_back : (s : Settlement) (o : PaymentOutcome) → settlement_at s.at (entry_with s o) ≡ Some (record s { outcome = o })
+pub settlement_back : (s : Settlement) (o : PaymentOutcome) → settlement_at s.at (entry_with s o) ≡ Some (record s { outcome = o })
 settlement_back s (outcome.Paid cacct macct key) = refl
 settlement_back s (outcome.Refused reason) = refl
 

@@ -12,3 +12,4 @@ pub mod Verdict
 pub mod Payable
 pub mod Claims
 pub mod Laws
+pub mod Replies

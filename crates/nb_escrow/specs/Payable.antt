@@ -99,12 +99,19 @@ IsTrueReason H p moment why =
 abbrev pub refusal_of : Presented → ℕ → RefusalReason → Entry
 refusal_of p moment why = entries.Refused p.digest p.order.epoid p.order.consumer p.order.merchant p.order.product p.order.price why.code why.a why.b moment
 
--- both receipts have the reason's code. Its numbers are shown to both, but for those that are the other party's own
+-- what a reason shows the consumer: its two numbers, but for those that are the merchant's own
+abbrev pub shown_to_consumer : RefusalReason → Option (ℕ × ℕ)
+shown_to_consumer why = if why.code == MERCHANT_ACCOUNT then None else Some (why.a, why.b)
+
+-- and what the merchant: its two numbers, but for those that are the consumer's own
+abbrev pub shown_to_merchant : RefusalReason → Option (ℕ × ℕ)
+shown_to_merchant why = if why.code == CONSUMER_ACCOUNT || why.code == CONSUMER_NONCE || why.code == BALANCE_LOW then None else Some (why.a, why.b)
+
+-- both receipts have the reason's code, and show what it shows each party
 abbrev pub TellsReason : RefusalReason → Reply → Type 0
 TellsReason why (Receipts merchant consumer) =
     (merchant.code ≡ why.code) × (consumer.code ≡ why.code)
-    × (merchant.shown ≡ (if why.code == CONSUMER_ACCOUNT || why.code == CONSUMER_NONCE || why.code == BALANCE_LOW then None else Some (why.a, why.b)))
-    × (consumer.shown ≡ (if why.code == MERCHANT_ACCOUNT then None else Some (why.a, why.b)))
+    × (merchant.shown ≡ shown_to_merchant why) × (consumer.shown ≡ shown_to_consumer why)
 TellsReason why other = ⊥
 
 -- the digest that a payment or a refusal holds

@@ -1,6 +1,7 @@
 //! What holds of every verdict. Each function here does nothing: its contract is the law.
 
 ghost use Rattle.nb_escrow.specs.Laws as law;
+ghost use Rattle.nb_escrow.specs.Replies as replies;
 
 /// A request whose entry was recorded is given the same reply under the same keys when it comes
 /// again, at any moment and whatever was recorded since, and no second entry is made of it. What it is told of a balance is
@@ -71,4 +72,35 @@ pub fn answered_exactly_where()
 /// What each refusal claims is true of the entries and of the request, and so are the numbers and the bytes that it shows.
 pub fn refusals_are_true()
     ensures { law.RefusalsAreTrue }
+{}
+
+/// The keys of a reply are those of its parties. The receipts of an order have the house's own key, and then the merchant's and
+/// the consumer's, as enrolled; a status has the house's, and then that of who asks; any other reply has none.
+pub fn keys_are_the_parties()
+    ensures { replies.KeysAreTheParties }
+{}
+
+/// The receipts of an order are those of the entry that settles its identifier and has its digest, among the entries held and the
+/// one recorded now. Where one is recorded now, both name the order: its consumer, merchant, product, price and identifier, with the
+/// number of the entries held as its place, and the moment.
+pub fn receipts_name_the_order()
+    ensures { replies.ReceiptsNameTheOrder }
+{}
+
+/// A done reply is given only to an enrolment or a fund that has the operator's tag, for its account. The place told is one at which
+/// the entry asked for stands, among the entries held and the one recorded now, and the balance that of the account over these. An
+/// entry that is recorded now is the one asked for, and the place told is its own.
+pub fn done_tells_the_entry()
+    ensures { replies.DoneTellsTheEntry }
+{}
+
+/// A status tells the number of entries and the identifier asked for, and has a receipt exactly where an entry settles that identifier
+/// and names who asks: the receipt of that party.
+pub fn status_tells_the_order()
+    ensures { replies.StatusTellsTheOrder }
+{}
+
+/// A kind that is none of the four that are served is refused, shown, and records nothing.
+pub fn other_kinds_are_refused()
+    ensures { replies.OtherKindsAreRefused }
 {}

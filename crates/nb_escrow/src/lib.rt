@@ -9,9 +9,9 @@
 //! `enrolment.rt`, `funding.rt`, `checks.rt`, `settlement.rt`.
 //!
 //! A decision's entry is legal after those held, and within the journal's cap. No memory is taken. What holds of every
-//! verdict stands in `specs/Laws.antt`, and is proved by the functions of [`laws`]. Among it stands, in words that cite no test,
-//! where exactly an order is paid (`Payable.antt`), and what each refusal claims of the entries and the request
-//! (`Claims.antt`).
+//! verdict stands in `specs/Laws.antt` and `Replies.antt`, and is proved by the functions of [`laws`]. Among it stands, in words
+//! that cite no test, where exactly an order is paid (`Payable.antt`), what each refusal claims of the entries and the request
+//! (`Claims.antt`), and what any other reply tells, and under which keys (`Replies.antt`).
 //!
 //! Left to others: recording the entry, the bytes of the reply, and the moment's clock. Worked cases of every refusal stand in
 //! the tests of `nb_vault`, the lowest crate above this one.
