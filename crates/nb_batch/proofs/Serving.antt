@@ -1,5 +1,5 @@
 -- A batch step by step: what ran so far goes on by one frame, and ends.
-use Rattle.std.proofs.Common.{◌≡◌, ℕ, ◌+◌, ◌<◌, ◌≤◌, ◌⊎◌, ⊎_elim, List, [], ◌∷◌, ◌++◌, length, take, Option, None, Some, refl, sym, ap, subst, ◌∙◌, append_assoc, append-nil, arith}
+use Rattle.std.proofs.Common.{◌≡◌, ℕ, ◌+◌, ◌<◌, ◌⊎◌, ⊎_elim, List, [], ◌∷◌, ◌++◌, length, take, Option, None, Some, refl, sym, ap, subst, ◌∙◌, append_assoc, append-nil, arith}
 use Rattle.std.specs.Prelude.{map}
 use Rattle.std.specs.List.{flat_map, AllByRecursion}
 use Rattle.std.specs.Option.{option_to_list}
@@ -21,7 +21,7 @@ use Rattle.nb_vault.proofs.Resting.{leaves_more, leaves_then}
 use Rattle.nb_vault.specs.declared.origin.Origin.{Origin}
 use Rattle.nb_vault.specs.Holdings.{StandsForEither}
 use Rattle.nb_vault.specs.Rules.{house_rules}
-use Rattle.nb_vault.specs.Turns.{Request, Ruling, State, Mark, At, Fault, Worn, NoMemory as Starved, Answered, Turn, Run, last_state, IsStateOf, replies, failure_of, failures_of}
+use Rattle.nb_vault.specs.Turns.{Request, Ruling, State, Answered, Turn, Run, last_state, IsStateOf, replies, failure_of, failures_of}
 use Rattle.nb_vault.specs.Vaults.{Chronicled, Keeps, state_of, rules_of, entries_in, doubt_in, StandsForState as StandsForVault}
 use Rattle.nb_escrow.specs.Head.{head_of}
 use Rattle.nb_batch.specs.declared.batch.TheConstants.{MOST_FRAMES}

@@ -1,17 +1,16 @@
 -- What was recorded stays in all that a stop leaves behind it.
-use Rattle.std.proofs.Common.{◌≡◌, ◌⊎◌, ⊎_elim, ℕ, ◌+◌, ◌<◌, ◌≤◌, zero, suc, List, [], ◌∷◌, ◌++◌, length, take, drop, Option, None, Some, refl, sym, ap, subst, ◌∙◌, append_assoc, append-nil, arith}
+use Rattle.std.proofs.Common.{◌≡◌, ◌⊎◌, ⊎_elim, ℕ, ◌≤◌, zero, suc, List, [], ◌∷◌, ◌++◌, take, Some, sym, ap, subst, ◌∙◌, append_assoc, append-nil, arith}
 use Rattle.std.specs.List.{slice_get}
 use Rattle.std.specs.Option.{option_to_list}
 use Rattle.std.proofs.Math.Seq.{take-append_seam}
 use Rattle.nb_port.specs.Tells.{DiskTells}
 use Rattle.nb_book.specs.declared.entry.Entry.{Entry}
-use Rattle.nb_journal.specs.Time.{LeavesOnly}
 use Rattle.nb_escrow.specs.Head.{head_of}
 use Rattle.nb_vault.specs.Holdings.{StandsFor, StandsForEither}
 use Rattle.nb_vault.specs.Rules.{house_rules}
-use Rattle.nb_vault.specs.Turns.{Request, Ruling, State, Mark, At, Fault, Worn, NoMemory as Starved, Answered, Turn, Run, Decides}
+use Rattle.nb_vault.specs.Turns.{Request, Ruling, State, Mark, At, Fault, Worn, NoMemory as Starved, Answered, Turn, Run}
 use Rattle.nb_batch.specs.Batch.{HoldsState, GoesThrough, last_disk}
-use Rattle.nb_batch.specs.Acknowledged.{StandsForMore, Stays, AcknowledgedStays}
+use Rattle.nb_batch.specs.Acknowledged.{StandsForMore, Stays}
 
 -- the entries of a state begin with these
 abbrev Begins : List Entry → State → Type 0

@@ -81,12 +81,15 @@ may_send tells old new request out sent place none same durable is =
     sym (ap (take place) entries ∙ ap (λ (n : ℕ). take n (d.over ++ option_to_list (rules_of old d.over request).entry)) d.at ∙ take-append_seam d.over (option_to_list (rules_of old d.over request).entry)) in
     let T : (List Entry → Request → Ruling) → List Entry → Type 0 = λ rs over. sent ≡ (rs over request).reply in
     let R : (List Entry → Request → Ruling) → List Entry → Type 0 = λ rs over. entries_in new ≡ over ++ option_to_list (rs over request).entry in
-    inl (durable, record {
-      request = request;
-      place = place;
-      told = subst (T (rules_of new)) front (subst (λ rs. T rs d.over) rules (is.2 ∙ ap (λ (xs : List ℕ). xs ++ is.0) none ∙ d.told));
-      recorded = subst (R (rules_of new)) front (subst (λ rs. R rs d.over) rules entries);
-    })
+    inl (
+      durable,
+      record {
+        request = request;
+        place = place;
+        told = subst (T (rules_of new)) front (subst (λ rs. T rs d.over) rules (is.2 ∙ ap (λ (xs : List ℕ). xs ++ is.0) none ∙ d.told));
+        recorded = subst (R (rules_of new)) front (subst (λ rs. R rs d.over) rules entries);
+      },
+    )
 
 -- ---- one step
 

@@ -7,7 +7,7 @@ use Rattle.nb_book.specs.declared.entry.Entry.{Entry}
 use Rattle.nb_escrow.specs.Head.{head_of}
 use Rattle.nb_vault.specs.Holdings.{StandsFor}
 use Rattle.nb_vault.specs.Rules.{house_rules}
-use Rattle.nb_vault.specs.Turns.{Request, Ruling, State, At, Answered, Run}
+use Rattle.nb_vault.specs.Turns.{Request, State, At, Answered, Run}
 use Rattle.nb_batch.specs.Batch.{GoesThrough, last_disk}
 
 -- the image stands for a list that begins with these entries
