@@ -4,6 +4,7 @@ use super::*;
 use crate::{Answer, Line, Vault, VaultFault};
 use nb_msgs::REPLY_ROOM;
 use nb_port::{Fill, MemDisk};
+use std::process::Abort;
 
 // Entries, by their letters: consumer 1 with account 1, merchant 2 with account 2, 500 and 1000 for account 1, and a payment of
 // 500 in two parts, between which stands the last byte of its serial number.
@@ -142,7 +143,7 @@ fn lines_of(alloc: Global, steps: &[Step]) -> Result<Vec<Line>, Fail> {
     for (turn, (next, letters, _)) in steps.iter().enumerate() {
         let own = match *next {
             Pay => decided(&request_of(alloc, next, &ORDER)?, 3, Paid).entry,
-            _ => entry_of(next),
+            _ => entry_for(next),
         };
         for letter in letters.as_bytes() {
             let entry = if *letter == b'A' { doubt } else { own };
