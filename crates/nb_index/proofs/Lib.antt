@@ -1,0 +1,4 @@
+pub mod Places
+pub mod Keys
+pub mod Walking
+pub mod Holding

@@ -1,0 +1,23 @@
+-- What was put into an index, and what is found in it.
+use Rattle.std.specs.Prelude.{◌≡◌, ℕ, ◌-◌, ◌<◌, List, [], ◌∷◌, Option, Some, None, IsNone, take, length, slice_index_or, if◌then◌else◌}
+use Rattle.std.specs.List.{HoldsAt}
+use Rattle.std.specs.Str.{bytes_eq}
+use Rattle.nb_index.specs.declared.put.Put.{Put}
+
+-- what an index is seen as: its puts in order, and how many slots it has
+pub record Indexed : Type 0 where
+  pub puts : List Put
+  pub slots : ℕ
+
+-- the number of the first put under this key
+abbrev pub value_in : List Put → List ℕ → Option ℕ
+value_in [] k = None
+value_in (p ∷ ps) k = if bytes_eq p.key k then Some p.value else value_in ps k
+
+-- each key was absent when it was put
+abbrev pub AreNew : List Put → Type 0
+AreNew ps = (i : ℕ) (d : Put) → i < length ps → IsNone (value_in (take i ps) (slice_index_or ps i d).key)
+
+-- this is the key of the last put
+abbrev pub IsLast : List Put → List ℕ → Type 0
+IsLast ps k = HoldsAt (λ p. p.key ≡ k) ps (length ps - 1)

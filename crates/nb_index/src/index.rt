@@ -1,0 +1,116 @@
+ghost use Rattle.std.specs.Prelude.{◌≡◌, ◌≤◌, ◌<◌, ◌*◌, ◌-◌, [], ◌∷◌, ◌++◌, length, take, IsNone, IfOk};
+ghost use Rattle.nb_index.specs.declared.limits.TheConstants.{MAX_SLOTS};
+ghost use Rattle.nb_index.specs.Puts.{value_in, AreNew, IsLast};
+
+use crate::limits::MAX_SLOTS;
+use crate::memory::NoMemory;
+use crate::put::Put;
+use crate::slot::slot_of;
+use std::alloc::Global;
+use std::marker::Model;
+
+/// Numbers under keys, each key put once, in memory that [`FixedIndex::new`] takes.
+#[derive(Drop)]
+pub struct FixedIndex {
+    // By which keys fall on slots.
+    key: [u8; 16],
+    // For each slot the number of the last put that fell on it. Puts are counted from 1, and 0 stands for none.
+    lasts: Vec<u32>,
+    // The puts in order.
+    puts: Vec<Put>,
+    // For each put the number of the one before it at its slot.
+    before: Vec<u32>,
+}
+
+impl Model for FixedIndex {
+    ghost use Rattle.std.specs.Prelude.{◌≤◌, ◌+◌, ◌*◌, vec_len, vec_capacity};
+    ghost use Rattle.nb_index.specs.declared.limits.TheConstants.{MAX_SLOTS};
+    ghost use Rattle.nb_index.specs.Puts.{Indexed, AreNew};
+    ghost use Rattle.nb_index.specs.Slots.{Chains, slots_of};
+
+    ghost Value = { Indexed };
+
+    ghost view = { λ x. record { puts = x.puts.items; slots = vec_len x.lasts } };
+
+    ghost invariant = { λ x. record {
+      some : 2 ≤ vec_len x.lasts;
+      most : vec_len x.lasts ≤ MAX_SLOTS;
+      half : 2 * vec_len x.puts ≤ vec_len x.lasts + 1;
+      room : vec_len x.lasts + 1 ≤ 2 * vec_capacity x.puts;
+      room_before : vec_len x.lasts + 1 ≤ 2 * vec_capacity x.before;
+      new : AreNew x.puts.items;
+      chains : Chains x.lasts.items x.before.items (slots_of x.key (vec_len x.lasts) x.puts.items);
+    } };
+}
+
+impl FixedIndex {
+    /// An index with no puts and so many slots, from 2 to [`MAX_SLOTS`]. Its key, 16 bytes, decides on which slot a key falls: who
+    /// does not know it cannot choose keys that all fall on one. Answers [`NoMemory`] where there is none for it.
+    pub fn new(alloc: Global, slots: u32, key: &[u8; 16]) -> Result<FixedIndex, NoMemory>
+        requires some { 2 ≤ slots }
+        requires most { slots ≤ MAX_SLOTS }
+        ensures puts { IfOk result (λ index. index.puts ≡ []) }
+        ensures slots { IfOk result (λ index. index.slots ≡ slots) }
+    {
+        let most = slots as usize / 2 + 1;
+        Ok(FixedIndex {
+            key: *key,
+            lasts: vec![in alloc; 0; slots as usize]?,
+            puts: Vec::with_capacity(alloc, most)?,
+            before: Vec::with_capacity(alloc, most)?,
+        })
+    }
+
+    /// The number that was put under this key, if one was.
+    pub fn find(&self, key: &[u8; 16]) -> Option<u32>
+        ensures found { result ≡ value_in self.now.puts key.now }
+        ensures new { AreNew self.now.puts }
+    {
+        let slot = slot_of(&self.key, self.lasts.len() as u32, key);
+        let mut number = self.lasts[slot as usize];
+        while number != 0 {
+            let at = number as usize - 1;
+            let put = self.puts[at];
+            if put.key == *key {
+                return Some(put.value);
+            }
+            number = self.before[at];
+        }
+        None
+    }
+
+    /// Puts a number under a key that has none, where fewer than half of the slots are used. This takes no memory.
+    pub fn put(&mut self, key: &[u8; 16], value: u32)
+        requires absent { IsNone (value_in self.old.puts key.now) }
+        requires room { 2 * length self.old.puts < self.old.slots }
+        ensures puts { self.new.puts ≡ self.old.puts ++ record { key = key.now; value = value } ∷ [] }
+        ensures slots { self.new.slots ≡ self.old.slots }
+    {
+        let slot = slot_of(&self.key, self.lasts.len() as u32, key) as usize;
+        self.before.push_reserved(self.lasts[slot]);
+        self.puts.push_reserved(Put { key: *key, value });
+        self.lasts[slot] = self.puts.len() as u32;
+    }
+
+    /// Takes the last put off: the index is as it was before it. The key is that put's.
+    pub fn take_off(&mut self, key: &[u8; 16])
+        requires some { 0 < length self.old.puts }
+        requires last { IsLast self.old.puts key.now }
+        ensures puts { self.new.puts ≡ take (length self.old.puts - 1) self.old.puts }
+        ensures slots { self.new.slots ≡ self.old.slots }
+    {
+        let slot = slot_of(&self.key, self.lasts.len() as u32, key) as usize;
+        let before = self.before.pop();
+        let _ = self.puts.pop();
+        if let Some(number) = before {
+            self.lasts[slot] = number;
+        }
+    }
+
+    /// How many slots are used: the number of puts.
+    pub fn used(&self) -> u32
+        ensures { result ≡ length self.now.puts }
+    {
+        self.puts.len() as u32
+    }
+}

@@ -1,0 +1,31 @@
+//! An index of fixed size: numbers under keys of 16 bytes, found without going over them all.
+//!
+//! A [`FixedIndex`] is seen as an [`Indexed`](specs/Puts.antt): the list of its puts in order, and how many slots it has. Each
+//! key is put once. [`FixedIndex::find`] gives the number that was put under a key, [`FixedIndex::put`] appends a put, and
+//! [`FixedIndex::take_off`] takes the last one off, so that the list is as before it. All memory is taken by
+//! [`FixedIndex::new`]: the other calls take none and cannot fail. It holds half as many puts as it has slots, at least one and at
+//! most half of [`MAX_SLOTS`].
+//!
+//! A key falls on one slot, by the SHA-256 (FIPS 180-4) of the index's own key and the key. Who does not know the index's key can not
+//! choose keys that all fall on one slot. A slot has the number of the last put that fell on it, and beside each put stands the
+//! number of the one before it at its slot; `find` goes along these.
+//!
+//! What the words mean stands in `specs/`: puts in `Puts.antt`, slots in `Slots.antt`. What holds of every index stands in
+//! `specs/Laws.antt` and is proved by the functions of [`laws`].
+//!
+//! Left to others: what the numbers mean, and how a key is made. How long a call takes is no claim of the proofs.
+#![tactic(auto)]
+
+mod index;
+pub mod laws;
+mod limits;
+mod memory;
+mod put;
+mod slot;
+#[cfg(test)]
+mod tests;
+
+pub use index::FixedIndex;
+pub use limits::MAX_SLOTS;
+pub use memory::NoMemory;
+pub use put::Put;
