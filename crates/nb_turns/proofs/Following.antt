@@ -13,7 +13,7 @@ use Rattle.nb_turns.specs.declared.mark.Mark.TheVariants.{Fault, Worn}
 use Rattle.nb_turns.specs.Turns.{Request, House, Outcome, Decides, Fails, Refuses, Answered, alike, answered, decided, marks, recorded, with_entry}
 use Rattle.nb_turns.specs.Lines.{maker_of, turn_of, entry_of, entries_of, faults_of, lines_by, next_turn, AddsLines, AreOf}
 use Rattle.nb_turns.specs.Callers.{Turned, behind, AnsweredTurns, lines_since, own_lines, answers_in, AreTaken}
-use Rattle.nb_turns.specs.Laws.{SeenGrows, OwnLinesAlone, PlacesStand, IsWorn, WornStands, AreApart, TurnsApart}
+use Rattle.nb_turns.specs.Laws.{SeenGrows, OwnLinesAlone, PlacesStand, IsWorn, WornStands, AreApart, TurnsApart, AnsweredThen}
 use Rattle.nb_turns.proofs.Lists.{all_append, all_at, all_back, all_weaker}
 use Rattle.nb_turns.proofs.Single.{behind_more}
 use Rattle.nb_turns.proofs.Lining.{entries_append, faults_append, lines_are_of, decided_entries}
@@ -177,3 +177,9 @@ module _ (house : House) (opening : List Entry) (by : ℕ) (last : List Line) wh
 
 pub turns_apart : TurnsApart
 turns_apart house opening by first turns last answers = apart_from house opening by last first turns answers
+
+-- ---- one answering behind another
+
+pub answered_then : AnsweredThen
+answered_then house opening by first [] mid more last one two = subst (λ (ls : List Line). AnsweredTurns house opening by ls more last) one two
+answered_then house opening by first (t ∷ turns) mid more last one two = (one.0, answered_then house opening by (behind first t) turns mid more last one.1 two)

@@ -5,3 +5,4 @@ pub mod Lining
 pub mod Sounding
 pub mod Following
 pub mod Small
+pub mod Numbering

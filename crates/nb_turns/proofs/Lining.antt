@@ -64,13 +64,13 @@ module _ (by turn : ℕ) where
   both_of first second one two = all_append (λ (line : Line). (maker_of line ≡ by) × (turn_of line ≡ turn)) first second one two
 
   -- neither adopted nor recorded entries are faults
-  adopted_no_fault : (es : List Entry) → AllByRecursion (λ (l : Line). is_fault l ≡ false) (adopts by turn es)
+  pub adopted_no_fault : (es : List Entry) → AllByRecursion (λ (l : Line). is_fault l ≡ false) (adopts by turn es)
   adopted_no_fault es = all_map (λ (l : Line). is_fault l ≡ false) (λ (e : Entry). Adopted by turn e) es (λ (e : Entry). refl)
 
-  committed_no_fault : (es : List Entry) → AllByRecursion (λ (l : Line). is_fault l ≡ false) (commits by turn es)
+  pub committed_no_fault : (es : List Entry) → AllByRecursion (λ (l : Line). is_fault l ≡ false) (commits by turn es)
   committed_no_fault es = all_map (λ (l : Line). is_fault l ≡ false) (λ (e : Entry). Commit by turn e) es (λ (e : Entry). refl)
 
-  doubted_no_fault : (es : List Entry) → AllByRecursion (λ (l : Line). is_fault l ≡ false) (doubts by turn es)
+  pub doubted_no_fault : (es : List Entry) → AllByRecursion (λ (l : Line). is_fault l ≡ false) (doubts by turn es)
   doubted_no_fault es = all_map (λ (l : Line). is_fault l ≡ false) (λ (e : Entry). Doubt by turn e) es (λ (e : Entry). refl)
 
   adopted_no_doubt : (es : List Entry) → AllByRecursion (λ (l : Line). is_doubt l ≡ false) (adopts by turn es)

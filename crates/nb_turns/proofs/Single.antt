@@ -6,7 +6,7 @@ use Rattle.nb_book.specs.declared.entry.Entry.{Entry}
 use Rattle.nb_turns.specs.declared.mark.Mark.{Mark}
 use Rattle.nb_turns.specs.declared.mark.Mark.TheVariants.{At, Fault, Worn}
 use Rattle.nb_turns.specs.Turns.{Request, House, State, Outcome, Decides, Fails, Refuses, Answered, Unsettled, Doubts, Turn, answer_over, answered, decided, recorded, with_entry}
-use Rattle.nb_turns.specs.Laws.{TurnTells, DoubtsOne, TurnOfOne, OneIsTurn, RunTells, OnesAreRun, OneMore, one_answer}
+use Rattle.nb_turns.specs.Laws.{TurnTells, DoubtsOne, TurnOfOne, OneIsTurn, RunTells, OnesAreRun, RunThen, OneMore, one_answer}
 
 abbrev state_with : List Entry → List Entry → ℕ → State
 state_with entries doubt faults = record { entries = entries; doubt = doubt; faults = faults }
@@ -153,3 +153,11 @@ recorded_few house over (r ∷ rs) =
 
 pub one_more : OneMore
 one_more house over requests request = (decided_more house over requests request, recorded_more house over requests request, recorded_few house over requests)
+
+-- ---- one run behind another
+
+pub run_then : RunThen
+run_then house first [] more [] others run then = then
+run_then house first (round ∷ rounds) more (next ∷ states) others run then = (run.0, run.1, run_then house next rounds more states others run.2 then)
+run_then house first [] more (next ∷ states) others run then = absurd run
+run_then house first (round ∷ rounds) more [] others run then = absurd run

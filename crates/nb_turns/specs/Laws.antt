@@ -12,8 +12,8 @@ use Rattle.nb_turns.specs.declared.limits.TheConstants.{MAX_FAULTS, MAX_REQUESTS
 use Rattle.nb_turns.specs.declared.line.Line.{Line}
 use Rattle.nb_turns.specs.declared.mark.Mark.{Mark}
 use Rattle.nb_turns.specs.declared.mark.Mark.TheVariants.{At, Fault, Worn}
-use Rattle.nb_turns.specs.Turns.{Request, House, State, Outcome, Decides, Fails, Refuses, Answered, Round, SettlesInto, Unsettled, Doubts, Turn, FitTurn, Run, answer_over, answered, answered_in, decided, marks, recorded}
-use Rattle.nb_turns.specs.Lines.{AddsLines, AreOf, IsClosed, Sound, StateOver, entries_of, faults_of, lines_by, turn_of}
+use Rattle.nb_turns.specs.Turns.{Request, House, State, Outcome, Decides, Fails, Refuses, Answered, Round, SettlesInto, Unsettled, Doubts, Turn, FitTurn, Run, answer_over, answered, answered_in, decided, marks, recorded, failure_of, last_state}
+use Rattle.nb_turns.specs.Lines.{AddsLines, AreBelow, AreOf, IsClosed, NeverFall, Sound, StateOver, entries_of, failures_in, faults_of, lines_by, next_turn, turn_of}
 use Rattle.nb_turns.specs.Callers.{Turned, AnsweredTurns, AreTaken, answers_in, lines_since, own_lines}
 
 -- the limits of a turn and of a house in numbers
@@ -77,6 +77,11 @@ pub record RunTells (house : House) (first : State) (answers : List Answered) (s
 -- what is answered one at a time is a run
 abbrev pub OnesAreRun : Type 0
 OnesAreRun = (house : House) (first : State) (answers : List Answered) (states : List State) → RunOfOnes house first answers states → RunTells house first answers states
+
+-- a run, and one from its last state, are a run
+abbrev pub RunThen : Type 0
+RunThen = (house : House) (first : State) (rounds more : List Round) (states others : List State)
+    → Run house first rounds states → Run house (last_state first states) more others → Run house first (rounds ++ more) (states ++ others)
 
 -- ---- one request more
 
@@ -167,7 +172,26 @@ abbrev pub LinesStaySound : Type 0
 LinesStaySound = (house : House) (opening : List Entry) (by turn : ℕ) (before : List Line) (requests : List Request) (outcome : Outcome) (added : List Line)
     → Sound before → AddsLines house opening by turn before requests outcome added → Sound (before ++ added)
 
+-- of lines whose turns never fall in number each is below the next turn
+abbrev pub NextIsAbove : Type 0
+NextIsAbove = (lines : List Line) → NeverFall lines → AreBelow (next_turn lines) lines
+
+-- they never fall behind a turn that has the next number
+abbrev pub TurnsNeverFall : Type 0
+TurnsNeverFall = (house : House) (opening : List Entry) (by : ℕ) (before : List Line) (requests : List Request) (outcome : Outcome) (added : List Line)
+    → NeverFall before → AddsLines house opening by (next_turn before) before requests outcome added → NeverFall (before ++ added)
+
+-- the lines of a turn tell its failure, where it failed, and no other
+abbrev pub LinesTellFailure : Type 0
+LinesTellFailure = (house : House) (opening : List Entry) (by turn : ℕ) (before : List Line) (requests : List Request) (outcome : Outcome) (added : List Line)
+    → AddsLines house opening by turn before requests outcome added → failures_in added ≡ option_to_list (failure_of outcome)
+
 -- ---- what a caller was answered
+
+-- what a caller was answered, and then over what it had seen by then, is what it was answered
+abbrev pub AnsweredThen : Type 0
+AnsweredThen = (house : House) (opening : List Entry) (by : ℕ) (first : List Line) (turns : List Turned) (mid : List Line) (more : List Turned) (last : List Line)
+    → AnsweredTurns house opening by first turns mid → AnsweredTurns house opening by mid more last → AnsweredTurns house opening by first (turns ++ more) last
 
 -- what it had seen last begins with what it had seen first, and then come the lines since
 abbrev pub SeenGrows : Type 0

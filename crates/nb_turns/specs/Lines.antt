@@ -127,6 +127,11 @@ pub record IsRun (test : Line → Bool) (before run behind : List Line) : Type 0
 abbrev pub Sound : List Line → Type 0
 Sound lines = (before run behind : List Line) → lines ≡ before ++ (run ++ behind) → IsRun is_adopted before run behind → filter_map adopted run ≡ open_doubt before
 
+-- the numbers of the turns never fall
+abbrev pub NeverFall : List Line → Type 0
+NeverFall [] = Unit {0}
+NeverFall (line ∷ lines) = AllByRecursion (λ (later : Line). turn_of line ≤ turn_of later) lines × NeverFall lines
+
 -- ---- one turn
 
 -- the lines of entries that were in doubt and are kept

@@ -19,6 +19,11 @@ pub fn ones_are_run()
     ensures { law.OnesAreRun }
 {}
 
+/// A run, and one from its last state, are a run.
+pub fn run_then()
+    ensures { law.RunThen }
+{}
+
 /// One request more is decided over what is recorded behind those before it.
 pub fn one_more()
     ensures { law.OneMore }
@@ -63,6 +68,26 @@ pub fn lines_tell_turn()
 /// Lines stay sound behind each turn: neighbours that adopt have all that was in doubt before them.
 pub fn lines_stay_sound()
     ensures { law.LinesStaySound }
+{}
+
+/// Of lines whose turns never fall in number each is below the next turn.
+pub fn next_is_above()
+    ensures { law.NextIsAbove }
+{}
+
+/// The numbers of turns never fall behind a turn that has the next one.
+pub fn turns_never_fall()
+    ensures { law.TurnsNeverFall }
+{}
+
+/// The lines of a turn tell its failure, where it failed, and no other.
+pub fn lines_tell_failure()
+    ensures { law.LinesTellFailure }
+{}
+
+/// What a caller was answered, and then was answered over what it had seen by then, is what it was answered.
+pub fn answered_then()
+    ensures { law.AnsweredThen }
 {}
 
 /// What a caller had seen first stays, and the lines since then come behind it.
