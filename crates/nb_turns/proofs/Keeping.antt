@@ -1,5 +1,5 @@
 -- What a turn and a run keep, and what a stop leaves.
-use Rattle.std.proofs.Common.{◌≡◌, ◌⊎◌, inl, inr, ℕ, ◌<◌, ◌≤◌, List, [], ◌∷◌, ◌++◌, length, Option, None, Some, refl, sym, ap, subst, ◌∙◌, arith}
+use Rattle.std.proofs.Common.{◌≡◌, ◌≢◌, ◌⊎◌, inl, inr, ℕ, ◌<◌, ◌≤◌, List, [], ◌∷◌, ◌++◌, length, Option, None, Some, refl, sym, ap, subst, ◌∙◌, arith}
 use Rattle.std.specs.Option.{option_to_list}
 use Rattle.std.proofs.lemmas.List.{append-nil, length-append, take_at}
 use Rattle.nb_book.specs.declared.entry.Entry.{Entry}
@@ -10,7 +10,7 @@ use Rattle.nb_book.proofs.Counting.{settled_once}
 use Rattle.nb_book.proofs.Summing.{balances_make_total, none_overdrawn}
 use Rattle.nb_turns.specs.declared.limits.TheConstants.{MAX_FAULTS}
 use Rattle.nb_turns.specs.Turns.{Request, House, State, Outcome, Decides, Fails, Refuses, SettlesInto, Unsettled, Doubts, Turn, FitTurn, recorded, with_entry}
-use Rattle.nb_turns.specs.Laws.{IsLawful, IsLegalState, IsBalanced, TurnKeepsLegal, RunKeepsLegal, RunKeepsMoney, WritesBehind, StandsWithin, StopLeaves}
+use Rattle.nb_turns.specs.Laws.{IsLawful, IsLegalState, IsBalanced, TurnKeepsLegal, RunKeepsLegal, RunKeepsMoney, WritesBehind, StandsWithin, StopLeaves, FailureLeavesDoubt}
 use Rattle.nb_turns.proofs.Single.{behind_more, recorded_few}
 use Rattle.nb_turns.proofs.Lists.{all_weaker}
 
@@ -112,3 +112,22 @@ module _ (house : House) (old new : State) (requests : List Request) (entries : 
 
 pub stop_leaves : StopLeaves
 stop_leaves house old new requests outcome entries turn stands = within house old new requests entries outcome turn stands
+
+-- ---- failures
+
+module _ (house : House) (old new : State) (requests : List Request) where
+  -- where nothing is in doubt a state settles into its entries
+  settled_alone : (over : List Entry) → SettlesInto old over → old.doubt ≡ [] → over ≡ old.entries
+  settled_alone over (inl same) none = same
+  settled_alone over (inr same) none = same ∙ ap (λ (es : List Entry). old.entries ++ es) none ∙ append-nil old.entries
+
+  leaves_doubt : Unsettled old new ⊎ Doubts house old requests new → (new.doubt ≢ []) × (old.doubt ≡ [] → recorded house old.entries requests ≢ [])
+  leaves_doubt (inl unsettled) =
+      (λ (none : new.doubt ≡ []). unsettled.0 (sym (ap (λ (s : State). s.doubt) unsettled.1) ∙ none), λ (none : old.doubt ≡ []). absurd (unsettled.0 none))
+  leaves_doubt (inr d) = (
+    λ (none : new.doubt ≡ []). d.some (sym (ap (λ (s : State). s.doubt) d.left) ∙ none),
+    λ (none : old.doubt ≡ []) (nothing : recorded house old.entries requests ≡ []). d.some (ap (λ (es : List Entry). recorded house es requests) (settled_alone d.over d.settled none) ∙ nothing),
+  )
+
+pub failure_leaves_doubt : FailureLeavesDoubt
+failure_leaves_doubt house old new requests before after turn = leaves_doubt house old new requests turn.1

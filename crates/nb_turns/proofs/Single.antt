@@ -2,11 +2,12 @@
 use Rattle.std.proofs.Common.{◌≡◌, ◌⊎◌, inl, inr, ℕ, ◌+◌, ◌≤◌, List, [], ◌∷◌, ◌++◌, length, Option, None, Some, refl, sym, ap, subst, ◌∙◌, append_assoc, arith}
 use Rattle.std.specs.Option.{option_to_list}
 use Rattle.std.proofs.lemmas.List.{append-nil, length-append}
+use Rattle.std.proofs.lemmas.List.Elements.{Contains-append_right}
 use Rattle.nb_book.specs.declared.entry.Entry.{Entry}
 use Rattle.nb_turns.specs.declared.mark.Mark.{Mark}
 use Rattle.nb_turns.specs.declared.mark.Mark.TheVariants.{At, Fault, Worn}
-use Rattle.nb_turns.specs.Turns.{Request, House, State, Outcome, Decides, Fails, Refuses, Answered, Unsettled, Doubts, Turn, answer_over, answered, decided, recorded, with_entry}
-use Rattle.nb_turns.specs.Laws.{TurnTells, DoubtsOne, TurnOfOne, OneIsTurn, RunTells, OnesAreRun, RunThen, OneMore, one_answer}
+use Rattle.nb_turns.specs.Turns.{Request, House, State, Outcome, Decides, Fails, Refuses, Answered, Unsettled, Doubts, Turn, answer_over, answered, decided, recorded, with_entry, last_state}
+use Rattle.nb_turns.specs.Laws.{TurnTells, DoubtsOne, TurnOfOne, OneIsTurn, RunTells, OnesAreRun, LastIsState, RunThen, OneMore, one_answer}
 
 abbrev state_with : List Entry → List Entry → ℕ → State
 state_with entries doubt faults = record { entries = entries; doubt = doubt; faults = faults }
@@ -161,3 +162,7 @@ run_then house first [] more [] others run then = then
 run_then house first (round ∷ rounds) more (next ∷ states) others run then = (run.0, run.1, run_then house next rounds more states others run.2 then)
 run_then house first [] more (next ∷ states) others run then = absurd run
 run_then house first (round ∷ rounds) more [] others run then = absurd run
+
+pub last_is_state : LastIsState
+last_is_state first [] = (0, omega arith, refl)
+last_is_state first (s ∷ states) = Contains-append_right (first ∷ []) (s ∷ states) (last_state s states) (last_is_state s states)

@@ -13,7 +13,7 @@ fund_some : funding 1 500 ∷ [] ≡ [] → ⊥
 fund_some = some (funding 1 500) []
 
 pub three_at_once : ThreeAtOnce
-three_at_once = (((omega arith, omega arith), (omega arith, inl refl, refl), tt), refl, refl)
+three_at_once = (((omega arith, omega arith), (omega arith, inl refl, refl), tt), refl, refl, refl)
 
 pub kept_together : KeptTogether
 kept_together = (
@@ -132,5 +132,6 @@ failed_twice = (
       ),
     ),
   ),
+  refl,
   refl,
 )

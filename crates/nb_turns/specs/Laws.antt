@@ -1,5 +1,5 @@
 -- What holds of all turns, of all runs, and of all that a caller was answered.
-use Rattle.std.specs.Prelude.{◌≡◌, ℕ, ◌+◌, ◌<◌, ◌≤◌, ◌⊎◌, List, [], ◌∷◌, ◌++◌, Some, length}
+use Rattle.std.specs.Prelude.{◌≡◌, ◌≢◌, ℕ, ◌+◌, ◌<◌, ◌≤◌, ◌⊎◌, List, [], ◌∷◌, ◌++◌, Some, length}
 use Rattle.std.specs.List.{count_by, sum_by, AllByRecursion}
 use Rattle.std.specs.Option.{option_to_list}
 use Rattle.nb_units.specs.declared.epoid.Epoid.{Epoid}
@@ -12,13 +12,13 @@ use Rattle.nb_turns.specs.declared.limits.TheConstants.{MAX_FAULTS, MAX_REQUESTS
 use Rattle.nb_turns.specs.declared.line.Line.{Line}
 use Rattle.nb_turns.specs.declared.mark.Mark.{Mark}
 use Rattle.nb_turns.specs.declared.mark.Mark.TheVariants.{At, Fault, Worn}
-use Rattle.nb_turns.specs.Turns.{Request, House, State, Outcome, Decides, Fails, Refuses, Answered, Round, SettlesInto, Unsettled, Doubts, Turn, FitTurn, Run, answer_over, answered, answered_in, decided, marks, recorded, failure_of, last_state}
+use Rattle.nb_turns.specs.Turns.{Request, House, State, Outcome, Decides, Fails, Refuses, Answered, Round, SettlesInto, Unsettled, Doubts, Turn, FitTurn, Run, answer_over, answered, answered_in, decided, marks, recorded, failure_of, last_state, IsStateOf}
 use Rattle.nb_turns.specs.Lines.{AddsLines, AreBelow, AreOf, IsClosed, NeverFall, Sound, StateOver, entries_of, failures_in, faults_of, lines_by, next_turn, turn_of}
 use Rattle.nb_turns.specs.Callers.{Turned, AnsweredTurns, AreTaken, answers_in, lines_since, own_lines}
 
--- the limits of a turn and of a house in numbers
+-- the limits of a turn and of a house in numbers, and no turn is without requests
 abbrev pub LimitsAre : Type 0
-LimitsAre = (MAX_REQUESTS ≡ 32) × (MAX_FAULTS ≡ 1000)
+LimitsAre = (MAX_REQUESTS ≡ 32) × (MAX_FAULTS ≡ 1000) × (FitTurn [] → ⊥)
 
 -- ---- one request
 
@@ -78,6 +78,10 @@ pub record RunTells (house : House) (first : State) (answers : List Answered) (s
 abbrev pub OnesAreRun : Type 0
 OnesAreRun = (house : House) (first : State) (answers : List Answered) (states : List State) → RunOfOnes house first answers states → RunTells house first answers states
 
+-- the last state of a run is one that the house was in
+abbrev pub LastIsState : Type 0
+LastIsState = (first : State) (states : List State) → IsStateOf first states (last_state first states)
+
 -- a run, and one from its last state, are a run
 abbrev pub RunThen : Type 0
 RunThen = (house : House) (first : State) (rounds more : List Round) (states others : List State)
@@ -91,6 +95,13 @@ OneMore = (house : House) (over : List Entry) (requests : List Request) (request
     → (decided house over (requests ++ request ∷ []) ≡ decided house over requests ++ answer_over house (over ++ recorded house over requests) request ∷ [])
     × (recorded house over (requests ++ request ∷ []) ≡ recorded house over requests ++ option_to_list (house.rules (over ++ recorded house over requests) request).entry)
     × (length (recorded house over requests) ≤ length requests)
+
+-- ---- failures
+
+-- a turn that failed leaves something in doubt. Where nothing was, its verdicts over the entries record it
+abbrev pub FailureLeavesDoubt : Type 0
+FailureLeavesDoubt = (house : House) (old new : State) (requests : List Request) (before after : ℕ) → Turn house old requests (Fails before after) new
+    → (new.doubt ≢ []) × (old.doubt ≡ [] → recorded house old.entries requests ≢ [])
 
 -- ---- Legal entries, and money
 

@@ -11,7 +11,7 @@ use Rattle.nb_units.specs.declared.frames.TheConstants.{ENROL_REQUEST, FUND_REQU
 use Rattle.nb_turns.specs.declared.line.Line.{Line}
 use Rattle.nb_turns.specs.declared.line.Line.TheVariants as line
 use Rattle.nb_turns.specs.declared.mark.Mark.TheVariants.{At}
-use Rattle.nb_turns.specs.Turns.{Request, Ruling, House, State, Decides, Fails, Round, Run, answered_in, marks, replies}
+use Rattle.nb_turns.specs.Turns.{Request, Ruling, House, State, Decides, Fails, Round, Run, answered_in, failures_of, marks, places, replies}
 use Rattle.nb_turns.specs.Callers.{Turned, AnsweredTurns}
 
 -- ---- a small house
@@ -81,6 +81,7 @@ ThreeAtOnce =
     let rounds : List Round = record { requests = three_requests; outcome = Decides [] } ∷ [] in
     Run small_house (house_at [] [] 0) rounds (house_at three_entries [] 0 ∷ [])
     × (marks (answered_in small_house rounds) ≡ At 0 ∷ At 1 ∷ At 2 ∷ [])
+    × (places (answered_in small_house rounds) ≡ 0 ∷ 1 ∷ 2 ∷ [])
     × (replies (answered_in small_house rounds) ≡ 1 ∷ 0 ∷ 0 ∷ 2 ∷ 1 ∷ 0 ∷ 1 ∷ 2 ∷ 500 ∷ [])
 
 -- the last call of the disk fails in that turn, and then the three come again: three refusals; three lines that adopt; the replies to
@@ -129,4 +130,5 @@ FailedTwice =
     Run small_house (house_at two_entries [] 0) (first ∷ second ∷ third ∷ [])
     (house_at two_entries (funding 1 500 ∷ []) 1 ∷ house_at two_entries (funding 1 500 ∷ []) 2 ∷ house_at three_entries [] 2 ∷ [])
     × AnsweredTurns small_house two_entries 0 [] (own_turn first told ∷ own_turn second failed ∷ own_turn third adopted ∷ []) ((told ++ failed) ++ adopted)
+    × (failures_of (first ∷ second ∷ third ∷ []) ≡ record { before = 0; after = 1 } ∷ record { before = 1; after = 2 } ∷ [])
     × (replies (answered_in small_house (first ∷ second ∷ third ∷ [])) ≡ 50 ∷ 0 ∷ 1 ∷ 50 ∷ 1 ∷ 2 ∷ 1 ∷ 2 ∷ 500 ∷ [])

@@ -4,7 +4,7 @@
 ghost use Rattle.nb_turns.specs.Laws as law;
 ghost use Rattle.nb_turns.specs.Worked as worked;
 
-/// The most requests of a turn, and the most turns that may fail.
+/// The least and the most requests of a turn, and the most turns that may fail.
 pub fn limits()
     ensures { law.LimitsAre }
 {}
@@ -19,6 +19,11 @@ pub fn ones_are_run()
     ensures { law.OnesAreRun }
 {}
 
+/// The last state of a run is one that the house was in.
+pub fn last_is_state()
+    ensures { law.LastIsState }
+{}
+
 /// A run, and one from its last state, are a run.
 pub fn run_then()
     ensures { law.RunThen }
@@ -27,6 +32,11 @@ pub fn run_then()
 /// One request more is decided over what is recorded behind those before it.
 pub fn one_more()
     ensures { law.OneMore }
+{}
+
+/// A turn that failed leaves something in doubt. Where nothing was, its verdicts over the entries record it.
+pub fn failure_leaves_doubt()
+    ensures { law.FailureLeavesDoubt }
 {}
 
 /// A turn keeps the entries, also with those in doubt, Legal and within the cap.
