@@ -1,0 +1,5 @@
+pub mod Turns
+pub mod Lines
+pub mod Callers
+pub mod Laws
+pub mod Worked
