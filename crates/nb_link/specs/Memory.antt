@@ -1,5 +1,5 @@
 -- The memory forms: what each is seen as, and what a call makes of it.
-use Rattle.std.specs.Prelude.{◌≡◌, ◌≢◌, ℕ, ◌-◌, ◌+◌, List, [], ◌∷◌, ◌++◌, Some, Contains, length, map, drop, min}
+use Rattle.std.specs.Prelude.{◌≡◌, ◌≢◌, ℕ, ◌+◌, List, [], ◌∷◌, ◌++◌, Some, Contains, length, map, drop, min}
 use Rattle.nb_port.specs.Faults.{one_more}
 use Rattle.nb_port.specs.declared.source.ReadOut.{ReadOut}
 use Rattle.nb_port.specs.declared.source.ReadOut.TheVariants as reads

@@ -107,9 +107,11 @@ impl Gate for CountingGate {
 mod tests {
     use super::*;
     use crate::gate::OpenGate;
-    use crate::memory::MemLink;
-    use nb_port::WriteOut;
+    use crate::memory::{MemLink, MemPort};
+    use crate::port::{Port, PortOut};
     use std::test::Fail;
+    use std::thread;
+    use std::thread::Threads;
 
     #[test]
     fn writes_and_points_are_counted(rt: HostRuntime) -> Result<(), Fail> {
@@ -127,6 +129,46 @@ mod tests {
         }
         assert_eq!(rt; gate.passed(Point::BeforeTurn), 2);
         assert_eq!(rt; gate.passed(Point::AfterReply), 1);
+        Ok(())
+    }
+
+    // Writes to the next link of a port, and gives it back.
+    fn answer<P: Port, G: Gate>(port: &mut P, gate: &G) {
+        match port.next() {
+            PortOut::Got(mut link) => {
+                gate.at(0, 0, Point::BeforeTurn);
+                link.write(b"x");
+                gate.at(0, 0, Point::AfterReply);
+                port.back(link);
+            }
+            PortOut::Closed | PortOut::Failed => {}
+        }
+    }
+
+    // Each port in a thread of its own; nothing is asked of ports, links and gates but what their traits have.
+    fn answer_all<R: Threads + Sync, P: Port, G: Gate>(rt: &R, ports: &mut [P], gate: &G) {
+        thread::for_each_mut(rt, ports, 4, &|_i: usize, port: &mut P| answer(port, gate));
+    }
+
+    #[test]
+    fn ports_cross_to_threads(rt: HostRuntime) -> Result<(), Fail> {
+        let alloc = rt.alloc();
+        let gate = CountingGate::new();
+        let mut ports = Vec::new(alloc);
+        for _ in 0..3 {
+            let mut links = Vec::new(alloc);
+            links.push(MemLink::new(alloc, b"", 1, &[])?)?;
+            ports.push(MemPort::new(alloc, links, &[])?)?;
+        }
+        answer_all(&rt, ports.as_mut_slice(), &gate);
+        for port in ports.as_slice() {
+            for link in port.done() {
+                assert_eq!(rt; link.sent(), &b"x"[..]);
+            }
+            assert_eq!(rt; port.done().len(), 1);
+        }
+        assert_eq!(rt; gate.passed(Point::BeforeTurn), 3);
+        assert_eq!(rt; gate.passed(Point::AfterReply), 3);
         Ok(())
     }
 }

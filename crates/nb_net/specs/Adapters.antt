@@ -1,9 +1,11 @@
 -- What a link over a socket, and a port over a listener, are seen as.
-use Rattle.std.specs.Prelude.{ℕ, List, Option, None}
+use Rattle.std.specs.Prelude.{ℕ, ◌≤◌, ◌+◌, List, Option, None, min}
+use Rattle.nb_port.specs.Faults.{last_count}
 use Rattle.nb_link.specs.Link.{LinkSeen}
 use Rattle.nb_link.specs.Port.{PortSeen}
 use Rattle.nb_net.specs.Socket.{Settings}
 use Rattle.nb_net.specs.declared.link.TheConstants.{IDLE_SECONDS}
+use Rattle.nb_net.specs.declared.port.TheConstants.{MAX_TRIES}
 
 -- a link: its socket, and how many reads and how many writes failed
 pub record SocketLink (S : Type 0) : Type 0 where
@@ -37,3 +39,7 @@ pub record ListenerPort (A : Type 0) : Type 0 where
 -- what a port tells: no links
 abbrev pub port_over : {A : Type 0} → ListenerPort A → PortSeen
 port_over p = record { left = p.left; out = p.out; faults = p.faults; coming = None; taken = None }
+
+-- each look for a connection that one call may make was made, and gave none that could be set up: so many more were counted
+abbrev pub AllTried : ℕ → ℕ → Type 0
+AllTried old new = min (old + MAX_TRIES) last_count ≤ new

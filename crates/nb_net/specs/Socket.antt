@@ -1,5 +1,5 @@
 -- What the calls of a socket and of a listener give. The bytes that a socket does not tell are None.
-use Rattle.std.specs.Prelude.{◌≡◌, ℕ, ◌<◌, ◌≤◌, List, Option, length, take, ⊤}
+use Rattle.std.specs.Prelude.{ℕ, ◌<◌, ◌≤◌, List, Option, length, take}
 use Rattle.std.specs.Io.KnownBytes.{Keeps, Appends, Consumes, IsAtEnd}
 use Rattle.nb_net.specs.declared.socket.SocketRead.{SocketRead}
 use Rattle.nb_net.specs.declared.socket.SocketRead.TheVariants as reads

@@ -20,5 +20,5 @@ mod std_socket;
 
 pub use link::{IDLE_SECONDS, TcpLink};
 pub use port::{MAX_TRIES, TcpPort};
-pub use socket::{Accepted, Listener, Setting, Socket, SocketRead, SocketWrite};
+pub use socket::{AcceptOut, Listener, SetOut, Socket, SocketRead, SocketWrite};
 pub use std_socket::{StdListener, StdSocket};

@@ -3,10 +3,9 @@ ghost use Rattle.nb_port.specs.Source.{ReadGives};
 ghost use Rattle.nb_port.specs.Sink.{WriteGives};
 ghost use Rattle.nb_link.specs.Link.{LinkReads, LinkWrites};
 ghost use Rattle.nb_net.specs.Adapters.{IsSet, link_over};
-ghost use Rattle.nb_net.specs.Socket.{StaysSet};
-ghost use Rattle.nb_net.specs.declared.socket.Setting.TheVariants as sets;
+ghost use Rattle.nb_net.specs.declared.socket.SetOut.TheVariants as sets;
 
-use crate::socket::{Setting, Socket, SocketRead, SocketWrite};
+use crate::socket::{SetOut, Socket, SocketRead, SocketWrite};
 use crate::std_socket::StdSocket;
 use nb_link::Link;
 use nb_port::{ReadOut, WriteOut};
@@ -52,12 +51,12 @@ impl<S: Socket> TcpLink<S> {
     {
         let mut socket = socket;
         match set_up(&mut socket) {
-            Setting::Done => Some(TcpLink {
+            SetOut::Done => Some(TcpLink {
                 socket,
                 read_faults: 0,
                 write_faults: 0,
             }),
-            Setting::Failed => None,
+            SetOut::Failed => None,
         }
     }
 }
@@ -83,22 +82,22 @@ impl<S: Socket> Link for TcpLink<S> {
 }
 
 // Sets a socket as that of a link.
-fn set_up<S: Socket>(socket: &mut S) -> Setting
+fn set_up<S: Socket>(socket: &mut S) -> SetOut
     ensures done { result ≡ sets.Done → IsSet S.settings socket.new }
     ensures left { S.left socket.new ≡ S.left socket.old }
     ensures sent { S.sent socket.new ≡ S.sent socket.old }
 {
     match socket.set_prompt() {
-        Setting::Done => {}
-        Setting::Failed => return Setting::Failed,
+        SetOut::Done => {}
+        SetOut::Failed => return SetOut::Failed,
     }
     match socket.set_read_limit(IDLE_SECONDS) {
-        Setting::Done => {}
-        Setting::Failed => return Setting::Failed,
+        SetOut::Done => {}
+        SetOut::Failed => return SetOut::Failed,
     }
     match socket.set_write_limit(IDLE_SECONDS) {
-        Setting::Done => Setting::Done,
-        Setting::Failed => Setting::Failed,
+        SetOut::Done => SetOut::Done,
+        SetOut::Failed => SetOut::Failed,
     }
 }
 
@@ -175,12 +174,12 @@ mod tests {
     }
 
     impl Flaky {
-        fn set(&mut self) -> Setting {
+        fn set(&mut self) -> SetOut {
             self.options = self.options.saturating_add(1);
             if self.options == self.unset {
-                Setting::Failed
+                SetOut::Failed
             } else {
-                Setting::Done
+                SetOut::Done
             }
         }
     }
@@ -217,15 +216,15 @@ mod tests {
             }
         }
 
-        fn set_prompt(&mut self) -> Setting {
+        fn set_prompt(&mut self) -> SetOut {
             self.set()
         }
 
-        fn set_read_limit(&mut self, _seconds: u64) -> Setting {
+        fn set_read_limit(&mut self, _seconds: u64) -> SetOut {
             self.set()
         }
 
-        fn set_write_limit(&mut self, _seconds: u64) -> Setting {
+        fn set_write_limit(&mut self, _seconds: u64) -> SetOut {
             self.set()
         }
     }

@@ -1,10 +1,11 @@
-ghost use Rattle.std.specs.Prelude.{◌≡◌, ◌<◌, ◌≤◌, ◌+◌, ◌-◌, IfSome, None};
+ghost use Rattle.std.specs.Prelude.{◌≡◌, ◌⊎◌, ◌≤◌, ◌+◌, None};
 ghost use Rattle.nb_port.specs.Faults.{Rose};
-ghost use Rattle.nb_link.specs.Port.{NextGives, TakesBack};
-ghost use Rattle.nb_net.specs.Adapters.{link_over, port_over};
+ghost use Rattle.nb_link.specs.Port.{NextGives};
+ghost use Rattle.nb_net.specs.Adapters.{link_over, port_over, AllTried};
+ghost use Rattle.nb_link.specs.declared.port.PortOut.TheVariants as outs;
 
 use crate::link::TcpLink;
-use crate::socket::{Accepted, Listener};
+use crate::socket::{AcceptOut, Listener};
 use crate::std_socket::StdListener;
 use nb_link::{Port, PortOut};
 use std::marker::Model;
@@ -71,6 +72,7 @@ where
     fn next(&mut self) -> PortOut<TcpLink<A::Joined>>
         ensures gives { NextGives (link_over A.Joined.left A.Joined.sent) (port_over self.old) (port_over self.new) result }
         ensures asked { A.asked self.new.listener ≤ A.asked self.old.listener + MAX_TRIES }
+        ensures only { result ≡ outs.Failed → A.broken self.new.listener ⊎ AllTried self.old.faults self.new.faults }
     {
         if self.left == 0 {
             return PortOut::Closed;
@@ -94,18 +96,18 @@ where
 // A link over the next connection that was not aborted and could be set up. `faults` counts what failed, and what was aborted.
 fn next_link<A: Listener>(listener: &mut A, faults: &mut u64) -> Option<TcpLink<A::Joined>>
     ensures none { result ≡ None → Rose faults.old faults.new }
-    ensures faultless { IfSome result (λ link. (link.read_faults ≡ 0) × (link.write_faults ≡ 0)) }
     ensures asked { A.asked listener.new ≤ A.asked listener.old + MAX_TRIES }
+    ensures only { result ≡ None → A.broken listener.new ⊎ AllTried faults.old faults.new }
     ensures count { faults.old ≤ faults.new }
 {
     for _ in 0..MAX_TRIES {
         match listener.accept() {
-            Accepted::Joined(socket) => match TcpLink::of(socket) {
+            AcceptOut::Joined(socket) => match TcpLink::of(socket) {
                 Some(link) => return Some(link),
                 None => *faults = faults.saturating_add(1),
             },
-            Accepted::Aborted => *faults = faults.saturating_add(1),
-            Accepted::Failed => {
+            AcceptOut::Aborted => *faults = faults.saturating_add(1),
+            AcceptOut::Failed => {
                 *faults = faults.saturating_add(1);
                 return None;
             }
@@ -136,21 +138,25 @@ mod tests {
     }
 
     impl Listener for Busy {
+        ghost use Rattle.std.specs.Prelude.{⊤};
+
         type Joined = StdSocket;
 
         ghost asked = { λ _. 0 };
 
-        fn accept(&mut self) -> Accepted<StdSocket> {
+        ghost broken = { λ _. ⊤ };
+
+        fn accept(&mut self) -> AcceptOut<StdSocket> {
             self.calls = self.calls.saturating_add(1);
             if self.calls >= self.broken {
-                return Accepted::Failed;
+                return AcceptOut::Failed;
             }
             if self.calls % 3 != 0 || self.barren {
-                return Accepted::Aborted;
+                return AcceptOut::Aborted;
             }
             match self.stream.take() {
-                Some(stream) => Accepted::Joined(StdSocket::over(stream)),
-                None => Accepted::Failed,
+                Some(stream) => AcceptOut::Joined(StdSocket::over(stream)),
+                None => AcceptOut::Failed,
             }
         }
     }
@@ -160,7 +166,6 @@ mod tests {
         let mut buf = [0u8; 16];
         link.read(&mut buf) == ReadOut::Bytes(want.len()) && &buf[..want.len().min(16)] == want
     }
-
 
     #[test]
     fn gives_links_over_the_loopback(rt: HostRuntime) -> Result<(), Fail> {
@@ -213,8 +218,12 @@ mod tests {
         let PortOut::Got(mut link) = port.next() else {
             return Err(Fail::new("no link"));
         };
-        link.socket.stream.set_read_timeout(Some(Duration::from_millis(20)))?;
-        link.socket.stream.set_write_timeout(Some(Duration::from_millis(20)))?;
+        link.socket
+            .stream
+            .set_read_timeout(Some(Duration::from_millis(20)))?;
+        link.socket
+            .stream
+            .set_write_timeout(Some(Duration::from_millis(20)))?;
         assert_eq!(rt; link.read(&mut buf), ReadOut::Failed);
         let piece = [0u8; 65_536];
         let mut failed = false;

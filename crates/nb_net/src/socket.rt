@@ -1,6 +1,7 @@
 ghost use Rattle.std.specs.Prelude.{◌≡◌, ◌<◌, ◌≤◌, ◌+◌, ℕ, List, Option, length};
 ghost use Rattle.nb_net.specs.Socket.{SocketReadGives, SocketWriteGives, Settings, StaysSet};
-ghost use Rattle.nb_net.specs.declared.socket.Setting.TheVariants as sets;
+ghost use Rattle.nb_net.specs.declared.socket.SetOut.TheVariants as sets;
+ghost use Rattle.nb_net.specs.declared.socket.AcceptOut.TheVariants as accepts;
 
 /// What one read of a socket gives.
 #[derive(Clone, Copy, PartialEq, Eq, Debug)]
@@ -28,7 +29,7 @@ pub enum SocketWrite {
 
 /// What setting an option of a socket gives.
 #[derive(Clone, Copy, PartialEq, Eq, Debug)]
-pub enum Setting {
+pub enum SetOut {
     /// It is set.
     Done,
     /// It failed.
@@ -61,14 +62,14 @@ pub trait Socket: Drop {
         ensures set { StaysSet settings self.old self.new };
 
     /// Makes it send each write at once (TCP_NODELAY).
-    fn set_prompt(&mut self) -> Setting
+    fn set_prompt(&mut self) -> SetOut
         ensures done { result ≡ sets.Done → settings.prompt self.new }
         ensures left { left self.new ≡ left self.old }
         ensures sent { sent self.new ≡ sent self.old }
         ensures set { StaysSet settings self.old self.new };
 
     /// Makes a read fail that waits for `seconds` seconds.
-    fn set_read_limit(&mut self, seconds: u64) -> Setting
+    fn set_read_limit(&mut self, seconds: u64) -> SetOut
         requires { 0 < seconds }
         ensures done { result ≡ sets.Done → settings.reads_within self.new seconds }
         ensures left { left self.new ≡ left self.old }
@@ -76,7 +77,7 @@ pub trait Socket: Drop {
         ensures prompt { settings.prompt self.old → settings.prompt self.new };
 
     /// Makes a write fail that waits for `seconds` seconds.
-    fn set_write_limit(&mut self, seconds: u64) -> Setting
+    fn set_write_limit(&mut self, seconds: u64) -> SetOut
         requires { 0 < seconds }
         ensures done { result ≡ sets.Done → settings.writes_within self.new seconds }
         ensures left { left self.new ≡ left self.old }
@@ -87,7 +88,7 @@ pub trait Socket: Drop {
 
 /// What one look for a connection gives.
 #[derive(Drop)]
-pub enum Accepted<S> {
+pub enum AcceptOut<S> {
     /// A connection.
     Joined(S),
     /// The peer went away before its connection was given, or the call was interrupted: the next one may give another.
@@ -104,7 +105,11 @@ pub trait Listener: Drop {
     /// How often it was asked for a connection; a listener need not count.
     ghost asked: { Self → ℕ };
 
+    /// A call of it failed.
+    ghost broken: { Self → Type 0 };
+
     /// Waits for a connection.
-    fn accept(&mut self) -> Accepted<Self::Joined>
-        ensures asked { asked self.new ≤ asked self.old + 1 };
+    fn accept(&mut self) -> AcceptOut<Self::Joined>
+        ensures asked { asked self.new ≤ asked self.old + 1 }
+        ensures broken { result ≡ accepts.Failed → broken self.new };
 }

@@ -1,6 +1,6 @@
 ghost use Rattle.std.specs.Prelude.{◌≡◌, ⊤, None, if◌then◌else◌};
 
-use crate::socket::{Accepted, Listener, Setting, Socket, SocketRead, SocketWrite};
+use crate::socket::{AcceptOut, Listener, SetOut, Socket, SocketRead, SocketWrite};
 use std::io;
 use std::io::{Read, Write};
 use std::net::{TcpListener, TcpStream};
@@ -45,16 +45,24 @@ impl Socket for StdSocket {
         }
     }
 
-    fn set_prompt(&mut self) -> Setting {
+    fn set_prompt(&mut self) -> SetOut {
         done_if(self.stream.set_nodelay(true).is_ok())
     }
 
-    fn set_read_limit(&mut self, seconds: u64) -> Setting {
-        done_if(self.stream.set_read_timeout(Some(Duration::from_secs(seconds))).is_ok())
+    fn set_read_limit(&mut self, seconds: u64) -> SetOut {
+        done_if(
+            self.stream
+                .set_read_timeout(Some(Duration::from_secs(seconds)))
+                .is_ok(),
+        )
     }
 
-    fn set_write_limit(&mut self, seconds: u64) -> Setting {
-        done_if(self.stream.set_write_timeout(Some(Duration::from_secs(seconds))).is_ok())
+    fn set_write_limit(&mut self, seconds: u64) -> SetOut {
+        done_if(
+            self.stream
+                .set_write_timeout(Some(Duration::from_secs(seconds)))
+                .is_ok(),
+        )
     }
 }
 
@@ -78,26 +86,27 @@ impl Listener for StdListener {
 
     ghost asked = { λ _. 0 };
 
-    fn accept(&mut self) -> Accepted<StdSocket> {
+    ghost broken = { λ _. ⊤ };
+
+    fn accept(&mut self) -> AcceptOut<StdSocket> {
         match self.listener.accept() {
-            Ok((stream, _)) => Accepted::Joined(StdSocket::over(stream)),
+            Ok((stream, _)) => AcceptOut::Joined(StdSocket::over(stream)),
             Err(error) => match error.kind() {
                 io::ErrorKind::ConnectionAborted
                 | io::ErrorKind::ConnectionReset
-                | io::ErrorKind::Interrupted => Accepted::Aborted,
-                _ => Accepted::Failed,
+                | io::ErrorKind::HostUnreachable
+                | io::ErrorKind::NetworkUnreachable
+                | io::ErrorKind::NetworkDown
+                | io::ErrorKind::Interrupted => AcceptOut::Aborted,
+                _ => AcceptOut::Failed,
             },
         }
     }
 }
 
 // What setting an option gives that worked, or failed.
-fn done_if(worked: bool) -> Setting
-    ensures { result ≡ (if worked then Setting.Done else Setting.Failed) }
+fn done_if(worked: bool) -> SetOut
+    ensures { result ≡ (if worked then SetOut.Done else SetOut.Failed) }
 {
-    if worked {
-        Setting::Done
-    } else {
-        Setting::Failed
-    }
+    if worked { SetOut::Done } else { SetOut::Failed }
 }

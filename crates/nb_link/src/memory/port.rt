@@ -1,5 +1,4 @@
-ghost use Rattle.std.specs.Prelude.{◌≡◌, ◌≢◌, ◌↔◌, ◌<◌, ◌-◌, ◌^◌, [], ◌∷◌, ◌++◌, IfOk, IfSome, length, vec_len};
-ghost use Rattle.nb_link.specs.Link.{LinkSeen};
+ghost use Rattle.std.specs.Prelude.{◌≡◌, ◌≢◌, ◌↔◌, ◌<◌, ◌-◌, ◌^◌, [], ◌∷◌, ◌++◌, IfOk, length, vec_len};
 ghost use Rattle.nb_link.specs.Port.{NextGives, TakesBack};
 ghost use Rattle.nb_link.specs.Memory.{new_port, link_told, port_told, IsNextToFail, PortNexts};
 ghost use Rattle.nb_link.specs.declared.port.PortOut.TheVariants as outs;
@@ -58,7 +57,7 @@ impl MemPort {
     }
 
     /// The links that were taken back, the first one first.
-    pub fn taken(&self) -> &[MemLink]
+    pub fn done(&self) -> &[MemLink]
         ensures { result.now ≡ self.now.taken }
     {
         self.taken.as_slice()
@@ -78,7 +77,7 @@ impl Port for MemPort {
 
     fn next(&mut self) -> PortOut<MemLink>
         ensures gives { NextGives link_told (port_told self.old) (port_told self.new) result }
-        ensures fails { self.old.coming ≢ [] → (result ≡ outs.Failed) ↔ IsNextToFail self.old.calls }
+        ensures fails { self.old.coming ≢ [] → ((result ≡ outs.Failed) ↔ IsNextToFail self.old.calls) }
         ensures state { PortNexts self.old self.new result }
     {
         if self.coming.is_empty() {
@@ -135,10 +134,10 @@ mod tests {
             assert_eq!(rt; port.left(), left);
         }
         assert!(rt; matches!(port.next(), PortOut::Closed));
-        let taken = port.taken();
-        assert_eq!(rt; taken.len(), 2);
-        assert_eq!(rt; taken[0].sent(), &b"a"[..]);
-        assert_eq!(rt; taken[1].sent(), &b"b"[..]);
+        let done = port.done();
+        assert_eq!(rt; done.len(), 2);
+        assert_eq!(rt; done[0].sent(), &b"a"[..]);
+        assert_eq!(rt; done[1].sent(), &b"b"[..]);
         let mut closed = MemPort::new(alloc, Vec::new(alloc), &[1])?;
         assert!(rt; matches!(closed.next(), PortOut::Closed));
         Ok(())
