@@ -1,0 +1,28 @@
+//! What a session and a server see of a network: a link to one peer, a port that gives links one after another, and a gate that a
+//! session passes.
+//!
+//! The layers above are written over the traits [`Link`], [`Port`] and [`Gate`] alone. A contract sees a link as one record: the
+//! bytes that are still to come, those that were sent, and its reads that gave bytes, where it tells them, and two counts, of its
+//! failed reads and of its failed writes. A read changes nothing of what a write does, and a write nothing of what a read does. A
+//! port is seen as how many links it may still give, how many it gave and did not take back, its count of failures, and where it
+//! tells them the links to come and those taken back, each as it was then. No count falls, and a call answers that it failed only
+//! where its count rose in it.
+//!
+//! [`MemLink`] and [`MemPort`] hold all in memory and tell all of it. Calls chosen when one is made fail, and no others, but for
+//! want of memory. A gate has no contract: what passes it is for tests to see, by a [`CountingGate`]. So is how many writes a link
+//! had, by a [`CountingLink`].
+//!
+//! Left to others: the adapters to the system.
+#![tactic(auto)]
+
+mod counting;
+mod gate;
+mod link;
+mod memory;
+mod port;
+
+pub use counting::{CountingGate, CountingLink};
+pub use gate::{Gate, OpenGate, Point};
+pub use link::{Link, Reading};
+pub use memory::{MemLink, MemPort};
+pub use port::{Port, PortOut};

@@ -1,0 +1,176 @@
+ghost use Rattle.std.specs.Prelude.{◌≡◌, ◌⊎◌, ◌<◌, ◌≤◌, ◌+◌, length, IfOk};
+ghost use Rattle.nb_link.specs.Link.{LinkReads, LinkWrites};
+ghost use Rattle.nb_link.specs.Memory.{new_link, link_told, IsNextToFail, LinkTakes, LinkSends};
+
+use crate::link::{Link, Reading};
+use crate::memory::plan::Plan;
+use nb_port::{ReadOut, WriteOut};
+use nb_units::NoMemory;
+use std::alloc::Global;
+use std::marker::Model;
+
+/// A link whose peer sent given bytes and then no more, and takes all that is written. A call for whose bytes or record there is no
+/// memory fails too.
+#[derive(Drop)]
+pub struct MemLink {
+    content: Vec<u8>,
+    at: usize,
+    step: usize,
+    sent: Vec<u8>,
+    reads: Vec<Reading>,
+    calls: Plan,
+    read_faults: u64,
+    write_faults: u64,
+}
+
+impl Model for MemLink {
+    ghost use Rattle.std.specs.Prelude.{◌≤◌, ◌<◌, ◌-◌, drop, vec_len, vec_capacity};
+    ghost use Rattle.nb_link.specs.Memory.{LinkState};
+
+    ghost Value = { LinkState };
+
+    ghost view = { λ l. record {
+      left = drop l.at l.content.items;
+      step = l.step;
+      sent = l.sent.items;
+      reads = l.reads.items;
+      spare_reads = vec_capacity l.reads - vec_len l.reads;
+      spare = vec_capacity l.sent - vec_len l.sent;
+      calls = l.calls;
+      read_faults = l.read_faults;
+      write_faults = l.write_faults;
+    } };
+
+    ghost invariant = { λ l. (l.at ≤ vec_len l.content) × (0 < l.step) };
+}
+
+impl MemLink {
+    /// A link whose peer sent the bytes of `content`, of which a read gives at most `step`. `fails` has the numbers of the calls
+    /// that are to fail, reads and writes counted together from 1.
+    pub fn new(
+        alloc: Global,
+        content: &[u8],
+        step: usize,
+        fails: &[u64],
+    ) -> Result<MemLink, NoMemory>
+        requires { 0 < step }
+        ensures { IfOk result (λ link. link ≡ record (new_link content.now step fails.now) { spare_reads = link.spare_reads; spare = link.spare }) }
+    {
+        Ok(MemLink {
+            content: Vec::from_slice(alloc, content)?,
+            at: 0,
+            step,
+            sent: Vec::new(alloc),
+            reads: Vec::new(alloc),
+            calls: Plan::new(alloc, fails)?,
+            read_faults: 0,
+            write_faults: 0,
+        })
+    }
+
+    /// What was sent to the peer.
+    pub fn sent(&self) -> &[u8]
+        ensures { result.now ≡ self.now.sent }
+    {
+        self.sent.as_slice()
+    }
+
+    /// The reads that gave bytes, the first one first.
+    pub fn reads(&self) -> &[Reading]
+        ensures { result.now ≡ self.now.reads }
+    {
+        self.reads.as_slice()
+    }
+}
+
+impl Link for MemLink {
+    ghost seen = { link_told };
+
+    fn read(&mut self, buf: &mut [u8]) -> ReadOut
+        requires { 0 < length buf.old }
+        ensures reads { LinkReads (link_told self.old) (link_told self.new) (length buf.old) buf.new result }
+        ensures fails { IsNextToFail self.old.calls → result ≡ ReadOut.Failed }
+        ensures only { result ≡ ReadOut.Failed → IsNextToFail self.old.calls ⊎ (self.old.spare_reads < 1) }
+        ensures state { LinkTakes self.old self.new (length buf.old) result }
+        ensures spare { self.old.spare_reads ≤ self.new.spare_reads + 1 }
+    {
+        if self.calls.next() {
+            self.read_faults = self.read_faults.saturating_add(1);
+            return ReadOut::Failed;
+        }
+        let left = self.content.len() - self.at;
+        if left == 0 {
+            return ReadOut::End;
+        }
+        if self.reads.reserve(1).is_err() {
+            self.read_faults = self.read_faults.saturating_add(1);
+            return ReadOut::Failed;
+        }
+        let n = left.min(self.step).min(buf.len());
+        let (_, rest) = self.content.as_slice().split_at(self.at);
+        let (front, _) = rest.split_at(n);
+        buf[..n].copy_from_slice(front);
+        self.at += n;
+        self.reads.push_reserved(Reading {
+            asked: buf.len(),
+            given: n,
+        });
+        ReadOut::Bytes(n)
+    }
+
+    fn write(&mut self, piece: &[u8]) -> WriteOut
+        requires { 0 < length piece.now }
+        ensures writes { LinkWrites (link_told self.old) (link_told self.new) piece.now result }
+        ensures fails { IsNextToFail self.old.calls → result ≡ WriteOut.Failed }
+        ensures only { result ≡ WriteOut.Failed → IsNextToFail self.old.calls ⊎ (self.old.spare < length piece.now) }
+        ensures state { LinkSends self.old self.new piece.now result }
+        ensures spare { self.old.spare ≤ self.new.spare + length piece.now }
+    {
+        if self.calls.next() {
+            self.write_faults = self.write_faults.saturating_add(1);
+            return WriteOut::Failed;
+        }
+        match self.sent.extend_from_slice(piece) {
+            Ok(()) => WriteOut::Took(piece.len()),
+            Err(_) => {
+                self.write_faults = self.write_faults.saturating_add(1);
+                WriteOut::Failed
+            }
+        }
+    }
+}
+
+#[cfg(test)]
+mod tests {
+    use super::*;
+    use std::test::Fail;
+
+    #[test]
+    fn each_call_fails_in_turn(rt: HostRuntime) -> Result<(), Fail> {
+        let (gave, took) = (ReadOut::Bytes(2), WriteOut::Took(3));
+        for (fails, first, second, third, faults) in [
+            (0, gave, took, ReadOut::Bytes(1), (0, 0)),
+            (1, ReadOut::Failed, took, gave, (1, 0)),
+            (2, gave, WriteOut::Failed, ReadOut::Bytes(1), (0, 1)),
+            (3, gave, took, ReadOut::Failed, (1, 0)),
+        ] {
+            let mut link = MemLink::new(rt.alloc(), b"abc", 2, &[fails])?;
+            let mut buf = [0u8; 4];
+            assert_eq!(rt; link.read(&mut buf), first);
+            assert_eq!(rt; link.write(b"xyz"), second);
+            assert_eq!(rt; link.read(&mut buf), third);
+            assert_eq!(rt; (link.read_faults, link.write_faults), faults);
+        }
+        let mut link = MemLink::new(rt.alloc(), b"abc", 2, &[])?;
+        let mut buf = [0u8; 4];
+        for want in [ReadOut::Bytes(2), ReadOut::Bytes(1), ReadOut::End] {
+            assert_eq!(rt; link.read(&mut buf), want);
+        }
+        assert_eq!(rt; &buf, b"cb\0\0");
+        link.write(b"xyz");
+        assert_eq!(rt; link.sent(), &b"xyz"[..]);
+        let told = [(4, 2), (4, 1)].map(|(asked, given)| Reading { asked, given });
+        assert_eq!(rt; link.reads(), &told[..]);
+        Ok(())
+    }
+}

@@ -1,0 +1,115 @@
+ghost use Rattle.std.specs.Prelude.{◌≡◌, ◌<◌, ◌≤◌, ◌+◌, ℕ, List, Option, length};
+ghost use Rattle.nb_net.specs.Socket.{SocketReadGives, SocketWriteGives, Settings, StaysSet};
+ghost use Rattle.nb_net.specs.declared.socket.SetOut.TheVariants as sets;
+ghost use Rattle.nb_net.specs.declared.socket.AcceptOut.TheVariants as accepts;
+
+/// What one read of a socket gives.
+#[derive(Clone, Copy, PartialEq, Eq, Debug)]
+pub enum SocketRead {
+    /// So many bytes, at least one, stand at the front of the buffer.
+    Got(usize),
+    /// The peer sends no more.
+    End,
+    /// The read was interrupted before it gave a byte.
+    Interrupted,
+    /// The read failed, or waited too long.
+    Failed,
+}
+
+/// What one write of a socket gives.
+#[derive(Clone, Copy, PartialEq, Eq, Debug)]
+pub enum SocketWrite {
+    /// So many bytes from the front of the piece were sent.
+    Took(usize),
+    /// The write was interrupted before it sent a byte.
+    Interrupted,
+    /// The write failed, or waited too long, and sent nothing.
+    Failed,
+}
+
+/// What setting an option of a socket gives.
+#[derive(Clone, Copy, PartialEq, Eq, Debug)]
+pub enum SetOut {
+    /// It is set.
+    Done,
+    /// It failed.
+    Failed,
+}
+
+/// A connected stream of bytes, by the calls of the system that a [`TcpLink`](crate::TcpLink) makes, one each.
+pub trait Socket: Drop {
+    /// The bytes that are still to come; None where the socket does not tell.
+    ghost left: { Self → Option (List ℕ) };
+
+    /// The bytes that were sent; None where the socket does not tell.
+    ghost sent: { Self → Option (List ℕ) };
+
+    /// How it is set.
+    ghost settings: { Settings Self };
+
+    /// Takes the next bytes, at most as many as `buf` holds, to the front of `buf`.
+    fn read(&mut self, buf: &mut [u8]) -> SocketRead
+        requires { 0 < length buf.old }
+        ensures gives { SocketReadGives (left self.old) (left self.new) (length buf.old) buf.new result }
+        ensures sent { sent self.new ≡ sent self.old }
+        ensures set { StaysSet settings self.old self.new };
+
+    /// Sends bytes from the front of `piece`, not always all.
+    fn write(&mut self, piece: &[u8]) -> SocketWrite
+        requires { 0 < length piece.now }
+        ensures gives { SocketWriteGives (sent self.old) (sent self.new) piece.now result }
+        ensures left { left self.new ≡ left self.old }
+        ensures set { StaysSet settings self.old self.new };
+
+    /// Makes it send each write at once (TCP_NODELAY).
+    fn set_prompt(&mut self) -> SetOut
+        ensures done { result ≡ sets.Done → settings.prompt self.new }
+        ensures left { left self.new ≡ left self.old }
+        ensures sent { sent self.new ≡ sent self.old }
+        ensures set { StaysSet settings self.old self.new };
+
+    /// Makes a read fail that waits for `seconds` seconds.
+    fn set_read_limit(&mut self, seconds: u64) -> SetOut
+        requires { 0 < seconds }
+        ensures done { result ≡ sets.Done → settings.reads_within self.new seconds }
+        ensures left { left self.new ≡ left self.old }
+        ensures sent { sent self.new ≡ sent self.old }
+        ensures prompt { settings.prompt self.old → settings.prompt self.new };
+
+    /// Makes a write fail that waits for `seconds` seconds.
+    fn set_write_limit(&mut self, seconds: u64) -> SetOut
+        requires { 0 < seconds }
+        ensures done { result ≡ sets.Done → settings.writes_within self.new seconds }
+        ensures left { left self.new ≡ left self.old }
+        ensures sent { sent self.new ≡ sent self.old }
+        ensures prompt { settings.prompt self.old → settings.prompt self.new }
+        ensures reads { (limit : ℕ) → settings.reads_within self.old limit → settings.reads_within self.new limit };
+}
+
+/// What one look for a connection gives.
+#[derive(Drop)]
+pub enum AcceptOut<S> {
+    /// A connection.
+    Joined(S),
+    /// The peer went away before its connection was given, or the call was interrupted: the next one may give another.
+    Aborted,
+    /// It failed.
+    Failed,
+}
+
+/// Where connections come from, by the call of the system that a [`TcpPort`](crate::TcpPort) makes.
+pub trait Listener: Drop {
+    /// What it gives.
+    type Joined: Socket;
+
+    /// How often it was asked for a connection; a listener need not count.
+    ghost asked: { Self → ℕ };
+
+    /// A call of it failed.
+    ghost broken: { Self → Type 0 };
+
+    /// Waits for a connection.
+    fn accept(&mut self) -> AcceptOut<Self::Joined>
+        ensures asked { asked self.new ≤ asked self.old + 1 }
+        ensures broken { result ≡ accepts.Failed → broken self.new };
+}
