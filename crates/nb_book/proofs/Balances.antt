@@ -1,7 +1,6 @@
 -- Single balances over a Legal list.
-use Rattle.std.proofs.Common.{◌≡◌, ℕ, zero, suc, ◌+◌, ◌<◌, ◌≤◌, ◌^◌, Bool, true, false, cond, List, [], ◌∷◌, take, get_or, length, arith, refl, ap, subst}
+use Rattle.std.proofs.Common.{◌≡◌, ℕ, zero, suc, ◌+◌, ◌≤◌, Bool, true, false, cond, List, [], ◌∷◌, arith, refl, ap, subst}
 use Rattle.std.proofs.lemmas.Bool.{eqb-true}
-use Rattle.std.proofs.lemmas.List.{take_more}
 use Rattle.std.proofs.lemmas.List.Sums.{sum_by-cons}
 use Rattle.std.specs.Prelude.{◌==◌}
 use Rattle.std.specs.List.{sum_by, count_by}
@@ -9,14 +8,12 @@ use Rattle.std.specs.Option.{IsNone}
 use Rattle.nb_units.specs.declared.ids.AcctId.{AcctId}
 use Rattle.nb_book.specs.declared.entry.Entry.{Entry}
 use Rattle.nb_book.specs.declared.entry.Entry.TheVariants.{Enrol, Fund, Paid, Refused}
-use Rattle.nb_book.specs.declared.limits.TheConstants.{MAX_TOTAL}
 use Rattle.nb_book.specs.Searches.{holder_at, holder_in}
-use Rattle.nb_book.specs.Money.{credit, debit, balance, total, accounts}
-use Rattle.nb_book.specs.Legal.{LegalAfter, Legal}
+use Rattle.nb_book.specs.Money.{balance, total, accounts}
+use Rattle.nb_book.specs.Legal.{Legal}
 use Rattle.nb_book.specs.Laws.{opens}
-use Rattle.nb_book.proofs.Growing.{front_legal}
 use Rattle.nb_book.proofs.Counting.{count_by-none, tests_holder}
-use Rattle.nb_book.proofs.Summing.{balance_after, balances_make_total, credits-none, debit-le-balance, total_fits}
+use Rattle.nb_book.proofs.Summing.{balances_make_total, credits-none}
 
 -- an account that nobody holds has nothing
 pub balance-none : (H : List Entry) → Legal H → (a : AcctId) → IsNone (holder_in H a) → balance H a ≡ 0
@@ -47,33 +44,3 @@ balance_le_total H legal a = held (count_by (opens a) H) refl where
   held : (n : ℕ) → count_by (opens a) H ≡ n → balance H a ≤ total H
   held zero none = omega (arith, credits-none H legal a none)
   held (suc n) some = omega (arith, part_of_sum (balance H) a H (omega arith), balances_make_total H legal)
-
--- a legal entry brings an account at most the most that the house takes in, or the highest price
-credit-fits : (H : List Entry) (e : Entry) → LegalAfter H e → (a : AcctId) → credit a e ≤ MAX_TOTAL
-credit-fits H (Fund acct amount reference) next a = part (acct.0 == a.0) where
-  part : (b : Bool) → cond b amount 0 ≤ MAX_TOTAL
-  part true = omega (arith, next.2)
-  part false = omega arith
-credit-fits H (Paid digest epoid consumer merchant product price cacct macct moment key) next a = part (macct.0 == a.0) where
-  part : (b : Bool) → cond b price.0 0 ≤ MAX_TOTAL
-  part true = omega (arith, next.3.1)
-  part false = omega arith
-credit-fits H other next a = omega arith
-
--- ---- a balance entry by entry
-
--- what an entry brings still fits 8 bytes
-pub brought_fits : (H : List Entry) → Legal H → (i : ℕ) (d : Entry) (a : AcctId) (brought : ℕ) → i < length H → brought ≡ credit a (get_or H i d) → balance (take i H) a + brought < 2 ^ 64
-brought_fits H legal i d a brought inside is =
-    let before : Legal (take i H) = front_legal H i legal in
-    omega (arith, credit-fits (take i H) (get_or H i d) (legal.each i inside d) a, balance_le_total (take i H) before a, total_fits (take i H) before)
-
--- what it takes is there
-pub taken-le-balance : (H : List Entry) → Legal H → (i : ℕ) (d : Entry) (a : AcctId) (taken : ℕ) → i < length H → taken ≡ debit a (get_or H i d) → taken ≤ balance (take i H) a
-taken-le-balance H legal i d a taken inside is = omega (arith, debit-le-balance (take i H) (get_or H i d) (legal.each i inside d) a)
-
--- and this is left
-pub balance-more : (H : List Entry) → Legal H → (i : ℕ) (d : Entry) (a : AcctId) (brought taken : ℕ) → i < length H → brought ≡ credit a (get_or H i d) → taken ≡ debit a (get_or H i d)
-    → balance (take i H) a + brought ≡ balance (take (i + 1) H) a + taken
-balance-more H legal i d a brought taken inside brings takes =
-    rw (take_more H i d inside) (omega (arith, balance_after (take i H) (get_or H i d) (front_legal H i legal) (legal.each i inside d) a))

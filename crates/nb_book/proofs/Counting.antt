@@ -61,7 +61,7 @@ once_more test answer tests H e new once = rw (sum_by_push (λ x. cond (test x) 
   step false fails = omega arith
 
 -- whether the optional value under a test is there
-tested : {A : Type 0} (b : Bool) (x : A) → is_some (cond b (Some x) None) ≡ b
+pub tested : {A : Type 0} (b : Bool) (x : A) → is_some (cond b (Some x) None) ≡ b
 tested true x = refl
 tested false x = refl
 

@@ -4,3 +4,6 @@ pub mod Summing
 pub mod Balances
 pub mod Steps
 pub mod Layouts
+pub mod Indexing
+pub mod Naming
+pub mod Keeping

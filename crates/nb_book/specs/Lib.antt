@@ -5,3 +5,4 @@ pub mod Legal
 pub mod Spelling
 pub mod Reading
 pub mod Laws
+pub mod Indexes

@@ -1,4 +1,4 @@
-ghost use Rattle.std.specs.Prelude.{◌≡◌, ◌≤◌, ◌<◌, ◌+◌, ◌↔◌, [], ◌∷◌, ◌++◌, length, IsTrue, IsOk, IfOk, IfSome, OnOk, OnErr};
+ghost use Rattle.std.specs.Prelude.{◌≡◌, ◌≤◌, ◌<◌, ◌+◌, ◌-◌, ◌↔◌, [], ◌∷◌, ◌++◌, length, take, IsTrue, IsOk, IfOk, IfSome, OnOk, OnErr};
 ghost use Rattle.nb_units.specs.declared.limits.TheConstants.{MAX_CAP};
 ghost use Rattle.nb_book.specs.declared.limits.TheConstants.{MAX_TOTAL};
 ghost use Rattle.nb_book.specs.Searches.{party_in, holder_in, funded_in, order_in};
@@ -20,37 +20,37 @@ use std::marker::Model;
 #[derive(Drop)]
 pub struct Book {
     list: EntryList,
-    cap: u32,
-    // How many entries more the list has the room for.
+    // How many entries more were asked for and not applied yet.
     spare: u32,
 }
 
 impl Model for Book {
-    ghost use Rattle.std.specs.Prelude.{◌≤◌, ◌+◌, vec_len, vec_capacity};
+    ghost use Rattle.std.specs.Prelude.{◌≤◌, vec_len, vec_capacity};
     ghost use Rattle.nb_units.specs.declared.limits.TheConstants.{MAX_CAP};
     ghost use Rattle.nb_book.specs.Ledger.{Ledger};
     ghost use Rattle.nb_book.specs.Legal.{Legal};
+    ghost use Rattle.nb_book.specs.Indexes.{Tied};
 
     ghost Value = { Ledger };
 
-    ghost view = { λ b. record { entries = b.list.entries.items; cap = b.cap; spare = b.spare; places = vec_capacity b.list.entries } };
+    ghost view = { λ b. record { entries = b.list.entries.items; cap = b.list.cap; spare = b.spare; places = vec_capacity b.list.entries } };
 
     ghost invariant = { λ b. record {
-      within : vec_len b.list.entries ≤ b.cap;
-      some : 1 ≤ b.cap;
-      most : b.cap ≤ MAX_CAP;
+      within : vec_len b.list.entries ≤ b.list.cap;
+      some : 1 ≤ b.list.cap;
       legal : Legal b.list.entries.items;
       promised : b.spare ≤ MAX_CAP;
-      room : vec_len b.list.entries + b.spare ≤ vec_capacity b.list.entries;
+      room : b.list.cap ≤ vec_capacity b.list.entries;
+      tied : Tied b.list b.list.entries.items;
     } };
 }
 
 #[tactic(auto, using(crate::proofs::Summing::total_fits))]
 impl Book {
-    /// An empty book for at most `cap` entries, from 1 to [`MAX_CAP`], with spare 0. Answers [`NoMemory`] where there is none
-    /// for it. The key is for the index of a book that keeps one, against
-    /// chosen identifiers; this book keeps none and does not use it.
-    pub fn new(alloc: Global, cap: u32, _key: &[u8; 16]) -> Result<Book, NoMemory>
+    /// An empty book for at most `cap` entries, from 1 to [`MAX_CAP`], with spare 0. It takes the memory for all of them, and answers
+    /// [`NoMemory`] where there is none. By the key, 16 bytes, its look-ups are spread: who does not know it cannot choose
+    /// numbers and identifiers that make them slow.
+    pub fn new(alloc: Global, cap: u32, key: &[u8; 16]) -> Result<Book, NoMemory>
         requires some { 1 ≤ cap }
         requires most { cap ≤ MAX_CAP }
         ensures entries { IfOk result (λ book. book.entries ≡ []) }
@@ -58,8 +58,7 @@ impl Book {
         ensures spare { IfOk result (λ book. book.spare ≡ 0) }
     {
         Ok(Book {
-            list: EntryList::new(alloc),
-            cap,
+            list: EntryList::new(alloc, cap, key)?,
             spare: 0,
         })
     }
@@ -132,7 +131,7 @@ impl Book {
         ensures some { 1 ≤ result }
         ensures most { result ≤ MAX_CAP }
     {
-        self.cap
+        self.list.cap()
     }
 
     /// All money that came in, in the house's smallest unit of money.
@@ -151,7 +150,7 @@ impl Book {
         e.is_legal_after(self)
     }
 
-    /// Makes the spare at least `n`. After `NoMemory` the book is as before.
+    /// Makes the spare at least `n`. The memory is there since [`Book::new`], so this answers Ok.
     pub fn reserve(&mut self, n: u32) -> Result<(), NoMemory>
         requires { n ≤ MAX_CAP }
         ensures ok { OnOk result (n ≤ self.new.spare) }
@@ -161,10 +160,7 @@ impl Book {
         ensures err { OnErr result (self.new ≡ self.old) }
         ensures had { n ≤ self.old.spare → IsOk result }
     {
-        if self.spare < n {
-            self.list.reserve(n as usize)?;
-            self.spare = n;
-        }
+        self.spare = self.spare.max(n);
         Ok(())
     }
 
@@ -180,5 +176,17 @@ impl Book {
     {
         self.list.push(e);
         self.spare -= 1;
+    }
+
+    /// Takes the last entry off: the entries are as they were before it was applied. This takes no memory.
+    #[tactic(auto, using(crate::proofs::Growing::front_legal))]
+    pub fn undo(&mut self)
+        requires { 0 < length self.old.entries }
+        ensures entries { self.new.entries ≡ take (length self.old.entries - 1) self.old.entries }
+        ensures cap { self.new.cap ≡ self.old.cap }
+        ensures spare { self.new.spare ≡ self.old.spare }
+        ensures places { self.new.places ≡ self.old.places }
+    {
+        self.list.pop();
     }
 }

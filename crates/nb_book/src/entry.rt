@@ -1,7 +1,9 @@
 ghost use Rattle.std.specs.Prelude.{◌≡◌};
-ghost use Rattle.nb_book.specs.Searches.{settles};
-ghost use Rattle.nb_book.specs.Money.{credit, debit};
+ghost use Rattle.nb_book.specs.Searches.{settles, party_at, holder_at, funded_at, order_at};
 
+use crate::funded::Funded;
+use crate::kept::Kept;
+use crate::party::Party;
 use nb_units::{AcctId, Digest, Epoid, PartyId, Price, Secret};
 
 /// The role of a party that buys.
@@ -61,24 +63,67 @@ pub enum Entry {
 }
 
 impl Entry {
-    // What this entry brings into the account.
-    pub(crate) fn credit(&self, id: AcctId) -> u64
-        ensures { result ≡ credit id self.now }
+    // The party that this entry, at this place, enrols under this number.
+    pub(crate) fn enrolled(&self, at: u32, number: PartyId) -> Option<Party>
+        ensures { result ≡ party_at number at self.now }
     {
         match *self {
-            Entry::Fund { acct, amount, .. } if acct == id => amount,
-            Entry::Paid { macct, price, .. } if macct == id => price.0,
-            _ => 0,
+            Entry::Enrol {
+                id,
+                role,
+                acct,
+                nonce,
+                key,
+            } if id == number => Some(Party {
+                at: u64::from(at),
+                role,
+                acct,
+                nonce,
+                key,
+            }),
+            _ => None,
         }
     }
 
-    // What this entry takes from the account.
-    pub(crate) fn debit(&self, id: AcctId) -> u64
-        ensures { result ≡ debit id self.now }
+    // The party for whom this entry opens this account.
+    pub(crate) fn holder(&self, account: AcctId) -> Option<PartyId>
+        ensures { result ≡ holder_at account 0 self.now }
     {
         match *self {
-            Entry::Paid { cacct, price, .. } if cacct == id => price.0,
-            _ => 0,
+            Entry::Enrol { id, acct, .. } if acct == account => Some(id),
+            _ => None,
+        }
+    }
+
+    // The fund that this entry, at this place, makes under this reference.
+    pub(crate) fn fund(&self, at: u32, named: &[u8; 16]) -> Option<Funded>
+        ensures { result ≡ funded_at named.now at self.now }
+    {
+        match *self {
+            Entry::Fund {
+                acct,
+                amount,
+                reference,
+            } if reference == *named => Some(Funded {
+                at: u64::from(at),
+                acct,
+                amount,
+            }),
+            _ => None,
+        }
+    }
+
+    // This entry with its place, where it pays or refuses the order of this identifier.
+    pub(crate) fn settlement(&self, at: u32, order: &Epoid) -> Option<Kept>
+        ensures { result ≡ order_at order.now at self.now }
+    {
+        if self.settles(order) {
+            Some(Kept {
+                at: u64::from(at),
+                entry: *self,
+            })
+        } else {
+            None
         }
     }
 

@@ -21,6 +21,7 @@ mod book;
 mod entry;
 mod funded;
 mod kept;
+mod keys;
 pub mod laws;
 mod legal;
 mod limits;

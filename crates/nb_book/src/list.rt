@@ -1,29 +1,71 @@
-ghost use Rattle.std.specs.Prelude.{◌≡◌, ◌≤◌, ◌<◌, ◌+◌, ◌++◌, ◌∷◌, [], length, vec_len, vec_capacity, OnOk, OnErr};
+ghost use Rattle.std.specs.Prelude.{◌≡◌, ◌≤◌, ◌<◌, ◌+◌, ◌*◌, ◌-◌, ◌++◌, ◌∷◌, [], Some, IfOk, length, take, vec_capacity, IsSome};
+ghost use Rattle.std.specs.List.{HoldsAt};
+ghost use Rattle.nb_units.specs.declared.limits.TheConstants.{MAX_CAP};
 ghost use Rattle.nb_book.specs.Searches.{party_in, holder_in, funded_in, order_in};
 ghost use Rattle.nb_book.specs.Money.{balance, total};
-ghost use Rattle.nb_book.specs.Legal.{Legal};
+ghost use Rattle.nb_book.specs.Legal.{Legal, LegalAfter};
+ghost use Rattle.nb_book.specs.Laws.{opens};
+ghost use Rattle.nb_book.specs.Indexes.{Tied, first_place};
 
 use crate::entry::Entry;
 use crate::funded::Funded;
 use crate::kept::Kept;
+use crate::keys::name_key;
 use crate::party::Party;
+use nb_index::FixedIndex;
 use nb_units::{AcctId, Epoid, NoMemory, PartyId};
 use std::alloc::Global;
 
 // The entries in order, and the answers to all that they are asked: the party of a number, the holder of an account, the settlement of an order,
-// the fund of a reference, the balance of an account, and the total. Nothing else in this crate looks into them.
+// the fund of a reference, the balance of an account, and the total. Nothing else in this crate looks into them. An answer is found by an index
+// of places of entries, and balances and the total are kept; `Tied` says how. All memory is taken by `new`.
 #[derive(Drop)]
 pub(crate) struct EntryList {
     entries: Vec<Entry>,
+    // How many entries it has memory for.
+    cap: u32,
+    // For each number of a party, of an account, each reference, each identifier of an order the place of the entry that names it first.
+    parties: FixedIndex,
+    accounts: FixedIndex,
+    references: FixedIndex,
+    orders: FixedIndex,
+    // A number for each entry: at the place of an enrolment the balance of the account that it opens.
+    balances: Vec<u64>,
+    // All that the entries brought into the house.
+    total: u64,
+}
+
+// An index for so many keys.
+fn index_for(alloc: Global, cap: u32, key: &[u8; 16]) -> Result<FixedIndex, NoMemory>
+    requires { cap ≤ MAX_CAP }
+    ensures puts { IfOk result (λ index. index.puts ≡ []) }
+    ensures slots { IfOk result (λ index. index.slots ≡ 2 * cap + 2) }
+{
+    match FixedIndex::new(alloc, 2 * cap + 2, key) {
+        Ok(index) => Ok(index),
+        Err(_) => Err(NoMemory),
+    }
 }
 
 impl EntryList {
-    pub(crate) fn new(alloc: Global) -> EntryList
-        ensures { result.entries.items ≡ [] }
+    // A list with no entries and memory for so many.
+    pub(crate) fn new(alloc: Global, cap: u32, key: &[u8; 16]) -> Result<EntryList, NoMemory>
+        requires { cap ≤ MAX_CAP }
+        ensures entries { IfOk result (λ list. list.entries.items ≡ []) }
+        ensures cap { IfOk result (λ list. list.cap ≡ cap) }
+        ensures room { IfOk result (λ list. cap ≤ vec_capacity list.entries) }
+        ensures tied { IfOk result (λ list. Tied list []) }
     {
-        EntryList {
-            entries: Vec::new(alloc),
-        }
+        Ok(EntryList {
+            entries: Vec::with_capacity(alloc, cap as usize)?,
+            cap,
+            parties: index_for(alloc, cap, key)?,
+            accounts: index_for(alloc, cap, key)?,
+            references: index_for(alloc, cap, key)?,
+            orders: index_for(alloc, cap, key)?,
+            balances: Vec::with_capacity(alloc, cap as usize)?,
+            total: 0,
+        })
     }
 
     pub(crate) fn len(&self) -> usize
@@ -32,132 +74,214 @@ impl EntryList {
         self.entries.len()
     }
 
-    // Room for so many entries more. After `NoMemory` the list is as before.
-    pub(crate) fn reserve(&mut self, n: usize) -> Result<(), NoMemory>
-        ensures ok { OnOk result (vec_len self.new.entries + n ≤ vec_capacity self.new.entries) }
-        ensures entries { self.new.entries.items ≡ self.old.entries.items }
-        ensures err { OnErr result (vec_capacity self.new.entries ≡ vec_capacity self.old.entries) }
+    pub(crate) fn cap(&self) -> u32
+        ensures { result ≡ self.now.cap }
     {
-        self.entries.reserve(n)?;
-        Ok(())
+        self.cap
     }
 
     // Appends the entry, for which there is room.
     pub(crate) fn push(&mut self, e: &Entry)
-        requires { vec_len self.old.entries < vec_capacity self.old.entries }
+        requires tied { Tied self.old self.old.entries.items }
+        requires legal { Legal self.old.entries.items }
+        requires next { LegalAfter self.old.entries.items e.now }
+        requires within { length self.old.entries.items < self.old.cap }
+        requires room { self.old.cap ≤ vec_capacity self.old.entries }
         ensures entries { self.new.entries.items ≡ self.old.entries.items ++ e.now ∷ [] }
+        ensures cap { self.new.cap ≡ self.old.cap }
         ensures room { vec_capacity self.new.entries ≡ vec_capacity self.old.entries }
+        ensures tied { Tied self.new self.new.entries.items }
     {
+        self.record(e);
         self.entries.push_reserved(*e);
+    }
+
+    // Keeps what the entry says, which comes behind the entries.
+    fn record(&mut self, e: &Entry)
+        requires tied { Tied self.old self.old.entries.items }
+        requires legal { Legal self.old.entries.items }
+        requires next { LegalAfter self.old.entries.items e.now }
+        requires within { length self.old.entries.items < self.old.cap }
+        ensures tied { Tied self.new (self.old.entries.items ++ e.now ∷ []) }
+        ensures entries { self.new.entries ≡ self.old.entries }
+        ensures cap { self.new.cap ≡ self.old.cap }
+    {
+        let at = self.entries.len() as u32;
+        match *e {
+            Entry::Enrol { id, acct, .. } => {
+                self.parties.put(&name_key(id.0), at);
+                self.accounts.put(&name_key(acct.0), at);
+                self.balances.push_reserved(0);
+            }
+            Entry::Fund {
+                acct,
+                amount,
+                ref reference,
+            } => {
+                let payee = self.seat(acct);
+                self.balances[payee] += amount;
+                self.total += amount;
+                self.references.put(reference, at);
+                self.balances.push_reserved(0);
+            }
+            Entry::Paid {
+                ref epoid,
+                price,
+                cacct,
+                macct,
+                ..
+            } => {
+                let payer = self.seat(cacct);
+                let payee = self.seat(macct);
+                self.balances[payer] -= price.0;
+                self.balances[payee] += price.0;
+                self.orders.put(&epoid.write(), at);
+                self.balances.push_reserved(0);
+            }
+            Entry::Refused { ref epoid, .. } => {
+                self.orders.put(&epoid.write(), at);
+                self.balances.push_reserved(0);
+            }
+        }
+    }
+
+    // Takes the last entry off: all is as it was before it.
+    pub(crate) fn pop(&mut self)
+        requires tied { Tied self.old self.old.entries.items }
+        requires legal { Legal self.old.entries.items }
+        requires some { 0 < length self.old.entries.items }
+        ensures entries { self.new.entries.items ≡ take (length self.old.entries.items - 1) self.old.entries.items }
+        ensures cap { self.new.cap ≡ self.old.cap }
+        ensures room { vec_capacity self.new.entries ≡ vec_capacity self.old.entries }
+        ensures tied { Tied self.new self.new.entries.items }
+    {
+        let last = self.entries[self.entries.len() - 1];
+        self.forget(&last);
+        let _ = self.entries.pop();
+    }
+
+    // Takes back what is kept of the last entry.
+    fn forget(&mut self, e: &Entry)
+        requires tied { Tied self.old self.old.entries.items }
+        requires legal { Legal self.old.entries.items }
+        requires some { 0 < length self.old.entries.items }
+        requires last { HoldsAt (λ x. x ≡ e.now) self.old.entries.items (length self.old.entries.items - 1) }
+        ensures tied { Tied self.new (take (length self.old.entries.items - 1) self.old.entries.items) }
+        ensures entries { self.new.entries ≡ self.old.entries }
+        ensures cap { self.new.cap ≡ self.old.cap }
+    {
+        match *e {
+            Entry::Enrol { id, acct, .. } => {
+                self.parties.take_off(&name_key(id.0));
+                self.accounts.take_off(&name_key(acct.0));
+                let _ = self.balances.pop();
+            }
+            Entry::Fund {
+                acct,
+                amount,
+                ref reference,
+            } => {
+                let payee = self.seat(acct);
+                self.balances[payee] -= amount;
+                self.total -= amount;
+                self.references.take_off(reference);
+                let _ = self.balances.pop();
+            }
+            Entry::Paid {
+                ref epoid,
+                price,
+                cacct,
+                macct,
+                ..
+            } => {
+                let payer = self.seat(cacct);
+                let payee = self.seat(macct);
+                self.balances[payer] += price.0;
+                self.balances[payee] -= price.0;
+                self.orders.take_off(&epoid.write());
+                let _ = self.balances.pop();
+            }
+            Entry::Refused { ref epoid, .. } => {
+                self.orders.take_off(&epoid.write());
+                let _ = self.balances.pop();
+            }
+        }
+    }
+
+    // The place at which the balance of an account stands that a party holds.
+    fn seat(&self, id: AcctId) -> usize
+        requires tied { Tied self.now self.now.entries.items }
+        requires held { IsSome (holder_in self.now.entries.items id) }
+        ensures place { first_place (opens id) self.now.entries.items ≡ Some result }
+        ensures within { result < length self.now.entries.items }
+    {
+        match self.accounts.find(&name_key(id.0)) {
+            Some(at) => at as usize,
+            None => unreachable!(),
+        }
     }
 
     // The party that the first enrolment of this number enrols.
     pub(crate) fn party(&self, id: PartyId) -> Option<Party>
+        requires { Tied self.now self.now.entries.items }
         ensures { result ≡ party_in self.now.entries.items id }
     {
-        let entries = self.entries.as_slice();
-        for (i, entry) in entries.iter().enumerate() {
-            if let Entry::Enrol {
-                id: who,
-                role,
-                acct,
-                nonce,
-                key,
-            } = *entry
-                && who == id
-            {
-                return Some(Party {
-                    at: i as u64,
-                    role,
-                    acct,
-                    nonce,
-                    key,
-                });
-            }
+        match self.parties.find(&name_key(id.0)) {
+            Some(at) => self.entries[at as usize].enrolled(at, id),
+            None => None,
         }
-        None
     }
 
     // The party that the first enrolment with this account enrols.
     pub(crate) fn holder(&self, id: AcctId) -> Option<PartyId>
+        requires { Tied self.now self.now.entries.items }
         ensures { result ≡ holder_in self.now.entries.items id }
     {
-        let entries = self.entries.as_slice();
-        for entry in entries {
-            if let Entry::Enrol { id: who, acct, .. } = *entry
-                && acct == id
-            {
-                return Some(who);
-            }
+        match self.accounts.find(&name_key(id.0)) {
+            Some(at) => self.entries[at as usize].holder(id),
+            None => None,
         }
-        None
     }
 
     // The first payment or refusal of the order of this identifier.
     pub(crate) fn order(&self, epoid: &Epoid) -> Option<Kept>
+        requires { Tied self.now self.now.entries.items }
         ensures { result ≡ order_in self.now.entries.items epoid.now }
     {
-        let entries = self.entries.as_slice();
-        for (i, entry) in entries.iter().enumerate() {
-            if entry.settles(epoid) {
-                return Some(Kept {
-                    at: i as u64,
-                    entry: *entry,
-                });
-            }
+        match self.orders.find(&epoid.write()) {
+            Some(at) => self.entries[at as usize].settlement(at, epoid),
+            None => None,
         }
-        None
     }
 
     // The first fund under this reference.
     pub(crate) fn reference(&self, reference: &[u8; 16]) -> Option<Funded>
+        requires { Tied self.now self.now.entries.items }
         ensures { result ≡ funded_in self.now.entries.items reference.now }
     {
-        let entries = self.entries.as_slice();
-        for (i, entry) in entries.iter().enumerate() {
-            if let Entry::Fund {
-                acct,
-                amount,
-                reference: named,
-            } = *entry
-                && named == *reference
-            {
-                return Some(Funded {
-                    at: i as u64,
-                    acct,
-                    amount,
-                });
-            }
+        match self.references.find(reference) {
+            Some(at) => self.entries[at as usize].fund(at, reference),
+            None => None,
         }
-        None
     }
 
     // What is in the account of this number.
     pub(crate) fn balance(&self, id: AcctId) -> u64
-        requires { Legal self.now.entries.items }
+        requires tied { Tied self.now self.now.entries.items }
+        requires legal { Legal self.now.entries.items }
         ensures { result ≡ balance self.now.entries.items id }
     {
-        let entries = self.entries.as_slice();
-        let mut sum = 0;
-        for entry in entries {
-            sum = sum + entry.credit(id) - entry.debit(id);
+        match self.accounts.find(&name_key(id.0)) {
+            Some(at) => self.balances[at as usize],
+            None => 0,
         }
-        sum
     }
 
     // All that the entries brought into the house.
-    #[tactic(auto, using(crate::proofs::Summing::total_fits))]
     pub(crate) fn total(&self) -> u64
-        requires { Legal self.now.entries.items }
+        requires { Tied self.now self.now.entries.items }
         ensures { result ≡ total self.now.entries.items }
     {
-        let entries = self.entries.as_slice();
-        let mut sum = 0;
-        for entry in entries {
-            if let Entry::Fund { amount, .. } = entry {
-                sum += *amount;
-            }
-        }
-        sum
+        self.total
     }
 }

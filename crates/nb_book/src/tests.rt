@@ -76,12 +76,12 @@ fn book_of(rt: &impl Abort, alloc: Global, entries: &[Entry]) -> Result<Book, No
     Ok(book)
 }
 
-// What a look-up gives of a payment and a refusal behind two enrolments and a fund.
+// What a look-up gives of a payment and a refusal behind two enrolments and a fund, and without the two.
 #[test]
 fn finds_what_was_applied(rt: HostRuntime) -> Result<(), Fail> {
     let payment = paid(given(1000), 300, 1000);
     let refusal = refused(given(1001), 201, 1001, BALANCE_LOW, 200, 201);
-    let book = book_of(
+    let mut book = book_of(
         &rt,
         rt.alloc(),
         &[
@@ -122,7 +122,16 @@ fn finds_what_was_applied(rt: HostRuntime) -> Result<(), Fail> {
     };
     assert_eq!(rt; book.order(&given(1001)), Some(kept));
     assert_eq!(rt; book.order(&given(1002)), None);
-    assert_eq!(rt; (book.len(), book.cap(), book.total()), (5, 10, 500));
+    assert_eq!(rt; (book.cap(), book.total()), (10, 500));
+    assert!(rt; book.len() == 5);
+    book.undo();
+    book.undo();
+    assert_eq!(rt; book.order(&given(1000)), None);
+    let funds = Account {
+        party: PartyId(1),
+        balance: 500,
+    };
+    assert_eq!(rt; book.account(AcctId(1)), Some(funds));
     Ok(())
 }
 

@@ -1,0 +1,181 @@
+-- Balances that are kept, behind one entry more and without the last one.
+use Rattle.std.proofs.Common.{◌≡◌, ℕ, ◌+◌, ◌-◌, ◌<◌, ◌≤◌, Bool, true, false, cond, List, [], ◌∷◌, ◌++◌, Option, Some, None, length, take, set, get_or, arith, refl, sym, ap, subst, ◌∙◌, eq-eqb}
+use Rattle.std.proofs.lemmas.Bool.{eqb-true, eqb-false, lt-ltb}
+use Rattle.std.proofs.lemmas.List.{take_more, take_all, get_or-take, get_or-set_same, get_or-set_other, get_or_push, get_or_append_left, length_push, length-take-le}
+use Rattle.std.proofs.lemmas.Option.{same_Some}
+use Rattle.std.specs.Prelude.{◌==◌}
+use Rattle.std.specs.List.{count_by}
+use Rattle.std.specs.Option.{option_or, is_some, IsSome}
+use Rattle.nb_units.specs.declared.ids.PartyId.{PartyId}
+use Rattle.nb_units.specs.declared.ids.AcctId.{AcctId}
+use Rattle.nb_book.specs.declared.entry.Entry.{Entry}
+use Rattle.nb_book.specs.declared.entry.Entry.TheVariants.{Enrol, Fund}
+use Rattle.nb_book.specs.Searches.{holder_at, holder_in}
+use Rattle.nb_book.specs.Money.{credit, debit, balance}
+use Rattle.nb_book.specs.Legal.{LegalAfter, Legal}
+use Rattle.nb_book.specs.Laws.{opens}
+use Rattle.nb_book.specs.declared.list.EntryList.{EntryList}
+use Rattle.nb_book.specs.Indexes.{place_if, first_place, KeepsBalances, Tied}
+use Rattle.nb_book.proofs.Growing.{front_legal}
+use Rattle.nb_book.proofs.Counting.{found-count, tests_holder}
+use Rattle.nb_book.proofs.Summing.{balance_after}
+use Rattle.nb_book.proofs.Balances.{balance-none}
+use Rattle.nb_book.proofs.Indexing.{both_found, found, first_push}
+
+-- who holds an account does not depend on the place at which its entry is asked
+pub holder_anywhere : (a : AcctId) (m n : ℕ) (e : Entry) → holder_at a m e ≡ holder_at a n e
+holder_anywhere a m n (Enrol who role acct nonce key) = refl
+holder_anywhere a m n other = refl
+
+-- an account that was opened is held
+pub held_opened : (H : List Entry) (a : AcctId) → 1 ≤ count_by (opens a) H → IsSome (holder_in H a)
+held_opened H a some = found-count (opens a) (holder_at a) (tests_holder a) 0 H ∙ lt-ltb 0 (count_by (opens a) H) (omega (arith, some))
+
+-- an account that has no place has nothing
+pub nothing_kept : (H : List Entry) → Legal H → (a : AcctId) → first_place (opens a) H ≡ None → balance H a ≡ 0
+nothing_kept H legal a none =
+    balance-none H legal a (sym (both_found (opens a) (holder_at a) (tests_holder a) H) ∙ ap (λ (x : Option ℕ). is_some x) none)
+
+-- an enrolment brings nothing into the account that it opens
+opening_credit : (a : AcctId) (e : Entry) → opens a e ≡ true → credit a e ≡ 0
+opening_credit a (Enrol who role acct nonce key) opens_it = refl
+opening_credit a other opens_it = cc
+
+-- balances behind one entry more, which changed them by what it brings and takes
+pub kept_push : (H : List Entry) (e : Entry) (before after : List ℕ) → Legal H → LegalAfter H e → KeepsBalances H before → length after ≡ length before
+    → ((a : AcctId) (at : ℕ) → first_place (opens a) H ≡ Some at → get_or after at 0 + debit a e ≡ get_or before at 0 + credit a e)
+    → KeepsBalances (H ++ e ∷ []) (after ++ 0 ∷ [])
+kept_push H e before after legal next kept long moves = record {
+  long = omega (arith, length_push after 0, length_push H e, long, kept.long);
+  each = λ a at placed. part a at (first_place (opens a) H) refl (sym (first_push (place_if (opens a)) 0 H e) ∙ placed);
+} where
+  opened_now : (a : AcctId) (at : ℕ) → first_place (opens a) H ≡ None → (b : Bool) → opens a e ≡ b → cond b (Some (0 + length H)) None ≡ Some at
+      → get_or (after ++ 0 ∷ []) at 0 ≡ balance (H ++ e ∷ []) a
+  opened_now a at none true opens_it last =
+      let here : 0 + length H ≡ at = same_Some (0 + length H) at last in
+      let behind : length after ≡ at = omega (arith, here, long, kept.long) in
+      let value : 0 ≡ balance (H ++ e ∷ []) a = omega (arith, balance_after H e legal next a, nothing_kept H legal a none, opening_credit a e opens_it) in
+      get_or_push after 0 0 at behind ∙ value
+  opened_now a at none false other last = absurd cc
+
+  part : (a : AcctId) (at : ℕ) (p : Option ℕ) → first_place (opens a) H ≡ p → option_or (first_place (opens a) H) (place_if (opens a) (0 + length H) e) ≡ Some at
+      → get_or (after ++ 0 ∷ []) at 0 ≡ balance (H ++ e ∷ []) a
+  part a at (Some i) is placed =
+      let here : i ≡ at = same_Some i at (sym (ap (λ (x : Option ℕ). option_or x (place_if (opens a) (0 + length H) e)) is) ∙ placed) in
+      let place : first_place (opens a) H ≡ Some at = is ∙ ap (λ (n : ℕ). Some n) here in
+      let inside : at < length H = (found (opens a) (holder_at a) (tests_holder a) H at e place).within in
+      let front : at < length after = omega (arith, long, kept.long, inside) in
+      let value : get_or after at 0 ≡ balance (H ++ e ∷ []) a = omega (arith, moves a at place, kept.each a at place, balance_after H e legal next a) in
+      get_or_append_left after (0 ∷ []) 0 at front ∙ value
+  part a at None is placed =
+      opened_now a at is (opens a e) refl (sym (ap (λ (x : Option ℕ). option_or x (place_if (opens a) (0 + length H) e)) is) ∙ placed)
+
+-- balances without the last entry, which was taken back
+pub kept_pop : (H : List Entry) (e : Entry) (before after : List ℕ) → Legal H → LegalAfter H e → KeepsBalances (H ++ e ∷ []) before → length after ≡ length before
+    → ((a : AcctId) (at : ℕ) → first_place (opens a) H ≡ Some at → get_or after at 0 + credit a e ≡ get_or before at 0 + debit a e)
+    → KeepsBalances H (take (length H) after)
+kept_pop H e before after legal next kept long moves = record {
+  long = length-take-le (length H) after (omega (arith, length_push H e, long, kept.long));
+  each = λ a at placed.
+      let inside : at < length H = (found (opens a) (holder_at a) (tests_holder a) H at e placed).within in
+      let longer : first_place (opens a) (H ++ e ∷ []) ≡ Some at =
+      first_push (place_if (opens a)) 0 H e ∙ ap (λ (x : Option ℕ). option_or x (place_if (opens a) (0 + length H) e)) placed in
+      let value : get_or after at 0 ≡ balance H a = omega (arith, moves a at placed, kept.each a at longer, balance_after H e legal next a) in
+      get_or-take (length H) after at 0 inside ∙ value;
+}
+
+-- ---- what a write at the place of one account does to the place of another
+
+-- one account has one place
+same_place : (H : List Entry) (b a : AcctId) (p at : ℕ) → (b.0 == a.0) ≡ true → first_place (opens b) H ≡ Some p → first_place (opens a) H ≡ Some at → p ≡ at
+same_place H b a p at same first second =
+    same_Some p at (sym (subst (λ (n : ℕ). first_place (opens (record { 0 = n })) H ≡ Some p) (eqb-true b.0 a.0 same) first) ∙ second)
+
+-- two accounts have two places
+other_place : (H : List Entry) (b a : AcctId) (p at : ℕ) → (b.0 == a.0) ≡ false → first_place (opens b) H ≡ Some p → first_place (opens a) H ≡ Some at
+    → at ≡ p → ⊥
+other_place H b a p at other first second same =
+    let d : Entry = Fund (record { 0 = 0 }) 0 [] in
+    let there : first_place (opens b) H ≡ Some at = first ∙ ap (λ (n : ℕ). Some n) (sym same) in
+    eqb-false b.0 a.0 other
+    (one_account (get_or H at d) (found (opens b) (holder_at b) (tests_holder b) H at d there).passes (found (opens a) (holder_at a) (tests_holder a) H at d second).passes)
+  where
+    one_account : (x : Entry) → opens b x ≡ true → opens a x ≡ true → b.0 ≡ a.0
+    one_account (Enrol who role acct nonce key) f s = sym (eqb-true acct.0 b.0 f) ∙ eqb-true acct.0 a.0 s
+    one_account x f s = cc
+
+-- an amount brought to the place of an account is brought to that account alone
+pub gave : (H : List Entry) (b a : AcctId) (p at : ℕ) (before : List ℕ) (amount v : ℕ) → first_place (opens b) H ≡ Some p → first_place (opens a) H ≡ Some at
+    → p < length before → v ≡ get_or before p 0 + amount → get_or (set before p v) at 0 ≡ get_or before at 0 + cond (b.0 == a.0) amount 0
+gave H b a p at before amount v first second within is = part (b.0 == a.0) refl where
+  part : (t : Bool) → (b.0 == a.0) ≡ t → get_or (set before p v) at 0 ≡ get_or before at 0 + cond t amount 0
+  part true same =
+      subst (λ (n : ℕ). get_or (set before p v) n 0 ≡ get_or before n 0 + amount) (same_place H b a p at same first second) (get_or-set_same before p v 0 within ∙ is)
+  part false other = omega (arith, get_or-set_other before p at v 0 (other_place H b a p at other first second))
+
+-- and so with one that is taken
+pub took : (H : List Entry) (b a : AcctId) (p at : ℕ) (before : List ℕ) (amount v : ℕ) → first_place (opens b) H ≡ Some p → first_place (opens a) H ≡ Some at
+    → p < length before → v + amount ≡ get_or before p 0 → get_or (set before p v) at 0 + cond (b.0 == a.0) amount 0 ≡ get_or before at 0
+took H b a p at before amount v first second within is = part (b.0 == a.0) refl where
+  part : (t : Bool) → (b.0 == a.0) ≡ t → get_or (set before p v) at 0 + cond t amount 0 ≡ get_or before at 0
+  part true same =
+      subst (λ (n : ℕ). get_or (set before p v) n 0 + amount ≡ get_or before n 0) (same_place H b a p at same first second)
+      (ap (λ (x : ℕ). x + amount) (get_or-set_same before p v 0 within) ∙ is)
+  part false other = omega (arith, get_or-set_other before p at v 0 (other_place H b a p at other first second))
+
+-- the place of an account among entries, of which the last opens none
+pub place_front : (H : List Entry) (e : Entry) (a : AcctId) → opens a e ≡ false → first_place (opens a) (H ++ e ∷ []) ≡ first_place (opens a) H
+place_front H e a opens_none = first_push (place_if (opens a)) 0 H e ∙ rw opens_none (alone (first_place (opens a) H)) where
+  alone : (x : Option ℕ) → option_or x None ≡ x
+  alone None = refl
+  alone (Some n) = refl
+
+-- ---- the last entry
+
+-- H is a Legal front, and an entry that was legal behind it
+pub record Behind (front : List Entry) (e : Entry) (H : List Entry) : Type 0 where
+  pub whole : H ≡ front ++ e ∷ []
+  pub legal : Legal front
+  pub next : LegalAfter front e
+
+pub last_entry : (H : List Entry) (e : Entry) → Legal H → 0 < length H → ((d : Entry) → get_or H (length H - 1) d ≡ e) → Behind (take (length H - 1) H) e H
+last_entry H e legal some last =
+    let n : ℕ = length H - 1 in
+    let inside : n < length H = omega (arith, some) in
+    let all : length H ≤ n + 1 = omega (arith, some) in
+    record {
+      whole = sym (take_all (n + 1) H all) ∙ take_more H n e inside ∙ ap (λ (x : Entry). take n H ++ x ∷ []) (last e);
+      legal = front_legal H n legal;
+      next = subst (λ (x : Entry). LegalAfter (take n H) x) (last e) (legal.each n inside e);
+    }
+
+-- what a list keeps is that of its front and its last entry
+pub record BeforeLast (list : EntryList) (front : List Entry) (e : Entry) : Type 0 where
+  pub behind : Behind front e list.entries.items
+  pub tied : Tied list (front ++ e ∷ [])
+
+pub before_last : (list : EntryList) (e : Entry) → Tied list list.entries.items → Legal list.entries.items → 0 < length list.entries.items
+    → ((d : Entry) → get_or list.entries.items (length list.entries.items - 1) d ≡ e) → BeforeLast list (take (length list.entries.items - 1) list.entries.items) e
+before_last list e tied legal some last =
+    let it : Behind (take (length list.entries.items - 1) list.entries.items) e list.entries.items = last_entry list.entries.items e legal some last in
+    record {
+      behind = it;
+      tied = subst (λ (xs : List Entry). Tied list xs) it.whole tied;
+    }
+
+-- an account that is held is held behind one entry more
+pub held_behind : (front : List Entry) (e : Entry) (a : AcctId) → IsSome (holder_in front a) → IsSome (holder_in (front ++ e ∷ []) a)
+held_behind front e a held = rw (first_push (holder_at a) 0 front e) (kept_some (holder_in front a) held) where
+  kept_some : (x : Option PartyId) → is_some x ≡ true → is_some (option_or x (holder_at a (0 + length front) e)) ≡ true
+  kept_some None some = absurd cc
+  kept_some (Some who) some = refl
+
+-- the place of an account among entries is its place in front of one that opens none
+pub place_before : (front : List Entry) (e : Entry) (H : List Entry) (a : AcctId) (p : ℕ) → Behind front e H → opens a e ≡ false
+    → first_place (opens a) H ≡ Some p → first_place (opens a) front ≡ Some p
+place_before front e H a p behind none place =
+    sym (place_front front e a none) ∙ ap (λ (xs : List Entry). first_place (opens a) xs) (sym behind.whole) ∙ place
+
+-- an amount for an account itself
+pub own_amount : (a : AcctId) (amount : ℕ) → cond (a.0 == a.0) amount 0 ≡ amount
+own_amount a amount = rw (eq-eqb a.0 a.0 refl) refl

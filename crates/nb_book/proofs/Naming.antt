@@ -1,0 +1,69 @@
+-- Keys of entries: two are one exactly where what they are made of is one.
+use Rattle.std.proofs.Common.{◌≡◌, ℕ, ◌<◌, ◌^◌, Bool, true, false, List, take, refl, sym, ap, subst, ◌∙◌, eq-eqb}
+use Rattle.std.proofs.lemmas.Bool.{eqb-true, eqb-false, false_from_ne_true, true≢false}
+use Rattle.std.proofs.lemmas.Nat.{from_be_bytes-to_be_bytes_4}
+use Rattle.std.proofs.lemmas.Slice.Eq.{bytes_eq-Decides}
+use Rattle.std.specs.Prelude.{◌==◌}
+use Rattle.std.specs.Int.{w32, from_be_bytes}
+use Rattle.std.specs.Str.{bytes_eq}
+use Rattle.nb_units.specs.declared.ids.PartyId.{PartyId}
+use Rattle.nb_units.specs.declared.ids.AcctId.{AcctId}
+use Rattle.nb_units.specs.declared.epoid.Epoid.{Epoid}
+use Rattle.nb_units.specs.Epoid.{IsEpoid, epoid_bytes, epoid_of}
+use Rattle.nb_units.proofs.EpoidLaws.{reads_back}
+use Rattle.nb_book.specs.declared.entry.Entry.TheVariants.{Enrol, Fund, Paid, Refused}
+use Rattle.nb_book.specs.Searches.{same_epoid, settles}
+use Rattle.nb_book.specs.Laws.{enrols, opens, cites}
+use Rattle.nb_book.specs.Indexes.{name_key, party_key, account_key, reference_key, order_key}
+use Rattle.nb_book.proofs.Counting.{same_epoid-true}
+use Rattle.nb_book.proofs.Indexing.{StandsFor}
+
+-- numbers of 4 bytes with one key are one
+one_name : (m n : ℕ) → m < 2 ^ 32 → n < 2 ^ 32 → name_key m ≡ name_key n → m ≡ n
+unfolding name_key
+one_name m n fit fits same =
+    sym (from_be_bytes-to_be_bytes_4 m fit)
+    ∙ ap (λ (bytes : List ℕ). from_be_bytes w32 (take 4 bytes)) same
+    ∙ from_be_bytes-to_be_bytes_4 n fits
+
+tests_name : (m n : ℕ) → m < 2 ^ 32 → n < 2 ^ 32 → bytes_eq (name_key m) (name_key n) ≡ (m == n)
+tests_name m n fit fits = part (m == n) refl where
+  part : (b : Bool) → (m == n) ≡ b → bytes_eq (name_key m) (name_key n) ≡ b
+  part true same =
+      subst (λ (x : ℕ). bytes_eq (name_key m) (name_key x) ≡ true) (eqb-true m n same) ((bytes_eq-Decides (name_key m) (name_key m)).1 refl)
+  part false other =
+      false_from_ne_true (bytes_eq (name_key m) (name_key n)) (λ same. eqb-false m n other (one_name m n fit fits ((bytes_eq-Decides (name_key m) (name_key n)).0 same)))
+
+same_epoid-self : (p : Epoid) → same_epoid p p ≡ true
+same_epoid-self p = rw (eq-eqb p.merchant.0 p.merchant.0 refl, eq-eqb p.moment p.moment refl, eq-eqb p.serial p.serial refl) refl
+
+-- identifiers with one spelling are one
+one_epoid : (p q : Epoid) → IsEpoid p → IsEpoid q → epoid_bytes p ≡ epoid_bytes q → p ≡ q
+one_epoid p q fit fits same = sym (reads_back p fit) ∙ ap epoid_of same ∙ reads_back q fits
+
+tests_epoid : (p q : Epoid) → IsEpoid p → IsEpoid q → bytes_eq (epoid_bytes p) (epoid_bytes q) ≡ same_epoid p q
+tests_epoid p q fit fits = part (same_epoid p q) refl where
+  part : (b : Bool) → same_epoid p q ≡ b → bytes_eq (epoid_bytes p) (epoid_bytes q) ≡ b
+  part true same =
+      subst (λ (x : Epoid). bytes_eq (epoid_bytes p) (epoid_bytes x) ≡ true) (same_epoid-true p q same) ((bytes_eq-Decides (epoid_bytes p) (epoid_bytes p)).1 refl)
+  part false other =
+      false_from_ne_true (bytes_eq (epoid_bytes p) (epoid_bytes q)) (λ same.
+      let one : p ≡ q = one_epoid p q fit fits ((bytes_eq-Decides (epoid_bytes p) (epoid_bytes q)).0 same) in
+      true≢false (sym (subst (λ (x : Epoid). same_epoid p x ≡ true) one (same_epoid-self p)) ∙ other))
+
+pub party_stands : (id : PartyId) → id.0 < 2 ^ 32 → StandsFor party_key (name_key id.0) (enrols id)
+party_stands id fits (Enrol who role acct nonce key) fit = tests_name who.0 id.0 fit.0 fits
+party_stands id fits other fit = refl
+
+pub account_stands : (a : AcctId) → a.0 < 2 ^ 32 → StandsFor account_key (name_key a.0) (opens a)
+account_stands a fits (Enrol who role acct nonce key) fit = tests_name acct.0 a.0 fit.1 fits
+account_stands a fits other fit = refl
+
+pub reference_stands : (r : List ℕ) → StandsFor reference_key r (cites r)
+reference_stands r (Fund acct amount reference) fit = refl
+reference_stands r other fit = refl
+
+pub order_stands : (p : Epoid) → IsEpoid p → StandsFor order_key (epoid_bytes p) (settles p)
+order_stands p fits (Paid digest epoid consumer merchant product price cacct macct moment key) fit = tests_epoid epoid p fit fits
+order_stands p fits (Refused digest epoid consumer merchant product price code a b moment) fit = tests_epoid epoid p fit fits
+order_stands p fits other fit = refl
