@@ -6,3 +6,4 @@ pub mod Sounding
 pub mod Following
 pub mod Small
 pub mod Numbering
+pub mod Telling

@@ -1,5 +1,5 @@
 -- What holds of all turns, of all runs, and of all that a caller was answered.
-use Rattle.std.specs.Prelude.{◌≡◌, ◌≢◌, ℕ, ◌+◌, ◌<◌, ◌≤◌, ◌⊎◌, List, [], ◌∷◌, ◌++◌, Some, length}
+use Rattle.std.specs.Prelude.{◌≡◌, ◌≢◌, ℕ, ◌+◌, ◌<◌, ◌≤◌, ◌⊎◌, List, [], ◌∷◌, ◌++◌, Some, length, map}
 use Rattle.std.specs.List.{count_by, sum_by, AllByRecursion}
 use Rattle.std.specs.Option.{option_to_list}
 use Rattle.nb_units.specs.declared.epoid.Epoid.{Epoid}
@@ -12,7 +12,7 @@ use Rattle.nb_turns.specs.declared.limits.TheConstants.{MAX_FAULTS, MAX_REQUESTS
 use Rattle.nb_turns.specs.declared.line.Line.{Line}
 use Rattle.nb_turns.specs.declared.mark.Mark.{Mark}
 use Rattle.nb_turns.specs.declared.mark.Mark.TheVariants.{At, Fault, Worn}
-use Rattle.nb_turns.specs.Turns.{Request, House, State, Outcome, Decides, Fails, Refuses, Answered, Round, SettlesInto, Unsettled, Doubts, Turn, FitTurn, Run, answer_over, answered, answered_in, decided, marks, recorded, failure_of, last_state, IsStateOf}
+use Rattle.nb_turns.specs.Turns.{Request, House, State, Outcome, Decides, Fails, Refuses, Answered, Round, SettlesInto, Unsettled, Doubts, Turn, FitTurn, Run, answer_over, answered, answered_in, decided, marks, recorded, failure_of, last_state, IsStateOf, places}
 use Rattle.nb_turns.specs.Lines.{AddsLines, AreBelow, AreOf, IsClosed, NeverFall, Sound, StateOver, entries_of, failures_in, faults_of, lines_by, next_turn, turn_of}
 use Rattle.nb_turns.specs.Callers.{Turned, AnsweredTurns, AreTaken, answers_in, lines_since, own_lines}
 
@@ -95,6 +95,17 @@ OneMore = (house : House) (over : List Entry) (requests : List Request) (request
     → (decided house over (requests ++ request ∷ []) ≡ decided house over requests ++ answer_over house (over ++ recorded house over requests) request ∷ [])
     × (recorded house over (requests ++ request ∷ []) ≡ recorded house over requests ++ option_to_list (house.rules (over ++ recorded house over requests) request).entry)
     × (length (recorded house over requests) ≤ length requests)
+
+-- a turn that decided gives a place for each request, and another gives none
+abbrev pub HasPlaces : List Request → Outcome → List ℕ → Type 0
+HasPlaces requests (Decides over) found = length found ≡ length requests
+HasPlaces requests other found = found ≡ []
+
+-- each request of a turn is answered, in their order
+abbrev pub EachIsAnswered : Type 0
+EachIsAnswered = (house : House) (requests : List Request) (outcome : Outcome)
+    → (map (λ (a : Answered). a.request) (answered house requests outcome) ≡ requests)
+    × HasPlaces requests outcome (places (answered house requests outcome))
 
 -- ---- failures
 

@@ -34,6 +34,11 @@ pub fn one_more()
     ensures { law.OneMore }
 {}
 
+/// Each request of a turn is answered, in their order; it has a place exactly where the turn decided.
+pub fn each_is_answered()
+    ensures { law.EachIsAnswered }
+{}
+
 /// A turn that failed leaves something in doubt. Where nothing was, its verdicts over the entries record it.
 pub fn failure_leaves_doubt()
     ensures { law.FailureLeavesDoubt }
