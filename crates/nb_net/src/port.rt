@@ -73,6 +73,7 @@ where
         ensures gives { NextGives (link_over A.Joined.left A.Joined.sent) (port_over self.old) (port_over self.new) result }
         ensures asked { A.asked self.new.listener ≤ A.asked self.old.listener + MAX_TRIES }
         ensures only { result ≡ outs.Failed → A.broken self.new.listener ⊎ AllTried self.old.faults self.new.faults }
+        ensures closed { self.old.left ≡ 0 → self.new ≡ self.old }
     {
         if self.left == 0 {
             return PortOut::Closed;

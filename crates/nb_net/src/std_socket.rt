@@ -91,17 +91,23 @@ impl Listener for StdListener {
     fn accept(&mut self) -> AcceptOut<StdSocket> {
         match self.listener.accept() {
             Ok((stream, _)) => AcceptOut::Joined(StdSocket::over(stream)),
-            Err(error) => match error.kind() {
-                io::ErrorKind::ConnectionAborted
-                | io::ErrorKind::ConnectionReset
-                | io::ErrorKind::HostUnreachable
-                | io::ErrorKind::NetworkUnreachable
-                | io::ErrorKind::NetworkDown
-                | io::ErrorKind::Interrupted => AcceptOut::Aborted,
-                _ => AcceptOut::Failed,
-            },
+            Err(error) if passes(error.kind()) => AcceptOut::Aborted,
+            Err(_) => AcceptOut::Failed,
         }
     }
+}
+
+// Whether a look for a connection that failed so says nothing of the listener: the connection was gone, or the call was interrupted.
+fn passes(kind: io::ErrorKind) -> bool {
+    matches!(
+        kind,
+        io::ErrorKind::ConnectionAborted
+            | io::ErrorKind::ConnectionReset
+            | io::ErrorKind::HostUnreachable
+            | io::ErrorKind::NetworkUnreachable
+            | io::ErrorKind::NetworkDown
+            | io::ErrorKind::Interrupted
+    )
 }
 
 // What setting an option gives that worked, or failed.
@@ -109,4 +115,31 @@ fn done_if(worked: bool) -> SetOut
     ensures { result ≡ (if worked then SetOut.Done else SetOut.Failed) }
 {
     if worked { SetOut::Done } else { SetOut::Failed }
+}
+
+#[cfg(test)]
+mod tests {
+    use super::*;
+
+    #[test]
+    fn a_connection_that_is_gone_is_no_failure(rt: HostRuntime) {
+        for kind in [
+            io::ErrorKind::ConnectionAborted,
+            io::ErrorKind::ConnectionReset,
+            io::ErrorKind::HostUnreachable,
+            io::ErrorKind::NetworkUnreachable,
+            io::ErrorKind::NetworkDown,
+            io::ErrorKind::Interrupted,
+        ] {
+            assert!(rt; passes(kind));
+        }
+        for kind in [
+            io::ErrorKind::WouldBlock,
+            io::ErrorKind::PermissionDenied,
+            io::ErrorKind::OutOfMemory,
+            io::ErrorKind::InvalidInput,
+        ] {
+            assert!(rt; !passes(kind));
+        }
+    }
 }
