@@ -1,41 +1,41 @@
-use Rattle.std.proofs.Common.{◌≡◌, ◌<◌, [], length, arith, sym, ◌∙◌}
+use Rattle.std.proofs.Common.{◌≡◌, ◌<◌, Option, Some, None, length, arith, sym, ap, ◌∙◌}
 use Rattle.std.proofs.lemmas.List.{get_or_read}
+use Rattle.std.specs.Option.{option_map}
+use Rattle.nb_units.specs.declared.ids.PartyId.{PartyId}
 use Rattle.nb_book.specs.declared.entry.Entry.{Entry}
-use Rattle.nb_book.specs.declared.entry.Entry.TheVariants.{Fund}
-use Rattle.nb_book.specs.Searches.{holder_at}
+use Rattle.nb_book.specs.Searches.{holder_at, holder_in}
+use Rattle.nb_book.specs.Money.{balance}
 use Rattle.nb_book.specs.Laws.{opens}
-use Rattle.nb_book.specs.Indexes.{account_key, first_place}
 use Rattle.nb_book.proofs.Counting.{tests_holder}
-use Rattle.nb_book.proofs.Indexing.{StandsFor, finds_place, found}
-use Rattle.nb_book.proofs.Keeping.{nothing_kept}
-use Rattle.nb_book.proofs.Naming.{account_stands}
-use Rattle.nb_book.proofs.list.EntryList.balance.Goals as goal
+use Rattle.nb_book.proofs.Indexing.{found, missed}
+use Rattle.nb_book.proofs.Keeping.{holder_anywhere}
+use Rattle.nb_book.proofs.list.EntryList.account.Goals as goal
 
 pub index-requires : goal.index-requires
-index-requires c =
-    let stands : StandsFor account_key c.name_key.result (opens c.args.id) = rw c.name_key.ensures.key (account_stands c.args.id c.name_key.ensures.fits) in
-    let place : c.find.result ≡ first_place (opens c.args.id) c.args.self.now.entries.items =
-    c.find.ensures.found
-    ∙ finds_place account_key c.args.self.now.cap c.args.self.now.accounts c.args.self.now.entries.items c.name_key.result (opens c.args.id) c.requires.tied.accounts c.requires.tied.fit stands in
-    let d : Entry = Fund (record { 0 = 0 }) 0 [] in
-    let here = found (opens c.args.id) (holder_at c.args.id) (tests_holder c.args.id) c.args.self.now.entries.items c.in-Some.at d (sym place ∙ c.in-Some.is) in
-    omega (arith, here.within, c.requires.tied.balances.long, c.args.self.now.balances.ok.0)
+index-requires c = omega (arith, c.in-Some.ensures.within, c.args.self.now.entries.ok.0)
 
-pub returns-in-Some : goal.returns-in-Some
-returns-in-Some c =
-    let stands : StandsFor account_key c.name_key.result (opens c.args.id) = rw c.name_key.ensures.key (account_stands c.args.id c.name_key.ensures.fits) in
-    let place : c.find.result ≡ first_place (opens c.args.id) c.args.self.now.entries.items =
-    c.find.ensures.found
-    ∙ finds_place account_key c.args.self.now.cap c.args.self.now.accounts c.args.self.now.entries.items c.name_key.result (opens c.args.id) c.requires.tied.accounts c.requires.tied.fit stands in
-    let d : Entry = Fund (record { 0 = 0 }) 0 [] in
-    let here = found (opens c.args.id) (holder_at c.args.id) (tests_holder c.args.id) c.args.self.now.entries.items c.in-Some.at d (sym place ∙ c.in-Some.is) in
+pub index-requires-in-Some-holder : goal.index-requires-in-Some-holder
+index-requires-in-Some-holder c = omega (arith, c.in-Some.ensures.within, c.requires.tied.balances.long, c.args.self.now.balances.ok.0)
+
+pub returns-in-Some-holder : goal.returns-in-Some-holder
+returns-in-Some-holder c =
+    let place = sym c.place_of.ensures.place ∙ c.in-Some.is in
+    let here = found (opens c.args.id) (holder_at c.args.id) (tests_holder c.args.id) c.args.self.now.entries.items c.in-Some.at c.index.result.now place in
+    let held : Some c.in-Some-holder.party ≡ holder_in c.args.self.now.entries.items c.args.id =
+    sym c.in-Some-holder.is ∙ c.holder.ensures ∙ holder_anywhere c.args.id 0 c.in-Some.at c.index.result.now ∙ ap (λ (e : Entry). holder_at c.args.id c.in-Some.at e) c.index.ensures ∙ sym here.answers in
     let within : c.in-Some.at < length c.args.self.now.balances.items = omega (arith, here.within, c.requires.tied.balances.long) in
-    get_or_read _ _ _ within c.index.ensures 0 ∙ c.requires.tied.balances.each c.args.id c.in-Some.at (sym place ∙ c.in-Some.is)
+    let kept = get_or_read _ _ _ within c.index-in-Some-holder.ensures 0 ∙ c.requires.tied.balances.each c.args.id c.in-Some.at place in
+    ap (λ n. Some (record { party = c.in-Some-holder.party; balance = n })) kept
+    ∙ ap (λ (who : Option PartyId). option_map (λ (p : PartyId). record { party = p; balance = balance c.args.self.now.entries.items c.args.id }) who) held
+
+pub returns-in-None-holder : goal.returns-in-None-holder
+returns-in-None-holder c =
+    let here = found (opens c.args.id) (holder_at c.args.id) (tests_holder c.args.id) c.args.self.now.entries.items c.in-Some.at c.index.result.now (sym c.place_of.ensures.place ∙ c.in-Some.is) in
+    let held : None ≡ holder_in c.args.self.now.entries.items c.args.id =
+    sym c.in-None-holder.is ∙ c.holder.ensures ∙ holder_anywhere c.args.id 0 c.in-Some.at c.index.result.now ∙ ap (λ (e : Entry). holder_at c.args.id c.in-Some.at e) c.index.ensures ∙ sym here.answers in
+    ap (λ (who : Option PartyId). option_map (λ (p : PartyId). record { party = p; balance = balance c.args.self.now.entries.items c.args.id }) who) held
 
 pub returns-in-None : goal.returns-in-None
 returns-in-None c =
-    let stands : StandsFor account_key c.name_key.result (opens c.args.id) = rw c.name_key.ensures.key (account_stands c.args.id c.name_key.ensures.fits) in
-    let place : c.find.result ≡ first_place (opens c.args.id) c.args.self.now.entries.items =
-    c.find.ensures.found
-    ∙ finds_place account_key c.args.self.now.cap c.args.self.now.accounts c.args.self.now.entries.items c.name_key.result (opens c.args.id) c.requires.tied.accounts c.requires.tied.fit stands in
-    sym (nothing_kept c.args.self.now.entries.items c.requires.legal c.args.id (sym place ∙ c.in-None.is))
+    let held = sym (missed (opens c.args.id) (holder_at c.args.id) (tests_holder c.args.id) c.args.self.now.entries.items (sym c.place_of.ensures.place ∙ c.in-None.is)) in
+    ap (λ (who : Option PartyId). option_map (λ (p : PartyId). record { party = p; balance = balance c.args.self.now.entries.items c.args.id }) who) held
