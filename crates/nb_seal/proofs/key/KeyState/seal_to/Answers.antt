@@ -1,7 +1,7 @@
 use Rattle.std.proofs.Common.{◌≡◌, length, drop, ap, sym, ◌∙◌, rules}
 use Rattle.std.proofs.lemmas.List.{drop-drop, drop_at}
 use Rattle.nb_seal.specs.declared.limits.TheConstants.{CODE_BYTES}
-use Rattle.nb_seal.proofs.seals.seal_to.Goals as goal
+use Rattle.nb_seal.proofs.key.KeyState.seal_to.Goals as goal
 
 pub returns-clause-rest : goal.returns-clause-rest
 returns-clause-rest c =
