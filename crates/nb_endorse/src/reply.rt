@@ -166,7 +166,7 @@ impl ReplyStates {
     }
 
     /// Seals a text under the first key, as `seal_to` of nb_seal does, and answers the length of the seal.
-    pub fn seal_text(&self, label: &[u8; 4], plain: &[u8], buf: &mut [u8]) -> usize
+    pub fn seal_text_first(&self, label: &[u8; 4], plain: &[u8], buf: &mut [u8]) -> usize
         requires short { length plain.now ≤ MAX_TEXT }
         requires room { CODE_BYTES + length plain.now ≤ length buf.old }
         ensures sealed { take result buf.new ≡ seal_of self.now.first label.now plain.now }
@@ -174,6 +174,20 @@ impl ReplyStates {
         ensures rest { drop result buf.new ≡ drop result buf.old }
     {
         match &self.first {
+            Some(key) => key.seal_to(label, plain, buf),
+            None => seal_to(&NO_KEY, label, plain, buf),
+        }
+    }
+
+    /// Seals a text under the second key, as `seal_to` of nb_seal does, and answers the length of the seal.
+    pub fn seal_text_second(&self, label: &[u8; 4], plain: &[u8], buf: &mut [u8]) -> usize
+        requires short { length plain.now ≤ MAX_TEXT }
+        requires room { CODE_BYTES + length plain.now ≤ length buf.old }
+        ensures sealed { take result buf.new ≡ seal_of self.now.second label.now plain.now }
+        ensures len { result ≡ CODE_BYTES + length plain.now }
+        ensures rest { drop result buf.new ≡ drop result buf.old }
+    {
+        match &self.second {
             Some(key) => key.seal_to(label, plain, buf),
             None => seal_to(&NO_KEY, label, plain, buf),
         }
