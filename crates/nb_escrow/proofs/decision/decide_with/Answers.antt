@@ -4,7 +4,7 @@ use Rattle.nb_escrow.specs.Laws.{PaidWherePayable}
 use Rattle.nb_escrow.specs.Verdict.{told}
 use Rattle.nb_escrow.proofs.Exactly.{paid_exactly_where}
 use Rattle.nb_escrow.proofs.Judging.{Answer}
-use Rattle.nb_escrow.proofs.decision.decide.Goals as goal
+use Rattle.nb_escrow.proofs.decision.decide_with.Goals as goal
 
 pub returns-in-Ok-clause-key : goal.returns-in-Ok-clause-key
 returns-in-Ok-clause-key c =
