@@ -1,5 +1,5 @@
 -- Any calls of a reader of frames: what was fed is what was given out, and what waits.
-use Rattle.std.proofs.Common.{◌≡◌, ℕ, ◌+◌, List, [], ◌∷◌, ◌++◌, length, refl, sym, ap, subst, ◌∙◌, append_assoc, append-nil, arith, length-append}
+use Rattle.std.proofs.Common.{◌≡◌, ℕ, ◌+◌, ◌<◌, List, [], ◌∷◌, ◌++◌, length, refl, sym, ap, subst, ◌∙◌, append_assoc, append-nil, arith, length-append}
 use Rattle.std.specs.List.{flat_map, AllByRecursion}
 use Rattle.nb_units.specs.Frames.{Frame, frame, IsFrame, HeaderFault, Front, Bad, front_of, IsWhole, Splits}
 use Rattle.nb_units.proofs.FrameLaws.{bad_stays, one_reading}
@@ -55,6 +55,13 @@ end_of last behind (next.Frame f) before taken is end = absurd end
 end_of last behind next.More before taken is end = (is.1, short_not_whole (front_of (waiting last)) is.1)
 end_of last behind (next.Bad fault) before taken is end =
     ((is.1.0, is.1.1, is.1.2 ∙ ap (λ (n : ℕ). placed n is.1.0) taken), bad_not_whole is.1.0 (front_of (waiting last)) is.1.1)
+
+-- a frame that is given out leaves less, and nothing is lost
+pub takes_less : (old new : Collected) (f : FrameAt) → TakesFrame old new f → (length (waiting new) < length (waiting old)) × (new.taken + length (waiting new) ≡ old.taken + length (waiting old))
+takes_less old new f takes =
+    let one : List ℕ = frame (frame_at old.held f) in
+    let long : length (waiting old) ≡ length one + length (waiting new) = ap length takes.is ∙ length-append one (waiting new) in
+    (omega (arith, long), omega (arith, long, takes.taken))
 
 pub in_any_cut : InAnyCut
 in_any_cut calls last behind answer is told end =

@@ -55,3 +55,8 @@ bad_not_short fault front e is = subst IsShort e is
 
 pub bad_not_whole : (fault : HeaderFault) (front : Front) → front ≡ Bad fault → IsWhole front → ⊥
 bad_not_whole fault front e is = subst IsWhole e is
+
+-- nothing is short
+pub nothing_short : IsShort (front_of [])
+unfolding front_of
+nothing_short = tt

@@ -21,3 +21,6 @@ mod writing;
 pub use fault::FrameFault;
 pub use stream::{FrameAt, Frames, MAX_HELD, MAX_PIECE, Next};
 pub use writing::write_frame;
+
+#[cfg(test)]
+mod tests;
