@@ -2,7 +2,7 @@
 use Rattle.std.proofs.Common.{◌≡◌, ℕ, ◌<◌, Bool, true, false, cond, ltb, eqb, ◌&&◌, List, [], ◌∷◌, length, refl, subst, arith}
 use Rattle.std.specs.Int.{w32, from_be_bytes}
 use Rattle.std.proofs.lemmas.Bool.{ltb-true, ltb-false}
-use Rattle.nb_units.specs.Frames.{Frame, HeaderFault, Front, Whole, Empty, Partial, Bad, body_of, behind_kind, behind_version, behind_magic, behind_first, front_of, IsWhole}
+use Rattle.nb_units.specs.Frames.{Frame, HeaderFault, Front, Whole, Empty, Partial, Bad, body_of, behind_kind, behind_version, behind_magic, behind_first, front_of, IsWhole, IsBad}
 use Rattle.nb_frame.specs.Looks.{IsShort}
 
 short_chosen : (test : Bool) (x : Front) (fault : HeaderFault) → IsShort (cond test x (Bad fault)) → IsShort x
@@ -60,3 +60,13 @@ bad_not_whole fault front e is = subst IsWhole e is
 pub nothing_short : IsShort (front_of [])
 unfolding front_of
 nothing_short = tt
+
+pub short_not_bad : (front : Front) → IsShort front → IsBad front → ⊥
+short_not_bad Empty is bad = bad
+short_not_bad Partial is bad = bad
+short_not_bad (Whole f rest) is bad = is
+short_not_bad (Bad fault) is bad = is
+
+-- nothing is nothing bad
+pub nothing_bad : (bytes : List ℕ) → bytes ≡ [] → IsBad (front_of bytes) → ⊥
+nothing_bad bytes none bad = short_not_bad (front_of []) nothing_short (subst (λ (xs : List ℕ). IsBad (front_of xs)) none bad)
