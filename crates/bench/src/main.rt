@@ -6,6 +6,7 @@
 //! says more than its safety needs: bench/run measures from outside, and the tests compare what is made with other programs.
 #![tactic(auto)]
 
+mod framing;
 mod hashing;
 mod keystream;
 mod pattern;
@@ -19,7 +20,7 @@ use std::alloc::Global;
 use std::env;
 use std::process::ExitCode;
 
-const USAGE: &str = "usage: bench sha|hmac|seal|unseal|stream SIZE TIMES";
+const USAGE: &str = "usage: bench sha|hmac|seal|unseal|stream|frames1|frames100|frames65536|copy SIZE TIMES";
 
 // The words are none of the program's.
 const BAD_WORDS: u8 = 2;
@@ -65,6 +66,10 @@ fn run(alloc: Global, row: &str, size: u32, times: u32) -> Result<Made, NoMemory
         Made::Unknown => {}
     }
     match keystream::run(alloc, row, size, times)? {
+        Made::Bytes(bytes) => return Ok(Made::Bytes(bytes)),
+        Made::Unknown => {}
+    }
+    match framing::run(alloc, row, size, times)? {
         Made::Bytes(bytes) => return Ok(Made::Bytes(bytes)),
         Made::Unknown => {}
     }
