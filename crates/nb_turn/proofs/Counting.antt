@@ -43,10 +43,10 @@ module _ {T O L : Type 0} (origin : T → O) (history_of : T → List L) (maker 
       let own = mine.parts_are 0 first.0 first.1 in
       -- the number of another part is another number
       let apart : (j i : ℕ) (p : ℕ × List L) → owner p.0 ≡ (j, i) → ((j ≡ id) → i ≡ 0 → ⊥) → maker l ≢ p.0 =
-          λ j i p e other same.
-              let here : owner p.0 ≡ (id, 0) = ap owner (sym same ∙ makes ∙ sym first.2) ∙ own.0 in
-              let both : ◌≡◌ {A = ℕ × ℕ} (j, i) (id, 0) = sym e ∙ here in
-              other (ap (λ (x : ℕ × ℕ). x.0) both) (ap (λ (x : ℕ × ℕ). x.1) both) in
+      λ j i p e other same.
+      let here : owner p.0 ≡ (id, 0) = ap owner (sym same ∙ makes ∙ sym first.2) ∙ own.0 in
+      let both : ◌≡◌ {A = ℕ × ℕ} (j, i) (id, 0) = sym e ∙ here in
+      other (ap (λ (x : ℕ × ℕ). x.0) both) (ap (λ (x : ℕ × ℕ). x.1) both) in
       record {
         turn_is = k.turn_is;
         held_is = λ e. holder_kept s.views holder id v (reseen all v) at (λ h. h) (k.held_is e);
@@ -62,7 +62,7 @@ module _ {T O L : Type 0} (origin : T → O) (history_of : T → List L) (maker 
               holds_is = λ _. (held.0, held.1, refl, omega (arith, held.3, length-first_sees all v.parts));
               parts_are = at_firsts _ all v.parts (λ p e. let q = mine.parts_are 0 p e in (q.0, lone-refl maker p.0 all, starts-refl all, q.3))
                   (λ i p e. let q = mine.parts_are (suc i) p e in
-                      let lone = lone-more maker p.0 v.seen p.1 l (apart id (suc i) p q.0 (λ _ z. absurd (omega arith))) q.1 in (q.0, lone, lone_starts maker p.0 all p.1 lone, q.3));
+                  let lone = lone-more maker p.0 v.seen p.1 l (apart id (suc i) p q.0 (λ _ z. absurd (omega arith))) q.1 in (q.0, lone, lone_starts maker p.0 all p.1 lone, q.3));
             }
             (λ j u other e. let theirs = k.each j u e in record {
               origin_is = theirs.origin_is;
@@ -78,14 +78,18 @@ module _ {T O L : Type 0} (origin : T → O) (history_of : T → List L) (maker 
   counts_line id v slot l n holds number makes room s (wide, (history, holder, owner, k)) deep at small =
       let held = (k.each id v at).holds_is holds in
       let k' : KeptWith origin history_of maker start v.seen holder owner (slice_index s.words 0) (slice_index s.words 1) (slice_index s.words 2) s.homes s.views =
-          subst (λ (h : List L). KeptWith origin history_of maker start h holder owner (slice_index s.words 0) (slice_index s.words 1) (slice_index s.words 2) s.homes s.views) (sym held.2) k in
+      subst (λ (h : List L). KeptWith origin history_of maker start h holder owner (slice_index s.words 0) (slice_index s.words 1) (slice_index s.words 2) s.homes s.views) (sym held.2) k in
       let next : (slice_index s.words 1 + 1) % 2 ^ 64 ≡ slice_index s.words 1 + 1 = omega (arith, k'.count_is, room) in
       let all = v.seen ++ l ∷ [] in (
         reseen all v,
         keeps,
         tt,
-        word_1 (At s.homes (set s.views id (reseen all v))) s.words ((slice_index s.words 1 + 1) % 2 ^ 64) wide
-        (all, holder, owner, subst (λ (c : ℕ). KeptWith origin history_of maker start all holder owner (slice_index s.words 0) c (slice_index s.words 2) s.homes (set s.views id (reseen all v))) (sym next)
-        (counts_at s id v l n at holds number makes _ _ _ holder owner k')),
+        word_1 (At s.homes (set s.views id (reseen all v))) s.words ((slice_index s.words 1 + 1) % 2 ^ 64) wide (
+          all,
+          holder,
+          owner,
+          subst (λ (c : ℕ). KeptWith origin history_of maker start all holder owner (slice_index s.words 0) c (slice_index s.words 2) s.homes (set s.views id (reseen all v))) (sym next)
+              (counts_at s id v l n at holds number makes _ _ _ holder owner k'),
+        ),
         (refl, refl),
       )

@@ -45,9 +45,9 @@ module _ {T O L : Type 0} (origin : T → O) (history_of : T → List L) (maker 
         holds_is = λ h. absurd (true≢false (sym h ∙ idle));
         parts_are = λ k p e. ⊎_elim
             (λ (t : get_elem? v.parts k ≡ some p). let q = kv.parts_are k p t in
-                (moved_else owner other id (length v.parts) p.0 id k (λ z. apart (sym z)) q.0, q.1, starts-trans (longer v.seen w.seen) v.seen p.1 fronts.1 q.2, q.3))
+            (moved_else owner other id (length v.parts) p.0 id k (λ z. apart (sym z)) q.0, q.1, starts-trans (longer v.seen w.seen) v.seen p.1 fronts.1 q.2, q.3))
             (λ (t : (i : ℕ) × (k ≡ length v.parts + i) × (get_elem? w.parts i ≡ some p)). let q = kw.parts_are t.0 p t.2 in
-                (moved_here owner other id (length v.parts) p.0 t.0 q.0 ∙ (λ c. (id, sym t.1 c)), q.1, starts-trans (longer v.seen w.seen) w.seen p.1 fronts.2 q.2, q.3))
+            (moved_here owner other id (length v.parts) p.0 t.0 q.0 ∙ (λ c. (id, sym t.1 c)), q.1, starts-trans (longer v.seen w.seen) w.seen p.1 fronts.2 q.2, q.3))
             (at_append v.parts w.parts k p e);
       }
 

@@ -54,8 +54,8 @@ module _ {O L : Type 0} where
   holder_kept views holder id v w at goes_on (u, there, holds) =
       dite (ℕ_discrete holder id)
       (λ e.
-          let same : v ≡ u = some-injective v u (sym at ∙ ap (get_elem? views) (sym e) ∙ there) in
-          (w, subst (λ (x : ℕ). get_elem? (set views id w) x ≡ some w) (sym e) (set_there views id v w at), goes_on (ap (λ (x : View O L). x.holds) same ∙ holds)))
+      let same : v ≡ u = some-injective v u (sym at ∙ ap (get_elem? views) (sym e) ∙ there) in
+      (w, subst (λ (x : ℕ). get_elem? (set views id w) x ≡ some w) (sym e) (set_there views id v w at), goes_on (ap (λ (x : View O L). x.holds) same ∙ holds)))
       (λ other. (u, set_else views id holder w other ∙ there, holds))
 
 module _ {T O L : Type 0} (origin : T → O) (history_of : T → List L) (maker : L → ℕ) (start : O) (turn bits holder : ℕ) (owner : ℕ → ℕ × ℕ) (id : ℕ) (v : View O L) where

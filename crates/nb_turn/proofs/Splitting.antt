@@ -32,15 +32,23 @@ module _ {T O L : Type 0} (origin : T → O) (history_of : T → List L) (maker 
   At homes views turn count bits = KeptAt origin history_of maker start turn count bits homes views
 
   pub starts : (value : T) → origin value ≡ start → history_of value ≡ [] → Rule (opening (0 ∷ 0 ∷ 1 ∷ []) (Some value ∷ []) (fresh_view start))
-  starts value from empty = (refl, ([], 0, (λ _. (0, 0)), record {
-    turn_is = omega arith;
-    held_is = λ e. absurd (omega arith);
-    count_is = refl;
-    home_is = λ _. (value, refl, from, empty);
-    out_is = λ e. absurd (omega arith);
-    bits_are = λ k l e. absurd (some-ne-none l (sym e));
-    each = λ id v e. first id v e;
-  })) where
+  starts value from empty = (
+    refl,
+    (
+      [],
+      0,
+      (λ _. (0, 0)),
+      record {
+        turn_is = omega arith;
+        held_is = λ e. absurd (omega arith);
+        count_is = refl;
+        home_is = λ _. (value, refl, from, empty);
+        out_is = λ e. absurd (omega arith);
+        bits_are = λ k l e. absurd (some-ne-none l (sym e));
+        each = λ id v e. first id v e;
+      },
+    ),
+  ) where
     part : (k : ℕ) (p : ℕ × List L) → get_elem? ((0, []) ∷ []) k ≡ some p → (◌≡◌ {A = ℕ × ℕ} (0, 0) (0, k)) × Lone maker p.0 [] p.1 × StartsWith [] p.1 × (bit_at 1 p.0 ≡ 1)
     part zero p e = subst (λ (q : ℕ × List L). (◌≡◌ {A = ℕ × ℕ} (0, 0) (0, 0)) × Lone maker q.0 [] q.1 × StartsWith [] q.1 × (bit_at 1 q.0 ≡ 1)) (some-injective {A = ℕ × List L} (0, []) p e) (refl, ([], refl, refl), ([], refl), refl)
     part (suc k) p e = absurd (some-ne-none p (sym e))
@@ -73,8 +81,13 @@ module _ {T O L : Type 0} (origin : T → O) (history_of : T → List L) (maker 
   pub splits_seat : (id : ℕ) (v : V) → Splits Rule id v v (newcomer v)
   splits_seat id v s (wide, (history, holder, owner, k)) at = (
     wide,
-    (history, holder, owner, subst (λ (vs : List V). KeptWith origin history_of maker start history holder owner (slice_index s.words 0) (slice_index s.words 1) (slice_index s.words 2) s.homes (vs ++ newcomer v ∷ []))
-    (sym (set_again s.views id v at)) (splits_at s id v at _ _ _ history holder owner k)),
+    (
+      history,
+      holder,
+      owner,
+      subst (λ (vs : List V). KeptWith origin history_of maker start history holder owner (slice_index s.words 0) (slice_index s.words 1) (slice_index s.words 2) s.homes (vs ++ newcomer v ∷ []))
+          (sym (set_again s.views id v at)) (splits_at s id v at _ _ _ history holder owner k),
+    ),
   )
 
   -- a bit that is set stays
@@ -152,11 +165,11 @@ module _ {T O L : Type 0} (origin : T → O) (history_of : T → List L) (maker 
                   (placed_other owner n p.0 (id, 0) fresh ∙ q.0, q.1, q.2, bit_stays bits n p.0 q.3);
             });
       } where
-    the_part : (vs : List V) (w : V) (all : List L) (own : ℕ → ℕ × ℕ) → placed own n (id, 0) n ≡ (id, 0) → Lone maker n all v.seen → bit_at (bit_or bits (2 ^ n)) n ≡ 1
-        → (i : ℕ) (p : ℕ × List L) → get_elem? ((n, v.seen) ∷ []) i ≡ some p → (placed own n (id, 0) p.0 ≡ (id, i)) × Lone maker p.0 all p.1 × StartsWith v.seen p.1 × (bit_at (bit_or bits (2 ^ n)) p.0 ≡ 1)
-    the_part vs w all own here lone set zero p e =
-        subst (λ (q : ℕ × List L). (placed own n (id, 0) q.0 ≡ (id, 0)) × Lone maker q.0 all q.1 × StartsWith v.seen q.1 × (bit_at (bit_or bits (2 ^ n)) q.0 ≡ 1)) (some-injective {A = ℕ × List L} (n, v.seen) p e) (here, lone, starts-refl v.seen, set)
-    the_part vs w all own here lone set (suc i) p e = absurd (some-ne-none p (sym e))
+        the_part : (vs : List V) (w : V) (all : List L) (own : ℕ → ℕ × ℕ) → placed own n (id, 0) n ≡ (id, 0) → Lone maker n all v.seen → bit_at (bit_or bits (2 ^ n)) n ≡ 1
+            → (i : ℕ) (p : ℕ × List L) → get_elem? ((n, v.seen) ∷ []) i ≡ some p → (placed own n (id, 0) p.0 ≡ (id, i)) × Lone maker p.0 all p.1 × StartsWith v.seen p.1 × (bit_at (bit_or bits (2 ^ n)) p.0 ≡ 1)
+        the_part vs w all own here lone set zero p e =
+            subst (λ (q : ℕ × List L). (placed own n (id, 0) q.0 ≡ (id, 0)) × Lone maker q.0 all q.1 × StartsWith v.seen q.1 × (bit_at (bit_or bits (2 ^ n)) q.0 ≡ 1)) (some-injective {A = ℕ × List L} (n, v.seen) p e) (here, lone, starts-refl v.seen, set)
+        the_part vs w all own here lone set (suc i) p e = absurd (some-ne-none p (sym e))
 
   -- the setting of a number's bit by a seat without a number
   pub claims_number : (id : ℕ) (v : V) (n : ℕ) → v.holds ≡ false → v.parts ≡ [] → Allows Rule 1 id (v, []) 2 (λ value. bit_or value (2 ^ n)) (Claims maker (step 1 2 (2 ^ n) 0 none) (v, []))
@@ -167,21 +180,29 @@ module _ {T O L : Type 0} (origin : T → O) (history_of : T → List L) (maker 
         keeps,
         tt,
         word_2 (At s.homes (set s.views id (found_one 2 (slice_index s.words 2) v))) s.words (bit_or (slice_index s.words 2) (2 ^ n)) wide
-        (history, holder, owner, claims_set s id v n (slice_index s.words 2) at _ _ (slice_index s.words 2) history holder owner k),
+            (history, holder, owner, claims_set s id v n (slice_index s.words 2) at _ _ (slice_index s.words 2) history holder owner k),
         (n, refl, refl, (λ _. refl), λ clear. absurd (omega (arith, clear, set_already))),
       ))
       (λ not_set.
-          let clear : bit_at (slice_index s.words 2) n ≡ 0 = omega arith in
-          let rest = (k.each id v at).seen_is in (
-            named n (slice_index s.words 2) v,
-            keeps,
-            tt,
-            word_2 (At s.homes (set s.views id (named n (slice_index s.words 2) v))) s.words (bit_or (slice_index s.words 2) (2 ^ n)) wide
+      let clear : bit_at (slice_index s.words 2) n ≡ 0 = omega arith in
+      let rest = (k.each id v at).seen_is in (
+        named n (slice_index s.words 2) v,
+        keeps,
+        tt,
+        word_2 (At s.homes (set s.views id (named n (slice_index s.words 2) v))) s.words (bit_or (slice_index s.words 2) (2 ^ n)) wide
             (history, holder, placed owner n (id, 0), claims_clear s id v n (slice_index s.words 2) at idle empty _ _ (slice_index s.words 2) history holder owner clear k),
-            (n, refl, refl, (λ was. absurd (omega (arith, clear, was))),
-            λ _. (refl, (both_empty (lines_by maker n v.seen) (lines_by maker n rest.0)
-            (sym (by-append maker n v.seen rest.0) ∙ ap (lines_by maker n) (sym rest.1) ∙ none_yet (slice_index s.words 2) n history k.bits_are clear)).0)),
-          ))
+        (
+          n,
+          refl,
+          refl,
+          (λ was. absurd (omega (arith, clear, was))),
+          λ _. (
+            refl,
+            (both_empty (lines_by maker n v.seen) (lines_by maker n rest.0)
+                (sym (by-append maker n v.seen rest.0) ∙ ap (lines_by maker n) (sym rest.1) ∙ none_yet (slice_index s.words 2) n history k.bits_are clear)).0,
+          ),
+        ),
+      ))
 
   -- a load of the word of the turn
   pub settles : (id : ℕ) (v : V) (slot : List (ℕ × Option T)) → Allows Rule 1 id (v, slot) 0 (λ n. n) (Settles maker (step 1 0 0 0 none) (v, slot))
@@ -190,6 +211,6 @@ module _ {T O L : Type 0} (origin : T → O) (history_of : T → List L) (maker 
     keeps,
     tt,
     word_0 (At s.homes (set s.views id v)) s.words (slice_index s.words 0) wide
-    (history, holder, owner, subst (λ (vs : List V). KeptWith origin history_of maker start history holder owner (slice_index s.words 0) (slice_index s.words 1) (slice_index s.words 2) s.homes vs) (sym (set_again s.views id v at)) k),
+        (history, holder, owner, subst (λ (vs : List V). KeptWith origin history_of maker start history holder owner (slice_index s.words 0) (slice_index s.words 1) (slice_index s.words 2) s.homes vs) (sym (set_again s.views id v at)) k),
     (refl, refl, settled_at origin history_of maker start _ _ holder owner id v history (k.each id v at)),
   )

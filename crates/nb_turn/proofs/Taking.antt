@@ -77,7 +77,7 @@ module _ {T O L : Type 0} (origin : T → O) (history_of : T → List L) (maker 
       let home = k.home_is refl in
       let value = home.0 in
       let k' : KeptWith origin history_of maker start (history_of value) holder owner 0 (slice_index s.words 1) (slice_index s.words 2) s.homes s.views =
-          subst (λ (h : List L). KeptWith origin history_of maker start h holder owner 0 (slice_index s.words 1) (slice_index s.words 2) s.homes s.views) (sym home.3) k in (
+      subst (λ (h : List L). KeptWith origin history_of maker start h holder owner 0 (slice_index s.words 1) (slice_index s.words 2) s.homes s.views) (sym home.3) k in (
         took (history_of value) v,
         takes 0 (Some value),
         home.1,

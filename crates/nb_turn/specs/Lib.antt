@@ -6,3 +6,4 @@ pub mod Seats
 pub mod Faults
 pub mod Passes
 pub mod Lent
+pub mod Laws

@@ -39,7 +39,10 @@ impl fmt::Display for SplitFault {
     fn fmt<W: fmt::Write>(&self, f: &mut fmt::Formatter<W>) -> fmt::Result {
         match self {
             SplitFault::NoMemory => write!(f, "there is no memory"),
-            SplitFault::Taken { word } => write!(f, "the number was given before: the numbers given are {word:b}"),
+            SplitFault::Taken { word } => write!(
+                f,
+                "the number was given before: the numbers given are {word:b}"
+            ),
         }
     }
 }

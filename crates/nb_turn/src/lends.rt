@@ -1,5 +1,7 @@
 // `value` has a file of its own: its clause names the row of `Held`, which the file that declares `Held` cannot import.
-ghost use Rattle.std.specs.Prelude.{◌≡◌};
+ghost use Rattle.std.specs.Prelude.{◌≡◌, Some};
+ghost use Rattle.nb_turn.specs.Views.{number_of};
+ghost use Rattle.nb_turn.specs.Passes.{held_sees};
 ghost use types.Logic.{sem};
 ghost use Rattle.nb_turn.specs.Lent.{LendsValue};
 
@@ -15,9 +17,10 @@ impl<T: Chronicle> Held<T> {
         &mut self.value
     }
 
-    /// The number of the pass that has the turn.
+    /// The number of the pass that has the turn, which is that of the first of its parts.
     pub fn number(&self) -> u64
-        ensures { result ≡ self.now.hold.number }
+        ensures number { result ≡ self.now.hold.number }
+        ensures first { number_of (held_sees self.now).parts ≡ Some result }
     {
         self.hold.number
     }

@@ -30,10 +30,13 @@ swap-requires g c =
     let value = c.args.held.value in
     let whole : length (t.history value) ≤ c.loop.counter = omega (arith, c.loop-test.false, c.lines-total.ensures) in
     let all = counted_all t.maker c.args.held.hold.seat.me c.loop.seat.me c.args.held.hold.number c.args.held.hold.seen c.loop.counter (t.history value) c.loop.invariant.view whole in
-    let view = ap (λ m. m.0) c.exchange.ensures.3 ∙ all in
-    (search rules, search rules, frees_as t.origin t.history t.maker _ _ _ _ c.args.self.now.sized.1 value
-    (ap (λ m. m.1) c.exchange.ensures.3 ∙ ap (λ l. (0, Some value) ∷ rest l) c.loop.invariant.slot)
-    (ap (λ v. v.holds) view ∙ c.args.held.hold.is_held.holding) (ap (λ v. v.origin) view ∙ c.requires.origin) (sym (ap (λ v. v.seen) view)))
+    let view = ap (λ m. m.0) c.exchange.ensures.3 ∙ all in (
+      search rules,
+      search rules,
+      frees_as t.origin t.history t.maker _ _ _ _ c.args.self.now.sized.1 value
+          (ap (λ m. m.1) c.exchange.ensures.3 ∙ ap (λ l. (0, Some value) ∷ rest l) c.loop.invariant.slot)
+          (ap (λ v. v.holds) view ∙ c.args.held.hold.is_held.holding) (ap (λ v. v.origin) view ∙ c.requires.origin) (sym (ap (λ v. v.seen) view)),
+    )
 
 pub invariant_of-result : goal.invariant_of-result
 invariant_of-result g c =
@@ -43,5 +46,5 @@ invariant_of-result g c =
     let all = counted_all t.maker c.args.held.hold.seat.me c.loop.seat.me c.args.held.hold.number c.args.held.hold.seen c.loop.counter lines c.loop.invariant.view whole in
     let view = ap (λ m. m.0) c.exchange.ensures.3 ∙ all in
     let pass = given_pass t.maker c.args.held.hold.seat.me c.swap.new.seat.me lines c.args.held.hold.number c.args.held.hold.seen c.args.held.hold.is_held c.swap.ensures.2.0
-        (c.swap.ensures.2.1 ∙ ap gave view) (subst (Settled t.maker) view c.swap.ensures.2.2) in
+    (c.swap.ensures.2.1 ∙ ap gave view) (subst (Settled t.maker) view c.swap.ensures.2.2) in
     record { is_pass = subst (λ k. IsPass t.maker c.swap.new.seat.me c.args.held.hold.number k) (sym c.lines-total.ensures) pass }

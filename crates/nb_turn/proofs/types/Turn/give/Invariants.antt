@@ -6,7 +6,7 @@ abbrev pub invariant-loop : goal.invariant-loop
 invariant-loop g l = record {
   turn : l.seat.table_id ≡ l.initial.seat.table_id;
   slot : l.seat.me.1 ≡ (0, None) ∷ [];
-  view : l.seat.me.0 ≡ reseen (take l.counter (g.T.Chronicle.history l.value)) l.initial.seat.me.0
+  view : l.seat.me.0 ≡ reseen (take l.counter (g.T.Chronicle.history l.value)) l.initial.seat.me.0;
 }
 
 abbrev pub ghosts-count_line : goal.ghosts-count_line

@@ -30,11 +30,11 @@ invariant_of-result g c =
     let empty = ap (λ m. m.1) c.join_seat.ensures.2 ∙ ap (λ m. m.1) c.split_seat-other.ensures.2 ∙ c.args.pass.is_pass.empty in
     record { is_pass = found_pass g.T.Chronicle.maker c.args.pass.seat.me c.join_seat.new.seat.me _ _ 2 c.claim-word.result c.args.pass.is_pass empty same }
 
-pub invariant_of-result-2 : goal.invariant_of-result-2
-invariant_of-result-2 g c = record { is_pass = subst (λ m. IsPass g.T.Chronicle.maker m c.args.pass.number c.args.pass.seen) (sym c.split_seat-other.ensures.2) c.args.pass.is_pass }
+pub invariant_of-first : goal.invariant_of-first
+invariant_of-first g c = record { is_pass = subst (λ m. IsPass g.T.Chronicle.maker m c.args.pass.number c.args.pass.seen) (sym c.split_seat-other.ensures.2) c.args.pass.is_pass }
 
-pub invariant_of-result-3 : goal.invariant_of-result-3
-invariant_of-result-3 g c =
+pub invariant_of-result-2 : goal.invariant_of-result-2
+invariant_of-result-2 g c =
     let clear : bit_at c.claim-word.result c.args.number ≡ 0 = omega (arith, shr_and_one c.claim-word.result c.args.number, c.if-word-number-eq1.false) in
     let same = (c.claim-word.ensures.clear clear).0 ∙ ap (λ m. named c.args.number c.claim-word.result m.0) c.split_seat-other.ensures.4 in
     record { is_pass = named_pass g.T.Chronicle.maker c.args.pass.seat.me.0 c.claim-word.new.seat.me c.args.pass.seen c.args.number c.claim-word.result c.args.pass.is_pass.from c.args.pass.is_pass.seen_is c.claim-word.ensures.turn.1 same }

@@ -8,5 +8,5 @@ abbrev pub invariant-loop : goal.invariant-loop
 invariant-loop g l = record {
   turn : Belongs l.waiting l.self;
   number : l.waiting.number ≡ l.initial.waiting.number;
-  waited : (more : List (ℕ × ℕ)) × AllByRecursion (λ (f : ℕ × ℕ). f ≡ (0, 1)) more × (sees l.waiting ≡ found_more more (sees l.initial.waiting))
+  waited : (more : List (ℕ × ℕ)) × AllByRecursion (λ (f : ℕ × ℕ). f ≡ (0, 1)) more × (sees l.waiting ≡ found_more more (sees l.initial.waiting));
 }
