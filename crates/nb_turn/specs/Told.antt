@@ -19,18 +19,20 @@ module _ {T O L : Type 0} (origin : T → O) (history_of : T → List L) (maker 
     pub parts : AllByRecursion (LonePart maker (history_of value)) v.parts
     pub own : AllByRecursion (OwnAre maker (history_of value)) v.parts
 
-  -- one swap found the turn free, and the pass has seen all lines of the value
-  abbrev pub TakenOnce : View O L → View O L → T → Type 0
-  TakenOnce v w value = (w ≡ took (history_of value) v) × Meets v value
+-- one swap found the turn free, and the pass has seen all lines of the value
+abbrev pub TakenOnce : {T O L : Type 0} → (T → O) → (T → List L) → (L → ℕ) → View O L → View O L → T → Type 0
+TakenOnce origin history_of maker v w value = (w ≡ took (history_of value) v) × Meets origin history_of maker v value
 
-  -- the same after any number of swaps that found the turn held
-  abbrev pub TakenAtLast : View O L → View O L → T → Type 0
-  TakenAtLast v w value = ((more : List (ℕ × ℕ)) × AllByRecursion (λ (f : ℕ × ℕ). f ≡ (0, 1)) more × (w ≡ took (history_of value) (found_more more v))) × Meets v value
+-- the same after any number of swaps that found the turn held
+abbrev pub TakenAtLast : {T O L : Type 0} → (T → O) → (T → List L) → (L → ℕ) → View O L → View O L → T → Type 0
+TakenAtLast origin history_of maker v w value =
+    ((more : List (ℕ × ℕ)) × AllByRecursion (λ (f : ℕ × ℕ). f ≡ (0, 1)) more × (w ≡ took (history_of value) (found_more more v))) × Meets origin history_of maker v value
 
+module _ {T O L : Type 0} (origin : T → O) (history_of : T → List L) (maker : L → ℕ) where
   -- a swap of 1 into the word of the turn: where it finds 0 the slot with the value is out with the seat
   abbrev pub Takes : Step (Option T) → Me (Option T) (View O L) → ℕ → Me (Option T) (View O L) → Type 0
   Takes st m n m' =
-      (n < 2) × (n ≡ 0 → (value : T) × (m'.1 ≡ (0, Some value) ∷ []) × TakenOnce m.0 m'.0 value) × (n ≡ 1 → (m'.1 ≡ []) × (m'.0 ≡ found_one 0 1 m.0))
+      (n < 2) × (n ≡ 0 → (value : T) × (m'.1 ≡ (0, Some value) ∷ []) × TakenOnce origin history_of maker m.0 m'.0 value) × (n ≡ 1 → (m'.1 ≡ []) × (m'.0 ≡ found_one 0 1 m.0))
 
 module _ {T O L : Type 0} (maker : L → ℕ) where
   -- a swap of 0 into the word of the turn: the slot goes back
