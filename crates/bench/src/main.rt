@@ -22,7 +22,8 @@ use std::process::ExitCode;
 use std::sync::Wait;
 use std::thread::Threads;
 
-const USAGE: &str = "usage: bench sha|hmac|seal|unseal|stream SIZE TIMES\n       bench turn|lock THREADS TIMES";
+const USAGE: &str =
+    "usage: bench sha|hmac|seal|unseal|stream SIZE TIMES\n       bench turn|lock THREADS TIMES";
 
 // The words are none of the program's.
 const BAD_WORDS: u8 = 2;

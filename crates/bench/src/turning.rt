@@ -34,6 +34,7 @@ struct Counter {
 
 impl Chronicle for Counter {
     type Origin = ();
+
     type Line = u8;
 
     ghost use Rattle.std.specs.Prelude.{ℕ, []};
@@ -61,7 +62,12 @@ fn count_once(turn: &Turn<Counter>, mut held: Held<Counter>) -> Pass<Counter>
     turn.give(held)
 }
 
-fn take_turns<R: Wait>(rt: &R, turn: &Turn<Counter>, pass: Pass<Counter>, times: u32) -> Pass<Counter>
+fn take_turns<R: Wait>(
+    rt: &R,
+    turn: &Turn<Counter>,
+    pass: Pass<Counter>,
+    times: u32,
+) -> Pass<Counter>
     requires { Belongs pass turn.now }
     ensures { Belongs result turn.now }
 {
@@ -88,11 +94,11 @@ fn take_by_two<R: Threads + Wait + Sync>(
         rt,
         || -> Pass<Counter>
             requires { Belongs first turn.now }
-            ensures { Belongs result turn.now }
+            ensures { Belongs result turn.entry.now }
         { take_turns(rt, turn, first, times) },
         || -> Pass<Counter>
             requires { Belongs second turn.now }
-            ensures { Belongs result turn.now }
+            ensures { Belongs result turn.entry.now }
         { take_turns(rt, turn, second, times) },
     )
 }
@@ -130,11 +136,11 @@ fn turns<R: Threads + Wait + Sync>(
         rt,
         || -> (Pass<Counter>, Pass<Counter>)
             requires { Belongs first shared.now × Belongs third shared.now }
-            ensures { Belongs result.0 shared.now × Belongs result.1 shared.now }
+            ensures { Belongs result.0 shared.entry.now × Belongs result.1 shared.entry.now }
         { take_by_two(rt, shared, first, third, times) },
         || -> (Pass<Counter>, Pass<Counter>)
             requires { Belongs second shared.now × Belongs fourth shared.now }
-            ensures { Belongs result.0 shared.now × Belongs result.1 shared.now }
+            ensures { Belongs result.0 shared.entry.now × Belongs result.1 shared.entry.now }
         { take_by_two(rt, shared, second, fourth, times) },
     );
     let first = turn.join(one.0, one.1);
@@ -151,7 +157,11 @@ fn lock_often<R: Wait>(rt: &R, count: &Mutex<u64>, times: u32) {
 }
 
 fn lock_by_two<R: Threads + Wait + Sync>(rt: &R, count: &Mutex<u64>, times: u32) {
-    join(rt, || lock_often(rt, count, times), || lock_often(rt, count, times));
+    join(
+        rt,
+        || lock_often(rt, count, times),
+        || lock_often(rt, count, times),
+    );
 }
 
 // So many threads lock a mutex: 1, 2 or 4.
@@ -166,7 +176,11 @@ fn locks<R: Threads + Wait + Sync>(
         1 => lock_often(rt, &count, times),
         2 => lock_by_two(rt, &count, times),
         _ => {
-            join(rt, || lock_by_two(rt, &count, times), || lock_by_two(rt, &count, times));
+            join(
+                rt,
+                || lock_by_two(rt, &count, times),
+                || lock_by_two(rt, &count, times),
+            );
         }
     }
     counted(alloc, count.into_inner())
