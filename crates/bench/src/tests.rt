@@ -83,10 +83,34 @@ fn lines(rt: HostRuntime) -> Result<(), Fail> {
             "copy 10 3",
             "283fee256eef3e784fd703dea49e4fb85ec5454f91489388020a05a4eb662e99",
         ),
+        (
+            "turn 1 100",
+            "5fcba2633bef1c29420e0eed7b037ced8b00466b0e8f1c5ce1cad2e97e117aad",
+        ),
+        (
+            "turn 2 100",
+            "a1cb07c1d90205e544fc1e43626503a89b315d7cd3f9829ff70c7bbd90d1784c",
+        ),
+        (
+            "turn 4 50",
+            "a1cb07c1d90205e544fc1e43626503a89b315d7cd3f9829ff70c7bbd90d1784c",
+        ),
+        (
+            "lock 1 100",
+            "5fcba2633bef1c29420e0eed7b037ced8b00466b0e8f1c5ce1cad2e97e117aad",
+        ),
+        (
+            "lock 2 7",
+            "76b1ff1a6cb1b23738647eb1ea40d8f14b037285e457214aab335874feb6e79e",
+        ),
+        (
+            "lock 4 100",
+            "2cecc679c6c7720847ed2aab4b361255802dcd60a07ded27a745b1d4ba6294a2",
+        ),
     ];
     for (line, want) in cases {
         let words = words_of(rt.alloc(), line)?;
-        let made = line_of(rt.alloc(), words.as_slice())?;
+        let made = line_of(&rt, rt.alloc(), words.as_slice())?;
         assert_eq!(rt; made.as_deref(), Some(want), "at {line}");
     }
     Ok(())
