@@ -20,7 +20,8 @@ use std::alloc::Global;
 use std::env;
 use std::process::ExitCode;
 
-const USAGE: &str = "usage: bench sha|hmac|seal|unseal|stream|frames1|frames100|frames65536|copy SIZE TIMES";
+const USAGE: &str =
+    "usage: bench sha|hmac|seal|unseal|stream|frames1|frames100|frames65536|copy SIZE TIMES";
 
 // The words are none of the program's.
 const BAD_WORDS: u8 = 2;
