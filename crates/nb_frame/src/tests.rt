@@ -92,23 +92,102 @@ type End<'a> = (&'a [u8], usize, Next, usize);
 
 // Each byte of a header wrong in turn, and good ones beside them.
 static ENDS: [End<'static>; 17] = [
-    (b"\x4F\x42\x01\x06\0\0\0\x03abc", 0, Next::Bad(BadMagic { place: 0, found: 0x4F }), 1),
+    (
+        b"\x4F\x42\x01\x06\0\0\0\x03abc",
+        0,
+        Next::Bad(BadMagic {
+            place: 0,
+            found: 0x4F,
+        }),
+        1,
+    ),
     (b"\0", 0, Next::Bad(BadMagic { place: 0, found: 0 }), 1),
-    (b"\x4E\x4E\x42\x01\x06\0\0\0\x03abc", 0, Next::Bad(BadMagic { place: 1, found: 0x4E }), 2),
-    (b"\x4E\x42\x02\x06\0\0\0\x03abc", 0, Next::Bad(BadVersion { place: 2, found: 2 }), 3),
-    (b"\x4E\x42\0", 0, Next::Bad(BadVersion { place: 2, found: 0 }), 3),
-    (b"\x4E\x42\x01\0\0\0\0\x03abc", 0, Next::Bad(BadKind { place: 3, found: 0 }), 4),
-    (b"\x4E\x42\x01\x11", 0, Next::Bad(BadKind { place: 3, found: 0x11 }), 4),
-    (b"\x4E\x42\x01\xFF\0\0\0\x03abc", 0, Next::Bad(BadKind { place: 3, found: 0xFF }), 4),
-    (b"\x4E\x42\x01\x06\x01\0\0\x03abc", 0, Next::Bad(TooLong { place: 4, len: 0x0100_0003 }), 8),
-    (b"\x4E\x42\x01\x06\0\x10\0\x01abc", 0, Next::Bad(TooLong { place: 4, len: 1_048_577 }), 8),
-    (b"\x4E\x42\x01\x06\xFF\xFF\xFF\xFF", 0, Next::Bad(TooLong { place: 4, len: 4_294_967_295 }), 8),
+    (
+        b"\x4E\x4E\x42\x01\x06\0\0\0\x03abc",
+        0,
+        Next::Bad(BadMagic {
+            place: 1,
+            found: 0x4E,
+        }),
+        2,
+    ),
+    (
+        b"\x4E\x42\x02\x06\0\0\0\x03abc",
+        0,
+        Next::Bad(BadVersion { place: 2, found: 2 }),
+        3,
+    ),
+    (
+        b"\x4E\x42\0",
+        0,
+        Next::Bad(BadVersion { place: 2, found: 0 }),
+        3,
+    ),
+    (
+        b"\x4E\x42\x01\0\0\0\0\x03abc",
+        0,
+        Next::Bad(BadKind { place: 3, found: 0 }),
+        4,
+    ),
+    (
+        b"\x4E\x42\x01\x11",
+        0,
+        Next::Bad(BadKind {
+            place: 3,
+            found: 0x11,
+        }),
+        4,
+    ),
+    (
+        b"\x4E\x42\x01\xFF\0\0\0\x03abc",
+        0,
+        Next::Bad(BadKind {
+            place: 3,
+            found: 0xFF,
+        }),
+        4,
+    ),
+    (
+        b"\x4E\x42\x01\x06\x01\0\0\x03abc",
+        0,
+        Next::Bad(TooLong {
+            place: 4,
+            len: 0x0100_0003,
+        }),
+        8,
+    ),
+    (
+        b"\x4E\x42\x01\x06\0\x10\0\x01abc",
+        0,
+        Next::Bad(TooLong {
+            place: 4,
+            len: 1_048_577,
+        }),
+        8,
+    ),
+    (
+        b"\x4E\x42\x01\x06\xFF\xFF\xFF\xFF",
+        0,
+        Next::Bad(TooLong {
+            place: 4,
+            len: 4_294_967_295,
+        }),
+        8,
+    ),
     (b"\x4E\x42\x01\x06\xFF\xFF\xFF", 0, Next::More, 7),
     (b"\x4E\x42\x01\x06\0\x10\0\0abc", 0, Next::More, 11),
     (b"\x4E\x42\x01\x06\0\0\x01\x03abc", 0, Next::More, 11),
     (b"\x4E\x42\x01\x06\0\0\0\x04abc", 0, Next::More, 11),
     (b"\x4E\x42\x01\x06\0\0\0\x03abc", 1, Next::More, 11),
-    (b"\x4E\x42\x01\x06\0\0\0\x03abc\x4E\x43", 1, Next::Bad(BadMagic { place: 12, found: 0x43 }), 13),
+    (
+        b"\x4E\x42\x01\x06\0\0\0\x03abc\x4E\x43",
+        1,
+        Next::Bad(BadMagic {
+            place: 12,
+            found: 0x43,
+        }),
+        13,
+    ),
 ];
 
 // The answer where so many bytes stand before.
@@ -135,10 +214,17 @@ fn ends_so(alloc: Global, rt: &impl Abort, case: usize, end: End<'_>) -> Result<
         let want = placed(answer, bytes_before as u64);
         for step in STEPS {
             let got = read_all(alloc, stream.as_slice(), step)?;
-            assert_eq!(rt; got.answer, want, "case {case}, {before} frames before, pieces of {step}");
+            assert_eq!(rt;
+                got.answer,
+                want,
+                "case {case}, {before} frames before, pieces of {step}"
+            );
             assert_eq!(rt; got.kinds.len(), frames);
             assert_eq!(rt; got.bodies.len(), frames.saturating_mul(3));
-            assert_eq!(rt; got.rest, got.fed.saturating_sub(frames.saturating_mul(FRAME.len())) as u64);
+            assert_eq!(rt;
+                got.rest,
+                got.fed.saturating_sub(frames.saturating_mul(FRAME.len())) as u64
+            );
             if step == 1 {
                 assert_eq!(rt; got.fed, bytes_before.saturating_add(fed));
             }
