@@ -1,7 +1,8 @@
-pub mod Lines
+pub mod Joining
 pub mod Resting
-pub mod Vaulting
 pub mod Seeing
+pub mod Verdicts
+pub mod Vaulting
 pub mod Answering
 pub mod Restoring
 pub mod HoldingLaws
