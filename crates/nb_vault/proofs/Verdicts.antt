@@ -11,8 +11,13 @@ use Rattle.nb_turns.specs.declared.mark.Mark.{Mark}
 use Rattle.nb_turns.specs.Turns.{Request, House, Answered, Decides, answer_over, decided, marks, place_of, places, recorded, replies}
 use Rattle.nb_turns.proofs.Single.{one_more}
 use Rattle.nb_turns.proofs.Telling.{each_is_answered}
+use Rattle.nb_port.specs.Tells.{DiskTells}
+use Rattle.nb_vault.specs.declared.answer.AnswerAll.{AnswerAll}
+use Rattle.nb_vault.specs.declared.answer.AnswerAll.TheVariants as all
 use Rattle.nb_vault.specs.declared.answer.AskAt.{AskAt}
 use Rattle.nb_vault.specs.Asking.{request_at, request_of, requests_of}
+use Rattle.nb_vault.specs.Parts.{handed_in}
+use Rattle.nb_vault.specs.Vaults.{Chronicled, TurnOf, house_in}
 
 -- ---- the requests
 
@@ -62,3 +67,11 @@ comes_to new old so now more step was is = step ∙ ap (λ (xs : List _). xs ++ 
 -- the body of a request is cut out of the bytes
 pub asked : (bytes : List ℕ) (ask : AskAt) (body back : List ℕ) → body ≡ take ask.len back → back ≡ drop ask.start bytes → request_of ask.kind body ask.moment ≡ request_at bytes ask
 asked bytes ask body back front rest = ap (λ (b : List ℕ). request_of ask.kind b ask.moment) (front ∙ ap (take ask.len) rest)
+
+-- there is a place for each request, where places are handed out
+pub places_fit : {D : Type 0} (tells : DiskTells D) (old new : Chronicled D) (by : ℕ) (bytes : List ℕ) (asks : List AskAt) (found out out' : List ℕ) (answer : AnswerAll)
+    → TurnOf tells old new by (requests_of bytes asks) (handed_in found answer) out out' answer → length (handed_in found answer) ≤ length asks
+places_fit tells old new by bytes asks found out out' all.Answered turn =
+    omega (arith, ap length turn.1.found_is, place_count (house_in old) turn.0 (requests_of bytes asks), length-map asks (λ (ask : AskAt). request_at bytes ask))
+places_fit tells old new by bytes asks found out out' (all.DiskFault before after) turn = omega arith
+places_fit tells old new by bytes asks found out out' (all.Worn faults) turn = omega arith

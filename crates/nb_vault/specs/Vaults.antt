@@ -120,6 +120,10 @@ TurnOf tells old new by requests found out out' all.Answered = (over : List Entr
 TurnOf tells old new by requests found out out' (all.DiskFault before after) = Went tells old new by requests (Fails before after) found out out'
 TurnOf tells old new by requests found out out' (all.Worn faults) = (faults ≡ MAX_FAULTS) × Went tells old new by requests Refuses found out out'
 
+-- the places stand behind those before, as the replies do
+abbrev pub TurnAll : {D : Type 0} → DiskTells D → Chronicled D → Chronicled D → ℕ → List Request → List ℕ → List ℕ → List ℕ → List ℕ → AnswerAll → Type 0
+TurnAll tells old new by requests ats ats' out out' answer = (found : List ℕ) × (ats' ≡ ats ++ found) × TurnOf tells old new by requests found out out' answer
+
 -- the answer to one request, as that to a turn
 abbrev pub all_of : Answer → AnswerAll
 all_of (one.Answered at) = all.Answered

@@ -3,7 +3,8 @@
 //! A [`Vault`] is a book whose entries are durable on a disk, and the chronicle of what was done since it was opened. It is seen
 //! (`specs/Vaults.antt`) as what it was opened with, its [`Line`](nb_turns::Line)s, whether an item is in doubt, and the disk.
 //! [`Vault::open`] gives the entries that the content of the disk stands for (`specs/Holdings.antt`), or why there are none to give.
-//! [`Vault::answer`] settles what is in doubt, decides, makes the entry of the verdict durable, and then hands the reply out.
+//! [`Vault::answer`] settles what is in doubt, decides, makes the entry of the verdict durable, and then hands the reply out;
+//! [`Vault::answer_all`] does so for several requests at once, whose entries are one item.
 //! What is promised: each answer is one turn of the house (`Turn` of nb_turns), and its lines are those of such a turn; a stop at any
 //! moment of it leaves the entries before it or after it, each time with or without those in doubt; where a request is answered,
 //! every later stop leaves its entry; and of every vault what `Keeps` says: its list is Legal and is what the disk holds, its lines
@@ -23,7 +24,7 @@ mod restore;
 mod telling;
 mod vault;
 
-pub use answer::Answer;
+pub use answer::{Answer, AnswerAll, AskAt};
 pub use origin::Origin;
 pub use vault::{Vault, VaultFault};
 

@@ -1,9 +1,12 @@
-ghost use Rattle.std.specs.Prelude.{◌≡◌, ◌⊎◌, ◌≤◌, ◌∷◌, [], length, slice_get, vec_capacity};
+ghost use Rattle.std.specs.Prelude.{◌≡◌, ◌⊎◌, ◌≤◌, ◌+◌, ◌*◌, ◌++◌, ◌∷◌, [], length, slice_get, vec_capacity, vec_len};
+ghost use Rattle.std.specs.List.{All};
+ghost use Rattle.nb_turns.specs.declared.limits.TheConstants.{MAX_REQUESTS};
 ghost use Rattle.nb_journal.specs.Time.{LeavesOnly};
 ghost use Rattle.nb_msgs.specs.declared.reply.TheConstants.{REPLY_ROOM};
 ghost use Rattle.nb_units.specs.Room.{spare_of};
-ghost use Rattle.nb_vault.specs.Asking.{request_of};
-ghost use Rattle.nb_vault.specs.Vaults.{Keeps, TurnOf, DurableWhere, SameWhere, FaultWithin, StandsForState, all_of, place_in, state_of, entries_in};
+ghost use Rattle.nb_vault.specs.Asking.{IsWithin, request_of, requests_of};
+ghost use Rattle.nb_vault.specs.Parts.{handed_in};
+ghost use Rattle.nb_vault.specs.Vaults.{Keeps, TurnAll, TurnOf, DurableWhere, SameWhere, FaultWithin, StandsForState, all_of, place_in, state_of, entries_in};
 
 mod opening;
 
@@ -66,6 +69,41 @@ impl<D: Disk> Vault<D> {
         answer.of_one(self.parts.first_place())
     }
 
+    /// Answers from 1 to [`MAX_REQUESTS`](nb_turns::MAX_REQUESTS) requests in one turn, asked for by `by`, whose bodies stand within
+    /// `bytes`. What was in doubt is settled, the requests are decided one after another, each over the entries with those recorded
+    /// before it, and what they record is made durable as one item. Then their places stand behind `ats`, which needs room for one
+    /// each, and their replies behind `out`, which needs room for [`REPLY_ROOM`](nb_msgs::REPLY_ROOM) bytes each. It takes no memory.
+    pub fn answer_all(
+        &mut self,
+        by: u64,
+        bytes: &[u8],
+        asks: &[AskAt],
+        ats: &mut Vec<u64>,
+        out: &mut Vec<u8>,
+    ) -> AnswerAll
+        requires some { 1 ≤ length asks.now }
+        requires most { length asks.now ≤ MAX_REQUESTS }
+        requires within { All (IsWithin bytes.now) asks.now }
+        requires places { vec_len ats.old + length asks.now ≤ vec_capacity ats.old }
+        requires room { REPLY_ROOM * length asks.now ≤ spare_of out.old }
+        ensures turn { TurnAll D.tells self.old self.new by (requests_of bytes.now asks.now) ats.old.items ats.new.items out.old.items out.new.items result }
+        ensures origin { self.new.origin ≡ self.old.origin }
+        ensures any_moment { LeavesOnly D.tells self.old.disk self.new.disk
+            (λ image. StandsForState self.old image ⊎ StandsForState self.new image) }
+        ensures durable { DurableWhere D.tells self.new result }
+        ensures quiet { state_of self.new ≡ state_of self.old → D.tells.content self.new.disk ≡ D.tells.content self.old.disk }
+        ensures same { SameWhere self.old self.new result }
+        ensures fault { FaultWithin D.tells self.old self.new result }
+        ensures keeps { Keeps D.tells self.new }
+        ensures count { D.tells.faults self.old.disk ≤ D.tells.faults self.new.disk }
+        ensures room { vec_capacity out.new ≡ vec_capacity out.old }
+        ensures places { vec_capacity ats.new ≡ vec_capacity ats.old }
+    {
+        let answer = self.parts.answer_all(by, bytes, asks, out);
+        hand_out(&answer, self.parts.records.places.as_slice(), ats);
+        answer
+    }
+
     /// What every vault keeps, as a fact: it does nothing.
     pub fn witness(&self)
         ensures keeps { Keeps D.tells self.now }
@@ -102,5 +140,22 @@ impl<D: Disk> Vault<D> {
         ensures { result ≡ self.disk }
     {
         self.into_parts().0
+    }
+}
+
+// Appends the places of the requests of a turn, where it was answered.
+fn hand_out(answer: &AnswerAll, places: &[u64], ats: &mut Vec<u64>)
+    requires { vec_len ats.old + length (handed_in places.now answer.now) ≤ vec_capacity ats.old }
+    ensures items { ats.new.items ≡ ats.old.items ++ handed_in places.now answer.now }
+    ensures room { vec_capacity ats.new ≡ vec_capacity ats.old }
+{
+    match answer {
+        AnswerAll::Answered => {
+            for at in places {
+                ats.push_reserved(*at);
+            }
+        }
+        AnswerAll::DiskFault { .. } => {}
+        AnswerAll::Worn { .. } => {}
     }
 }
