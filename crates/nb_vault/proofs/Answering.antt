@@ -220,12 +220,15 @@ module _ {D : Type 0} (tells : DiskTells D) (old mid p : Parts D) (by : ℕ) (re
     pub doubted_went : IsVault tells new → TearsItem p.records.head p.records.book.cap (over_of p.records) p.records.group.items (tells.content (disk_under p.records)) (tells.content (disk_under new.records))
         → (out out' : List ℕ) → out' ≡ out → Went tells (seen_as old) (seen_as new) by requests (Fails counts.before counts.after) [] out out'
     doubted_went vault torn out out' bytes = record {
-      turn = (few_told, inr (record {
-        over = over_of p.records;
-        settled = settles;
-        some = some_recorded;
-        left = state_seen tells new vault ∙ rw (d.entries, doubted_stale, doubted_count, s.vault.faults_are) refl;
-      }));
+      turn = (
+        few_told,
+        inr (record {
+          over = over_of p.records;
+          settled = settles;
+          some = some_recorded;
+          left = state_seen tells new vault ∙ rw (d.entries, doubted_stale, doubted_count, s.vault.faults_are) refl;
+        }),
+      );
       found_is = refl;
       out_is = bytes ∙ sym (append-nil out);
       added = adopts by (next_turn old.lines.items) s.ready.kept ++ (doubts by (next_turn old.lines.items) (recorded (house_in (seen_as old)) (over_of p.records) requests) ++ Fault by (next_turn old.lines.items) counts.before counts.after ∷ []);

@@ -28,3 +28,5 @@ pub use answer::{Answer, AnswerAll, AskAt};
 pub use origin::Origin;
 pub use vault::{Vault, VaultFault};
 
+#[cfg(test)]
+mod tests;

@@ -30,13 +30,7 @@ impl Fate {
 }
 
 // Appends a line for each entry.
-pub(crate) fn push_lines(
-    lines: &mut Vec<Line>,
-    fate: Fate,
-    by: u64,
-    turn: u64,
-    entries: &[Entry],
-)
+pub(crate) fn push_lines(lines: &mut Vec<Line>, fate: Fate, by: u64, turn: u64, entries: &[Entry])
     requires { vec_len lines.old + length entries.now ≤ vec_capacity lines.old }
     ensures items { lines.new.items ≡ lines.old.items ++ lines_of fate by turn entries.now }
     ensures room { vec_capacity lines.new ≡ vec_capacity lines.old }

@@ -1,0 +1,119 @@
+// What opening a vault says of a content.
+
+use super::*;
+use crate::VaultFault;
+use Content::*;
+
+// How many entries are opened; the item that has a bad one; the item that breaks the layout, and its place.
+#[derive(Clone, Copy, Debug)]
+enum Content {
+    Opens(u32),
+    Bad(u32),
+    Breaks(u32, u64),
+}
+
+// A cap, and what stands behind the front of 96 bytes.
+static CONTENTS: [(u32, &'static str, Content); 22] = [
+    (4, "[C][M][F].", Opens(3)),
+    // a gate that is shut hides what is behind it
+    (4, "[C](M)[F].", Opens(1)),
+    (4, "(F).", Opens(0)),
+    // an item has more than one entry
+    (4, "[CM].", Opens(2)),
+    (4, "[C][MF].", Opens(3)),
+    // a gate is missing, also behind a bad entry, or one is open past the cap
+    (4, "", Breaks(0, 96)),
+    (4, "[C]", Breaks(1, 151)),
+    (4, "[F]", Breaks(1, 130)),
+    (1, "[C][M].", Breaks(1, 151)),
+    // an item spells no entries
+    (4, "[].", Bad(0)),
+    (4, "[5].", Bad(0)),
+    (4, "[1000].", Bad(0)),
+    (4, "[C0].", Bad(0)),
+    (4, "[C][M2].", Bad(1)),
+    // an entry may not come next
+    (4, "[F].", Bad(0)),
+    (4, "[FC].", Bad(0)),
+    (4, "[C][M][F][F].", Bad(3)),
+    // there are more entries than the cap
+    (1, "[CM].", Bad(0)),
+    (2, "[C][MF].", Bad(1)),
+    // a second payment, with the first one's identifier and with another
+    (6, "[CMFGP][P].", Bad(1)),
+    (6, "[CMFGP][Q].", Opens(6)),
+    (6, "[CMFP][Q].", Bad(1)),
+];
+
+// How many entries are opened, or why none.
+fn opens(alloc: Global, content: &[u8], fails: &[u64]) -> Result<u32, VaultFault> {
+    opened(alloc, content, fails).map(|vault| vault.entries())
+}
+
+#[test]
+fn a_content_is_told(rt: HostRuntime) -> Result<(), Fail> {
+    let alloc = rt.alloc();
+    for (cap, shown, content) in &CONTENTS {
+        let wanted = match *content {
+            Opens(entries) => Ok(entries),
+            Bad(item) => Err(VaultFault::BadEntry { item }),
+            Breaks(item, place) => Err(VaultFault::Damaged { item, place }),
+        };
+        let content = journal(alloc, *cap, *shown)?;
+        assert_eq!(rt; opens(alloc, content.as_slice(), &[]), wanted, "{shown}");
+    }
+    Ok(())
+}
+
+// A journal of 97 bytes that is cut.
+#[test]
+fn a_cut_is_told(rt: HostRuntime) -> Result<(), Fail> {
+    let alloc = rt.alloc();
+    let whole = journal(alloc, 4, ".")?;
+    let unborn = |found: &[u8; 8]| Err(VaultFault::Unborn { found: *found });
+    for (len, wanted) in [
+        (0, unborn(b"\0\0\0\0\0\0\0\0")),
+        (4, unborn(b"NBJR\0\0\0\0")),
+        (7, unborn(b"NBJRNL0\0")),
+        (8, Err(VaultFault::Damaged { item: 0, place: 8 })),
+        (95, Err(VaultFault::Damaged { item: 0, place: 8 })),
+        (96, Err(VaultFault::Damaged { item: 0, place: 96 })),
+        (97, Ok(0)),
+    ] {
+        let content = whole.as_slice().split_at(len.min(whole.len())).0;
+        assert_eq!(rt; opens(alloc, content, &[]), wanted, "{len}");
+    }
+    Ok(())
+}
+
+// Enrolments of parties and accounts with the numbers from 1 on, in one item.
+#[test]
+fn an_item_has_at_most_32_entries(rt: HostRuntime) -> Result<(), Fail> {
+    let alloc = rt.alloc();
+    for (count, wanted) in [(32u8, Ok(32)), (33, Err(VaultFault::BadEntry { item: 0 }))] {
+        let mut content = journal(alloc, 40, "")?;
+        content.push(0xA5)?;
+        content.extend_from_slice(&(u32::from(count) * 50).to_be_bytes())?;
+        for id in 1..=count {
+            content.extend_from_slice(&[1, 0, 0, 0, id, 1, 0, 0, 0, id])?;
+            content.extend_from_slice(&[0x44; 40])?;
+        }
+        content.push(0)?;
+        assert_eq!(rt; opens(alloc, content.as_slice(), &[]), wanted);
+    }
+    Ok(())
+}
+
+// Opening makes five calls: a sync, and reads of the front, of a gate, of an item and of the last gate.
+#[test]
+fn a_fault_is_told(rt: HostRuntime) -> Result<(), Fail> {
+    let alloc = rt.alloc();
+    let one = journal(alloc, 4, "[C].")?;
+    let (before, after) = (0, 1);
+    for call in 1..6u64 {
+        let wanted = Err(VaultFault::DiskFault { before, after });
+        assert_eq!(rt; opens(alloc, one.as_slice(), &[call]), wanted, "{call}");
+    }
+    assert_eq!(rt; opens(alloc, one.as_slice(), &[6]), Ok(1));
+    Ok(())
+}
