@@ -1,25 +1,30 @@
 //! A program that does a named piece of work over bytes a number of times, so that its speed can be measured:
 //! `bench ROW SIZE TIMES`. It prints the SHA-256 digest of what the work made, in hexadecimal.
 //!
-//! The work begins with SIZE bytes of a pattern. Each round works on what the last one made, so that none can be left out. A file
+//! The work begins with SIZE bytes of a pattern; a turn and a lock have no bytes, and SIZE is the number of threads. Each round works on what the last one made, so that none can be left out. A file
 //! has one subject and its rows: a new row touches that file alone. How long a round takes is no claim of the proofs, and no clause
 //! says more than its safety needs: bench/run measures from outside, and the tests compare what is made with other programs.
 #![tactic(auto)]
 
+mod framing;
 mod hashing;
 mod keystream;
 mod pattern;
 mod sealing;
 #[cfg(test)]
 mod tests;
+mod turning;
 
 use anyhow::anyhow;
 use nb_seal::{NoMemory, sha};
 use std::alloc::Global;
 use std::env;
 use std::process::ExitCode;
+use std::sync::Wait;
+use std::thread::Threads;
 
-const USAGE: &str = "usage: bench sha|hmac|seal|unseal|stream SIZE TIMES";
+const USAGE: &str = "usage: bench sha|hmac|seal|unseal|stream|frames1|frames100|frames65536|copy SIZE TIMES
+       bench turn|lock THREADS TIMES";
 
 // The words are none of the program's.
 const BAD_WORDS: u8 = 2;
@@ -35,7 +40,7 @@ pub enum Made {
 
 fn main(rt: HostRuntime) -> anyhow::Result<ExitCode> {
     let words: Vec<String> = env::args(&rt)?.skip(1).collect(rt.alloc())?;
-    let line = line_of(rt.alloc(), words.as_slice()).map_err(|_| anyhow!("out of memory"))?;
+    let line = line_of(&rt, rt.alloc(), words.as_slice()).map_err(|_| anyhow!("out of memory"))?;
     let Some(line) = line else {
         eprintln!(rt; "{USAGE}")?;
         return Ok(ExitCode::from(BAD_WORDS));
@@ -44,22 +49,32 @@ fn main(rt: HostRuntime) -> anyhow::Result<ExitCode> {
     Ok(ExitCode::SUCCESS)
 }
 
-// Does what the words say, and gives the digest of what it made, where the words are a row, a size in bytes and a number of times.
-fn line_of(alloc: Global, words: &[String]) -> Result<Option<String>, NoMemory> {
+// Does what the words say, and gives the digest of what it made, where the words are a row, a size and a number of times.
+fn line_of<R: Threads + Wait + Sync>(
+    rt: &R,
+    alloc: Global,
+    words: &[String],
+) -> Result<Option<String>, NoMemory> {
     if words.len() != 3 {
         return Ok(None);
     }
     let (Ok(size), Ok(times)) = (words[1].as_str().parse(), words[2].as_str().parse()) else {
         return Ok(None);
     };
-    match run(alloc, words[0].as_str(), size, times)? {
+    match run(rt, alloc, words[0].as_str(), size, times)? {
         Made::Bytes(bytes) => Ok(Some(hex::encode(alloc, sha(&bytes))?)),
         Made::Unknown => Ok(None),
     }
 }
 
 // What a row makes: the first subject that has it does it.
-fn run(alloc: Global, row: &str, size: u32, times: u32) -> Result<Made, NoMemory> {
+fn run<R: Threads + Wait + Sync>(
+    rt: &R,
+    alloc: Global,
+    row: &str,
+    size: u32,
+    times: u32,
+) -> Result<Made, NoMemory> {
     match hashing::run(alloc, row, size, times)? {
         Made::Bytes(bytes) => return Ok(Made::Bytes(bytes)),
         Made::Unknown => {}
@@ -68,5 +83,13 @@ fn run(alloc: Global, row: &str, size: u32, times: u32) -> Result<Made, NoMemory
         Made::Bytes(bytes) => return Ok(Made::Bytes(bytes)),
         Made::Unknown => {}
     }
-    sealing::run(alloc, row, size, times)
+    match framing::run(alloc, row, size, times)? {
+        Made::Bytes(bytes) => return Ok(Made::Bytes(bytes)),
+        Made::Unknown => {}
+    }
+    match sealing::run(alloc, row, size, times)? {
+        Made::Bytes(bytes) => return Ok(Made::Bytes(bytes)),
+        Made::Unknown => {}
+    }
+    turning::run(rt, alloc, row, size, times)
 }

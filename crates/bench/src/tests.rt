@@ -1,4 +1,5 @@
-//! The program's words and lines. Digests are from a Python program over hashlib, hmac and another ChaCha20.
+//! The program's words and lines. Digests are from a Python program over hashlib, hmac and another ChaCha20, and sums of frames from
+//! one that reads no frames.
 
 use crate::line_of;
 use std::alloc::{AllocError, Global};
@@ -58,10 +59,58 @@ fn lines(rt: HostRuntime) -> Result<(), Fail> {
             "stream 1000 3",
             "30a46ef3f097a353fd0247e26ef43067d73f6ffbfe0df2bcef9649a5c550914d",
         ),
+        (
+            "frames1 28 3",
+            "ea676268c71eb961cae5f1a68dc8717be7d1bcb40517e72a5f910ebd76c2bc21",
+        ),
+        (
+            "frames100 28 8000",
+            "eb0a68051ba6f374320631b3d52561291226da1084f0d411e00e06b8b16ab6a5",
+        ),
+        (
+            "frames65536 28 8000",
+            "eb0a68051ba6f374320631b3d52561291226da1084f0d411e00e06b8b16ab6a5",
+        ),
+        (
+            "frames65536 1048576 3",
+            "af5570f5a1810b7af78caf4bc70a660f0df51e42baf91d4de5b2328de0e83dfc",
+        ),
+        (
+            "frames100 0 40",
+            "704065c7c7d3bc380bd74eade88800e6f81e7680a768bc8601443518f481bb68",
+        ),
+        (
+            "copy 10 3",
+            "283fee256eef3e784fd703dea49e4fb85ec5454f91489388020a05a4eb662e99",
+        ),
+        (
+            "turn 1 100",
+            "5fcba2633bef1c29420e0eed7b037ced8b00466b0e8f1c5ce1cad2e97e117aad",
+        ),
+        (
+            "turn 2 100",
+            "a1cb07c1d90205e544fc1e43626503a89b315d7cd3f9829ff70c7bbd90d1784c",
+        ),
+        (
+            "turn 4 50",
+            "a1cb07c1d90205e544fc1e43626503a89b315d7cd3f9829ff70c7bbd90d1784c",
+        ),
+        (
+            "lock 1 100",
+            "5fcba2633bef1c29420e0eed7b037ced8b00466b0e8f1c5ce1cad2e97e117aad",
+        ),
+        (
+            "lock 2 7",
+            "76b1ff1a6cb1b23738647eb1ea40d8f14b037285e457214aab335874feb6e79e",
+        ),
+        (
+            "lock 4 100",
+            "2cecc679c6c7720847ed2aab4b361255802dcd60a07ded27a745b1d4ba6294a2",
+        ),
     ];
     for (line, want) in cases {
         let words = words_of(rt.alloc(), line)?;
-        let made = line_of(rt.alloc(), words.as_slice())?;
+        let made = line_of(&rt, rt.alloc(), words.as_slice())?;
         assert_eq!(rt; made.as_deref(), Some(want), "at {line}");
     }
     Ok(())

@@ -1,20 +1,25 @@
 -- A batch step by step: what ran so far goes on by one frame, and ends.
-use Rattle.std.proofs.Common.{◌≡◌, ℕ, ◌+◌, ◌<◌, ◌⊎◌, ⊎_elim, List, [], ◌∷◌, ◌++◌, length, take, Option, None, Some, refl, sym, ap, subst, ◌∙◌, append_assoc, append-nil, arith}
+use Rattle.std.proofs.Common.{◌≡◌, ℕ, ◌+◌, ◌*◌, ◌<◌, ◌≤◌, ◌⊎◌, ⊎_elim, List, [], ◌∷◌, ◌++◌, length, take, Option, None, Some, refl, sym, ap, subst, ◌∙◌, append_assoc, append-nil, arith}
 use Rattle.std.specs.Prelude.{map}
 use Rattle.std.specs.List.{flat_map, AllByRecursion}
 use Rattle.std.specs.Option.{option_to_list}
-use Rattle.std.specs.Io.KnownBytes.{Consumes, Appends}
-use Rattle.std.proofs.KnownBytes.{Consumes-trans, Consumes-nil, Appends-trans, Appends-nil}
-use Rattle.std.proofs.lemmas.List.{map-append, length-append}
+use Rattle.std.specs.Io.KnownBytes.{Appends}
+use Rattle.std.proofs.KnownBytes.{Consumes-trans, Appends-trans, Appends-nil}
+use Rattle.std.proofs.lemmas.List.{map-append, length-append, length-map}
 use Rattle.std.proofs.lemmas.List.Elements.{Contains-append_left, Contains-append_right, Contains-push}
 use Rattle.std.proofs.lemmas.Grind.{flat_map-append}
 use Rattle.nb_port.proofs.Backing.{backed_append}
 use Rattle.nb_port.specs.Tells.{DiskTells}
 use Rattle.nb_port.specs.Faults.{Failure, Backed}
 use Rattle.nb_port.specs.Clock.{Gives}
-use Rattle.nb_units.specs.Frames.{Frame, frame, IsFrame, front_of, IsWhole}
+use Rattle.nb_units.specs.Frames.{Frame, frame, IsFrame, front_of, IsWhole, AreBytes, Splits}
 use Rattle.nb_book.specs.declared.entry.Entry.{Entry}
-use Rattle.nb_frame.proofs.Reading.{nothing_bad}
+use Rattle.nb_frame.specs.State.{Collected, waiting, unfed}
+use Rattle.nb_frame.proofs.Shortness.{short_not_whole, bad_not_whole}
+use Rattle.nb_units.proofs.ByteLists.{AreBytes-drop}
+use Rattle.nb_units.proofs.FrameLaws.{has_reading}
+use Rattle.nb_batch.specs.Fetch.{Reads, EndsAs, IsReadEnd}
+use Rattle.nb_batch.proofs.Fetching.{reads_none}
 use Rattle.nb_journal.specs.Time.{LeavesOnly}
 use Rattle.nb_vault.proofs.Joining.{all_more}
 use Rattle.nb_vault.proofs.Resting.{leaves_more, leaves_then}
@@ -27,13 +32,13 @@ use Rattle.nb_vault.specs.Vaults.{Chronicled, Keeps, state_of, house_in, entries
 use Rattle.nb_escrow.specs.Head.{head_of}
 use Rattle.nb_batch.specs.declared.batch.TheConstants.{MOST_FRAMES}
 use Rattle.nb_batch.specs.declared.batch.BatchEnd.{BatchEnd}
-use Rattle.nb_batch.specs.declared.batch.BatchEnd.TheVariants.{Clean, ReadFault, WriteFault, BadInput, NoMemory, FrameLimit}
+use Rattle.nb_batch.specs.declared.batch.BatchEnd.TheVariants.{Clean, Cut, BadFrame, ReadFault, WriteFault, NoMemory, FrameLimit}
 use Rattle.nb_batch.specs.declared.batch.Step.TheVariants as step
 use Rattle.nb_batch.specs.Send.{SentPart}
-use Rattle.nb_batch.specs.Batch.{failure_in_mark, failures_told, frame_of, moment_of, Outside, Gave, Stepped, Stopped, StepIs, EndsAs, CountsAs, Wrote, Served, StandsInRun, HoldsState, GoesThrough, last_disk}
+use Rattle.nb_batch.specs.Batch.{failure_in_mark, failures_told, frame_of, moment_of, Outside, Gave, Stepped, Stopped, StepIs, AnswersAll, CountsAs, Wrote, Served, StandsInRun, HoldsState, GoesThrough, last_disk}
 
 -- these requests were answered, and the house came to these states
-pub record Went {D : Type 0} (tells : DiskTells D) (old new : Chronicled D) (before after : Outside) (answered : List Answered) (states : List State) (disks : List D) : Type 0 where
+pub record Went {D : Type 0} (tells : DiskTells D) (held : Collected) (old new : Chronicled D) (before after : Outside) (answered : List Answered) (states : List State) (disks : List D) : Type 0 where
   pub turns : RunOfOnes (house_in old) (state_of old) answered states
   pub last : state_of new ≡ last_state (state_of old) states
   pub origin : new.origin ≡ old.origin
@@ -43,15 +48,15 @@ pub record Went {D : Type 0} (tells : DiskTells D) (old new : Chronicled D) (bef
   pub last_is : new.disk ≡ last_disk old.disk disks
   pub quiet : AllByRecursion (λ (state : State). state ≡ state_of old) states → tells.content new.disk ≡ tells.content old.disk
   pub lawful : AllByRecursion IsFrame (map frame_of answered)
-  pub took : Consumes before.left after.left (flat_map frame (map frame_of answered))
+  pub read : Reads before.left after.left unfed held (map frame_of answered)
   pub asked : Gave before.moments after.moments (map moment_of answered)
 
 -- the replies so far were sent, and there are so many
-pub record Ran {D : Type 0} (tells : DiskTells D) (old new : Chronicled D) (before after : Outside) (count : ℕ) : Type 0 where
+pub record Ran {D : Type 0} (tells : DiskTells D) (held : Collected) (old new : Chronicled D) (before after : Outside) (count : ℕ) : Type 0 where
   pub answered : List Answered
   pub states : List State
   pub disks : List D
-  pub went : Went tells old new before after answered states disks
+  pub went : Went tells held old new before after answered states disks
   pub wrote : Appends before.sent after.sent (replies answered)
   pub counted : length answered ≡ count
 
@@ -106,10 +111,45 @@ gave_more None (Some b) (Some c) moments moment before now = absurd before
 gave_more (Some a) (Some b) (Some c) moments moment before now =
     now ∙ ap (λ (xs : List ℕ). xs ++ moment ∷ []) before ∙ append_assoc a moments (moment ∷ [])
 
-bytes_more : (done : List Answered) (a : Answered) → flat_map frame (map frame_of (done ++ a ∷ [])) ≡ flat_map frame (map frame_of done) ++ frame (frame_of a)
-bytes_more done a =
-    ap (flat_map frame) (map-append frame_of done (a ∷ [])) ∙ flat_map-append frame (map frame_of done) (frame_of a ∷ [])
-    ∙ ap (λ (xs : List ℕ). flat_map frame (map frame_of done) ++ xs) (append-nil (frame (frame_of a)))
+-- ---- what was read
+
+reads_then : (a b c : Option (List ℕ)) (old mid new : Collected) (fs gs : List Frame) → Reads a b old mid fs → Reads b c mid new gs → Reads a c old new (fs ++ gs)
+reads_then a b c old mid new fs gs first second =
+    let both : flat_map frame (fs ++ gs) ≡ flat_map frame fs ++ flat_map frame gs = flat_map-append frame fs gs in
+    record {
+      bytes = first.bytes ++ second.bytes;
+      took = Consumes-trans a b c first.bytes second.bytes first.took second.took;
+      is = sym (append_assoc (waiting old) first.bytes second.bytes)
+          ∙ ap (λ (xs : List ℕ). xs ++ second.bytes) first.is
+          ∙ append_assoc (flat_map frame fs) (waiting mid) second.bytes
+          ∙ ap (λ (xs : List ℕ). flat_map frame fs ++ xs) second.is
+          ∙ sym (append_assoc (flat_map frame fs) (flat_map frame gs) (waiting new))
+          ∙ ap (λ (xs : List ℕ). xs ++ waiting new) (sym both);
+      taken = omega (arith, first.taken, second.taken, ap length both, length-append (flat_map frame fs) (flat_map frame gs));
+    }
+
+reads_one : (a b c : Option (List ℕ)) (mid new : Collected) (done : List Answered) (one : Answered) → Reads a b unfed mid (map frame_of done) → Reads b c mid new (frame_of one ∷ []) → Reads a c unfed new (map frame_of (done ++ one ∷ []))
+reads_one a b c mid new done one first second =
+    subst (λ (fs : List Frame). Reads a c unfed new fs) (sym (map-append frame_of done (one ∷ []))) (reads_then a b c unfed mid new (map frame_of done) (frame_of one ∷ []) first second)
+
+-- frames have at most so many bytes each
+few_bytes : (fs : List Frame) → AllByRecursion IsFrame fs → length (flat_map frame fs) ≤ 1048584 * length fs
+few_bytes [] lawful = omega arith
+few_bytes (f ∷ fs) lawful = omega (arith, few_bytes fs lawful.1, lawful.0.2, length-append (frame f) (flat_map frame fs))
+
+all_both : {A : Type 0} (P : A → Type 0) (xs ys : List A) → AllByRecursion P xs → AllByRecursion P ys → AllByRecursion P (xs ++ ys)
+all_both P [] ys all more = more
+all_both P (x ∷ xs) ys all more = (all.0, all_both P xs ys all.1 more)
+
+-- where reading ends no frame waits
+pub end_not_whole : (end : BatchEnd) (before : ℕ) (rest : List ℕ) (left : Option (List ℕ)) → IsReadEnd end → EndsAs end before rest left → IsWhole (front_of rest) → ⊥
+end_not_whole Clean before rest left end ends whole = nothing_whole (subst (λ (xs : List ℕ). IsWhole (front_of xs)) ends.0 whole)
+end_not_whole (Cut place) before rest left end ends whole = subst IsWhole ends.0 whole
+end_not_whole (BadFrame fault) before rest left end ends whole = bad_not_whole ends.0 (front_of rest) ends.1 whole
+end_not_whole ReadFault before rest left end ends whole = short_not_whole (front_of rest) ends whole
+end_not_whole WriteFault before rest left end ends whole = end
+end_not_whole NoMemory before rest left end ends whole = end
+end_not_whole FrameLimit before rest left end ends whole = end
 
 -- ---- what a stop leaves
 
@@ -150,7 +190,7 @@ last_of_more first next (d ∷ disks) = last_of_more d next disks
 -- ---- a batch, so far
 
 module _ {D : Type 0} (tells : DiskTells D) where
-  went_none : (house : Chronicled D) (start : Outside) → LeavesOnly tells house.disk house.disk (StandsForVault house) → Keeps tells house → Went tells house house start start [] [] []
+  went_none : (house : Chronicled D) (start : Outside) → LeavesOnly tells house.disk house.disk (StandsForVault house) → Keeps tells house → Went tells unfed house house start start [] [] []
   went_none house start images keeps = record {
     turns = tt;
     last = refl;
@@ -162,15 +202,14 @@ module _ {D : Type 0} (tells : DiskTells D) where
     last_is = refl;
     quiet = λ all. refl;
     lawful = tt;
-    took = Consumes-nil start.left;
+    read = reads_none start.left unfed;
     asked = gave_none start.moments;
   }
 
-  went_more : (old mid new : Chronicled D) (before between after : Outside) (answered : List Answered) (states : List State) (disks : List D) → Went tells old mid before between answered states disks
-      → (more : Stepped tells mid new between after) → new.origin ≡ mid.origin → LeavesOnly tells mid.disk new.disk (λ (image : List ℕ). StandsForVault mid image ⊎ StandsForVault new image) → (state_of new ≡ state_of mid → tells.content new.disk ≡ tells.content mid.disk)
-      → Keeps tells new → Went tells old new before after (answered ++ more.one ∷ []) (states ++ state_of new ∷ []) (disks ++ new.disk ∷ [])
-  went_more old mid new before between after answered states disks went more origin leaves quiet keeps =
-      let P : List ℕ → Type 0 = λ bytes. Consumes before.left after.left bytes in
+  went_more : (held held' : Collected) (old mid new : Chronicled D) (before between after : Outside) (answered : List Answered) (states : List State) (disks : List D) → Went tells held old mid before between answered states disks
+      → (more : Stepped tells held held' mid new between after) → new.origin ≡ mid.origin → LeavesOnly tells mid.disk new.disk (λ (image : List ℕ). StandsForVault mid image ⊎ StandsForVault new image) → (state_of new ≡ state_of mid → tells.content new.disk ≡ tells.content mid.disk)
+      → Keeps tells new → Went tells held' old new before after (answered ++ more.one ∷ []) (states ++ state_of new ∷ []) (disks ++ new.disk ∷ [])
+  went_more held held' old mid new before between after answered states disks went more origin leaves quiet keeps =
       let Q : List ℕ → Type 0 = λ moments. Gave before.moments after.moments moments in
       let L : List Frame → Type 0 = λ fs. AllByRecursion IsFrame fs in
       let T : House → Type 0 = λ house. TurnOfOne house (state_of mid) more.one.request more.one.mark more.one.reply (state_of new) in
@@ -199,52 +238,62 @@ module _ {D : Type 0} (tells : DiskTells D) where
             let here : state_of mid ≡ state_of old = went.last ∙ last_same (state_of old) (state_of old) states refl each.0 in
             quiet (each.1 ∙ sym here) ∙ went.quiet each.0;
         lawful = subst L (sym (map-append frame_of answered (more.one ∷ []))) (all_more IsFrame (map frame_of answered) (frame_of more.one) went.lawful more.lawful);
-        took = subst P (sym (bytes_more answered more.one)) (Consumes-trans before.left between.left after.left (flat_map frame (map frame_of answered)) (frame (frame_of more.one)) went.took more.took);
+        read = reads_one before.left between.left after.left held held' answered more.one went.read more.read;
         asked = subst Q (sym (map-append moment_of answered (more.one ∷ []))) (gave_more before.moments between.moments after.moments (map moment_of answered) more.one.request.moment went.asked more.asked);
       }
 
-  pub ran_none : (house : Chronicled D) (start : Outside) → LeavesOnly tells house.disk house.disk (StandsForVault house) → Keeps tells house → Ran tells house house start start 0
+  pub ran_none : (house : Chronicled D) (start : Outside) → LeavesOnly tells house.disk house.disk (StandsForVault house) → Keeps tells house → Ran tells unfed house house start start 0
   ran_none house start images keeps = record { answered = []; states = []; disks = []; went = went_none house start images keeps; wrote = Appends-nil start.sent; counted = refl }
 
-  pub ran_more : (old mid new : Chronicled D) (before between after : Outside) (n : ℕ) → Ran tells old mid before between n → (more : Stepped tells mid new between after)
+  pub ran_more : (held held' : Collected) (old mid new : Chronicled D) (before between after : Outside) (n : ℕ) → Ran tells held old mid before between n → (more : Stepped tells held held' mid new between after)
       → new.origin ≡ mid.origin → LeavesOnly tells mid.disk new.disk (λ (image : List ℕ). StandsForVault mid image ⊎ StandsForVault new image) → (state_of new ≡ state_of mid → tells.content new.disk ≡ tells.content mid.disk)
-      → Keeps tells new → Appends between.sent after.sent more.one.reply → Ran tells old new before after (n + 1)
-  ran_more old mid new before between after n ran more origin leaves quiet keeps sent =
+      → Keeps tells new → Appends between.sent after.sent more.one.reply → Ran tells held' old new before after (n + 1)
+  ran_more held held' old mid new before between after n ran more origin leaves quiet keeps sent =
       let P : List ℕ → Type 0 = λ bytes. Appends before.sent after.sent bytes in
       record {
         answered = ran.answered ++ more.one ∷ [];
         states = ran.states ++ state_of new ∷ [];
         disks = ran.disks ++ new.disk ∷ [];
-        went = went_more old mid new before between after ran.answered ran.states ran.disks ran.went more origin leaves quiet keeps;
+        went = went_more held held' old mid new before between after ran.answered ran.states ran.disks ran.went more origin leaves quiet keeps;
         wrote = subst P (sym (replies_more ran.answered more.one)) (Appends-trans before.sent between.sent after.sent (replies ran.answered) more.one.reply ran.wrote sent);
         counted = omega (arith, ran.counted, length-append ran.answered (more.one ∷ []));
       }
 
+  -- as many bytes were given out as the frames have
+  pub ran_taken : (held : Collected) (old new : Chronicled D) (before after : Outside) (n : ℕ) → Ran tells held old new before after n → held.taken ≤ 1048584 * n
+  ran_taken held old new before after n ran =
+      omega (arith, few_bytes (map frame_of ran.answered) ran.went.lawful, ran.went.read.taken, length-map ran.answered frame_of, ran.counted)
+
   -- ---- endings
 
-  -- the batch ended behind bytes that are no frame
-  served : (end : BatchEnd) (old new : Chronicled D) (before between after : Outside) (answered : List Answered) (states : List State) (disks : List D) (rest : List ℕ)
-      → Went tells old new before between answered states disks → Consumes between.left after.left rest → after.moments ≡ between.moments → (IsWhole (front_of rest) → ⊥) → EndsAs end rest after.left
-      → CountsAs end (length answered) → Wrote end before after answered → Served tells old new before after end
-  served end old new before between after answered states disks rest went took unasked none ends counted wrote =
+  -- the batch ended, and so what waits reads
+  served : (end : BatchEnd) (held held' : Collected) (old new : Chronicled D) (before between after : Outside) (answered : List Answered) (states : List State) (disks : List D) (unanswered : List Frame) (rest : List ℕ)
+      → Went tells held old new before between answered states disks → Reads between.left after.left held held' [] → after.moments ≡ between.moments → Splits (waiting held') unanswered rest → (AnswersAll end → unanswered ≡ [])
+      → EndsAs end held'.taken rest after.left → CountsAs end (length answered) → Wrote end before after answered → Served tells old new before after end
+  served end held held' old new before between after answered states disks unanswered rest went more unasked splits all ends counted wrote =
       let P : Option (List ℕ) → Type 0 = λ given. Gave before.moments given (map moment_of answered) in
-      let L : List Frame → Type 0 = λ fs. AllByRecursion IsFrame fs in
       let fs : List Frame = map frame_of answered in
+      let whole = reads_then before.left between.left after.left unfed held held' fs [] went.read more in
+      let same : fs ++ [] ≡ fs = append-nil fs in
       record {
         answered = answered;
         states = states;
         disks = disks;
-        unanswered = [];
+        unanswered = unanswered;
         rest = rest;
-        taken = flat_map frame fs ++ rest;
-        took = Consumes-trans before.left between.left after.left (flat_map frame fs) rest went.took took;
+        read = whole.bytes;
+        took = whole.took;
         frames = record {
-          bytes = ap (λ (gs : List Frame). flat_map frame gs ++ rest) (sym (append-nil fs));
-          lawful = subst L (sym (append-nil fs)) went.lawful;
-          ends = none;
+          bytes = whole.is
+              ∙ ap (λ (gs : List Frame). flat_map frame gs ++ waiting held') same
+              ∙ ap (λ (xs : List ℕ). flat_map frame fs ++ xs) splits.bytes
+              ∙ sym (append_assoc (flat_map frame fs) (flat_map frame unanswered) rest)
+              ∙ ap (λ (xs : List ℕ). xs ++ rest) (sym (flat_map-append frame fs unanswered));
+          lawful = all_both IsFrame fs unanswered went.lawful splits.lawful;
+          ends = splits.ends;
         };
-        all = λ is. refl;
-        ends = ends;
+        all = all;
+        ends = subst (λ (n : ℕ). EndsAs end n rest after.left) (omega (arith, whole.taken, ap (λ (gs : List Frame). length (flat_map frame gs)) same)) ends;
         counted = counted;
         asked = subst P (sym unasked) went.asked;
         turns = went.turns;
@@ -257,33 +306,54 @@ module _ {D : Type 0} (tells : DiskTells D) where
         wrote = wrote;
       }
 
-  -- with nothing behind the last frame that was answered
-  pub spent : (old new : Chronicled D) (before after : Outside) (n : ℕ) → n ≡ MOST_FRAMES → Ran tells old new before after n → Served tells old new before after FrameLimit
-  spent old new before after n all ran =
-      served FrameLimit old new before after after ran.answered ran.states ran.disks [] ran.went (Consumes-nil after.left) refl nothing_whole refl (ran.counted ∙ all) ran.wrote
+  -- as many were answered as one batch answers
+  pub spent : (held : Collected) (old new : Chronicled D) (before after : Outside) (n : ℕ) → n ≡ MOST_FRAMES → AreBytes held.held → Ran tells held old new before after n → Served tells old new before after FrameLimit
+  spent held old new before after n all fits ran =
+      let reading = has_reading (waiting held) (AreBytes-drop held.at held.held fits) in
+      served FrameLimit held held old new before after after ran.answered ran.states ran.disks reading.0 reading.1 ran.went (reads_none after.left held) refl reading.2 (λ none. absurd none) tt (ran.counted ∙ all) ran.wrote
 
   -- without memory nothing was begun
   pub unbegun : (house : Chronicled D) (start : Outside) → LeavesOnly tells house.disk house.disk (StandsForVault house) → Keeps tells house → Served tells house house start start NoMemory
   unbegun house start images keeps =
-      served NoMemory house house start start start [] [] [] [] (went_none house start images keeps) (Consumes-nil start.left) refl nothing_whole (nothing_bad [] refl) (omega arith) (Appends-nil start.sent)
+      served NoMemory unfed unfed house house start start start [] [] [] [] [] (went_none house start images keeps) (reads_none start.left unfed) refl (record { bytes = refl; lawful = tt; ends = nothing_whole }) (λ is. refl) refl refl (Appends-nil start.sent)
 
-  -- what ended the batch within the next frame
-  stop_with : (end : BatchEnd) (old mid new : Chronicled D) (before between after : Outside) (n : ℕ) → (ran : Ran tells old mid before between n) → n < MOST_FRAMES → (stop : Stopped mid new between after)
-      → (Appends before.sent after.sent (replies ran.answered) → Wrote end before after ran.answered) → EndsAs end stop.rest after.left → (length ran.answered < MOST_FRAMES → CountsAs end (length ran.answered))
-      → Served tells old new before after end
-  stop_with end old mid new before between after n ran few stop wrote ends counts =
+  wrote_end : (end : BatchEnd) (before after : Outside) (answered : List Answered) → IsReadEnd end → Appends before.sent after.sent (replies answered) → Wrote end before after answered
+  wrote_end Clean before after answered is wrote = wrote
+  wrote_end (Cut place) before after answered is wrote = wrote
+  wrote_end (BadFrame fault) before after answered is wrote = wrote
+  wrote_end ReadFault before after answered is wrote = wrote
+  wrote_end NoMemory before after answered is wrote = wrote
+  wrote_end FrameLimit before after answered is wrote = wrote
+  wrote_end WriteFault before after answered is wrote = absurd is
+
+  counts_end : (end : BatchEnd) (count : ℕ) → IsReadEnd end → count < MOST_FRAMES → CountsAs end count
+  counts_end Clean count is few = few
+  counts_end (Cut place) count is few = few
+  counts_end (BadFrame fault) count is few = few
+  counts_end ReadFault count is few = few
+  counts_end NoMemory count is few = absurd is
+  counts_end FrameLimit count is few = absurd is
+  counts_end WriteFault count is few = absurd is
+
+  -- reading ended
+  stop_with : (end : BatchEnd) (held held' : Collected) (old mid new : Chronicled D) (before between after : Outside) (n : ℕ) → Ran tells held old mid before between n → n < MOST_FRAMES → Stopped held held' mid new between after
+      → IsReadEnd end → EndsAs end held'.taken (waiting held') after.left → Served tells old new before after end
+  stop_with end held held' old mid new before between after n ran few stop is ends =
       let P : Option (List ℕ) → Type 0 = λ sent. Appends before.sent sent (replies ran.answered) in
-      let W : Chronicled D → Type 0 = λ house. Went tells old house before between ran.answered ran.states ran.disks in
-      served end old new before between after ran.answered ran.states ran.disks stop.rest (subst W (sym stop.same) ran.went) stop.took stop.unasked stop.none ends (counts (omega (arith, ran.counted, few)))
-      (wrote (subst P (sym stop.unsent) ran.wrote))
+      let W : Chronicled D → Type 0 = λ house. Went tells held old house before between ran.answered ran.states ran.disks in
+      served end held held' old new before between after ran.answered ran.states ran.disks [] (waiting held') (subst W (sym stop.same) ran.went) stop.read stop.unasked
+      (record { bytes = refl; lawful = tt; ends = end_not_whole end held'.taken (waiting held') after.left is ends }) (λ all. refl) ends (counts_end end (length ran.answered) is (omega (arith, ran.counted, few)))
+      (wrote_end end before after ran.answered is (subst P (sym stop.unsent) ran.wrote))
 
   -- the sink failed within the reply to the next frame
-  stop_short : (old mid new : Chronicled D) (before between after : Outside) (n : ℕ) → Ran tells old mid before between n → n < MOST_FRAMES → (more : Stepped tells mid new between after)
-      → new.origin ≡ mid.origin → LeavesOnly tells mid.disk new.disk (λ (image : List ℕ). StandsForVault mid image ⊎ StandsForVault new image) → (state_of new ≡ state_of mid → tells.content new.disk ≡ tells.content mid.disk)
+  stop_short : (held held' : Collected) (old mid new : Chronicled D) (before between after : Outside) (n : ℕ) → Ran tells held old mid before between n → n < MOST_FRAMES → (more : Stepped tells held held' mid new between after)
+      → AreBytes held'.held → new.origin ≡ mid.origin → LeavesOnly tells mid.disk new.disk (λ (image : List ℕ). StandsForVault mid image ⊎ StandsForVault new image) → (state_of new ≡ state_of mid → tells.content new.disk ≡ tells.content mid.disk)
       → Keeps tells new → SentPart between.sent after.sent more.one.reply → Served tells old new before after WriteFault
-  stop_short old mid new before between after n ran few more origin leaves quiet keeps part =
-      served WriteFault old new before after after (ran.answered ++ more.one ∷ []) (ran.states ++ state_of new ∷ []) (ran.disks ++ new.disk ∷ []) [] (went_more old mid new before between after ran.answered ran.states ran.disks ran.went more origin leaves quiet keeps)
-      (Consumes-nil after.left) refl nothing_whole refl
+  stop_short held held' old mid new before between after n ran few more fits origin leaves quiet keeps part =
+      let reading = has_reading (waiting held') (AreBytes-drop held'.at held'.held fits) in
+      served WriteFault held' held' old new before after after (ran.answered ++ more.one ∷ []) (ran.states ++ state_of new ∷ []) (ran.disks ++ new.disk ∷ []) reading.0 reading.1
+      (went_more held held' old mid new before between after ran.answered ran.states ran.disks ran.went more origin leaves quiet keeps)
+      (reads_none after.left held') refl reading.2 (λ none. absurd none) tt
       (omega (arith, ran.counted, few, length-append ran.answered (more.one ∷ [])))
       (record {
         whole = ran.answered;
@@ -295,12 +365,13 @@ module _ {D : Type 0} (tells : DiskTells D) where
       })
 
   -- the batch ends as its last step does
-  pub ended : (end : BatchEnd) (old mid new : Chronicled D) (before between after : Outside) (n : ℕ) → Ran tells old mid before between n → n < MOST_FRAMES
-      → new.origin ≡ mid.origin → LeavesOnly tells mid.disk new.disk (λ (image : List ℕ). StandsForVault mid image ⊎ StandsForVault new image) → (state_of new ≡ state_of mid → tells.content new.disk ≡ tells.content mid.disk)
-      → Keeps tells new → StepIs tells mid new between after (step.Ended end) → Served tells old new before after end
-  ended Clean old mid new before between after n ran few origin leaves quiet keeps is = stop_with Clean old mid new before between after n ran few is.0 (λ wrote. wrote) (is.1, is.2) (λ fewer. fewer)
-  ended ReadFault old mid new before between after n ran few origin leaves quiet keeps is = stop_with ReadFault old mid new before between after n ran few is (λ wrote. wrote) tt (λ fewer. fewer)
-  ended WriteFault old mid new before between after n ran few origin leaves quiet keeps is = stop_short old mid new before between after n ran few is.0 origin leaves quiet keeps is.1
-  ended BadInput old mid new before between after n ran few origin leaves quiet keeps is = stop_with BadInput old mid new before between after n ran few is.0 (λ wrote. wrote) is.1 (λ fewer. fewer)
-  ended NoMemory old mid new before between after n ran few origin leaves quiet keeps is = stop_with NoMemory old mid new before between after n ran few is.0 (λ wrote. wrote) is.1 (λ fewer. fewer)
-  ended FrameLimit old mid new before between after n ran few origin leaves quiet keeps is = absurd is
+  pub ended : (end : BatchEnd) (held held' : Collected) (old mid new : Chronicled D) (before between after : Outside) (n : ℕ) → Ran tells held old mid before between n → n < MOST_FRAMES
+      → AreBytes held'.held → new.origin ≡ mid.origin → LeavesOnly tells mid.disk new.disk (λ (image : List ℕ). StandsForVault mid image ⊎ StandsForVault new image) → (state_of new ≡ state_of mid → tells.content new.disk ≡ tells.content mid.disk)
+      → Keeps tells new → StepIs tells held held' mid new between after (step.Ended end) → Served tells old new before after end
+  ended WriteFault held held' old mid new before between after n ran few fits origin leaves quiet keeps is = stop_short held held' old mid new before between after n ran few is.0 fits origin leaves quiet keeps is.1
+  ended Clean held held' old mid new before between after n ran few fits origin leaves quiet keeps is = stop_with Clean held held' old mid new before between after n ran few is.0 is.1 is.2
+  ended (Cut place) held held' old mid new before between after n ran few fits origin leaves quiet keeps is = stop_with (Cut place) held held' old mid new before between after n ran few is.0 is.1 is.2
+  ended (BadFrame fault) held held' old mid new before between after n ran few fits origin leaves quiet keeps is = stop_with (BadFrame fault) held held' old mid new before between after n ran few is.0 is.1 is.2
+  ended ReadFault held held' old mid new before between after n ran few fits origin leaves quiet keeps is = stop_with ReadFault held held' old mid new before between after n ran few is.0 is.1 is.2
+  ended NoMemory held held' old mid new before between after n ran few fits origin leaves quiet keeps is = stop_with NoMemory held held' old mid new before between after n ran few is.0 is.1 is.2
+  ended FrameLimit held held' old mid new before between after n ran few fits origin leaves quiet keeps is = stop_with FrameLimit held held' old mid new before between after n ran few is.0 is.1 is.2

@@ -1,16 +1,14 @@
 -- One step of a batch, from what its calls ensure.
-use Rattle.std.proofs.Common.{◌≡◌, ◌⊎◌, ℕ, ◌≤◌, List, [], ◌∷◌, ◌++◌, length, take, drop, Option, refl, sym, ap, subst, ◌∙◌, append-nil, inl, inr, arith}
-use Rattle.std.specs.Prelude.{slice_index}
+use Rattle.std.proofs.Common.{◌≡◌, ◌⊎◌, ℕ, ◌≤◌, List, [], ◌∷◌, ◌++◌, length, take, drop, Option, refl, sym, ap, subst, ◌∙◌, append-nil, inl, arith}
 use Rattle.std.specs.Option.{option_to_list}
-use Rattle.std.specs.Io.KnownBytes.{Consumes, IsAtEnd}
 use Rattle.nb_port.specs.Tells.{DiskTells}
-use Rattle.nb_port.specs.Faults.{Backed}
+use Rattle.nb_port.specs.Faults.{Rose, Backed}
 use Rattle.nb_port.specs.Clock.{Gives}
-use Rattle.nb_units.specs.Frames.{Front, Whole, Empty, Partial, Bad, Frame, frame, IsFrame, front_of, IsWhole, IsBad}
-use Rattle.nb_units.specs.declared.frames.TheConstants.{HEADER}
+use Rattle.nb_units.specs.Frames.{Frame, IsFrame}
 use Rattle.nb_endorse.specs.declared.refusal.TheConstants.{DISK_FAULT, WORN}
-use Rattle.nb_frame.proofs.Reading.{partial_not_whole}
-use Rattle.nb_frame.specs.Reader.{HoldsFrame}
+use Rattle.nb_frame.specs.State.{Collected, waiting}
+use Rattle.nb_frame.specs.Collected.{frame_at}
+use Rattle.nb_frame.specs.declared.stream.FrameAt.{FrameAt}
 use Rattle.nb_turns.specs.declared.limits.TheConstants.{MAX_FAULTS}
 use Rattle.nb_turns.specs.declared.mark.Mark.{Mark}
 use Rattle.nb_turns.specs.declared.mark.Mark.TheVariants.{At, Fault, Worn}
@@ -23,23 +21,16 @@ use Rattle.nb_journal.proofs.Moments.{started}
 use Rattle.nb_journal.specs.Time.{LeavesOnly}
 use Rattle.nb_vault.proofs.Resting.{leaves_more}
 use Rattle.nb_vault.specs.Vaults.{Chronicled, Keeps, IsDurable, StandsForState, Went, state_of, entries_in, house_in, TurnOf, FaultWithin}
-use Rattle.nb_batch.proofs.Serving.{nothing_whole}
 use Rattle.nb_vault.specs.declared.origin.Origin.{Origin}
 use Rattle.nb_vault.specs.Rules.{house_of, refused}
 use Rattle.nb_escrow.specs.Head.{head_of}
 use Rattle.nb_book.specs.declared.entry.Entry.{Entry}
 use Rattle.std.proofs.Math.Seq.{take-append_seam}
-use Rattle.nb_batch.specs.Batch.{MaySend, AnswersWith, failure_in_mark, Outside, Stepped, Stopped, EndsBadly}
-
--- the frame that is held, by what the reader says of it
-pub holds_frame : (held body : List ℕ) (kind : ℕ) → HoldsFrame held → kind ≡ slice_index held 3 → body ≡ drop HEADER held
-    → let f : Frame = record { kind = kind; body = body } in IsFrame f × (held ≡ frame f)
-holds_frame held body kind h k b =
-    let first : kind ≡ h.one.kind = k ∙ ap (λ (xs : List ℕ). slice_index xs 3) h.is in
-    let second : body ≡ h.one.body = b ∙ ap (drop HEADER) h.is in
-    let P : Frame → Type 0 = λ f. IsFrame f × (held ≡ frame f) in
-    let same : h.one ≡ record { kind = kind; body = body } = sym (ap (λ (n : ℕ). let f : Frame = record { kind = n; body = body } in f) first ∙ ap (λ (xs : List ℕ). let f : Frame = record { kind = h.one.kind; body = xs } in f) second) in
-    subst P same (h.lawful, h.is)
+use Rattle.nb_batch.specs.declared.batch.BatchEnd.{BatchEnd}
+use Rattle.nb_batch.specs.declared.batch.BatchEnd.TheVariants.{Clean, Cut, BadFrame, ReadFault, WriteFault, NoMemory as Starved, FrameLimit}
+use Rattle.nb_batch.specs.declared.batch.Step.TheVariants as step
+use Rattle.nb_batch.specs.Fetch.{Reads, EndsAs, IsReadEnd}
+use Rattle.nb_batch.specs.Batch.{MaySend, AnswersWith, failure_in_mark, Outside, Stepped, StepIs, FaultOf}
 
 -- ---- where nothing is done
 
@@ -118,42 +109,39 @@ may_send tells old new by request out sent place none same durable is =
 
 -- ---- one step
 
-pub stepped_with : {D : Type 0} (tells : DiskTells D) (old new : Chronicled D) (kind moment : ℕ) (held body reply : List ℕ) (before after : Outside)
-    → HoldsFrame held → kind ≡ slice_index held 3 → body ≡ drop HEADER held → Consumes before.left after.left held → Gives before.moments after.moments moment
-    → AnswersWith tells old new (request_of kind body moment) reply → (done : List ℕ → Type 0) → done reply → (s : Stepped tells old new before after) × done s.one.reply
-stepped_with tells old new kind moment held body reply before after h k b took now answer done sent =
-    let f = holds_frame held body kind h k b in
-    let P : List ℕ → Type 0 = λ bytes. Consumes before.left after.left bytes in (
+pub stepped_with : {D : Type 0} (tells : DiskTells D) (held held' : Collected) (old new : Chronicled D) (f : FrameAt) (moment : ℕ) (body reply : List ℕ) (before after : Outside)
+    → Reads before.left after.left held held' (frame_at held'.held f ∷ []) → IsFrame (frame_at held'.held f) → body ≡ take f.len (drop f.start held'.held) → Gives before.moments after.moments moment
+    → AnswersWith tells old new (request_of f.kind body moment) reply → (done : List ℕ → Type 0) → done reply → (s : Stepped tells held held' old new before after) × done s.one.reply
+stepped_with tells held held' old new f moment body reply before after read lawful is now answer done sent =
+    let one : List ℕ → Frame = λ bytes. record { kind = f.kind; body = bytes } in (
       record {
-        one = record { request = request_of kind body moment; mark = answer.mark; reply = reply };
+        one = record { request = request_of f.kind body moment; mark = answer.mark; reply = reply };
         turn = answer.turn;
         backed = answer.backed;
-        lawful = f.0;
-        took = subst P f.1 took;
+        lawful = subst (λ (bytes : List ℕ). IsFrame (one bytes)) (sym is) lawful;
+        read = subst (λ (bytes : List ℕ). Reads before.left after.left held held' (one bytes ∷ [])) (sym is) read;
         asked = now;
       },
       sent,
     )
 
-module _ {D : Type 0} (house : Chronicled D) (held : List ℕ) (before : Outside) (left : Option (List ℕ)) (took : Consumes before.left left held) where
-  -- nothing was done but taking bytes that are no frame
-  abbrev pub stop : (IsWhole (front_of held) → ⊥) → Stopped house house before (record before { left = left })
-  stop none = record { rest = held; took = took; none = none; same = refl; unsent = refl; unasked = refl }
+-- reading ended, and nothing else was done
+pub stopped_with : {D : Type 0} (tells : DiskTells D) (end : BatchEnd) (held held' : Collected) (house : Chronicled D) (before : Outside) (left : Option (List ℕ))
+    → Reads before.left left held held' [] → IsReadEnd end → EndsAs end held'.taken (waiting held') left → StepIs tells held held' house house before (record before { left = left }) (step.Ended end)
+stopped_with tells Clean held held' house before left read is ends = (record { read = read; same = refl; unsent = refl; unasked = refl }, is, ends)
+stopped_with tells (Cut place) held held' house before left read is ends = (record { read = read; same = refl; unsent = refl; unasked = refl }, is, ends)
+stopped_with tells (BadFrame fault) held held' house before left read is ends = (record { read = read; same = refl; unsent = refl; unasked = refl }, is, ends)
+stopped_with tells ReadFault held held' house before left read is ends = (record { read = read; same = refl; unsent = refl; unasked = refl }, is, ends)
+stopped_with tells WriteFault held held' house before left read is ends = absurd is
+stopped_with tells Starved held held' house before left read is ends = absurd is
+stopped_with tells FrameLimit held held' house before left read is ends = absurd is
 
-  pub stop_end : held ≡ [] → IsAtEnd left → (s : Stopped house house before (record before { left = left })) × (s.rest ≡ []) × IsAtEnd left
-  stop_end is end = (stop (λ whole. nothing_whole (subst (λ (xs : List ℕ). IsWhole (front_of xs)) is whole)), is, end)
-
-  pub stop_cut : front_of held ≡ Partial → IsAtEnd left → (s : Stopped house house before (record before { left = left })) × EndsBadly s.rest left
-  stop_cut is end = (stop (partial_not_whole (front_of held) is), inl (is, end))
-
-  pub stop_bad : IsBad (front_of held) → length held ≤ HEADER → (s : Stopped house house before (record before { left = left })) × EndsBadly s.rest left
-  stop_bad bad little = (stop (λ whole. bad_not_whole (front_of held) bad whole), inr (bad, little))
-    where
-      bad_not_whole : (front : Front) → IsBad front → IsWhole front → ⊥
-      bad_not_whole (Whole f rest) bad whole = bad
-      bad_not_whole Empty bad whole = bad
-      bad_not_whole Partial bad whole = bad
-      bad_not_whole (Bad fault) bad whole = whole
-
-  pub stop_memory : (IsWhole (front_of held) → ⊥) → (IsBad (front_of held) → ⊥) → (s : Stopped house house before (record before { left = left })) × (IsBad (front_of s.rest) → ⊥)
-  stop_memory none good = (stop none, good)
+-- the source failed where that is why reading ended
+pub read_fault : (end : BatchEnd) (source source' sink sink' : ℕ) → IsReadEnd end → (end ≡ ReadFault → Rose source source') → FaultOf source source' sink sink' end
+read_fault Clean source source' sink sink' is rose = tt
+read_fault (Cut place) source source' sink sink' is rose = tt
+read_fault (BadFrame fault) source source' sink sink' is rose = tt
+read_fault ReadFault source source' sink sink' is rose = rose refl
+read_fault WriteFault source source' sink sink' is rose = absurd is
+read_fault Starved source source' sink sink' is rose = tt
+read_fault FrameLimit source source' sink sink' is rose = tt

@@ -2,12 +2,12 @@
 use Rattle.std.specs.Prelude.{◌≡◌, ℕ, ◌<◌, ◌≤◌, ◌⊎◌, List, [], ◌∷◌, ◌++◌, Option, None, Some, ⊤, length, map, take}
 use Rattle.std.specs.List.{flat_map, AllByRecursion}
 use Rattle.std.specs.Option.{option_to_list}
-use Rattle.std.specs.Io.KnownBytes.{Consumes, Appends, IsAtEnd}
+use Rattle.std.specs.Io.KnownBytes.{Consumes, Appends}
 use Rattle.nb_port.specs.Tells.{DiskTells}
 use Rattle.nb_port.specs.Faults.{Rose, Failure, Backed}
 use Rattle.nb_port.specs.Clock.{Gives}
-use Rattle.nb_units.specs.Frames.{Frame, frame, IsFrame, Partial, front_of, IsWhole, IsBad, Splits}
-use Rattle.nb_units.specs.declared.frames.TheConstants.{HEADER}
+use Rattle.nb_units.specs.Frames.{Frame, frame, IsFrame, Splits}
+use Rattle.nb_frame.specs.State.{Collected, waiting}
 use Rattle.nb_journal.specs.Time.{LeavesOnly}
 use Rattle.nb_book.specs.declared.entry.Entry.{Entry}
 use Rattle.nb_endorse.specs.declared.refusal.TheConstants.{DISK_FAULT, WORN}
@@ -20,9 +20,10 @@ use Rattle.nb_vault.specs.Rules.{refused}
 use Rattle.nb_vault.specs.Vaults.{Chronicled, state_of, entries_in, house_in, IsDurable}
 use Rattle.nb_batch.specs.declared.batch.TheConstants.{MOST_FRAMES}
 use Rattle.nb_batch.specs.declared.batch.BatchEnd.{BatchEnd}
-use Rattle.nb_batch.specs.declared.batch.BatchEnd.TheVariants.{Clean, ReadFault, WriteFault, BadInput, NoMemory, FrameLimit}
+use Rattle.nb_batch.specs.declared.batch.BatchEnd.TheVariants.{ReadFault, WriteFault, NoMemory, FrameLimit}
 use Rattle.nb_batch.specs.declared.batch.Step.{Step}
 use Rattle.nb_batch.specs.declared.batch.Step.TheVariants as step
+use Rattle.nb_batch.specs.Fetch.{Reads, EndsAs, IsReadEnd}
 use Rattle.nb_batch.specs.Send.{SentPart}
 
 -- a house with nothing in doubt and no faults
@@ -117,42 +118,30 @@ pub record IsRecorded {D : Type 0} (house : Chronicled D) (reply : List ℕ) : T
 abbrev pub MaySend : {D : Type 0} → DiskTells D → Chronicled D → List ℕ → Type 0
 MaySend tells house reply = (IsDurable tells house × IsRecorded house reply) ⊎ IsUndecided reply
 
--- a frame was taken, the clock was asked, and a turn answered it
-pub record Stepped {D : Type 0} (tells : DiskTells D) (old new : Chronicled D) (before after : Outside) : Type 0 where
+-- a frame was given out, the clock was asked, and a turn answered it
+pub record Stepped {D : Type 0} (tells : DiskTells D) (held held' : Collected) (old new : Chronicled D) (before after : Outside) : Type 0 where
   pub one : Answered
   pub turn : TurnOfOne (house_in old) (state_of old) one.request one.mark one.reply (state_of new)
   pub backed : Backed (tells.faults old.disk) (option_to_list (failure_in_mark one.mark)) (tells.faults new.disk)
   pub lawful : IsFrame (frame_of one)
-  pub took : Consumes before.left after.left (frame (frame_of one))
+  pub read : Reads before.left after.left held held' (frame_of one ∷ [])
   pub asked : Gives before.moments after.moments one.request.moment
 
--- bytes were taken that are no frame, and nothing else was done
-pub record Stopped {D : Type 0} (old new : Chronicled D) (before after : Outside) : Type 0 where
-  pub rest : List ℕ
-  pub took : Consumes before.left after.left rest
-  pub none : IsWhole (front_of rest) → ⊥
+-- bytes were read, of which no frame was given out, and nothing else was done
+pub record Stopped {D : Type 0} (held held' : Collected) (old new : Chronicled D) (before after : Outside) : Type 0 where
+  pub read : Reads before.left after.left held held' []
   pub same : new ≡ old
   pub unsent : after.sent ≡ before.sent
   pub unasked : after.moments ≡ before.moments
 
--- the input ended within a frame, or no frame begins so, and no more than a header was read of that
-abbrev pub EndsBadly : List ℕ → Option (List ℕ) → Type 0
-EndsBadly rest left = ((front_of rest ≡ Partial) × IsAtEnd left) ⊎ (IsBad (front_of rest) × (length rest ≤ HEADER))
-
 -- what one step of a batch did, by how it went
-abbrev pub StepIs : {D : Type 0} → DiskTells D → Chronicled D → Chronicled D → Outside → Outside → Step → Type 0
-StepIs tells old new before after step.Answered =
-    (s : Stepped tells old new before after) × Appends before.sent after.sent s.one.reply
-StepIs tells old new before after (step.Ended WriteFault) =
-    (s : Stepped tells old new before after) × SentPart before.sent after.sent s.one.reply
-StepIs tells old new before after (step.Ended Clean) =
-    (s : Stopped old new before after) × (s.rest ≡ []) × IsAtEnd after.left
-StepIs tells old new before after (step.Ended BadInput) =
-    (s : Stopped old new before after) × EndsBadly s.rest after.left
-StepIs tells old new before after (step.Ended ReadFault) = Stopped old new before after
-StepIs tells old new before after (step.Ended NoMemory) =
-    (s : Stopped old new before after) × (IsBad (front_of s.rest) → ⊥)
-StepIs tells old new before after (step.Ended FrameLimit) = ⊥
+abbrev pub StepIs : {D : Type 0} → DiskTells D → Collected → Collected → Chronicled D → Chronicled D → Outside → Outside → Step → Type 0
+StepIs tells held held' old new before after step.Answered =
+    (s : Stepped tells held held' old new before after) × Appends before.sent after.sent s.one.reply
+StepIs tells held held' old new before after (step.Ended WriteFault) =
+    (s : Stepped tells held held' old new before after) × SentPart before.sent after.sent s.one.reply
+StepIs tells held held' old new before after (step.Ended end) =
+    Stopped held held' old new before after × IsReadEnd end × EndsAs end held'.taken (waiting held') after.left
 
 -- ---- the whole batch
 
@@ -170,42 +159,33 @@ abbrev pub Wrote : BatchEnd → Outside → Outside → List Answered → Type 0
 Wrote WriteFault before after answered = WroteShort before after answered
 Wrote other before after answered = Appends before.sent after.sent (replies answered)
 
--- the frames of all bytes that were taken are answered
+-- the frames of all bytes that were read are answered
 abbrev pub AnswersAll : BatchEnd → Type 0
-AnswersAll Clean = ⊤
-AnswersAll BadInput = ⊤
-AnswersAll ReadFault = ⊤
-AnswersAll other = ⊥
-
--- how the input stands where the batch ended so
-abbrev pub EndsAs : BatchEnd → List ℕ → Option (List ℕ) → Type 0
-EndsAs Clean rest left = (rest ≡ []) × IsAtEnd left
-EndsAs BadInput rest left = EndsBadly rest left
-EndsAs ReadFault rest left = ⊤
-EndsAs NoMemory rest left = IsBad (front_of rest) → ⊥
-EndsAs WriteFault rest left = rest ≡ []
-EndsAs FrameLimit rest left = rest ≡ []
+AnswersAll WriteFault = ⊥
+AnswersAll FrameLimit = ⊥
+AnswersAll other = ⊤
 
 -- how many were answered where the batch ended so
 abbrev pub CountsAs : BatchEnd → ℕ → Type 0
 CountsAs FrameLimit count = count ≡ MOST_FRAMES
 CountsAs WriteFault count = count ≤ MOST_FRAMES
+CountsAs NoMemory count = count ≡ 0
 CountsAs other count = count < MOST_FRAMES
 
 -- What a batch did over a house, by how it ended
 pub record Served {D : Type 0} (tells : DiskTells D) (old new : Chronicled D) (before after : Outside) (end : BatchEnd) : Type 0 where
-  -- the requests that were answered, the states that the house came to and the disks then; frames that were taken and not answered,
-  -- and what follows them
+  -- the requests that were answered, the states that the house came to and the disks then; frames that were read and not answered,
+  -- and what follows them; all bytes that were read
   pub answered : List Answered
   pub states : List State
   pub disks : List D
   pub unanswered : List Frame
   pub rest : List ℕ
-  pub taken : List ℕ
-  pub took : Consumes before.left after.left taken
-  pub frames : Splits taken (map frame_of answered ++ unanswered) rest
+  pub read : List ℕ
+  pub took : Consumes before.left after.left read
+  pub frames : Splits read (map frame_of answered ++ unanswered) rest
   pub all : AnswersAll end → unanswered ≡ []
-  pub ends : EndsAs end rest after.left
+  pub ends : EndsAs end (length (flat_map frame (map frame_of answered))) rest after.left
   pub counted : CountsAs end (length answered)
   pub asked : Gave before.moments after.moments (map moment_of answered)
   pub turns : RunOfOnes (house_in old) (state_of old) answered states

@@ -1,4 +1,5 @@
 pub mod Send
+pub mod Fetch
 pub mod Batch
 pub mod Acknowledged
 pub mod Numbers

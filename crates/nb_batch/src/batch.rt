@@ -1,4 +1,5 @@
-ghost use Rattle.std.specs.Prelude.{◌≡◌, ◌≤◌, ◌⊎◌, ◌++◌, [], vec_capacity};
+ghost use Rattle.std.specs.Prelude.{◌≡◌, ◌≤◌, ◌<◌, ◌^◌, ◌⊎◌, ◌++◌, [], length, vec_capacity};
+ghost use Rattle.nb_frame.specs.declared.stream.TheConstants.{MAX_PIECE};
 ghost use Rattle.nb_journal.specs.Time.{LeavesOnly};
 ghost use Rattle.nb_msgs.specs.declared.reply.TheConstants.{REPLY_ROOM};
 ghost use Rattle.nb_units.specs.Room.{spare_of};
@@ -8,10 +9,11 @@ ghost use Rattle.nb_vault.specs.Vaults.{Keeps, StandsForState, state_of};
 ghost use Rattle.nb_batch.specs.Batch as batch;
 ghost use Rattle.nb_batch.specs.Numbers.{LimitIs};
 
+use crate::fetch::{Fetched, next_frame};
 use crate::send::{Sent, send_reply};
 use nb_endorse::refusal::{DISK_FAULT, WORN};
 use nb_endorse::{Refusal, Reply, ReplyKeys};
-use nb_frame::{FrameReader, Next};
+use nb_frame::{FrameFault, Frames, MAX_PIECE};
 use nb_msgs::{REPLY_ROOM, write_reply};
 use nb_port::{Clock, Disk, Sink, Source};
 use nb_vault::{Answer, Vault};
@@ -28,13 +30,15 @@ const ASKER: u64 = 0;
 pub enum BatchEnd {
     /// The input ended at a frame's end, and every frame was answered.
     Clean,
-    /// The source failed.
+    /// The input ended within a frame, and every whole one was answered. The place is the number of bytes that were read.
+    Cut { place: u64 },
+    /// The input holds what is no frame, and every frame before it was answered.
+    BadFrame(FrameFault),
+    /// The source failed. Every whole frame that was read was answered.
     ReadFault,
     /// The sink failed.
     WriteFault,
-    /// The input ended within a frame, or holds what is no frame.
-    BadInput,
-    /// There was no memory.
+    /// There was no memory, and nothing was read.
     NoMemory,
     /// So many frames were answered.
     FrameLimit,
@@ -66,30 +70,49 @@ pub fn serve<D: Disk, S: Source, K: Sink, C: Clock>(
 {
     // What a stop leaves at the start is what every vault keeps.
     house.witness();
-    let mut reader = FrameReader::new(alloc);
+    let Ok(mut frames) = Frames::new(alloc) else {
+        return BatchEnd::NoMemory;
+    };
     let Ok(mut reply) = Vec::with_capacity(alloc, REPLY_ROOM) else {
         return BatchEnd::NoMemory;
     };
+    let mut piece = [0u8; MAX_PIECE];
     'frames: for _ in 0..MOST_FRAMES {
-        match answer_next(house, &mut reader, &mut reply, source, sink, clock) {
+        match answer_next(
+            house,
+            &mut frames,
+            &mut piece,
+            &mut reply,
+            source,
+            sink,
+            clock,
+        ) {
             Step::Answered => {}
-            Step::Ended(end) => return end,
+            Step::Ended(end) => {
+                // What waits are bytes, so that it reads as frames and a rest.
+                let _waiting = frames.bytes();
+                return end;
+            }
         }
     }
+    let _waiting = frames.bytes();
     BatchEnd::FrameLimit
 }
 
-// Takes one frame from the source, answers it, and sends the reply.
+// Answers the next frame of the source, which is read as far as that needs, and sends the reply.
 fn answer_next<D: Disk, S: Source, K: Sink, C: Clock>(
     house: &mut Vault<D>,
-    reader: &mut FrameReader,
+    frames: &mut Frames,
+    piece: &mut [u8],
     reply: &mut Vec<u8>,
     source: &mut S,
     sink: &mut K,
     clock: &mut C,
 ) -> Step
-    requires { REPLY_ROOM ≤ vec_capacity reply.old }
-    ensures step { batch.StepIs D.tells house.old house.new
+    requires room { REPLY_ROOM ≤ vec_capacity reply.old }
+    requires piece { length piece.old ≡ MAX_PIECE }
+    requires near { frames.old.taken < 2 ^ 62 }
+    ensures step { batch.StepIs D.tells frames.old frames.new house.old house.new
         (record { left = S.left source.old; sent = K.sent sink.old; moments = C.moments clock.old })
         (record { left = S.left source.new; sent = K.sent sink.new; moments = C.moments clock.new }) result }
     ensures origin { house.new.origin ≡ house.old.origin }
@@ -105,17 +128,13 @@ fn answer_next<D: Disk, S: Source, K: Sink, C: Clock>(
 {
     // Where nothing is done, a stop leaves what every vault keeps.
     house.witness();
-    match reader.next(source) {
-        Next::Frame => {}
-        Next::End => return Step::Ended(BatchEnd::Clean),
-        Next::Cut => return Step::Ended(BatchEnd::BadInput),
-        Next::Bad => return Step::Ended(BatchEnd::BadInput),
-        Next::Failed => return Step::Ended(BatchEnd::ReadFault),
-        Next::NoMemory => return Step::Ended(BatchEnd::NoMemory),
-    }
+    let f = match next_frame(frames, source, piece) {
+        Fetched::Frame(f) => f,
+        Fetched::Ended(end) => return Step::Ended(end),
+    };
     let moment = clock.now();
     reply.clear();
-    answer_with(house, reader.kind(), reader.body(), moment, reply);
+    answer_with(house, f.kind, frames.body(&f), moment, reply);
     match send_reply(house, sink, reply.as_slice()) {
         Sent::All => Step::Answered,
         Sent::Failed => Step::Ended(BatchEnd::WriteFault),

@@ -11,6 +11,7 @@
 #![tactic(auto)]
 
 mod batch;
+mod fetch;
 pub mod laws;
 mod send;
 

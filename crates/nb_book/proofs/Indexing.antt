@@ -3,11 +3,12 @@ use Rattle.std.proofs.Common.{◌≡◌, ℕ, suc, ◌+◌, ◌-◌, ◌*◌, �
 use Rattle.std.proofs.lemmas.List.{take_at, length_push, get_or_push}
 use Rattle.std.proofs.lemmas.Option.{same_Some}
 use Rattle.std.specs.List.{AllByRecursion}
-use Rattle.std.specs.Option.{option_or, is_some, IsNone}
+use Rattle.std.specs.Option.{option_or, is_some, IsNone, IfSome}
 use Rattle.std.specs.Str.{bytes_eq}
 use Rattle.nb_index.specs.declared.put.Put.{Put}
 use Rattle.nb_index.specs.Puts.{Indexed, value_in, IsLast}
 use Rattle.nb_book.specs.declared.entry.Entry.{Entry}
+use Rattle.nb_book.specs.declared.entry.Entry.TheVariants.{Fund}
 use Rattle.nb_book.specs.Searches.{first_from}
 use Rattle.nb_book.specs.Indexes.{KeysFit, puts_at, puts_from, place_if, first_place, Indexes}
 use Rattle.nb_book.proofs.Counting.{Tests, tested, found-count}
@@ -73,7 +74,7 @@ pub both_found : {A : Type 0} (test : Entry → Bool) (answer : ℕ → Entry �
     → is_some (first_place test H) ≡ is_some (first_from answer 0 H)
 both_found test answer tests H = found-count test (place_if test) (tests_place test) 0 H ∙ sym (found-count test answer tests 0 H)
 
-none_of : {A : Type 0} (x : Option A) → is_some x ≡ false → x ≡ None
+pub none_of : {A : Type 0} (x : Option A) → is_some x ≡ false → x ≡ None
 none_of None none = refl
 none_of (Some x) none = absurd cc
 
@@ -127,6 +128,12 @@ found test answer tests H i d is =
       passes = subst (λ (j : ℕ). test (get_or H j d) ≡ true) same it.3;
       answers = subst (λ (j : ℕ). first_from answer 0 H ≡ answer i (get_or H j d)) same it.4;
     }
+
+-- a place that is found is one of the list
+pub within_some : {A : Type 0} (test : Entry → Bool) (answer : ℕ → Entry → Option A) → Tests test answer → (H : List Entry) (r : Option ℕ)
+    → r ≡ first_place test H → IfSome r (λ at. at < length H)
+within_some test answer tests H None is = tt
+within_some test answer tests H (Some at) is = (found test answer tests H at (Fund (record { 0 = 0 }) 0 []) (sym is)).within
 
 -- ---- an index over a list
 

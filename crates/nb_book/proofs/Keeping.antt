@@ -10,17 +10,18 @@ use Rattle.nb_units.specs.declared.ids.PartyId.{PartyId}
 use Rattle.nb_units.specs.declared.ids.AcctId.{AcctId}
 use Rattle.nb_book.specs.declared.entry.Entry.{Entry}
 use Rattle.nb_book.specs.declared.entry.Entry.TheVariants.{Enrol, Fund}
-use Rattle.nb_book.specs.Searches.{holder_at, holder_in}
+use Rattle.nb_book.specs.declared.party.Party.{Party}
+use Rattle.nb_book.specs.Searches.{party_at, party_in, holder_at, holder_in}
 use Rattle.nb_book.specs.Money.{credit, debit, balance}
 use Rattle.nb_book.specs.Legal.{LegalAfter, Legal}
 use Rattle.nb_book.specs.Laws.{opens}
 use Rattle.nb_book.specs.declared.list.EntryList.{EntryList}
 use Rattle.nb_book.specs.Indexes.{place_if, first_place, KeepsBalances, Tied}
-use Rattle.nb_book.proofs.Growing.{front_legal}
+use Rattle.nb_book.proofs.Growing.{front_legal, along}
 use Rattle.nb_book.proofs.Counting.{found-count, tests_holder}
 use Rattle.nb_book.proofs.Summing.{balance_after}
 use Rattle.nb_book.proofs.Balances.{balance-none}
-use Rattle.nb_book.proofs.Indexing.{both_found, found, first_push}
+use Rattle.nb_book.proofs.Indexing.{both_found, found, first_push, none_of}
 
 -- who holds an account does not depend on the place at which its entry is asked
 pub holder_anywhere : (a : AcctId) (m n : ℕ) (e : Entry) → holder_at a m e ≡ holder_at a n e
@@ -35,6 +36,45 @@ held_opened H a some = found-count (opens a) (holder_at a) (tests_holder a) 0 H 
 pub nothing_kept : (H : List Entry) → Legal H → (a : AcctId) → first_place (opens a) H ≡ None → balance H a ≡ 0
 nothing_kept H legal a none =
     balance-none H legal a (sym (both_found (opens a) (holder_at a) (tests_holder a) H) ∙ ap (λ (x : Option ℕ). is_some x) none)
+
+-- the account of a party is opened at the place of its enrolment, and nowhere before
+pub own_place : (H : List Entry) → Legal H → (id : PartyId) (party : Party) → party_in H id ≡ Some party → first_place (opens party.acct) H ≡ Some party.at
+own_place H legal = along Placed none more H legal where
+  Placed : List Entry → Type 0
+  Placed H = (id : PartyId) (party : Party) → party_in H id ≡ Some party → first_place (opens party.acct) H ≡ Some party.at
+
+  none : Placed []
+  none id party is = absurd cc
+
+  enrolled_last : (H : List Entry) (e : Entry) → LegalAfter H e → (id : PartyId) (party : Party) → party_at id (0 + length H) e ≡ Some party → first_place (opens party.acct) (H ++ e ∷ []) ≡ Some party.at
+  enrolled_last H (Enrol who role acct nonce key) next id party is = part (who.0 == id.0) is where
+    here : first_place (opens acct) (H ++ Enrol who role acct nonce key ∷ []) ≡ Some (0 + length H)
+    here =
+        first_push (place_if (opens acct)) 0 H (Enrol who role acct nonce key)
+        ∙ ap (λ (x : Option ℕ). option_or x (place_if (opens acct) (0 + length H) (Enrol who role acct nonce key)))
+        (none_of (first_place (opens acct) H) (both_found (opens acct) (holder_at acct) (tests_holder acct) H ∙ next.4))
+        ∙ ap (λ (b : Bool). cond b (Some (0 + length H)) None) (eq-eqb acct.0 acct.0 refl)
+
+    part : (b : Bool) → cond b (Some (record { at = 0 + length H; role = role; acct = acct; nonce = nonce; key = key })) None ≡ Some party
+        → first_place (opens party.acct) (H ++ Enrol who role acct nonce key ∷ []) ≡ Some party.at
+    part true same =
+        subst (λ (p : Party). first_place (opens p.acct) (H ++ Enrol who role acct nonce key ∷ []) ≡ Some p.at)
+        (same_Some (record { at = 0 + length H; role = role; acct = acct; nonce = nonce; key = key }) party same) here
+    part false same = absurd cc
+  enrolled_last H other next id party is = absurd cc
+
+  more : (H : List Entry) (e : Entry) → Legal H → LegalAfter H e → Placed H → Placed (H ++ e ∷ [])
+  more H e legal next before id party is = part (party_in H id) refl where
+    found_now : option_or (party_in H id) (party_at id (0 + length H) e) ≡ Some party
+    found_now = sym (first_push (party_at id) 0 H e) ∙ is
+
+    part : (x : Option Party) → party_in H id ≡ x → first_place (opens party.acct) (H ++ e ∷ []) ≡ Some party.at
+    part (Some p) found_before =
+        let same : p ≡ party = same_Some p party (sym (ap (λ (x : Option Party). option_or x (party_at id (0 + length H) e)) found_before) ∙ found_now) in
+        first_push (place_if (opens party.acct)) 0 H e
+        ∙ ap (λ (x : Option ℕ). option_or x (place_if (opens party.acct) (0 + length H) e)) (before id party (found_before ∙ ap (λ (q : Party). Some q) same))
+    part None found_before =
+        enrolled_last H e next id party (sym (ap (λ (x : Option Party). option_or x (party_at id (0 + length H) e)) found_before) ∙ found_now)
 
 -- an enrolment brings nothing into the account that it opens
 opening_credit : (a : AcctId) (e : Entry) → opens a e ≡ true → credit a e ≡ 0

@@ -1,4 +1,4 @@
-ghost use Rattle.std.specs.Prelude.{◌≡◌, ◌≤◌, ◌<◌, ◌-◌, ◌↔◌, [], ◌∷◌, ◌++◌, length, take, IsTrue, IfOk, IfSome};
+ghost use Rattle.std.specs.Prelude.{◌≡◌, ◌≤◌, ◌<◌, ◌-◌, ◌↔◌, [], ◌∷◌, ◌++◌, length, take, Some, IsTrue, IfOk, IfSome};
 ghost use Rattle.nb_units.specs.declared.limits.TheConstants.{MAX_CAP};
 ghost use Rattle.nb_book.specs.declared.limits.TheConstants.{MAX_TOTAL};
 ghost use Rattle.nb_book.specs.Searches.{party_in, holder_in, funded_in, order_in};
@@ -71,11 +71,7 @@ impl Book {
         ensures within { IfSome result (λ account. account.balance ≤ total self.now.entries) }
         ensures legal { Legal self.now.entries }
     {
-        let party = self.holder(id)?;
-        Some(Account {
-            party,
-            balance: self.balance(id),
-        })
+        self.list.account(id)
     }
 
     // Who holds the account of this number.
@@ -86,12 +82,15 @@ impl Book {
         self.list.holder(id)
     }
 
-    // What is in the account of this number.
-    pub(crate) fn balance(&self, id: AcctId) -> u64
-        ensures balance { result ≡ balance self.now.entries id }
+    /// What is in the account of an enrolled party, as [`Book::party`] told it, in the house's smallest unit of money. The place of
+    /// its enrolment is known, so that nothing is looked up.
+    pub fn balance_of(&self, id: PartyId, party: &Party) -> u64
+        requires enrolled { party_in self.now.entries id ≡ Some party.now }
+        ensures balance { result ≡ balance self.now.entries party.now.acct }
+        ensures within { result ≤ total self.now.entries }
         ensures legal { Legal self.now.entries }
     {
-        self.list.balance(id)
+        self.list.balance_of(id, party)
     }
 
     /// The fund of this reference, if there is one.

@@ -1,10 +1,12 @@
-ghost use Rattle.std.specs.Prelude.{◌≡◌, ◌↔◌, IsTrue, Some};
-ghost use Rattle.nb_book.specs.Searches.{role_of, account_of, nonce_of};
+ghost use Rattle.std.specs.Prelude.{◌≡◌, ◌≤◌, ◌↔◌, IsTrue, Some};
+ghost use Rattle.nb_book.specs.Money.{balance};
+ghost use Rattle.nb_book.specs.Searches.{party_in, role_of, account_of, nonce_of};
 ghost use Rattle.nb_book.specs.Legal as legal;
 
 use crate::book::Book;
 use crate::entry::{CONSUMER, Entry, MERCHANT};
 use crate::limits::{MAX_AGE, MAX_AHEAD, MAX_PRICE, MAX_TOTAL};
+use crate::party::Party;
 use crate::reason::{
     BALANCE_LOW, CONSUMER_ACCOUNT, CONSUMER_NONCE, MERCHANT_ACCOUNT, PRICE_RANGE, TOO_EARLY,
     TOO_OLD,
@@ -89,12 +91,28 @@ fn paid_is_legal(
     ensures { IsTrue result
         ↔ legal.PaidIsLegal book.now.entries epoid.now consumer merchant price cacct macct moment }
 {
+    let Some(payer) = book.party(consumer) else {
+        return false;
+    };
+    let Some(payee) = book.party(merchant) else {
+        return false;
+    };
     order_is_new(book, epoid, merchant)
-        && roles_are(book, consumer, merchant)
-        && accounts_are(book, consumer, merchant, cacct, macct)
+        && payer.role == CONSUMER
+        && payee.role == MERCHANT
+        && payee.acct == macct
         && price_is_legal(price)
-        && price.0 <= book.balance(cacct)
+        && can_pay(book, consumer, &payer, cacct, price)
         && is_in_time(epoid, moment)
+}
+
+// Whether this is the account of the party, and the price is in it.
+fn can_pay(book: &Book, id: PartyId, party: &Party, acct: AcctId, price: Price) -> bool
+    requires enrolled { party_in book.now.entries id ≡ Some party.now }
+    ensures { IsTrue result
+        ↔ (account_of book.now.entries id ≡ Some acct) × (price.0 ≤ balance book.now.entries acct) }
+{
+    party.acct == acct && price.0 <= book.balance_of(id, party)
 }
 
 fn order_is_new(book: &Book, epoid: &Epoid, merchant: PartyId) -> bool
@@ -107,19 +125,6 @@ fn roles_are(book: &Book, consumer: PartyId, merchant: PartyId) -> bool
     ensures { IsTrue result ↔ legal.RolesAre book.now.entries consumer merchant }
 {
     has_role(book, consumer, CONSUMER) && has_role(book, merchant, MERCHANT)
-}
-
-fn accounts_are(
-    book: &Book,
-    consumer: PartyId,
-    merchant: PartyId,
-    cacct: AcctId,
-    macct: AcctId,
-) -> bool
-    ensures { IsTrue result ↔ legal.AccountsAre book.now.entries consumer merchant cacct macct }
-{
-    has_account(book, consumer, u64::from(cacct.0))
-        && has_account(book, merchant, u64::from(macct.0))
 }
 
 fn price_is_legal(price: Price) -> bool
@@ -169,7 +174,7 @@ fn balance_is_low(book: &Book, id: PartyId, price: Price, a: u64, b: u64) -> boo
     ensures { IsTrue result ↔ legal.BalanceIsLow book.now.entries id price a b }
 {
     match book.party(id) {
-        Some(party) => a == book.balance(party.acct) && b == price.0 && a < b,
+        Some(party) => a == book.balance_of(id, &party) && b == price.0 && a < b,
         None => false,
     }
 }

@@ -1,12 +1,13 @@
-ghost use Rattle.std.specs.Prelude.{◌≡◌, ◌≤◌, ◌<◌, ◌+◌, ◌*◌, ◌-◌, ◌++◌, ◌∷◌, [], Some, IfOk, length, take, vec_capacity, IsSome};
+ghost use Rattle.std.specs.Prelude.{◌≡◌, ◌≤◌, ◌<◌, ◌+◌, ◌*◌, ◌-◌, ◌++◌, ◌∷◌, [], Some, IfOk, IfSome, length, take, vec_capacity, IsSome};
 ghost use Rattle.std.specs.List.{HoldsAt};
 ghost use Rattle.nb_units.specs.declared.limits.TheConstants.{MAX_CAP};
 ghost use Rattle.nb_book.specs.Searches.{party_in, holder_in, funded_in, order_in};
-ghost use Rattle.nb_book.specs.Money.{balance, total};
+ghost use Rattle.nb_book.specs.Money.{account_in, balance, total};
 ghost use Rattle.nb_book.specs.Legal.{Legal, LegalAfter};
 ghost use Rattle.nb_book.specs.Laws.{opens};
 ghost use Rattle.nb_book.specs.Indexes.{Tied, first_place};
 
+use crate::account::Account;
 use crate::entry::Entry;
 use crate::funded::Funded;
 use crate::kept::Kept;
@@ -208,14 +209,23 @@ impl EntryList {
         }
     }
 
-    // The place at which the balance of an account stands that a party holds.
+    // The place of the enrolment that opens the account of this number, at which its balance stands.
+    fn place_of(&self, id: AcctId) -> Option<u32>
+        requires { Tied self.now self.now.entries.items }
+        ensures place { result ≡ first_place (opens id) self.now.entries.items }
+        ensures within { IfSome result (λ at. at < length self.now.entries.items) }
+    {
+        self.accounts.find(&name_key(id.0))
+    }
+
+    // The same for an account that a party holds.
     fn seat(&self, id: AcctId) -> usize
         requires tied { Tied self.now self.now.entries.items }
         requires held { IsSome (holder_in self.now.entries.items id) }
         ensures place { first_place (opens id) self.now.entries.items ≡ Some result }
         ensures within { result < length self.now.entries.items }
     {
-        match self.accounts.find(&name_key(id.0)) {
+        match self.place_of(id) {
             Some(at) => at as usize,
             None => unreachable!(),
         }
@@ -237,7 +247,7 @@ impl EntryList {
         requires { Tied self.now self.now.entries.items }
         ensures { result ≡ holder_in self.now.entries.items id }
     {
-        match self.accounts.find(&name_key(id.0)) {
+        match self.place_of(id) {
             Some(at) => self.entries[at as usize].holder(id),
             None => None,
         }
@@ -265,16 +275,32 @@ impl EntryList {
         }
     }
 
-    // What is in the account of this number.
-    pub(crate) fn balance(&self, id: AcctId) -> u64
+    // The party that holds the account of this number, and what is in it.
+    pub(crate) fn account(&self, id: AcctId) -> Option<Account>
         requires tied { Tied self.now self.now.entries.items }
         requires legal { Legal self.now.entries.items }
-        ensures { result ≡ balance self.now.entries.items id }
+        ensures { result ≡ account_in self.now.entries.items id }
     {
-        match self.accounts.find(&name_key(id.0)) {
-            Some(at) => self.balances[at as usize],
-            None => 0,
+        match self.place_of(id) {
+            Some(at) => match self.entries[at as usize].holder(id) {
+                Some(party) => Some(Account {
+                    party,
+                    balance: self.balances[at as usize],
+                }),
+                None => None,
+            },
+            None => None,
         }
+    }
+
+    // What is in the account of a party that is enrolled. It stands at the place of the enrolment.
+    pub(crate) fn balance_of(&self, id: PartyId, party: &Party) -> u64
+        requires tied { Tied self.now self.now.entries.items }
+        requires legal { Legal self.now.entries.items }
+        requires enrolled { party_in self.now.entries.items id ≡ Some party.now }
+        ensures { result ≡ balance self.now.entries.items party.now.acct }
+    {
+        self.balances[party.at as usize]
     }
 
     // All that the entries brought into the house.

@@ -1,4 +1,5 @@
-ghost use Rattle.std.specs.Prelude.{◌≡◌, ◌≤◌, ◌+◌, ◌++◌, length, codes, vec_capacity, IfOk, Ok};
+ghost use Rattle.std.specs.Prelude.{◌≡◌, ◌≤◌, ◌+◌, ◌-◌, ◌++◌, length, take, codes, vec_capacity, IfOk, Ok};
+ghost use Rattle.nb_units.specs.declared.width.TheConstants.{SEAL};
 ghost use Rattle.nb_seal.specs.Seal.{Opens, seal_of};
 ghost use Rattle.nb_units.specs.Room.{spare_of};
 ghost use Rattle.nb_units.specs.Reads.{Reads};
@@ -7,11 +8,11 @@ ghost use Rattle.nb_units.specs.declared.limits.TheConstants.{MAX_MEMO};
 ghost use Rattle.nb_endorse.specs.declared.endorsement.TheConstants.{MAX_SEALED};
 ghost use Rattle.nb_endorse.specs.Spelling.{IsEndorsement, endorsement_bytes};
 ghost use Rattle.nb_endorse.specs.Reading.{endorsement_of};
-ghost use Rattle.nb_endorse.specs.Sealed.{ReadsSealed};
+ghost use Rattle.nb_endorse.specs.Sealed.{ReadsSealed, undigested};
 ghost use Rattle.nb_endorse.specs.Tags.{endorsement_digest};
 
 use crate::sealed::SealedFault;
-use nb_seal::{seal_spare, sha, unseal_to};
+use nb_seal::{KeyState, seal_spare, sha};
 use nb_units::width::{ACCOUNT, LENGTH, SEAL, SECRET};
 use nb_units::{AcctId, Buffer, Cut, Digest, MAX_MEMO, MAX_ORDER, Malformed, Secret, Small};
 
@@ -64,17 +65,47 @@ pub fn read_sealed(bytes: &[u8], key: &Secret) -> Result<Endorsement, SealedFaul
     ensures spelled { IfOk result (λ e. IsEndorsement e × Opens key.now (codes "endo") bytes.now (endorsement_bytes e)) }
     ensures found { (e : Endorsement) → IsEndorsement e → Opens key.now (codes "endo") bytes.now (endorsement_bytes e) → result ≡ Ok e }
 {
-    opened(bytes, key)
+    opened(bytes, &KeyState::new(key), &mut [0; MAX_SEALED])
 }
 
-// The endorsement that the bytes are the seal of.
-fn opened(bytes: &[u8], key: &Secret) -> Result<Endorsement, SealedFault>
+/// An endorsement that was read, and its digest.
+#[derive(Clone, Copy, PartialEq, Eq, Debug)]
+pub struct DigestedEndorsement {
+    pub endorsement: Endorsement,
+    /// What [`digest_of`] gives of it.
+    pub digest: Digest,
+}
+
+/// The endorsement that the bytes are the seal of, as [`read_sealed`] gives it, under the key of this state, and its digest:
+/// that of the bytes that were read, so that none is spelled again.
+pub fn read_sealed_with(bytes: &[u8], key: &KeyState) -> Result<DigestedEndorsement, SealedFault>
+    requires short { length bytes.now ≤ MAX_SEALED }
+    ensures reads { ReadsSealed endorsement_of key.now (codes "endo") bytes.now (undigested result) }
+    ensures digest { IfOk result (λ read. read.digest ≡ endorsement_digest read.endorsement) }
+    ensures spelled { IfOk result (λ read. IsEndorsement read.endorsement × Opens key.now (codes "endo") bytes.now (endorsement_bytes read.endorsement)) }
+{
+    let mut plain = [0u8; MAX_SEALED];
+    let endorsement = opened(bytes, key, &mut plain)?;
+    let digest = sha(plain.split_at(bytes.len() - SEAL).0);
+    Ok(DigestedEndorsement {
+        endorsement,
+        digest,
+    })
+}
+
+// The endorsement that the bytes are the seal of. Its bytes are left at the front of `plain`.
+fn opened(
+    bytes: &[u8],
+    key: &KeyState,
+    plain: &mut [u8; MAX_SEALED],
+) -> Result<Endorsement, SealedFault>
     requires { length bytes.now ≤ MAX_SEALED }
     ensures reads { ReadsSealed endorsement_of key.now (codes "endo") bytes.now result }
     ensures spelled { IfOk result (λ e. IsEndorsement e × Opens key.now (codes "endo") bytes.now (endorsement_bytes e)) }
+    ensures long { IfOk result (λ e. SEAL ≤ length bytes.now) }
+    ensures text { IfOk result (λ e. take (length bytes.now - SEAL) plain.new ≡ endorsement_bytes e) }
 {
-    let mut plain = [0u8; MAX_SEALED];
-    let n = unseal_to(key, &ENDORSE_LABEL, bytes, &mut plain)?;
+    let n = key.unseal_to(&ENDORSE_LABEL, bytes, plain)?;
     let endorsement = read_endorsement(plain.split_at(n).0)?;
     Ok(endorsement)
 }

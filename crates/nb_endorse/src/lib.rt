@@ -5,7 +5,7 @@
 //! sealed under the merchant's key, and is held by its digest. A [`Receipt`] is what the house says of the order to one of
 //! its parties: [`Signed`] with the house's tag, and sealed under the party's key. A [`Refusal`] is a code and what the code
 //! shows: two numbers and 32 bytes, of which zeros are what it does not show. A [`Reply`] is what one request is answered,
-//! and [`ReplyKeys`] are the keys that it is made with.
+//! and [`ReplyKeys`] are the keys that it is made with: [`ReplyStates`] are their states, where they were made before.
 //!
 //! The layouts stand in `specs/Spelling.antt`, each as a function of the value, and in `specs/Reading.antt`, field by field
 //! with the place of each. That they are the two sides of one thing is proved by the functions of [`laws`]: what was
@@ -26,13 +26,17 @@ pub mod refusal;
 mod reply;
 mod sealed;
 
-pub use endorsement::{Endorsement, MAX_SEALED, digest_of, read_sealed, write_sealed};
+pub use endorsement::{
+    DigestedEndorsement, Endorsement, MAX_SEALED, digest_of, read_sealed, read_sealed_with,
+    write_sealed,
+};
 pub use receipt::{
     ABSENT, NO_KEY, PAID_CODE, PRESENT, RECEIPT_BYTES, Receipt, SIGNED_BYTES, Signed, read_receipt,
-    receipt_tag_ok, seal_receipt, sign_receipt, write_receipt,
+    receipt_tag_ok, seal_receipt, seal_receipt_with, sign_receipt, sign_receipt_with,
+    write_receipt,
 };
 pub use refusal::Refusal;
-pub use reply::{Reply, ReplyKeys};
+pub use reply::{Reply, ReplyKeys, ReplyStates};
 pub use sealed::SealedFault;
 
 #[cfg(test)]

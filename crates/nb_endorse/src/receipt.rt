@@ -11,7 +11,7 @@ ghost use Rattle.nb_endorse.specs.Sealed.{ReadsSealed};
 ghost use Rattle.nb_endorse.specs.Tags.{receipt_tag, signed_receipt};
 
 use crate::sealed::SealedFault;
-use nb_seal::{hmac, same, seal_to, unseal_to};
+use nb_seal::{KeyState, same};
 use nb_units::width::{
     CODE, EPOID, FLAG, MOMENT, MONEY, PARTY, PLACE, PRODUCT, SEAL, SECRET, SHOWN, TAG,
 };
@@ -100,9 +100,17 @@ impl Signed {
 pub fn sign_receipt(r: &Receipt, house: &Secret) -> Signed
     ensures { result ≡ signed_receipt house.now r.now }
 {
+    sign_receipt_with(r, &KeyState::new(house))
+}
+
+/// The receipt with its tag, as [`sign_receipt`] gives it, under the house's key of this state.
+pub fn sign_receipt_with(r: &Receipt, house: &KeyState) -> Signed
+    ensures { result ≡ signed_receipt house.now r.now }
+{
+    let plain = spelled(r);
     Signed {
         receipt: *r,
-        tag: tag_of(r, house),
+        tag: house.code(&RECEIPT_LABEL, plain.as_slice()),
     }
 }
 
@@ -110,7 +118,7 @@ pub fn sign_receipt(r: &Receipt, house: &Secret) -> Signed
 pub fn receipt_tag_ok(s: &Signed, house: &Secret) -> bool
     ensures { IsTrue result ↔ (s.now.tag ≡ receipt_tag house.now s.now.receipt) }
 {
-    same(&s.tag, &tag_of(&s.receipt, house))
+    same(&s.tag, &sign_receipt(&s.receipt, house).tag)
 }
 
 /// The receipt and its tag, sealed under a party's key and the label "rcpt". The receipt must keep the rules that
@@ -120,8 +128,17 @@ pub fn seal_receipt(s: &Signed, key: &Secret) -> [u8; RECEIPT_BYTES]
     ensures sealed { result ≡ seal_of key.now (codes "rcpt") (spelling.signed_bytes s.now) }
     ensures fits { spelling.IsSigned s.now }
 {
+    seal_receipt_with(s, &KeyState::new(key))
+}
+
+/// The receipt and its tag, sealed as [`seal_receipt`] does, under the key of this state.
+pub fn seal_receipt_with(s: &Signed, key: &KeyState) -> [u8; RECEIPT_BYTES]
+    requires lawful { ReceiptKeepsRules s.now.receipt }
+    ensures sealed { result ≡ seal_of key.now (codes "rcpt") (spelling.signed_bytes s.now) }
+    ensures fits { spelling.IsSigned s.now }
+{
     let mut sealed = [0u8; RECEIPT_BYTES];
-    let _all = seal_to(key, &RECEIPT_LABEL, s.spelled().as_slice(), &mut sealed);
+    let _all = key.seal_to(&RECEIPT_LABEL, s.spelled().as_slice(), &mut sealed);
     sealed
 }
 
@@ -167,17 +184,9 @@ fn opened(bytes: &[u8], key: &Secret) -> Result<Signed, SealedFault>
     ensures spelled { IfOk result (λ s. spelling.IsSigned s × Opens key.now (codes "rcpt") bytes.now (spelling.signed_bytes s)) }
 {
     let mut plain = [0u8; RECEIPT_BYTES];
-    let n = unseal_to(key, &RECEIPT_LABEL, bytes, &mut plain)?;
+    let n = KeyState::new(key).unseal_to(&RECEIPT_LABEL, bytes, &mut plain)?;
     let signed = read_signed(plain.split_at(n).0)?;
     Ok(signed)
-}
-
-// The tag of a receipt under a key.
-fn tag_of(r: &Receipt, house: &Secret) -> Tag
-    ensures { result ≡ receipt_tag house.now r.now }
-{
-    let plain = spelled(r);
-    hmac(house, &RECEIPT_LABEL, plain.as_slice())
 }
 
 // The receipt's bytes before its tag.

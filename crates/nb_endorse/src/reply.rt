@@ -1,9 +1,19 @@
-ghost use Rattle.std.specs.Prelude.{◌≡◌};
-ghost use Rattle.nb_endorse.specs.Keys.{no_keys};
+ghost use Rattle.std.specs.Prelude.{◌≡◌, ◌≤◌, ◌+◌, length, codes, take, drop};
+ghost use Rattle.nb_seal.specs.declared.limits.TheConstants.{CODE_BYTES, MAX_TEXT};
+ghost use Rattle.nb_seal.specs.Seal.{seal_of};
+ghost use Rattle.nb_endorse.specs.Keys.{key_in, no_keys};
+ghost use Rattle.nb_endorse.specs.Replies.{ReceiptKeepsRules};
+ghost use Rattle.nb_endorse.specs.Spelling.{signed_bytes};
+ghost use Rattle.nb_endorse.specs.Tags.{signed_receipt};
 
-use crate::receipt::{NO_KEY, Receipt};
+use crate::receipt::{
+    NO_KEY, RECEIPT_BYTES, Receipt, Signed, seal_receipt, seal_receipt_with, sign_receipt,
+    sign_receipt_with,
+};
 use crate::refusal::Refusal;
+use nb_seal::{KeyState, seal_to};
 use nb_units::{AcctId, Epoid, PartyId, Secret};
+use std::marker::Model;
 
 /// What the house answers to one request.
 #[derive(Clone, Copy, PartialEq, Eq, Debug)]
@@ -68,6 +78,118 @@ impl ReplyKeys {
             house: NO_KEY,
             first: NO_KEY,
             second: NO_KEY,
+        }
+    }
+}
+
+/// The states of the keys that a reply is made with, seen as these keys. A key without a state is zeros.
+#[derive(Drop)]
+pub struct ReplyStates {
+    house: Option<KeyState>,
+    first: Option<KeyState>,
+    second: Option<KeyState>,
+}
+
+impl Model for ReplyStates {
+    ghost use Rattle.nb_endorse.specs.declared.reply.ReplyKeys.{ReplyKeys};
+    ghost use Rattle.nb_endorse.specs.Keys.{key_in};
+
+    ghost Value = { ReplyKeys };
+
+    ghost view = { λ s. record { house = key_in s.house; first = key_in s.first; second = key_in s.second } };
+}
+
+impl ReplyStates {
+    /// No key: for a reply that is neither signed nor sealed. No hash is made.
+    pub fn none() -> ReplyStates
+        ensures { result ≡ no_keys }
+    {
+        ReplyStates {
+            house: None,
+            first: None,
+            second: None,
+        }
+    }
+
+    /// Fresh states of these keys.
+    pub fn of(keys: &ReplyKeys) -> ReplyStates
+        ensures { result ≡ keys.now }
+    {
+        ReplyStates {
+            house: Some(KeyState::new(&keys.house)),
+            first: Some(KeyState::new(&keys.first)),
+            second: Some(KeyState::new(&keys.second)),
+        }
+    }
+
+    /// The states of the house's key and of one other, or of two.
+    pub fn from_states(house: KeyState, first: KeyState, second: Option<KeyState>) -> ReplyStates
+        ensures { result ≡ record { house = house; first = first; second = key_in second } }
+    {
+        ReplyStates {
+            house: Some(house),
+            first: Some(first),
+            second,
+        }
+    }
+
+    /// The receipt with its tag under the house's key.
+    pub fn sign(&self, r: &Receipt) -> Signed
+        ensures { result ≡ signed_receipt self.now.house r.now }
+    {
+        match &self.house {
+            Some(house) => sign_receipt_with(r, house),
+            None => sign_receipt(r, &NO_KEY),
+        }
+    }
+
+    /// The receipt and its tag, sealed under the first key.
+    pub fn seal_first(&self, s: &Signed) -> [u8; RECEIPT_BYTES]
+        requires lawful { ReceiptKeepsRules s.now.receipt }
+        ensures { result ≡ seal_of self.now.first (codes "rcpt") (signed_bytes s.now) }
+    {
+        match &self.first {
+            Some(key) => seal_receipt_with(s, key),
+            None => seal_receipt(s, &NO_KEY),
+        }
+    }
+
+    /// The receipt and its tag, sealed under the second key.
+    pub fn seal_second(&self, s: &Signed) -> [u8; RECEIPT_BYTES]
+        requires lawful { ReceiptKeepsRules s.now.receipt }
+        ensures { result ≡ seal_of self.now.second (codes "rcpt") (signed_bytes s.now) }
+    {
+        match &self.second {
+            Some(key) => seal_receipt_with(s, key),
+            None => seal_receipt(s, &NO_KEY),
+        }
+    }
+
+    /// Seals a text under the first key, as `seal_to` of nb_seal does, and answers the length of the seal.
+    pub fn seal_text_first(&self, label: &[u8; 4], plain: &[u8], buf: &mut [u8]) -> usize
+        requires short { length plain.now ≤ MAX_TEXT }
+        requires room { CODE_BYTES + length plain.now ≤ length buf.old }
+        ensures sealed { take result buf.new ≡ seal_of self.now.first label.now plain.now }
+        ensures len { result ≡ CODE_BYTES + length plain.now }
+        ensures rest { drop result buf.new ≡ drop result buf.old }
+    {
+        match &self.first {
+            Some(key) => key.seal_to(label, plain, buf),
+            None => seal_to(&NO_KEY, label, plain, buf),
+        }
+    }
+
+    /// Seals a text under the second key, as `seal_to` of nb_seal does, and answers the length of the seal.
+    pub fn seal_text_second(&self, label: &[u8; 4], plain: &[u8], buf: &mut [u8]) -> usize
+        requires short { length plain.now ≤ MAX_TEXT }
+        requires room { CODE_BYTES + length plain.now ≤ length buf.old }
+        ensures sealed { take result buf.new ≡ seal_of self.now.second label.now plain.now }
+        ensures len { result ≡ CODE_BYTES + length plain.now }
+        ensures rest { drop result buf.new ≡ drop result buf.old }
+    {
+        match &self.second {
+            Some(key) => key.seal_to(label, plain, buf),
+            None => seal_to(&NO_KEY, label, plain, buf),
         }
     }
 }

@@ -7,7 +7,7 @@ ghost use Rattle.nb_epo.specs.Reading.{hidden_of};
 ghost use Rattle.nb_epo.specs.Revealing.{Reveals};
 ghost use Rattle.nb_epo.specs.Tags.{account_digest_of};
 
-use nb_seal::{BadSeal, seal_to, sha, unseal_to};
+use nb_seal::{BadSeal, KeyState, seal_to, sha};
 use nb_units::{AcctId, Buffer, Cut, Digest, MAX_HIDDEN, MAX_MEMO, Malformed, Secret, Small};
 use std::fmt;
 
@@ -95,17 +95,27 @@ pub fn reveal(bytes: &[u8], key: &Secret) -> Result<Hidden, RevealFault>
     ensures spelled { IfOk result (λ h. IsHidden h × Opens key.now (codes "hide") bytes.now (hidden_bytes h)) }
     ensures found { (h : Hidden) → IsHidden h → Opens key.now (codes "hide") bytes.now (hidden_bytes h) → result ≡ Ok h }
 {
+    reveal_with(bytes, &KeyState::new(key))
+}
+
+/// The hidden part that the bytes are the seal of, as [`reveal`] gives it, under the key of this state.
+pub fn reveal_with(bytes: &[u8], key: &KeyState) -> Result<Hidden, RevealFault>
+    requires short { length bytes.now ≤ MAX_HIDDEN }
+    ensures reveals { Reveals key.now bytes.now result }
+    ensures spelled { IfOk result (λ h. IsHidden h × Opens key.now (codes "hide") bytes.now (hidden_bytes h)) }
+    ensures found { (h : Hidden) → IsHidden h → Opens key.now (codes "hide") bytes.now (hidden_bytes h) → result ≡ Ok h }
+{
     opened(bytes, key)
 }
 
 // The hidden part that the bytes are the seal of.
-fn opened(bytes: &[u8], key: &Secret) -> Result<Hidden, RevealFault>
+fn opened(bytes: &[u8], key: &KeyState) -> Result<Hidden, RevealFault>
     requires { length bytes.now ≤ MAX_HIDDEN }
     ensures reveals { Reveals key.now bytes.now result }
     ensures spelled { IfOk result (λ h. IsHidden h × Opens key.now (codes "hide") bytes.now (hidden_bytes h)) }
 {
     let mut plain = [0u8; MAX_HIDDEN];
-    let n = unseal_to(key, &HIDE_LABEL, bytes, &mut plain)?;
+    let n = key.unseal_to(&HIDE_LABEL, bytes, &mut plain)?;
     let hidden = read_hidden(plain.split_at(n).0)?;
     Ok(hidden)
 }

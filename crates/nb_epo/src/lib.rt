@@ -15,9 +15,9 @@ mod hidden;
 pub mod laws;
 mod order;
 
-pub use hidden::{Hidden, RevealFault, account_digest, hide, reveal};
+pub use hidden::{Hidden, RevealFault, account_digest, hide, reveal, reveal_with};
 pub use nb_units::Malformed;
-pub use order::{Order, order_tag_ok, read_order, sign_order, write_order};
+pub use order::{Order, order_tag_ok, read_order, read_tag_ok, sign_order, write_order};
 
 #[cfg(test)]
 mod tests;

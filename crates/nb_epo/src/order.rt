@@ -6,7 +6,8 @@ ghost use Rattle.nb_epo.specs.Spelling.{IsOrder, untagged_bytes, order_bytes};
 ghost use Rattle.nb_epo.specs.Reading.{order_of};
 ghost use Rattle.nb_epo.specs.Tags.{order_tag, signed_order};
 
-use nb_seal::{hmac, same};
+use nb_seal::{KeyState, hmac, same};
+use nb_units::width::TAG;
 use nb_units::{
     Buffer, Cut, Digest, Epoid, MAX_HIDDEN, MAX_ORDER, Malformed, PartyId, Pen, Price, Secret,
     Small, Tag,
@@ -112,6 +113,16 @@ pub fn order_tag_ok(o: &Order, key: &Secret) -> bool
     ensures { IsTrue result ↔ (o.now.tag ≡ order_tag key.now o.now) }
 {
     same(&o.tag, &tag_of(o, key))
+}
+
+/// Whether the tag of an order that was read from these bytes is the one that it has under the key of this state. The bytes are
+/// hashed as they stand: no field is spelled again.
+pub fn read_tag_ok(bytes: &[u8], o: &Order, key: &KeyState) -> bool
+    requires read { bytes.now ≡ order_bytes o.now }
+    ensures { IsTrue result ↔ (o.now.tag ≡ order_tag key.now o.now) }
+{
+    let signed = bytes.split_at(bytes.len() - TAG).0;
+    same(&o.tag, &key.code(&ORDER_LABEL, signed))
 }
 
 // The tag of an order under a key.

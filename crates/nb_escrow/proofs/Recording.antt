@@ -23,7 +23,6 @@ use Rattle.nb_epo.specs.Tags.{order_tag}
 use Rattle.nb_endorse.specs.declared.refusal.TheConstants.{IN_BODY, IN_ORDER, NOT_ENROLLED}
 use Rattle.nb_endorse.specs.declared.refusal.Refusal.{Refusal}
 use Rattle.nb_endorse.specs.Refusals.{refusal}
-use Rattle.nb_endorse.specs.Tags.{endorsement_digest}
 use Rattle.nb_escrow.specs.declared.decision.Decision.{Decision}
 use Rattle.nb_escrow.specs.declared.enrolment.Enrolment.{Enrolment}
 use Rattle.nb_escrow.specs.declared.funding.Funding.{Funding}
@@ -35,7 +34,7 @@ use Rattle.nb_escrow.specs.Held.{place_in}
 use Rattle.nb_escrow.specs.Requests.{enrolment_of, funding_of, endorsed_of}
 use Rattle.nb_escrow.specs.Enrolments.{enrol_entry, if_unheld, numbers_free, again_or_enrol, enrol_steps}
 use Rattle.nb_escrow.specs.Fundings.{fund_entry, if_unfunded, reference_new, account_held, total_within, again_or_fund, fund_steps}
-use Rattle.nb_escrow.specs.Orders.{IsPresented, endorsement_in, hidden_in, names_endorser, same_merchant, same_digest, again_or_settle, order_steps}
+use Rattle.nb_escrow.specs.Orders.{presented_of, IsPresented, endorsement_in, hidden_in, names_endorser, same_merchant, same_digest, again_or_settle, order_steps}
 use Rattle.nb_escrow.specs.Settlements.{settlement_in}
 use Rattle.nb_escrow.specs.Payments.{payment_steps, outcome_of}
 use Rattle.nb_escrow.specs.Laws.{RecordsLegal}
@@ -252,13 +251,14 @@ order_steps_recorded H head cap body moment d is =
     let buyer = role_found H CONSUMER order.0.consumer consumer.0 consumer.1 in
     let seller = role_found H MERCHANT asked.0.merchant merchant.0 merchant.1 in
     let names = merchant_so asked.0.merchant order.0 named.0 named.1 in
-    let p : Presented = record { merchant = merchant.0; consumer = consumer.0; endorsement = endorsement.0; digest = endorsement_digest endorsement.0; order = order.0; hidden = hidden.0 } in
+    let p : Presented = presented_of merchant.0 consumer.0 endorsement.0 order.0 hidden.0 in
     let presented : IsPresented H p = record {
       consumer = buyer.0;
       buys = buyer.1;
       merchant = rw names.0 seller.0;
       sells = seller.1;
       named = names.1 ∙ sym names.0;
+      digested = refl;
     } in
     order_recorded H head cap p moment presented (settlement_in H order.0.epoid) refl d hidden.2
 

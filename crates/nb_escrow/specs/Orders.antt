@@ -5,6 +5,7 @@ use Rattle.nb_units.specs.declared.ids.PartyId.{PartyId}
 use Rattle.nb_units.specs.Fields.{◌>>=◌}
 use Rattle.nb_book.specs.declared.entry.Entry.{Entry}
 use Rattle.nb_book.specs.declared.entry.TheConstants.{CONSUMER, MERCHANT}
+use Rattle.nb_book.specs.declared.party.Party.{Party}
 use Rattle.nb_book.specs.Searches.{party_in}
 use Rattle.nb_epo.specs.declared.order.Order.{Order}
 use Rattle.nb_epo.specs.declared.hidden.Hidden.{Hidden}
@@ -72,6 +73,18 @@ pub record IsPresented (H : List Entry) (p : Presented) : Type 0 where
   pub merchant : party_in H p.order.merchant ≡ Some p.merchant
   pub sells : p.merchant.role ≡ MERCHANT
   pub named : p.order.epoid.merchant ≡ p.order.merchant
+  pub digested : p.digest ≡ endorsement_digest p.endorsement
+
+-- an order whose parties, seals, grammar and tag were tested
+abbrev pub presented_of : Party → Party → Endorsement → Order → Hidden → Presented
+presented_of merchant consumer endorsement order hidden = record {
+  merchant = merchant;
+  consumer = consumer;
+  endorsement = endorsement;
+  digest = endorsement_digest endorsement;
+  order = order;
+  hidden = hidden;
+}
 
 -- how an order that is new is settled
 abbrev pub settled : List Entry → Presented → ℕ → Settlement
@@ -117,11 +130,4 @@ order_steps H head cap body moment = do
   named ← same_merchant asked.merchant order
   signed ← right_tag order.tag (order_tag consumer.key order)
   hidden ← hidden_in consumer.key order.hidden
-  again_or_settle H head cap (record {
-    merchant = merchant;
-    consumer = consumer;
-    endorsement = endorsement;
-    digest = endorsement_digest endorsement;
-    order = order;
-    hidden = hidden;
-  }) moment (settlement_in H order.epoid)
+  again_or_settle H head cap (presented_of merchant consumer endorsement order hidden) moment (settlement_in H order.epoid)

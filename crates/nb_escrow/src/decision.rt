@@ -1,6 +1,7 @@
 ghost use Rattle.std.specs.Prelude.{◌≡◌, ◌<◌, length, IfOk, IfSome, IsOk, IsSome};
 ghost use Rattle.nb_units.specs.declared.frames.TheConstants.{STATUS_REQUEST};
 ghost use Rattle.nb_book.specs.Legal.{Legal, LegalAfter};
+ghost use Rattle.nb_endorse.specs.Keys.{no_keys};
 ghost use Rattle.nb_endorse.specs.Replies.{HasLawfulReceipts};
 ghost use Rattle.nb_escrow.specs.Held.{done as done_at};
 ghost use Rattle.nb_escrow.specs.Laws.{KeyWherePaid, PaidWherePayable};
@@ -13,7 +14,7 @@ use crate::order::decide_order;
 use crate::status::decide_status;
 use nb_book::{Book, Entry};
 use nb_endorse::refusal::NOT_SERVED;
-use nb_endorse::{Refusal, Reply, ReplyKeys};
+use nb_endorse::{Refusal, Reply, ReplyKeys, ReplyStates};
 use nb_units::AcctId;
 use nb_units::frames::{ENROL_REQUEST, FUND_REQUEST, ORDER_REQUEST, STATUS_REQUEST};
 
@@ -42,27 +43,66 @@ pub fn decide(book: &Book, head: &Head, kind: u8, body: &[u8], moment: u64) -> D
     // order with it and names who asks.
     ensures key { kind ≡ STATUS_REQUEST → KeyWherePaid book.now.entries body.now result.reply }
 {
-    match test(book, head, kind, body, moment) {
+    decide_with(book, head, kind, body, moment, &mut ReplyStates::none())
+}
+
+/// Decides as [`decide`] does, and leaves the states of the reply's keys. Those of a merchant, a consumer and the house are made
+/// once for all codes of a request.
+pub fn decide_with(
+    book: &Book,
+    head: &Head,
+    kind: u8,
+    body: &[u8],
+    moment: u64,
+    states: &mut ReplyStates,
+) -> Decision
+    ensures verdict { result ≡ verdict book.now.entries head.now book.now.cap kind body.now moment }
+    ensures legal { IfSome result.entry (LegalAfter book.now.entries) }
+    ensures room { IsSome result.entry → length book.now.entries < book.now.cap }
+    ensures receipts { HasLawfulReceipts result.reply }
+
+    // A payment is recorded exactly where the request is an endorsed order that is payable over these entries.
+    ensures paid { PaidWherePayable book.now.entries book.now.cap kind body.now moment result.entry }
+
+    // To an authentic status query, over at least as many entries as it asks for, a key is given exactly where an entry pays the
+    // order with it and names who asks.
+    ensures key { kind ≡ STATUS_REQUEST → KeyWherePaid book.now.entries body.now result.reply }
+    ensures states { states.new ≡ result.keys }
+{
+    *states = ReplyStates::none();
+    match test(book, head, kind, body, moment, states) {
         Ok(decision) => decision,
-        Err(refusal) => Decision {
-            reply: Reply::Refused(refusal),
-            keys: ReplyKeys::none(),
-            entry: None,
-        },
+        Err(refusal) => {
+            *states = ReplyStates::none();
+            Decision {
+                reply: Reply::Refused(refusal),
+                keys: ReplyKeys::none(),
+                entry: None,
+            }
+        }
     }
 }
 
 // The tests of each kind. That the list is Legal is what the book tells where it is asked: the law on keys needs it.
-fn test(book: &Book, head: &Head, kind: u8, body: &[u8], moment: u64) -> Result<Decision, Refusal>
+fn test(
+    book: &Book,
+    head: &Head,
+    kind: u8,
+    body: &[u8],
+    moment: u64,
+    states: &mut ReplyStates,
+) -> Result<Decision, Refusal>
+    requires fresh { states.old ≡ no_keys }
     ensures steps { result ≡ steps book.now.entries head.now book.now.cap kind body.now moment }
     ensures legal { IfOk result (λ decision. IfSome decision.entry (LegalAfter book.now.entries)) }
     ensures room { IfOk result (λ decision. IsSome decision.entry → length book.now.entries < book.now.cap) }
     ensures receipts { IfOk result (λ decision. HasLawfulReceipts decision.reply) }
     ensures list { kind ≡ STATUS_REQUEST → IsOk result → Legal book.now.entries }
+    ensures states { IfOk result (λ decision. decision.keys ≡ states.new) }
 {
     match kind {
-        ORDER_REQUEST => decide_order(book, head, body, moment),
-        STATUS_REQUEST => decide_status(book, head, body),
+        ORDER_REQUEST => decide_order(book, head, body, moment, states),
+        STATUS_REQUEST => decide_status(book, head, body, states),
         ENROL_REQUEST => decide_enrolment(book, head, body),
         FUND_REQUEST => decide_funding(book, head, body),
         _ => Err(Refusal::of(NOT_SERVED, u64::from(kind), 0)),

@@ -3,6 +3,7 @@ ghost use Rattle.nb_units.specs.Reads.{Reads};
 ghost use Rattle.nb_book.specs.declared.entry.TheConstants.{CONSUMER, MERCHANT};
 ghost use Rattle.nb_book.specs.Searches.{party_in, holder_in};
 ghost use Rattle.nb_book.specs.Legal.{LegalAfter};
+ghost use Rattle.nb_endorse.specs.Keys.{no_keys};
 ghost use Rattle.nb_endorse.specs.Replies.{HasLawfulReceipts};
 ghost use Rattle.nb_escrow.specs.Requests.{enrolment_of};
 ghost use Rattle.nb_escrow.specs.Held.{place_in};
@@ -97,6 +98,7 @@ pub(crate) fn decide_enrolment(book: &Book, head: &Head, body: &[u8]) -> Result<
     ensures legal { IfOk result (λ decision. IfSome decision.entry (LegalAfter book.now.entries)) }
     ensures room { IfOk result (λ decision. IsSome decision.entry → length book.now.entries < book.now.cap) }
     ensures receipts { IfOk result (λ decision. HasLawfulReceipts decision.reply) }
+    ensures keys { IfOk result (λ decision. decision.keys ≡ no_keys) }
 {
     let asked = Enrolment::read(body)?;
     check_tag(

@@ -4,6 +4,7 @@ ghost use Rattle.nb_book.specs.declared.limits.TheConstants.{MAX_TOTAL};
 ghost use Rattle.nb_book.specs.Searches.{holder_in, funded_in};
 ghost use Rattle.nb_book.specs.Legal.{LegalAfter};
 ghost use Rattle.nb_book.specs.Money.{balance, total};
+ghost use Rattle.nb_endorse.specs.Keys.{no_keys};
 ghost use Rattle.nb_endorse.specs.Replies.{HasLawfulReceipts};
 ghost use Rattle.nb_escrow.specs.Requests.{funding_of};
 ghost use Rattle.nb_escrow.specs.Held.{place_in};
@@ -85,6 +86,7 @@ pub(crate) fn decide_funding(book: &Book, head: &Head, body: &[u8]) -> Result<De
     ensures legal { IfOk result (λ decision. IfSome decision.entry (LegalAfter book.now.entries)) }
     ensures room { IfOk result (λ decision. IsSome decision.entry → length book.now.entries < book.now.cap) }
     ensures receipts { IfOk result (λ decision. HasLawfulReceipts decision.reply) }
+    ensures keys { IfOk result (λ decision. decision.keys ≡ no_keys) }
 {
     let asked = Funding::read(body)?;
     check_tag(&asked.tag, &hmac(&head.operator, &FUND_LABEL, signed(body)))?;

@@ -8,6 +8,8 @@
 //! are told in `Settlements.antt`. In `src/` each of these has its file: `order.rt`, `payment.rt`, `status.rt`,
 //! `enrolment.rt`, `funding.rt`, `checks.rt`, `settlement.rt`.
 //!
+//! [`decide_with`] is the same, and leaves the states of the reply's keys, which were made once for all codes of the request.
+//!
 //! A decision's entry is legal after those held, and within the journal's cap. No memory is taken. What holds of every
 //! verdict stands in `specs/Laws.antt` and `Replies.antt`, and is proved by the functions of [`laws`]. Among it stands, in words
 //! that cite no test, where exactly an order is paid (`Payable.antt`), what each refusal claims of the entries and the request
@@ -28,7 +30,7 @@ mod payment;
 mod settlement;
 mod status;
 
-pub use decision::{Decision, decide};
+pub use decision::{Decision, decide, decide_with};
 pub use enrolment::Enrolment;
 pub use funding::Funding;
 pub use head::Head;

@@ -1,17 +1,19 @@
-ghost use Rattle.std.specs.Prelude.{◌≡◌, ◌≤◌, ◌<◌, length, IfOk, IfSome, IsSome, IsNone, OnOk, None};
+ghost use Rattle.std.specs.Prelude.{◌≡◌, ◌≤◌, ◌<◌, length, IfOk, IfErr, IfSome, IsSome, IsNone, OnOk, None, Ok, Err};
 ghost use Rattle.nb_units.specs.Reads.{Reads};
 ghost use Rattle.nb_book.specs.Legal.{LegalAfter};
 ghost use Rattle.nb_book.specs.Searches.{order_in};
 ghost use Rattle.nb_units.specs.declared.limits.TheConstants.{MAX_HIDDEN};
 ghost use Rattle.nb_epo.specs.Reading.{order_of};
+ghost use Rattle.nb_epo.specs.Spelling.{order_bytes};
 ghost use Rattle.nb_epo.specs.Tags.{order_tag};
+ghost use Rattle.nb_endorse.specs.Tags.{endorsement_digest};
 ghost use Rattle.nb_endorse.specs.declared.endorsement.TheConstants.{MAX_SEALED};
 ghost use Rattle.nb_endorse.specs.declared.refusal.TheConstants.{IN_ORDER};
 ghost use Rattle.nb_endorse.specs.Replies.{HasLawfulReceipts};
 ghost use Rattle.nb_escrow.specs.Requests.{endorsed_of};
 ghost use Rattle.nb_escrow.specs.Checks.{well_formed, right_tag};
 ghost use Rattle.nb_escrow.specs.Orders as orders;
-ghost use Rattle.nb_escrow.specs.Settlements.{settlement_entry, IsPaymentOutcome};
+ghost use Rattle.nb_escrow.specs.Settlements.{settlement_entry, settlement_in, IsPaymentOutcome};
 
 use crate::checks::{check_room, find_party_as};
 use crate::decision::Decision;
@@ -24,10 +26,12 @@ use nb_endorse::refusal::{
     WRONG_TAG,
 };
 use nb_endorse::{
-    Endorsement, MAX_SEALED, Refusal, Reply, ReplyKeys, SealedFault, digest_of, read_sealed,
+    DigestedEndorsement, Endorsement, MAX_SEALED, Refusal, Reply, ReplyKeys, ReplyStates,
+    SealedFault, read_sealed_with,
 };
-use nb_epo::{Hidden, Order, RevealFault, order_tag_ok, read_order, reveal};
-use nb_units::{Buffer, Cut, Digest, Epoid, Malformed, PartyId, Secret, Small};
+use nb_epo::{Hidden, Order, RevealFault, read_order, read_tag_ok, reveal_with};
+use nb_seal::KeyState;
+use nb_units::{Buffer, Cut, Digest, Epoid, Malformed, PartyId, Small};
 
 /// A merchant asks the house for the payment of an order.
 #[derive(Drop)]
@@ -82,38 +86,61 @@ pub(crate) fn decide_order(
     head: &Head,
     body: &[u8],
     moment: u64,
+    states: &mut ReplyStates,
 ) -> Result<Decision, Refusal>
     ensures steps { result ≡ orders.order_steps book.now.entries head.now book.now.cap body.now moment }
     ensures legal { IfOk result (λ decision. IfSome decision.entry (LegalAfter book.now.entries)) }
     ensures room { IfOk result (λ decision. IsSome decision.entry → length book.now.entries < book.now.cap) }
     ensures receipts { IfOk result (λ decision. HasLawfulReceipts decision.reply) }
+    ensures states { IfOk result (λ decision. decision.keys ≡ states.new) }
 {
     let asked = EndorsedOrder::read(body)?;
     let merchant = find_party_as(book, MERCHANT, asked.merchant)?;
-    let endorsement = open_endorsement(&asked.sealed, &merchant.key)?;
+    let merchant_key = KeyState::new(&merchant.key);
+    let opened = open_endorsement(&asked.sealed, &merchant_key)?;
+    let endorsement = opened.endorsement;
+    let digest = opened.digest;
     let order = read_endorsed(&endorsement.order)?;
     let consumer = find_party_as(book, CONSUMER, order.consumer)?;
     check_merchant(asked.merchant, &order)?;
-    check_order_tag(&order, &consumer.key)?;
-    let hidden = open_hidden(&order.hidden, &consumer.key)?;
+    let consumer_key = KeyState::new(&consumer.key);
+    check_order_tag(&endorsement.order, &order, &consumer_key)?;
+    let hidden = open_hidden(&order.hidden, &consumer_key)?;
+    *states = ReplyStates::from_states(
+        KeyState::new(&head.house),
+        merchant_key,
+        Some(consumer_key),
+    );
     let presented = Presented {
         merchant,
         consumer,
         endorsement,
-        digest: digest_of(&endorsement),
+        digest,
         order,
         hidden,
     };
-    if let Some(kept) = settled_before(book, &order.epoid) {
-        check_digest(&kept.digest, &presented.digest)?;
-        return Ok(presented.result(head, &kept, None));
-    }
-    check_room(book)?;
-    let settlement = presented.settle(book, moment);
-    Ok(presented.result(head, &settlement, Some(settlement.entry())))
+    presented.again_or_settle(book, head, moment)
 }
 
 impl Presented {
+    // An order that is settled already is told again; a new one is settled and recorded.
+    fn again_or_settle(&self, book: &Book, head: &Head, moment: u64) -> Result<Decision, Refusal>
+        requires presented { orders.IsPresented book.now.entries self.now }
+        ensures steps { result ≡ orders.again_or_settle book.now.entries head.now book.now.cap (orders.presented_of self.now.merchant self.now.consumer self.now.endorsement self.now.order self.now.hidden) moment (settlement_in book.now.entries self.now.order.epoid) }
+        ensures legal { IfOk result (λ decision. IfSome decision.entry (LegalAfter book.now.entries)) }
+        ensures room { IfOk result (λ decision. IsSome decision.entry → length book.now.entries < book.now.cap) }
+        ensures receipts { IfOk result (λ decision. HasLawfulReceipts decision.reply) }
+        ensures keys { IfOk result (λ decision. decision.keys ≡ record { house = head.now.house; first = self.now.merchant.key; second = self.now.consumer.key }) }
+    {
+        if let Some(kept) = settled_before(book, &self.order.epoid) {
+            check_digest(&kept.digest, &self.digest)?;
+            return Ok(self.result(head, &kept, None));
+        }
+        check_room(book)?;
+        let settlement = self.settle(book, moment);
+        Ok(self.result(head, &settlement, Some(settlement.entry())))
+    }
+
     // How the order is settled, which is new.
     fn settle(&self, book: &Book, moment: u64) -> Settlement
         requires presented { orders.IsPresented book.now.entries self.now }
@@ -158,12 +185,14 @@ impl Presented {
 
 // The endorsement that is sealed under the merchant's key.
 #[tactic(auto, unfolding(crate::specs::Orders::endorsement_in))]
-fn open_endorsement(sealed: &Buffer, key: &Secret) -> Result<Endorsement, Refusal>
+fn open_endorsement(sealed: &Buffer, key: &KeyState) -> Result<DigestedEndorsement, Refusal>
     requires { length sealed.now ≤ MAX_SEALED }
-    ensures { result ≡ orders.endorsement_in key.now sealed.now }
+    ensures read { IfOk result (λ opened. orders.endorsement_in key.now sealed.now ≡ Ok opened.endorsement) }
+    ensures refused { IfErr result (λ refusal. orders.endorsement_in key.now sealed.now ≡ Err refusal) }
+    ensures digest { IfOk result (λ opened. opened.digest ≡ endorsement_digest opened.endorsement) }
 {
-    match read_sealed(sealed.as_slice(), key) {
-        Ok(endorsement) => Ok(endorsement),
+    match read_sealed_with(sealed.as_slice(), key) {
+        Ok(opened) => Ok(opened),
         Err(fault) => Err(unread_endorsement(fault)),
     }
 }
@@ -181,6 +210,7 @@ fn unread_endorsement(fault: SealedFault) -> Refusal
 // The order that is endorsed.
 fn read_endorsed(bytes: &Small) -> Result<Order, Refusal>
     ensures test { result ≡ well_formed IN_ORDER (order_of bytes.now) }
+    ensures spelled { IfOk result (λ order. bytes.now ≡ order_bytes order) }
     ensures short { IfOk result (λ order. length order.hidden ≤ MAX_HIDDEN) }
 {
     match read_order(bytes.as_slice()) {
@@ -191,11 +221,11 @@ fn read_endorsed(bytes: &Small) -> Result<Order, Refusal>
 
 // The hidden part that is sealed under the consumer's key.
 #[tactic(auto, unfolding(crate::specs::Orders::hidden_in))]
-fn open_hidden(sealed: &Small, key: &Secret) -> Result<Hidden, Refusal>
+fn open_hidden(sealed: &Small, key: &KeyState) -> Result<Hidden, Refusal>
     requires { length sealed.now ≤ MAX_HIDDEN }
     ensures { result ≡ orders.hidden_in key.now sealed.now }
 {
-    match reveal(sealed.as_slice(), key) {
+    match reveal_with(sealed.as_slice(), key) {
         Ok(hidden) => Ok(hidden),
         Err(fault) => Err(unread_hidden(fault)),
     }
@@ -232,10 +262,11 @@ fn check_named(endorser: PartyId, merchant: PartyId) -> Result<(), Refusal>
 }
 
 #[tactic(auto, unfolding(crate::specs::Checks::right_tag))]
-fn check_order_tag(order: &Order, key: &Secret) -> Result<(), Refusal>
+fn check_order_tag(bytes: &Small, order: &Order, key: &KeyState) -> Result<(), Refusal>
+    requires read { bytes.now ≡ order_bytes order.now }
     ensures { result ≡ right_tag order.now.tag (order_tag key.now order.now) }
 {
-    if order_tag_ok(order, key) {
+    if read_tag_ok(bytes.as_slice(), order, key) {
         Ok(())
     } else {
         Err(Refusal::with(WRONG_TAG, &order.tag))

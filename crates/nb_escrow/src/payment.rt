@@ -1,8 +1,8 @@
-ghost use Rattle.std.specs.Prelude.{◌≡◌};
+ghost use Rattle.std.specs.Prelude.{◌≡◌, Some};
+ghost use Rattle.nb_book.specs.Searches.{party_in};
 ghost use Rattle.nb_escrow.specs.Checks.{unless};
 ghost use Rattle.nb_escrow.specs.Payments.{because, payment_steps, outcome_of};
 
-use crate::checks::balance_now;
 use crate::order::Presented;
 use crate::settlement::{PaymentOutcome, RefusalReason};
 use nb_book::reason::{
@@ -13,6 +13,7 @@ use nb_book::{Book, MAX_AGE, MAX_AHEAD, MAX_PRICE};
 
 // What becomes of an order: it is paid where all tests of the payment hold.
 pub(crate) fn outcome(book: &Book, p: &Presented, moment: u64) -> PaymentOutcome
+    requires consumer { party_in book.now.entries p.now.order.consumer ≡ Some p.now.consumer }
     ensures { result ≡ outcome_of p.now (payment_steps book.now.entries p.now moment) }
 {
     match check_payment(book, p, moment) {
@@ -28,6 +29,7 @@ pub(crate) fn outcome(book: &Book, p: &Presented, moment: u64) -> PaymentOutcome
 // The tests of a payment, in order, each with the reason that it gives.
 #[tactic(auto, unfolding(crate::specs::Payments::payment_steps))]
 fn check_payment(book: &Book, p: &Presented, moment: u64) -> Result<(), RefusalReason>
+    requires consumer { party_in book.now.entries p.now.order.consumer ≡ Some p.now.consumer }
     ensures { result ≡ payment_steps book.now.entries p.now moment }
 {
     let (named, own) = (u64::from(p.hidden.acct.0), u64::from(p.consumer.acct.0));
@@ -59,7 +61,7 @@ fn check_payment(book: &Book, p: &Presented, moment: u64) -> Result<(), RefusalR
         begun,
         moment,
     )?;
-    let balance = balance_now(book, p.consumer.acct);
+    let balance = book.balance_of(p.order.consumer, &p.consumer);
     check(price <= balance, BALANCE_LOW, balance, price)
 }
 

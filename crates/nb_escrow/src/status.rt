@@ -11,8 +11,8 @@ use crate::head::Head;
 use crate::settlement::settled_before;
 use nb_book::{Book, Party};
 use nb_endorse::refusal::TOO_FEW_ENTRIES;
-use nb_endorse::{Refusal, Reply, ReplyKeys};
-use nb_seal::hmac;
+use nb_endorse::{Refusal, Reply, ReplyKeys, ReplyStates};
+use nb_seal::KeyState;
 use nb_units::{Cut, Epoid, Malformed, PartyId, Tag};
 
 // What the tag of a status query is over begins with this.
@@ -54,16 +54,24 @@ impl StatusQuery {
 
 // The tests of a status query, in order.
 #[tactic(auto, unfolding(crate::specs::Statuses::status_steps))]
-pub(crate) fn decide_status(book: &Book, head: &Head, body: &[u8]) -> Result<Decision, Refusal>
+pub(crate) fn decide_status(
+    book: &Book,
+    head: &Head,
+    body: &[u8],
+    states: &mut ReplyStates,
+) -> Result<Decision, Refusal>
     ensures steps { result ≡ status_steps book.now.entries head.now body.now }
     ensures none { IfOk result (λ decision. IsNone decision.entry) }
     ensures receipts { IfOk result (λ decision. HasLawfulReceipts decision.reply) }
     ensures list { OnOk result (Legal book.now.entries) }
+    ensures states { IfOk result (λ decision. decision.keys ≡ states.new) }
 {
     let asked = StatusQuery::read(body)?;
     let asker = find_party(book, asked.asker)?;
-    check_tag(&asked.tag, &hmac(&asker.key, &STATUS_LABEL, signed(body)))?;
+    let asker_key = KeyState::new(&asker.key);
+    check_tag(&asked.tag, &asker_key.code(&STATUS_LABEL, signed(body)))?;
     check_entries(book, asked.least)?;
+    *states = ReplyStates::from_states(KeyState::new(&head.house), asker_key, None);
     Ok(status_of(book, head, &asker, &asked))
 }
 

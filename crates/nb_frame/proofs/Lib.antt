@@ -1,1 +1,3 @@
-pub mod Reading
+pub mod Shortness
+pub mod Taking
+pub mod Cutting

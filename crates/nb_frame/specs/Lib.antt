@@ -1,1 +1,5 @@
-pub mod Reader
+pub mod State
+pub mod Faults
+pub mod Looks
+pub mod Collected
+pub mod Cuts

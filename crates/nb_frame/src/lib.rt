@@ -1,17 +1,26 @@
-//! The frames of a stream, one after another, and the writing of one.
+//! Frames from a stream that comes in pieces of any size, cut anywhere, and the writing of a frame.
 //!
-//! A [`FrameReader`] takes bytes from a source and holds the frame that it read last. What it gives is said by the
-//! bytes that it took: a whole frame, the end of the stream at a frame's end or within a frame, what is no frame, or
-//! a fault of the source. It takes the eight bytes of a header and then exactly the body, so that nothing is taken
-//! ahead.
+//! [`Frames`] is fed one piece after another and gives out the frames of what it was fed, in order. Behind them it tells that
+//! more is wanted, or the first fault with its place in the stream. It is seen as the bytes since the last feed, how many of them
+//! were given out, and how many were given out in all (`specs/Collected.antt`). That what it gives out are the frames, the rest
+//! and the fault of all pieces joined, whatever the pieces were, is proved by the functions of [`laws`].
+//!
+//! All memory is taken by [`Frames::new`]. What waits is moved to the front at most once a feed.
 //!
 //! [`write_frame`] appends the one spelling of a frame.
 //!
-//! Left to others: what a frame asks for, and what a frame is, which `nb_units` says.
+//! Left to others: where pieces come from, what a frame asks for, and what a frame is, which `nb_units` says.
 #![tactic(auto)]
 
-mod frame_reader;
+mod fault;
+pub mod laws;
+mod look;
+mod stream;
 mod writing;
 
-pub use frame_reader::{FrameReader, Next};
+pub use fault::FrameFault;
+pub use stream::{FrameAt, Frames, MAX_HELD, MAX_PIECE, Next};
 pub use writing::write_frame;
+
+#[cfg(test)]
+mod tests;

@@ -2,8 +2,7 @@ ghost use Rattle.std.specs.Prelude.{◌≡◌, length};
 ghost use Rattle.nb_msgs.specs.declared.grant.TheConstants.{GRANT_BYTES};
 ghost use Rattle.nb_msgs.specs.ReplyBytes.{ticket_bytes, sealed_ticket, grant_bytes, grant_frame};
 
-use nb_endorse::ReplyKeys;
-use nb_seal::seal_to;
+use nb_endorse::ReplyStates;
 use nb_units::width::{LENGTH, MOMENT, NONCE, PARTY, SEAL, SECRET};
 use nb_units::{Buffer, PartyId, Secret};
 
@@ -26,15 +25,15 @@ pub(crate) fn grant_body(
     nonce: u64,
     until: u64,
     session: &Secret,
-    keys: &ReplyKeys,
+    keys: &ReplyStates,
 ) -> Buffer
     ensures bytes { result ≡ (grant_frame keys.now consumer merchant nonce until session.now).body }
     ensures long { length result ≡ GRANT_BYTES }
 {
-    let ticket = seal_ticket(consumer, merchant, until, session, &keys.second);
+    let ticket = seal_ticket(consumer, merchant, until, session, keys);
     let plain = grant_text(merchant, nonce, until, session, &ticket);
     let mut sealed = [0u8; GRANT_BYTES];
-    let _all = seal_to(&keys.first, &GRANT_LABEL, plain.as_slice(), &mut sealed);
+    let _all = keys.seal_text_first(&GRANT_LABEL, plain.as_slice(), &mut sealed);
     let mut body = Buffer::new();
     body.raw(&sealed);
     body
@@ -67,13 +66,13 @@ fn seal_ticket(
     merchant: PartyId,
     until: u64,
     session: &Secret,
-    key: &Secret,
+    keys: &ReplyStates,
 ) -> [u8; TICKET_BYTES]
-    ensures { result ≡ sealed_ticket key.now consumer merchant until session.now }
+    ensures { result ≡ sealed_ticket keys.now.second consumer merchant until session.now }
 {
     let plain = ticket_text(consumer, merchant, until, session);
     let mut sealed = [0u8; TICKET_BYTES];
-    let _all = seal_to(key, &TICKET_LABEL, plain.as_slice(), &mut sealed);
+    let _all = keys.seal_text_second(&TICKET_LABEL, plain.as_slice(), &mut sealed);
     sealed
 }
 

@@ -2,7 +2,7 @@
 //!
 //! [`write_reply`] appends the one frame of a reply. Which bytes these are stands in `specs/ReplyBytes.antt`, as a
 //! function of the reply and of the keys that it is signed and sealed under; no reply has more than [`LONGEST_REPLY`]
-//! bytes. No memory is taken.
+//! bytes. No memory is taken. [`write_reply_with`] is the same where the states of the keys are at hand.
 //!
 //! Left to others: what is replied, and the reading of frames.
 #![tactic(auto)]
@@ -10,7 +10,7 @@
 mod grant;
 mod reply;
 
-pub use reply::{LONGEST_REPLY, REPLY_ROOM, limits, write_reply};
+pub use reply::{LONGEST_REPLY, REPLY_ROOM, limits, write_reply, write_reply_with};
 
 #[cfg(test)]
 mod tests;

@@ -9,16 +9,14 @@ ghost use Rattle.nb_msgs.specs.declared.reply.TheConstants.{MOST_BODY, REPLY_ROO
 
 use crate::grant::grant_body;
 use nb_endorse::{
-    ABSENT, PRESENT, RECEIPT_BYTES, Receipt, Refusal, Reply, ReplyKeys, SIGNED_BYTES, seal_receipt,
-    sign_receipt,
+    ABSENT, PRESENT, RECEIPT_BYTES, Receipt, Refusal, Reply, ReplyKeys, ReplyStates, SIGNED_BYTES,
 };
 use nb_frame::write_frame;
-use nb_seal::seal_to;
 use nb_units::frames::{
     DONE_REPLY, GRANT_REPLY, HEADER, REFUSED_REPLY, RESULT_REPLY, STATUS_REPLY,
 };
 use nb_units::width::{EPOID, FLAG, LENGTH, PLACE, SEAL};
-use nb_units::{AcctId, Buffer, Epoid, Secret};
+use nb_units::{AcctId, Buffer, Epoid};
 
 /// The room that is asked for a reply's frame.
 pub const REPLY_ROOM: usize = 512;
@@ -48,6 +46,17 @@ pub fn write_reply(reply: &Reply, keys: &ReplyKeys, out: &mut Vec<u8>)
     ensures short { length (layout.reply_bytes keys.now reply.now) ≤ LONGEST_REPLY }
     ensures room { vec_capacity out.new ≡ vec_capacity out.old }
 {
+    write_reply_with(reply, &ReplyStates::of(keys), out);
+}
+
+/// Appends the frame of a reply as [`write_reply`] does, under the keys of these states.
+pub fn write_reply_with(reply: &Reply, keys: &ReplyStates, out: &mut Vec<u8>)
+    requires lawful { HasLawfulReceipts reply.now }
+    requires room { REPLY_ROOM ≤ spare_of out.old }
+    ensures bytes { out.new.items ≡ out.old.items ++ layout.reply_bytes keys.now reply.now }
+    ensures short { length (layout.reply_bytes keys.now reply.now) ≤ LONGEST_REPLY }
+    ensures room { vec_capacity out.new ≡ vec_capacity out.old }
+{
     write_frame(kind_of(reply), body_of(reply, keys).as_slice(), out);
 }
 
@@ -67,7 +76,7 @@ fn kind_of(reply: &Reply) -> u8
 }
 
 // The body of a reply's frame.
-fn body_of(reply: &Reply, keys: &ReplyKeys) -> Buffer
+fn body_of(reply: &Reply, keys: &ReplyStates) -> Buffer
     requires { HasLawfulReceipts reply.now }
     ensures bytes { result ≡ (layout.reply_frame keys.now reply.now).body }
     ensures short { length result ≤ MOST_BODY }
@@ -91,42 +100,43 @@ fn body_of(reply: &Reply, keys: &ReplyKeys) -> Buffer
     }
 }
 
-// The body that gives each party its receipt, signed by the house and sealed.
-fn result_body(merchant: &Receipt, consumer: &Receipt, keys: &ReplyKeys) -> Buffer
+// The body that gives each party its receipt, signed by the house and sealed. Receipts that are equal, as those of a payment, are
+// signed once.
+fn result_body(merchant: &Receipt, consumer: &Receipt, keys: &ReplyStates) -> Buffer
     requires merchant { ReceiptKeepsRules merchant.now }
     requires consumer { ReceiptKeepsRules consumer.now }
     ensures bytes { result ≡ (layout.result_frame keys.now merchant.now consumer.now).body }
     ensures short { length result ≤ MOST_BODY }
 {
     let mut body = Buffer::new();
-    body.bytes(&seal_receipt(&sign_receipt(merchant, &keys.house), &keys.first));
-    body.bytes(&seal_receipt(&sign_receipt(consumer, &keys.house), &keys.second));
+    let signed = keys.sign(merchant);
+    body.bytes(&keys.seal_first(&signed));
+    if consumer == merchant {
+        body.bytes(&keys.seal_second(&signed));
+    } else {
+        body.bytes(&keys.seal_second(&keys.sign(consumer)));
+    }
     body
 }
 
 // The body that gives the status of an order, sealed for who asked.
-fn status_body(place: u64, epoid: &Epoid, receipt: &Option<Receipt>, keys: &ReplyKeys) -> Buffer
+fn status_body(place: u64, epoid: &Epoid, receipt: &Option<Receipt>, keys: &ReplyStates) -> Buffer
     requires { IfSome receipt.now ReceiptKeepsRules }
     ensures bytes { result ≡ (layout.status_frame keys.now place epoid.now receipt.now).body }
     ensures short { length result ≤ MOST_STATUS }
 {
-    let plain = status_text(place, epoid, receipt, &keys.house);
+    let plain = status_text(place, epoid, receipt, keys);
     let mut sealed = [0u8; MOST_STATUS];
-    let n = seal_to(
-        &keys.first,
-        &STATUS_SEAL_LABEL,
-        plain.as_slice(),
-        &mut sealed,
-    );
+    let n = keys.seal_text_first(&STATUS_SEAL_LABEL, plain.as_slice(), &mut sealed);
     let mut body = Buffer::new();
     body.raw(sealed.split_at(n).0);
     body
 }
 
 // The bytes of a status before they are sealed.
-fn status_text(place: u64, epoid: &Epoid, receipt: &Option<Receipt>, house: &Secret) -> Buffer
+fn status_text(place: u64, epoid: &Epoid, receipt: &Option<Receipt>, keys: &ReplyStates) -> Buffer
     requires { IfSome receipt.now ReceiptKeepsRules }
-    ensures bytes { result ≡ layout.status_bytes house.now place epoid.now receipt.now }
+    ensures bytes { result ≡ layout.status_bytes keys.now.house place epoid.now receipt.now }
     ensures short { length result ≤ MOST_TEXT }
 {
     let mut text = Buffer::new();
@@ -136,7 +146,7 @@ fn status_text(place: u64, epoid: &Epoid, receipt: &Option<Receipt>, house: &Sec
         None => text.u8(ABSENT),
         Some(receipt) => {
             text.u8(PRESENT);
-            text.raw(sign_receipt(receipt, house).spelled().as_slice());
+            text.raw(keys.sign(receipt).spelled().as_slice());
         }
     }
     text

@@ -2,22 +2,21 @@
 use Rattle.std.proofs.Common.{◌≡◌, ℕ, ◌⊎◌, List, [], ◌∷◌, ◌++◌, length, Option, None, Some, Err, refl, sym, ap, subst, ◌∙◌, append_assoc, append-nil, arith, inl, inr}
 use Rattle.std.specs.Prelude.{map}
 use Rattle.std.specs.List.{flat_map, AllByRecursion}
-use Rattle.std.specs.Io.KnownBytes.{Consumes}
+use Rattle.std.specs.Io.KnownBytes.{Consumes, IsAtEnd}
 use Rattle.std.proofs.lemmas.List.{length-append, length-map}
 use Rattle.std.proofs.lemmas.Option.{same_Some}
 use Rattle.nb_port.specs.Tells.{DiskTells}
 use Rattle.nb_port.specs.Faults.{Rose}
-use Rattle.nb_units.specs.Frames.{Front, Whole, Empty, Partial, Bad, HeaderFault, Frame, frame, IsFrame, front_of, IsBad, Splits}
-use Rattle.nb_units.proofs.FrameLaws.{longest, whole_front, bad_stays}
-use Rattle.nb_frame.proofs.Reading.{nothing_bad}
+use Rattle.nb_units.specs.Frames.{Whole, Empty, Partial, Bad, HeaderFault, Frame, frame, IsFrame, front_of, Splits}
+use Rattle.nb_units.proofs.FrameLaws.{longest, whole_front, bad_stays, empty_bad}
 use Rattle.nb_run.specs.declared.ending.TheConstants.{CLEAN, OUT_OF_MEMORY}
 use Rattle.nb_batch.specs.declared.batch.BatchEnd.{BatchEnd}
-use Rattle.nb_batch.specs.declared.batch.BatchEnd.TheVariants.{Clean, ReadFault, WriteFault, BadInput, NoMemory, FrameLimit}
+use Rattle.nb_batch.specs.declared.batch.BatchEnd.TheVariants.{Clean, Cut, BadFrame, ReadFault, WriteFault, NoMemory, FrameLimit}
 use Rattle.nb_vault.specs.declared.vault.opening.VaultFault.{VaultFault}
 use Rattle.nb_vault.specs.declared.vault.opening.VaultFault.TheVariants.{Unborn, Damaged, BadEntry, DiskFault, NoMemory as Starved}
 use Rattle.nb_vault.specs.Opens.{WholeOpens, VaultOpenFails}
 use Rattle.nb_vault.specs.Vaults.{Chronicled}
-use Rattle.nb_batch.specs.Batch.{frame_of, Outside, EndsBadly, Served, FaultOf}
+use Rattle.nb_batch.specs.Batch.{frame_of, Outside, Served, FaultOf}
 use Rattle.nb_run.specs.Ending.{status_of}
 use Rattle.nb_run.specs.Run.{IsWholeInput, IsJournal, unopened}
 use Rattle.nb_batch.proofs.Serving.{nothing_whole}
@@ -29,35 +28,38 @@ nothing_partial e = empty_partial e
     empty_partial : Empty ≡ Partial → ⊥
     empty_partial e = cc
 
+nothing_bad : (h : HeaderFault) → front_of [] ≡ Bad h → ⊥
+unfolding front_of
+nothing_bad h e = empty_bad h e
+
 partial_whole : (f : Frame) (rest : List ℕ) → Partial ≡ Whole f rest → ⊥
 partial_whole f rest e = cc
 
 bad_whole : (fault : HeaderFault) (f : Frame) (rest : List ℕ) → Bad fault ≡ Whole f rest → ⊥
 bad_whole fault f rest e = cc
 
-bad_parts : (front : Front) → IsBad front → (fault : HeaderFault) × (front ≡ Bad fault)
-bad_parts (Bad fault) is = (fault, refl)
-bad_parts (Whole f rest) is = absurd is
-bad_parts Empty is = absurd is
-bad_parts Partial is = absurd is
-
 -- what is left of whole frames begins with a frame, or is nothing
-no_bad_rest : (rest left : List ℕ) (more : List Frame) → AllByRecursion IsFrame more → rest ++ left ≡ flat_map frame more ++ [] → EndsBadly rest (Some left) → ⊥
-no_bad_rest rest left [] lawful is bad =
-    let none : rest ≡ [] = nothing rest left is in
-    elim bad [
-      | inl p ↦ nothing_partial (ap front_of (sym none) ∙ p.0)
-      | inr b ↦ nothing_bad rest (ap length none) b.0
-    ]
+begins : (rest left : List ℕ) (more : List Frame) → AllByRecursion IsFrame more → rest ++ left ≡ flat_map frame more ++ [] → (rest ≡ []) ⊎ ((f : Frame) × (behind : List ℕ) × (front_of (rest ++ left) ≡ Whole f behind))
+begins rest left [] lawful is = inl (nothing rest left is)
   where
     nothing : (a b : List ℕ) → a ++ b ≡ [] → a ≡ []
     nothing [] b e = refl
     nothing (x ∷ a) b e = absurd cc
-no_bad_rest rest left (m ∷ more) lawful is bad =
-    let front = ap front_of (is ∙ ap (λ (xs : List ℕ). xs) (append_assoc (frame m) (flat_map frame more) [])) ∙ whole_front m (flat_map frame more ++ []) lawful.0 in
-    elim bad [
-      | inl p ↦ partial_whole m _ (sym (ap front_of (ap (λ (xs : List ℕ). rest ++ xs) p.1 ∙ append-nil rest) ∙ p.0) ∙ front)
-      | inr b ↦ (let parts = bad_parts (front_of rest) b.0 in bad_whole parts.0 m _ (sym (bad_stays rest left parts.0 parts.1) ∙ front))
+begins rest left (m ∷ more) lawful is =
+    inr (m, flat_map frame more ++ [], ap front_of (is ∙ append_assoc (frame m) (flat_map frame more) []) ∙ whole_front m (flat_map frame more ++ []) lawful.0)
+
+no_cut_rest : (rest left : List ℕ) (more : List Frame) → AllByRecursion IsFrame more → rest ++ left ≡ flat_map frame more ++ [] → front_of rest ≡ Partial → IsAtEnd (Some left) → ⊥
+no_cut_rest rest left more lawful is cut end =
+    elim (begins rest left more lawful is) [
+      | inl none ↦ nothing_partial (ap front_of (sym none) ∙ cut)
+      | inr b ↦ partial_whole b.0 b.1 (sym (ap front_of (ap (λ (xs : List ℕ). rest ++ xs) end ∙ append-nil rest) ∙ cut) ∙ b.2)
+    ]
+
+no_bad_rest : (rest left : List ℕ) (more : List Frame) (h : HeaderFault) → AllByRecursion IsFrame more → rest ++ left ≡ flat_map frame more ++ [] → front_of rest ≡ Bad h → ⊥
+no_bad_rest rest left more h lawful is bad =
+    elim (begins rest left more lawful is) [
+      | inl none ↦ nothing_bad h (ap front_of (sym none) ∙ bad)
+      | inr b ↦ bad_whole h b.0 b.1 (sym (bad_stays rest left h bad) ∙ b.2)
     ]
 
 -- how whole frames were split
@@ -90,15 +92,19 @@ complete_end tells old new Clean before after source source' sink sink' s fault 
 complete_end tells old new NoMemory before after source source' sink sink' s fault input no_source no_sink = inr refl
 complete_end tells old new ReadFault before after source source' sink sink' s fault input no_source no_sink = absurd (no_source fault)
 complete_end tells old new WriteFault before after source source' sink sink' s fault input no_source no_sink = absurd (no_sink fault)
-complete_end tells old new BadInput before after source source' sink sink' s fault input no_source no_sink =
+complete_end tells old new (Cut place) before after source source' sink sink' s fault input no_source no_sink =
     let gs : List Frame = map frame_of s.answered ++ s.unanswered in
-    let p = parts input.frames gs s.rest s.taken before.left after.left input.is input.lawful s.took s.frames in
+    let p = parts input.frames gs s.rest s.read before.left after.left input.is input.lawful s.took s.frames in
     let P : List Frame → Type 0 = λ fs. AllByRecursion IsFrame fs in
-    let Q : Option (List ℕ) → Type 0 = λ o. EndsBadly s.rest o in
-    absurd (no_bad_rest s.rest p.left p.more (lawful_rest gs p.more (subst P p.all input.lawful)) p.after (subst Q p.known s.ends))
+    absurd (no_cut_rest s.rest p.left p.more (lawful_rest gs p.more (subst P p.all input.lawful)) p.after s.ends.0 (subst IsAtEnd p.known s.ends.1))
+complete_end tells old new (BadFrame bad) before after source source' sink sink' s fault input no_source no_sink =
+    let gs : List Frame = map frame_of s.answered ++ s.unanswered in
+    let p = parts input.frames gs s.rest s.read before.left after.left input.is input.lawful s.took s.frames in
+    let P : List Frame → Type 0 = λ fs. AllByRecursion IsFrame fs in
+    absurd (no_bad_rest s.rest p.left p.more s.ends.0 (lawful_rest gs p.more (subst P p.all input.lawful)) p.after s.ends.1)
 complete_end tells old new FrameLimit before after source source' sink sink' s fault input no_source no_sink =
     let gs : List Frame = map frame_of s.answered ++ s.unanswered in
-    let p = parts input.frames gs s.rest s.taken before.left after.left input.is input.lawful s.took s.frames in
+    let p = parts input.frames gs s.rest s.read before.left after.left input.is input.lawful s.took s.frames in
     absurd (omega (arith, input.few, s.counted, ap length p.all, length-append gs p.more, length-append (map frame_of s.answered) s.unanswered, length-map s.answered frame_of))
 
 -- a content that stands for entries is opened, unless the disk failed or memory was wanting

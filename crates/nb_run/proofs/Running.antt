@@ -1,16 +1,19 @@
 -- What a batch served, told as a run of the program.
-use Rattle.std.proofs.Common.{◌≡◌, ◌≢◌, ℕ, ◌≤◌, ◌⊎◌, Bool, false, List, [], ◌∷◌, ◌++◌, length, Option, IfSome, refl, sym, ap, subst, ◌∙◌, append-nil, arith, inl, inr, ⊎_elim}
+use Rattle.std.proofs.lemmas.List.{nil_from_length, length-append}
+use Rattle.std.proofs.Common.{◌≡◌, ◌≢◌, ℕ, ◌+◌, ◌≤◌, ◌⊎◌, Bool, false, List, [], ◌∷◌, ◌++◌, length, Option, IfSome, refl, sym, ap, subst, ◌∙◌, append-nil, arith, inl, inr, ⊎_elim}
 use Rattle.std.specs.Prelude.{map}
-use Rattle.std.specs.List.{AllByRecursion}
+use Rattle.std.specs.List.{flat_map, AllByRecursion}
 use Rattle.std.specs.Option.{option_to_list}
 use Rattle.std.specs.Io.KnownBytes.{Appends, IsAtEnd}
 use Rattle.nb_port.specs.Tells.{DiskTells}
 use Rattle.nb_port.proofs.Backing.{backed_earlier, backed_grows}
 use Rattle.nb_port.specs.Faults.{Rose, Backed}
-use Rattle.nb_units.specs.Frames.{front_of, IsBad}
+use Rattle.nb_units.specs.Frames.{Frame, frame, front_of, IsBad, Splits}
 use Rattle.nb_book.specs.declared.entry.Entry.{Entry}
 use Rattle.nb_escrow.specs.Head.{head_of}
-use Rattle.nb_frame.proofs.Reading.{nothing_bad}
+use Rattle.nb_frame.specs.Faults.{place_of}
+use Rattle.nb_frame.specs.Looks.{IsShort}
+use Rattle.nb_frame.proofs.Shortness.{short_not_bad, nothing_bad}
 use Rattle.nb_journal.specs.Time.{Unwritten}
 use Rattle.nb_turns.specs.declared.line.Line.{Line}
 use Rattle.nb_vault.specs.declared.origin.Origin.{Origin}
@@ -25,10 +28,11 @@ use Rattle.nb_vault.specs.Vaults.{Chronicled, state_of, entries_in, doubt_in, Ke
 use Rattle.nb_run.specs.declared.ending.TheConstants.{CLEAN, SOURCE_FAILED, SINK_FAILED, BAD_INPUT, OUT_OF_MEMORY, FRAME_LIMIT}
 use Rattle.nb_batch.specs.declared.batch.TheConstants.{MOST_FRAMES}
 use Rattle.nb_batch.specs.declared.batch.BatchEnd.{BatchEnd}
-use Rattle.nb_batch.specs.declared.batch.BatchEnd.TheVariants.{Clean, ReadFault, WriteFault, BadInput, NoMemory, FrameLimit}
-use Rattle.nb_batch.specs.Batch.{at_rest, AllDecided, IsDecided, failure_in_mark, failures_told, Outside, EndsAs, EndsBadly, CountsAs, AnswersAll, Wrote, WroteShort, Served, StandsInRun, GoesThrough}
-use Rattle.nb_run.specs.Ending.{at_no_place, status_of}
-use Rattle.nb_run.specs.Run.{Batch}
+use Rattle.nb_batch.specs.declared.batch.BatchEnd.TheVariants.{Clean, Cut, BadFrame, ReadFault, WriteFault, NoMemory, FrameLimit}
+use Rattle.nb_batch.specs.Batch.{at_rest, AllDecided, IsDecided, failure_in_mark, failures_told, Outside, frame_of, CountsAs, AnswersAll, Wrote, WroteShort, Served, StandsInRun, GoesThrough}
+use Rattle.nb_batch.specs.Fetch.{EndsAs}
+use Rattle.nb_run.specs.Ending.{ended, status_of}
+use Rattle.nb_run.specs.Run.{EndsBadly, Batch}
 
 -- ---- where each turn decides
 
@@ -76,15 +80,17 @@ all_decided house first (a ∷ more) (s ∷ states) from to none run backed calm
 
 answers_all : (end : BatchEnd) → (status_of end ≡ CLEAN) ⊎ (status_of end ≡ BAD_INPUT) ⊎ (status_of end ≡ SOURCE_FAILED) → AnswersAll end
 answers_all Clean is = tt
-answers_all BadInput is = tt
+answers_all (Cut place) is = tt
+answers_all (BadFrame fault) is = tt
 answers_all ReadFault is = tt
 answers_all WriteFault is = elim is [ inl e ↦ absurd (omega arith) | inr o ↦ elim o [ inl e ↦ absurd (omega arith) | inr e ↦ absurd (omega arith) ] ]
-answers_all NoMemory is = elim is [ inl e ↦ absurd (omega arith) | inr o ↦ elim o [ inl e ↦ absurd (omega arith) | inr e ↦ absurd (omega arith) ] ]
+answers_all NoMemory is = tt
 answers_all FrameLimit is = elim is [ inl e ↦ absurd (omega arith) | inr o ↦ elim o [ inl e ↦ absurd (omega arith) | inr e ↦ absurd (omega arith) ] ]
 
 wrote_all : (end : BatchEnd) (before after : Outside) (answered : List Answered) → Wrote end before after answered → status_of end ≢ SINK_FAILED → Appends before.sent after.sent (replies answered)
 wrote_all Clean before after answered wrote other = wrote
-wrote_all BadInput before after answered wrote other = wrote
+wrote_all (Cut place) before after answered wrote other = wrote
+wrote_all (BadFrame fault) before after answered wrote other = wrote
 wrote_all ReadFault before after answered wrote other = wrote
 wrote_all WriteFault before after answered wrote other = absurd (other refl)
 wrote_all NoMemory before after answered wrote other = wrote
@@ -92,55 +98,107 @@ wrote_all FrameLimit before after answered wrote other = wrote
 
 wrote_part : (end : BatchEnd) (before after : Outside) (answered : List Answered) → Wrote end before after answered → status_of end ≡ SINK_FAILED → WroteShort before after answered
 wrote_part Clean before after answered wrote is = absurd (omega arith)
-wrote_part BadInput before after answered wrote is = absurd (omega arith)
+wrote_part (Cut place) before after answered wrote is = absurd (omega arith)
+wrote_part (BadFrame fault) before after answered wrote is = absurd (omega arith)
 wrote_part ReadFault before after answered wrote is = absurd (omega arith)
 wrote_part WriteFault before after answered wrote is = wrote
 wrote_part NoMemory before after answered wrote is = absurd (omega arith)
 wrote_part FrameLimit before after answered wrote is = absurd (omega arith)
 
-ends_clean : (end : BatchEnd) (rest : List ℕ) (left : Option (List ℕ)) → EndsAs end rest left → status_of end ≡ CLEAN → (rest ≡ []) × IsAtEnd left
-ends_clean Clean rest left ends is = ends
-ends_clean BadInput rest left ends is = absurd (omega arith)
-ends_clean ReadFault rest left ends is = absurd (omega arith)
-ends_clean WriteFault rest left ends is = absurd (omega arith)
-ends_clean NoMemory rest left ends is = absurd (omega arith)
-ends_clean FrameLimit rest left ends is = absurd (omega arith)
+ends_clean : (end : BatchEnd) (rest : List ℕ) (left : Option (List ℕ)) (before : ℕ) → EndsAs end before rest left → status_of end ≡ CLEAN → (rest ≡ []) × IsAtEnd left
+ends_clean Clean rest left before ends is = ends
+ends_clean (Cut place) rest left before ends is = absurd (omega arith)
+ends_clean (BadFrame fault) rest left before ends is = absurd (omega arith)
+ends_clean ReadFault rest left before ends is = absurd (omega arith)
+ends_clean WriteFault rest left before ends is = absurd (omega arith)
+ends_clean NoMemory rest left before ends is = absurd (omega arith)
+ends_clean FrameLimit rest left before ends is = absurd (omega arith)
 
-ends_bad : (end : BatchEnd) (rest : List ℕ) (left : Option (List ℕ)) → EndsAs end rest left → status_of end ≡ BAD_INPUT → EndsBadly rest left
-ends_bad Clean rest left ends is = absurd (omega arith)
-ends_bad BadInput rest left ends is = ends
-ends_bad ReadFault rest left ends is = absurd (omega arith)
-ends_bad WriteFault rest left ends is = absurd (omega arith)
-ends_bad NoMemory rest left ends is = absurd (omega arith)
-ends_bad FrameLimit rest left ends is = absurd (omega arith)
+ends_bad : (end : BatchEnd) (read : List ℕ) (frames : List Frame) (rest : List ℕ) (left : Option (List ℕ)) → (AnswersAll end → length read ≡ length (flat_map frame frames) + length rest) → EndsAs end (length (flat_map frame frames)) rest left
+    → status_of end ≡ BAD_INPUT → EndsBadly read frames rest left (ended end).place
+ends_bad Clean read frames rest left long ends is = absurd (omega arith)
+ends_bad (Cut place) read frames rest left long ends is = inl (ends.0, ends.1, ends.2 ∙ sym (long tt))
+ends_bad (BadFrame fault) read frames rest left long ends is = inr (ends.0, ends.1, ap place_of ends.2)
+ends_bad ReadFault read frames rest left long ends is = absurd (omega arith)
+ends_bad WriteFault read frames rest left long ends is = absurd (omega arith)
+ends_bad NoMemory read frames rest left long ends is = absurd (omega arith)
+ends_bad FrameLimit read frames rest left long ends is = absurd (omega arith)
 
-bad_ends : (end : BatchEnd) (rest : List ℕ) (left : Option (List ℕ)) → EndsAs end rest left → IsBad (front_of rest) → (status_of end ≡ BAD_INPUT) ⊎ (status_of end ≡ SOURCE_FAILED)
-bad_ends Clean rest left ends bad = absurd (nothing_bad rest (ap length ends.0) bad)
-bad_ends BadInput rest left ends bad = inl refl
-bad_ends ReadFault rest left ends bad = inr refl
-bad_ends WriteFault rest left ends bad = absurd (nothing_bad rest (ap length ends) bad)
-bad_ends NoMemory rest left ends bad = absurd (ends bad)
-bad_ends FrameLimit rest left ends bad = absurd (nothing_bad rest (ap length ends) bad)
+ends_failed : (end : BatchEnd) (rest : List ℕ) (left : Option (List ℕ)) (before : ℕ) → EndsAs end before rest left → status_of end ≡ SOURCE_FAILED → IsShort (front_of rest)
+ends_failed Clean rest left before ends is = absurd (omega arith)
+ends_failed (Cut place) rest left before ends is = absurd (omega arith)
+ends_failed (BadFrame fault) rest left before ends is = absurd (omega arith)
+ends_failed ReadFault rest left before ends is = ends
+ends_failed WriteFault rest left before ends is = absurd (omega arith)
+ends_failed NoMemory rest left before ends is = absurd (omega arith)
+ends_failed FrameLimit rest left before ends is = absurd (omega arith)
 
-cut_ends : (end : BatchEnd) (rest : List ℕ) (left : Option (List ℕ)) → EndsAs end rest left → rest ≢ [] → (status_of end ≡ BAD_INPUT) ⊎ (status_of end ≡ SOURCE_FAILED) ⊎ (status_of end ≡ OUT_OF_MEMORY)
-cut_ends Clean rest left ends some = absurd (some ends.0)
-cut_ends BadInput rest left ends some = inl refl
-cut_ends ReadFault rest left ends some = inr (inl refl)
-cut_ends WriteFault rest left ends some = absurd (some ends)
-cut_ends NoMemory rest left ends some = inr (inr refl)
-cut_ends FrameLimit rest left ends some = absurd (some ends)
+-- nothing was read where nothing was answered, nothing waits, and there is no rest
+nothing_read : (read : List ℕ) (answered : List Answered) (unanswered : List Frame) (rest : List ℕ) → Splits read (map frame_of answered ++ unanswered) rest → answered ≡ [] → unanswered ≡ [] → rest ≡ [] → read ≡ []
+nothing_read read answered unanswered rest splits none no_more no_rest =
+    splits.bytes
+    ∙ ap (λ (done : List Answered). flat_map frame (map frame_of done ++ unanswered) ++ rest) none
+    ∙ ap (λ (fs : List Frame). flat_map frame fs ++ rest) no_more
+    ∙ no_rest
+
+starved_so : (end : BatchEnd) (read : List ℕ) (answered : List Answered) (unanswered : List Frame) (rest : List ℕ) (left : Option (List ℕ)) (before : ℕ) → Splits read (map frame_of answered ++ unanswered) rest → (AnswersAll end → unanswered ≡ [])
+    → EndsAs end before rest left → CountsAs end (length answered) → status_of end ≡ OUT_OF_MEMORY → (answered ≡ []) × (read ≡ [])
+starved_so Clean read answered unanswered rest left before splits all ends counted is = absurd (omega arith)
+starved_so (Cut place) read answered unanswered rest left before splits all ends counted is = absurd (omega arith)
+starved_so (BadFrame fault) read answered unanswered rest left before splits all ends counted is = absurd (omega arith)
+starved_so ReadFault read answered unanswered rest left before splits all ends counted is = absurd (omega arith)
+starved_so WriteFault read answered unanswered rest left before splits all ends counted is = absurd (omega arith)
+starved_so NoMemory read answered unanswered rest left before splits all ends counted is =
+    let none : answered ≡ [] = nil_from_length answered counted in
+    (none, nothing_read read answered unanswered rest splits none (all tt) ends)
+starved_so FrameLimit read answered unanswered rest left before splits all ends counted is = absurd (omega arith)
+
+bad_ends : (end : BatchEnd) (rest : List ℕ) (left : Option (List ℕ)) (before : ℕ) → EndsAs end before rest left → IsBad (front_of rest) → (status_of end ≡ BAD_INPUT) ⊎ (status_of end ≡ SINK_FAILED) ⊎ (status_of end ≡ FRAME_LIMIT)
+bad_ends Clean rest left before ends bad = absurd (nothing_bad rest ends.0 bad)
+bad_ends (Cut place) rest left before ends bad = absurd (subst IsBad ends.0 bad)
+bad_ends (BadFrame fault) rest left before ends bad = inl refl
+bad_ends ReadFault rest left before ends bad = absurd (short_not_bad (front_of rest) ends bad)
+bad_ends WriteFault rest left before ends bad = inr (inl refl)
+bad_ends NoMemory rest left before ends bad = absurd (nothing_bad rest ends bad)
+bad_ends FrameLimit rest left before ends bad = inr (inr refl)
+
+rest_ends : (end : BatchEnd) (rest : List ℕ) (left : Option (List ℕ)) (before : ℕ) → EndsAs end before rest left → rest ≢ [] → (status_of end ≡ BAD_INPUT) ⊎ (status_of end ≡ SINK_FAILED) ⊎ (status_of end ≡ FRAME_LIMIT) ⊎ (status_of end ≡ SOURCE_FAILED)
+rest_ends Clean rest left before ends some = absurd (some ends.0)
+rest_ends (Cut place) rest left before ends some = inl refl
+rest_ends (BadFrame fault) rest left before ends some = inl refl
+rest_ends ReadFault rest left before ends some = inr (inr (inr refl))
+rest_ends WriteFault rest left before ends some = inr (inl refl)
+rest_ends NoMemory rest left before ends some = absurd (some ends)
+rest_ends FrameLimit rest left before ends some = inr (inr (inl refl))
+
+no_place : (end : BatchEnd) → status_of end ≢ BAD_INPUT → (ended end).place ≡ 0
+no_place Clean other = refl
+no_place (Cut place) other = absurd (other refl)
+no_place (BadFrame fault) other = absurd (other refl)
+no_place ReadFault other = refl
+no_place WriteFault other = refl
+no_place NoMemory other = refl
+no_place FrameLimit other = refl
+
+-- where all frames are answered, the bytes read are theirs and the rest
+read_long : (end : BatchEnd) (read : List ℕ) (fs unanswered : List Frame) (rest : List ℕ) → Splits read (fs ++ unanswered) rest → (AnswersAll end → unanswered ≡ []) → AnswersAll end → length read ≡ length (flat_map frame fs) + length rest
+read_long end read fs unanswered rest splits all is =
+    let whole : read ≡ flat_map frame fs ++ rest = splits.bytes ∙ ap (λ (gs : List Frame). flat_map frame (fs ++ gs) ++ rest) (all is) ∙ ap (λ (gs : List Frame). flat_map frame gs ++ rest) (append-nil fs) in
+    omega (arith, ap length whole, length-append (flat_map frame fs) rest)
 
 counts_few : (end : BatchEnd) (count : ℕ) → CountsAs end count → count ≤ MOST_FRAMES
 counts_few Clean count is = omega arith
-counts_few BadInput count is = omega arith
+counts_few (Cut place) count is = omega arith
+counts_few (BadFrame fault) count is = omega arith
 counts_few ReadFault count is = omega arith
 counts_few WriteFault count is = is
-counts_few NoMemory count is = omega arith
+counts_few NoMemory count is = omega (arith, is)
 counts_few FrameLimit count is = omega arith
 
 counts_spent : (end : BatchEnd) (count : ℕ) → CountsAs end count → status_of end ≡ FRAME_LIMIT → count ≡ MOST_FRAMES
 counts_spent Clean count is e = absurd (omega arith)
-counts_spent BadInput count is e = absurd (omega arith)
+counts_spent (Cut place) count is e = absurd (omega arith)
+counts_spent (BadFrame fault) count is e = absurd (omega arith)
 counts_spent ReadFault count is e = absurd (omega arith)
 counts_spent WriteFault count is e = absurd (omega arith)
 counts_spent NoMemory count is e = absurd (omega arith)
@@ -148,17 +206,19 @@ counts_spent FrameLimit count is e = is
 
 counts_most : (end : BatchEnd) (count : ℕ) → CountsAs end count → count ≡ MOST_FRAMES → (status_of end ≡ FRAME_LIMIT) ⊎ (status_of end ≡ SINK_FAILED)
 counts_most Clean count is e = absurd (omega arith)
-counts_most BadInput count is e = absurd (omega arith)
+counts_most (Cut place) count is e = absurd (omega arith)
+counts_most (BadFrame fault) count is e = absurd (omega arith)
 counts_most ReadFault count is e = absurd (omega arith)
 counts_most WriteFault count is e = inr refl
-counts_most NoMemory count is e = absurd (omega arith)
+counts_most NoMemory count is e = absurd (omega (arith, is, e))
 counts_most FrameLimit count is e = inl refl
 
 ends_as : (end : BatchEnd) → (status_of end ≡ CLEAN) ⊎ (status_of end ≡ SOURCE_FAILED) ⊎ (status_of end ≡ SINK_FAILED) ⊎ (status_of end ≡ BAD_INPUT) ⊎ (status_of end ≡ OUT_OF_MEMORY) ⊎ (status_of end ≡ FRAME_LIMIT)
 ends_as Clean = inl refl
 ends_as ReadFault = inr (inl refl)
 ends_as WriteFault = inr (inr (inl refl))
-ends_as BadInput = inr (inr (inr (inl refl)))
+ends_as (Cut place) = inr (inr (inr (inl refl)))
+ends_as (BadFrame fault) = inr (inr (inr (inl refl)))
 ends_as NoMemory = inr (inr (inr (inr (inl refl))))
 ends_as FrameLimit = inr (inr (inr (inr (inr refl))))
 
@@ -174,7 +234,7 @@ module _ {D : Type 0} (tells : DiskTells D) where
   pub batch_of : ((d : D) (c : List ℕ) → tells.left d (tells.moment d) c → tells.allowed d c) → (end : BatchEnd) (disk : D) (opened house : Chronicled D) (before after : Outside)
       → VaultOpensAs tells disk opened → Unwritten tells disk opened.disk → tells.faults disk ≤ tells.faults opened.disk
       → Served tells opened house before after end → Keeps tells house → house.origin ≡ opened.origin
-      → Batch tells disk house.disk before after (at_no_place (status_of end))
+      → Batch tells disk house.disk before after (ended end)
   batch_of only_now end disk opened house before after opens unwritten count s keeps same =
       let rest : state_of opened ≡ at_rest opened.origin.entries = opened_rests opened opens.lines opens.durable.fresh in
       let R : State → Type 0 = λ state. RunOfOnes (house_of (head_of opened.origin.head) opened.origin.cap) state s.answered s.states in
@@ -189,7 +249,7 @@ module _ {D : Type 0} (tells : DiskTells D) where
         last = state_of house;
         opened = opened.disk;
         disks = s.disks;
-        taken = s.taken;
+        read = s.read;
         unanswered = s.unanswered;
         rest = s.rest;
         stands = opens.stands;
@@ -218,13 +278,15 @@ module _ {D : Type 0} (tells : DiskTells D) where
         legal = keeps.legal;
         within = subst (λ (o : Origin). length (entries_in house ++ doubt_in house) ≤ o.cap) same keeps.within;
         money = keeps.money;
-        clean = ends_clean end s.rest after.left s.ends;
-        bad = ends_bad end s.rest after.left s.ends;
-        bad_frame = bad_ends end s.rest after.left s.ends;
-        any_rest = cut_ends end s.rest after.left s.ends;
+        clean = ends_clean end s.rest after.left (length (flat_map frame (map frame_of s.answered))) s.ends;
+        bad = ends_bad end s.read (map frame_of s.answered) s.rest after.left (read_long end s.read (map frame_of s.answered) s.unanswered s.rest s.frames s.all) s.ends;
+        failed = ends_failed end s.rest after.left (length (flat_map frame (map frame_of s.answered))) s.ends;
+        starved = starved_so end s.read s.answered s.unanswered s.rest after.left (length (flat_map frame (map frame_of s.answered))) s.frames s.all s.ends s.counted;
+        bad_frame = bad_ends end s.rest after.left (length (flat_map frame (map frame_of s.answered))) s.ends;
+        any_rest = rest_ends end s.rest after.left (length (flat_map frame (map frame_of s.answered))) s.ends;
         few = counts_few end (length s.answered) s.counted;
         spent = counts_spent end (length s.answered) s.counted;
         most = counts_most end (length s.answered) s.counted;
-        nowhere = refl;
+        nowhere = no_place end;
         ends = ends_as end;
       }

@@ -1,7 +1,8 @@
 -- How a run of the program ends.
 use Rattle.std.specs.Prelude.{ℕ}
+use Rattle.nb_frame.specs.Faults.{place_of}
 use Rattle.nb_batch.specs.declared.batch.BatchEnd.{BatchEnd}
-use Rattle.nb_batch.specs.declared.batch.BatchEnd.TheVariants.{Clean, ReadFault, WriteFault, BadInput, NoMemory, FrameLimit}
+use Rattle.nb_batch.specs.declared.batch.BatchEnd.TheVariants.{Clean, Cut, BadFrame, ReadFault, WriteFault, NoMemory, FrameLimit}
 use Rattle.nb_run.specs.declared.ending.Ending.{Ending}
 use Rattle.nb_run.specs.declared.ending.TheConstants.{CLEAN, SOURCE_FAILED, SINK_FAILED, BAD_INPUT, OUT_OF_MEMORY, FRAME_LIMIT}
 use Rattle.nb_run.specs.declared.ending.Outcome.{Outcome}
@@ -23,11 +24,16 @@ status (Done how) = how.status
 abbrev pub place : Outcome → ℕ
 place (Done how) = how.place
 
+-- how a batch ends the program
+abbrev pub ended : BatchEnd → Ending
+ended Clean = at_no_place CLEAN
+ended (Cut bytes) = record { status = BAD_INPUT; place = bytes }
+ended (BadFrame fault) = record { status = BAD_INPUT; place = place_of fault }
+ended ReadFault = at_no_place SOURCE_FAILED
+ended WriteFault = at_no_place SINK_FAILED
+ended NoMemory = at_no_place OUT_OF_MEMORY
+ended FrameLimit = at_no_place FRAME_LIMIT
+
 -- the status that a batch ends with
 abbrev pub status_of : BatchEnd → ℕ
-status_of Clean = CLEAN
-status_of ReadFault = SOURCE_FAILED
-status_of WriteFault = SINK_FAILED
-status_of BadInput = BAD_INPUT
-status_of NoMemory = OUT_OF_MEMORY
-status_of FrameLimit = FRAME_LIMIT
+status_of end = (ended end).status

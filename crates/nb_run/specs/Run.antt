@@ -4,7 +4,9 @@ use Rattle.std.specs.List.{flat_map, AllByRecursion}
 use Rattle.std.specs.Io.KnownBytes.{Consumes, Appends, IsAtEnd}
 use Rattle.nb_port.specs.Tells.{DiskTells}
 use Rattle.nb_port.specs.Faults.{Rose, Backed}
-use Rattle.nb_units.specs.Frames.{Frame, frame, IsFrame, front_of, IsBad, Splits}
+use Rattle.nb_units.specs.Frames.{Frame, frame, IsFrame, HeaderFault, Partial, Bad, front_of, IsBad, Splits}
+use Rattle.nb_frame.specs.Faults.{placed, place_of}
+use Rattle.nb_frame.specs.Looks.{IsShort}
 use Rattle.nb_book.specs.declared.entry.Entry.{Entry}
 use Rattle.nb_book.specs.Legal.{Legal}
 use Rattle.nb_escrow.specs.Head.{head_of}
@@ -22,7 +24,7 @@ use Rattle.nb_run.specs.declared.ending.TheConstants.{CLEAN, BAD_WORDS, SOURCE_F
 use Rattle.nb_run.specs.declared.init.InitEnd.{InitEnd}
 use Rattle.nb_run.specs.Ending.{at_no_place}
 use Rattle.nb_run.specs.Init.{MakesAs, ending_of}
-use Rattle.nb_batch.specs.Batch.{at_rest, frame_of, moment_of, AllDecided, failures_told, Outside, Gave, EndsBadly, WroteShort, StandsInRun, GoesThrough, last_disk}
+use Rattle.nb_batch.specs.Batch.{at_rest, frame_of, moment_of, AllDecided, failures_told, Outside, Gave, WroteShort, StandsInRun, GoesThrough, last_disk}
 
 -- the statuses that a run can end with
 abbrev pub IsStatus : ℕ → Type 0
@@ -55,10 +57,19 @@ pub record NotOpened {D : Type 0} (tells : DiskTells D) (old new : D) (before af
 
 -- ---- batch, over a journal that was opened
 
+-- how the input ended badly, by the bytes that were read, the frames that were answered, the rest of these bytes, what is left of the
+-- source, and the place that is shown: within a frame, where nothing is left, at the number of the bytes that were read; or with what
+-- no frame is, at the place of its first fault among these bytes
+abbrev pub EndsBadly : List ℕ → List Frame → List ℕ → Option (List ℕ) → ℕ → Type 0
+EndsBadly read frames rest left place =
+    ((front_of rest ≡ Partial) × IsAtEnd left × (place ≡ length read))
+    ⊎ ((h : HeaderFault) × (front_of rest ≡ Bad h) × (place ≡ place_of (placed (length (flat_map frame frames)) h)))
+
 -- What a batch did, by the status that it ended with.
 pub record Batch {D : Type 0} (tells : DiskTells D) (old new : D) (before after : Outside) (ending : Ending) : Type 0 where
   -- the journal's head, its cap and its entries; the requests that were answered, and the states that the house came to; the disk
-  -- behind opening, and behind each turn; the bytes taken from the source are the frames of these requests, further frames, and a rest that begins with none
+  -- behind opening, and behind each turn; the bytes read from the source are the frames of these requests, further frames, and a rest
+  -- that begins with none
   pub head : List ℕ
   pub cap : ℕ
   pub opening : List Entry
@@ -67,14 +78,14 @@ pub record Batch {D : Type 0} (tells : DiskTells D) (old new : D) (before after 
   pub last : State
   pub opened : D
   pub disks : List D
-  pub taken : List ℕ
+  pub read : List ℕ
   pub unanswered : List Frame
   pub rest : List ℕ
   -- the content at entry stands for these entries
   pub stands : IfSome (tells.content old) (StandsFor head cap opening)
-  -- the requests that were answered are the first frames of the bytes taken
-  pub took : Consumes before.left after.left taken
-  pub frames : Splits taken (map frame_of answered ++ unanswered) rest
+  -- the requests that were answered are the first frames of the bytes read
+  pub took : Consumes before.left after.left read
+  pub frames : Splits read (map frame_of answered ++ unanswered) rest
   -- they are all of them where the input ended, held what is no frame, or failed
   pub all : (ending.status ≡ CLEAN) ⊎ (ending.status ≡ BAD_INPUT) ⊎ (ending.status ≡ SOURCE_FAILED) → unanswered ≡ []
   -- one answer of the clock for each
@@ -111,17 +122,22 @@ pub record Batch {D : Type 0} (tells : DiskTells D) (old new : D) (before after 
   pub money : IsBalanced last.entries
   -- after status 0 no byte is over and nothing is left of the source
   pub clean : ending.status ≡ CLEAN → (rest ≡ []) × IsAtEnd after.left
-  -- after status 5 the rest is a cut frame and nothing is left, or no frame begins so, and little was read of that
-  pub bad : ending.status ≡ BAD_INPUT → EndsBadly rest after.left
-  -- where no frame begins like the rest, the status is 5, or 3; where there is a rest at all it is one of these, or 6
-  pub bad_frame : IsBad (front_of rest) → (ending.status ≡ BAD_INPUT) ⊎ (ending.status ≡ SOURCE_FAILED)
-  pub any_rest : rest ≢ [] → (ending.status ≡ BAD_INPUT) ⊎ (ending.status ≡ SOURCE_FAILED) ⊎ (ending.status ≡ OUT_OF_MEMORY)
+  -- after status 5 the rest is a cut frame and nothing is left, or no frame begins so; the place is the number of the bytes read, or
+  -- that of the fault
+  pub bad : ending.status ≡ BAD_INPUT → EndsBadly read (map frame_of answered) rest after.left ending.place
+  -- after status 3 the rest is nothing or a part of a frame, and after status 6 nothing was read
+  pub failed : ending.status ≡ SOURCE_FAILED → IsShort (front_of rest)
+  pub starved : ending.status ≡ OUT_OF_MEMORY → (answered ≡ []) × (read ≡ [])
+  -- where no frame begins like the rest, the status is 5, or 4 or 11, where frames before it may wait; where there is a rest at all it is
+  -- one of these, or 3
+  pub bad_frame : IsBad (front_of rest) → (ending.status ≡ BAD_INPUT) ⊎ (ending.status ≡ SINK_FAILED) ⊎ (ending.status ≡ FRAME_LIMIT)
+  pub any_rest : rest ≢ [] → (ending.status ≡ BAD_INPUT) ⊎ (ending.status ≡ SINK_FAILED) ⊎ (ending.status ≡ FRAME_LIMIT) ⊎ (ending.status ≡ SOURCE_FAILED)
   -- at most so many frames are answered
   pub few : length answered ≤ MOST_FRAMES
   pub spent : ending.status ≡ FRAME_LIMIT → length answered ≡ MOST_FRAMES
   pub most : length answered ≡ MOST_FRAMES → (ending.status ≡ FRAME_LIMIT) ⊎ (ending.status ≡ SINK_FAILED)
-  -- no place is shown
-  pub nowhere : ending.place ≡ 0
+  -- no place is shown but after status 5
+  pub nowhere : ending.status ≢ BAD_INPUT → ending.place ≡ 0
   pub ends : (ending.status ≡ CLEAN) ⊎ (ending.status ≡ SOURCE_FAILED) ⊎ (ending.status ≡ SINK_FAILED) ⊎ (ending.status ≡ BAD_INPUT) ⊎ (ending.status ≡ OUT_OF_MEMORY) ⊎ (ending.status ≡ FRAME_LIMIT)
 
 -- the journal was not opened, or the frames were answered

@@ -2,7 +2,8 @@ ghost use Rattle.std.specs.Prelude.{◌≡◌, ◌≢◌, ◌≤◌, ◌↔◌, 
 ghost use Rattle.nb_port.specs.Faults.{Rose};
 ghost use Rattle.nb_journal.specs.Making.{SparesJournal, IsCap};
 ghost use Rattle.nb_run.specs.declared.ending.TheConstants.{CLEAN, BAD_WORDS, SOURCE_FAILED, SINK_FAILED, OUT_OF_MEMORY, DISK_FAILED, NO_JOURNAL};
-ghost use Rattle.nb_run.specs.Ending.{ending, status, place, status_of};
+ghost use Rattle.nb_run.specs.Ending.{ending, status, place};
+ghost use Rattle.nb_run.specs.Ending as endings;
 ghost use Rattle.nb_run.specs.Words.{IsBatch, IsInit, IsCommand};
 ghost use Rattle.nb_run.specs.Init.{IsHeadInput, HasNoJournal};
 ghost use Rattle.nb_run.specs.Run as runs;
@@ -110,7 +111,7 @@ fn answer_batch<S: Source, K: Sink, D: Disk, C: Clock>(
     let end = serve(alloc, &mut house, source, sink, clock);
     // What the disk is at rest in is what every vault keeps.
     house.witness();
-    (Ending::at_no_place(status_of(end)), house.into_disk())
+    (ended(end), house.into_disk())
 }
 
 // How the run ends where the house was not opened.
@@ -129,16 +130,23 @@ fn unopened(fault: VaultFault) -> Ending
     }
 }
 
-// The status that a batch ends the program with.
-fn status_of(end: BatchEnd) -> u8
-    ensures { result ≡ status_of end }
+// How a batch ends the program.
+fn ended(end: BatchEnd) -> Ending
+    ensures { result ≡ endings.ended end }
 {
     match end {
-        BatchEnd::Clean => CLEAN,
-        BatchEnd::ReadFault => SOURCE_FAILED,
-        BatchEnd::WriteFault => SINK_FAILED,
-        BatchEnd::BadInput => BAD_INPUT,
-        BatchEnd::NoMemory => OUT_OF_MEMORY,
-        BatchEnd::FrameLimit => FRAME_LIMIT,
+        BatchEnd::Clean => Ending::at_no_place(CLEAN),
+        BatchEnd::Cut { place } => Ending {
+            status: BAD_INPUT,
+            place,
+        },
+        BatchEnd::BadFrame(fault) => Ending {
+            status: BAD_INPUT,
+            place: fault.place(),
+        },
+        BatchEnd::ReadFault => Ending::at_no_place(SOURCE_FAILED),
+        BatchEnd::WriteFault => Ending::at_no_place(SINK_FAILED),
+        BatchEnd::NoMemory => Ending::at_no_place(OUT_OF_MEMORY),
+        BatchEnd::FrameLimit => Ending::at_no_place(FRAME_LIMIT),
     }
 }

@@ -2,6 +2,7 @@
 use Rattle.std.specs.Prelude.{◌≡◌, ℕ, ◌-◌, List, ◌++◌, length, map, replicate, bit_xor}
 use Rattle.sha2.specs.Sha256.{sha256}
 use Rattle.sha2.specs.Hashers.{Holds256}
+use Rattle.sha2.specs.declared.Sha256.{Sha256}
 use Rattle.nb_seal.specs.declared.limits.TheConstants.{BLOCK_BYTES}
 use Rattle.nb_seal.specs.declared.mac.Mac.{Mac}
 
@@ -17,3 +18,7 @@ hmac_of key message = sha256 (pad_of key 0x5C ++ sha256 (pad_of key 0x36 ++ mess
 pub record MacHolds (mac : Mac) (key message : List ℕ) : Type 0 where
   pub inside : Holds256 mac.inner (pad_of key 0x36 ++ message)
   pub outside : mac.outer ≡ pad_of key 0x5C
+
+-- the hash has taken the key's block with this mark, and nothing else
+abbrev pub IsBehind : Sha256 → List ℕ → ℕ → Type 0
+IsBehind hasher key mark = Holds256 hasher (pad_of key mark)

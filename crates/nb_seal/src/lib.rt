@@ -2,14 +2,15 @@
 //!
 //! A message is seen as the list of its bytes, in whatever pieces it came. [`sha`] is SHA-256 (FIPS
 //! 180-4). [`hmac`], and [`Mac`] where a message comes piece by piece, are HMAC-SHA-256 (RFC 2104) under
-//! keys of at most 64 bytes. [`same`] compares all 32 bytes of two digests. [`stream_xor`] combines bytes
+//! keys of at most 64 bytes; a [`KeyState`] keeps what codes under one key of 32 bytes share. [`same`] compares all 32 bytes of two digests. [`stream_xor`] combines bytes
 //! with the keystream of ChaCha20 with a block counter of 64 bits and a nonce of 64 bits that is 0. Up to
 //! byte 2^38 that is the keystream of RFC 8439 with a nonce of zeros and the counter from 0 on.
 //!
 //! A seal hides a text under a key and binds it to a label. It is the code of the label followed by the
 //! text, its iv, and behind that the text combined with the keystream of a key made from the iv. Bytes
 //! open to a text exactly where they are its seal, and to one text at most. [`unseal`] and [`unseal_to`]
-//! give that text or say that there is none.
+//! give that text or say that there is none. Each call over a key has one over its state beside it, a method of [`KeyState`] with the
+//! same clauses, and is that over a fresh one.
 //!
 //! Digests, codes, ivs, and the keys of seals and of keystreams have 32 bytes ([`CODE_BYTES`]), blocks of
 //! the hash 64 ([`BLOCK_BYTES`]), labels 4. A text that is sealed has at most 2^39 bytes ([`MAX_TEXT`]),
@@ -25,6 +26,7 @@
 #![tactic(auto)]
 
 mod digest;
+mod key;
 mod keystream;
 pub mod laws;
 mod limits;
@@ -35,6 +37,7 @@ mod seals;
 mod tests;
 
 pub use digest::{same, sha};
+pub use key::KeyState;
 pub use keystream::stream_xor;
 pub use limits::{BLOCK_BYTES, CODE_BYTES, MAX_KEYSTREAM, MAX_TEXT};
 pub use mac::{Mac, hmac};

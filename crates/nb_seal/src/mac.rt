@@ -6,9 +6,9 @@ use crate::limits::{BLOCK_BYTES, CODE_BYTES};
 use sha2::{Digest, Sha256};
 
 // The marks of the inner and of the outer hash (RFC 2104, section 2: ipad and opad).
-const INNER: u8 = 0x36;
+pub(crate) const INNER: u8 = 0x36;
 
-const OUTER: u8 = 0x5C;
+pub(crate) const OUTER: u8 = 0x5C;
 
 /// HMAC-SHA-256 (RFC 2104) of a message that comes piece by piece.
 ///
@@ -75,7 +75,7 @@ pub fn hmac(key: &[u8], head: &[u8], tail: &[u8]) -> [u8; CODE_BYTES]
 }
 
 // The key padded with zeros to a block, each byte xored with the mark.
-fn padded(key: &[u8], mark: u8) -> [u8; BLOCK_BYTES]
+pub(crate) fn padded(key: &[u8], mark: u8) -> [u8; BLOCK_BYTES]
     requires { length key.now ≤ BLOCK_BYTES }
     ensures { result ≡ pad_of key.now mark }
 {

@@ -5,9 +5,9 @@ ghost use Rattle.nb_seal.specs.Seal as seals;
 ghost use Rattle.nb_seal.specs.Unsealed.{Refuses};
 
 use crate::digest::same;
+use crate::key::KeyState;
 use crate::keystream::stream_xor;
 use crate::limits::CODE_BYTES;
-use crate::mac::hmac;
 use crate::memory::NoMemory;
 use std::alloc::AllocError;
 use std::{fmt, mem};
@@ -93,7 +93,6 @@ pub fn seal(
 
 /// Appends the seal as [`seal`] does, within the spare of `out`: at least 32 bytes more than the text has.
 /// `out` keeps its capacity.
-#[tactic(auto, unfolding(crate::specs::Seal::seal_of))]
 pub fn seal_spare(key: &[u8; CODE_BYTES], label: &[u8; 4], plain: &[u8], out: &mut Vec<u8>)
     requires short { length plain.now ≤ MAX_TEXT }
     requires spare { CODE_BYTES + length plain.now ≤ spare_of out.old }
@@ -101,16 +100,11 @@ pub fn seal_spare(key: &[u8; CODE_BYTES], label: &[u8; 4], plain: &[u8], out: &m
     ensures spare { spare_of out.old ≤ spare_of out.new + (CODE_BYTES + length plain.now) }
     ensures room { vec_capacity out.new ≡ vec_capacity out.old }
 {
-    let iv = hmac(key, label, plain);
-    append(out, &iv);
-    let start = out.len();
-    append(out, plain);
-    stream_xor(&hmac(key, b"enc", &iv), 0, &mut out[start..]);
+    KeyState::new(key).seal_spare(label, plain, out);
 }
 
 /// Writes the seal of a text of at most [`MAX_TEXT`](crate::MAX_TEXT) bytes, 2^39, to the front of `buf`, which has at
 /// least 32 bytes more than the text, and answers its length. What stands behind it in `buf` stays.
-#[tactic(auto, unfolding(crate::specs::Seal::seal_of))]
 pub fn seal_to(key: &[u8; CODE_BYTES], label: &[u8; 4], plain: &[u8], buf: &mut [u8]) -> usize
     requires short { length plain.now ≤ MAX_TEXT }
     requires room { CODE_BYTES + length plain.now ≤ length buf.old }
@@ -118,13 +112,62 @@ pub fn seal_to(key: &[u8; CODE_BYTES], label: &[u8; 4], plain: &[u8], buf: &mut 
     ensures len { result ≡ CODE_BYTES + length plain.now }
     ensures rest { drop result buf.new ≡ drop result buf.old }
 {
-    let (front, behind) = buf.split_at_mut(CODE_BYTES);
-    let (text, _) = behind.split_at_mut(plain.len());
-    text.copy_from_slice(plain);
-    let iv = hmac(key, label, text);
-    front.copy_from_slice(&iv);
-    stream_xor(&hmac(key, b"enc", &iv), 0, text);
-    CODE_BYTES + plain.len()
+    KeyState::new(key).seal_to(label, plain, buf)
+}
+
+impl KeyState {
+    /// Appends the seal under this key as [`seal_spare`] does.
+    #[tactic(auto, unfolding(crate::specs::Seal::seal_of))]
+    pub fn seal_spare(&self, label: &[u8; 4], plain: &[u8], out: &mut Vec<u8>)
+        requires short { length plain.now ≤ MAX_TEXT }
+        requires spare { CODE_BYTES + length plain.now ≤ spare_of out.old }
+        ensures sealed { out.new.items ≡ out.old.items ++ seals.seal_of self.now label.now plain.now }
+        ensures spare { spare_of out.old ≤ spare_of out.new + (CODE_BYTES + length plain.now) }
+        ensures room { vec_capacity out.new ≡ vec_capacity out.old }
+    {
+        let iv = self.code(label, plain);
+        append(out, &iv);
+        let start = out.len();
+        append(out, plain);
+        stream_xor(&self.code(b"enc", &iv), 0, &mut out[start..]);
+    }
+
+    /// Writes the seal under this key to the front of `buf` as [`seal_to`] does.
+    #[tactic(auto, unfolding(crate::specs::Seal::seal_of))]
+    pub fn seal_to(&self, label: &[u8; 4], plain: &[u8], buf: &mut [u8]) -> usize
+        requires short { length plain.now ≤ MAX_TEXT }
+        requires room { CODE_BYTES + length plain.now ≤ length buf.old }
+        ensures sealed { take result buf.new ≡ seals.seal_of self.now label.now plain.now }
+        ensures len { result ≡ CODE_BYTES + length plain.now }
+        ensures rest { drop result buf.new ≡ drop result buf.old }
+    {
+        let (front, behind) = buf.split_at_mut(CODE_BYTES);
+        let (text, _) = behind.split_at_mut(plain.len());
+        text.copy_from_slice(plain);
+        let iv = self.code(label, text);
+        front.copy_from_slice(&iv);
+        stream_xor(&self.code(b"enc", &iv), 0, text);
+        CODE_BYTES + plain.len()
+    }
+
+    /// Writes the text that the bytes open to under this key to the front of `buf` as [`unseal_to`] does.
+    pub fn unseal_to(&self, label: &[u8; 4], bytes: &[u8], buf: &mut [u8]) -> Result<usize, BadSeal>
+        requires short { length bytes.now ≤ CODE_BYTES + MAX_TEXT }
+        requires room { length bytes.now ≤ length buf.old }
+        ensures opened { IfOk result (λ n. seals.Opens self.now label.now bytes.now (take n buf.new)) }
+        ensures len { IfOk result (λ n. n + CODE_BYTES ≡ length bytes.now) }
+        ensures rest { IfOk result (λ n. drop n buf.new ≡ drop n buf.old) }
+        ensures refused { OnErr result (seals.IsNoSeal self.now label.now bytes.now) }
+        ensures front { IfErr result (λ bad. bad.iv ≡ seals.iv_shown bytes.now) }
+    {
+        let (iv, text) = parts_of(bytes)?;
+        let n = text.len();
+        buf[..n].copy_from_slice(text);
+        if open_text(self, label, &iv, &mut buf[..n]) {
+            return Ok(n);
+        }
+        Err(BadSeal { iv })
+    }
 }
 
 /// Appends the text that the bytes open to under the key and the label. The text has 32 bytes less than its
@@ -151,7 +194,7 @@ pub fn unseal(
     let (iv, text) = parts_of(bytes)?;
     let start = out.len();
     out.extend_from_slice(text)?;
-    if open_text(key, label, &iv, &mut out[start..]) {
+    if open_text(&KeyState::new(key), label, &iv, &mut out[start..]) {
         return Ok(());
     }
     out.truncate(start);
@@ -175,13 +218,7 @@ pub fn unseal_to(
     ensures refused { OnErr result (seals.IsNoSeal key.now label.now bytes.now) }
     ensures front { IfErr result (λ bad. bad.iv ≡ seals.iv_shown bytes.now) }
 {
-    let (iv, text) = parts_of(bytes)?;
-    let n = text.len();
-    buf[..n].copy_from_slice(text);
-    if open_text(key, label, &iv, &mut buf[..n]) {
-        return Ok(n);
-    }
-    Err(BadSeal { iv })
+    KeyState::new(key).unseal_to(label, bytes, buf)
 }
 
 // The iv and the text of a seal, which has 32 bytes at least.
@@ -209,18 +246,13 @@ fn front(bytes: &[u8]) -> [u8; CODE_BYTES]
 }
 
 // Xors the text with the keystream behind the iv, and says whether the iv is that of what it became.
-fn open_text(
-    key: &[u8; CODE_BYTES],
-    label: &[u8; 4],
-    iv: &[u8; CODE_BYTES],
-    text: &mut [u8],
-) -> bool
+fn open_text(key: &KeyState, label: &[u8; 4], iv: &[u8; CODE_BYTES], text: &mut [u8]) -> bool
     requires { length text.old ≤ MAX_TEXT }
     ensures opened { IsTrue result → seals.Opens key.now label.now (iv.now ++ text.old) text.new }
     ensures refused { result ≡ false → seals.IsNoSeal key.now label.now (iv.now ++ text.old) }
 {
-    stream_xor(&hmac(key, b"enc", iv), 0, text);
-    same(iv, &hmac(key, label, text))
+    stream_xor(&key.code(b"enc", iv), 0, text);
+    same(iv, &key.code(label, text))
 }
 
 // Appends the bytes within the spare of `out`. It pushes to a vector of its own, since that is faster: a seal of

@@ -17,7 +17,7 @@ use Rattle.nb_turns.proofs.Lists.{all_weaker}
 -- ---- Legal
 
 -- a list is Legal and within the cap
-abbrev IsList : ℕ → List Entry → Type 0
+abbrev pub IsList : ℕ → List Entry → Type 0
 IsList cap entries = Legal entries × (length entries ≤ cap)
 
 module _ (stays : StaysLegal) (house : House) (cap : ℕ) (lawful : IsLawful house cap) where
@@ -27,7 +27,7 @@ module _ (stays : StaysLegal) (house : House) (cap : ℕ) (lawful : IsLawful hou
       let next : LegalAfter over e × (length over < cap) = may e refl in
       (stays over e is.0 next.0, omega (arith, next.1, length-append over (e ∷ [])))
 
-  records_list : (over : List Entry) (requests : List Request) → IsList cap over → IsList cap (over ++ recorded house over requests)
+  pub records_list : (over : List Entry) (requests : List Request) → IsList cap over → IsList cap (over ++ recorded house over requests)
   records_list over [] is = subst (IsList cap) (sym (append-nil over)) is
   records_list over (r ∷ rs) is =
       subst (IsList cap) (behind_more house over r rs)

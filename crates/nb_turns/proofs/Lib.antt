@@ -1,7 +1,9 @@
 pub mod Lists
 pub mod Single
 pub mod Keeping
+pub mod Growth
 pub mod Lining
+pub mod Adding
 pub mod Sounding
 pub mod Following
 pub mod Small

@@ -142,7 +142,7 @@ pub closed_more : (lines more : List Line) → IsClosed lines → AllByRecursion
 closed_more lines more closed all =
     subst (FirstFails is_doubt) (sym (reverse-append lines more)) (first_none (reverse more) (reverse lines) (all_reverse (λ (l : Line). is_doubt l ≡ false) more all) closed)
 
-no_fault : (l : Line) → is_doubt l ≡ true → is_fault l ≡ false
+pub no_fault : (l : Line) → is_doubt l ≡ true → is_fault l ≡ false
 no_fault (Commit by turn entry) is = refl
 no_fault (Adopted by turn entry) is = refl
 no_fault (Doubt by turn entry) is = refl
@@ -232,7 +232,7 @@ doubted_are lines by turn from to kept es some closed =
 
 -- ---- the turn that lines tell
 
-abbrev state_with : List Entry → List Entry → ℕ → State
+abbrev pub state_with : List Entry → List Entry → ℕ → State
 state_with entries doubt faults = record { entries = entries; doubt = doubt; faults = faults }
 
 -- the state that was settled
@@ -256,22 +256,61 @@ settled_from opening before kept over s = by_doubt s.of_doubt
       settled = inr (s.over_is ∙ ap (λ (es : List Entry). entries_of opening before ++ es) all);
     }
 
-module _ (house : House) (opening : List Entry) (by turn : ℕ) (before : List Line) (requests : List Request) (added : List Line) (closed : IsClosed before) where
-  decided_turn : (over : List Entry) → DecidedLines house opening by turn before requests over added → TellsTurn house opening before requests (Decides over) added
-  decided_turn over d =
-      let from = settled_from opening before d.kept over d.settled in
+module _ (house : House) (opening : List Entry) (by turn : ℕ) (before : List Line) (requests : List Request) (added : List Line) where
+  pub decided_behind : (over : List Entry) → DecidedLines house opening by turn before requests over added → StateOver opening (before ++ added) (state_with (over ++ recorded house over requests) [] (faults_of before))
+  decided_behind over d =
       let none : faults_of added ≡ 0 =
       ap faults_of d.lines ∙ no_faults (adopts by turn d.kept ++ commits by turn (recorded house over requests))
       (all_append (λ (l : Line). is_fault l ≡ false) (adopts by turn d.kept) (commits by turn (recorded house over requests)) (adopted_no_fault by turn d.kept) (committed_no_fault by turn (recorded house over requests))) in
       record {
+        entries = sym (decided_entries house opening by turn before requests over added d);
+        doubt = inl refl;
+        faults = omega (arith, faults_append before added, none);
+      }
+
+  pub unsettled_behind : (from to : ℕ) → UnsettledLines by turn before from to added
+      → StateOver opening (before ++ added) (state_with (entries_of opening before) (open_doubt before) (faults_of before + 1))
+  unsettled_behind from to u = record {
+    entries = sym (entries_append opening before added ∙ ap (λ (ls : List Line). entries_of opening before ++ filter_map entry_of ls) u.lines ∙ append-nil (entries_of opening before));
+    doubt = inr (sym (ap (λ (ls : List Line). open_doubt (before ++ ls)) u.lines ∙ doubt_faults before by turn from to));
+    faults = sym (faults_append before added ∙ ap (λ (ls : List Line). faults_of before + faults_of ls) u.lines);
+  }
+
+  -- the lines of a doubt, one part behind the other
+  grouped : (from to : ℕ) → (d : DoubtedLines house opening by turn before requests from to added)
+      → before ++ added ≡ ((before ++ adopts by turn d.kept) ++ doubts by turn (recorded house d.over requests)) ++ Fault by turn from to ∷ []
+  grouped from to d =
+      ap (λ (ls : List Line). before ++ ls) d.lines
+      ∙ sym (append_assoc before (adopts by turn d.kept) (doubts by turn (recorded house d.over requests) ++ Fault by turn from to ∷ []))
+      ∙ sym (append_assoc (before ++ adopts by turn d.kept) (doubts by turn (recorded house d.over requests)) (Fault by turn from to ∷ []))
+
+  module _ (closed : IsClosed before) where
+    pub doubted_open : (from to : ℕ) → (d : DoubtedLines house opening by turn before requests from to added) → open_doubt (before ++ added) ≡ recorded house d.over requests
+    doubted_open from to d =
+        ap open_doubt (grouped from to d) ∙ doubt_faults ((before ++ adopts by turn d.kept) ++ doubts by turn (recorded house d.over requests)) by turn from to
+        ∙ doubts_are (before ++ adopts by turn d.kept) by turn (recorded house d.over requests) d.some (closed_more before (adopts by turn d.kept) closed (adopted_no_doubt by turn d.kept))
+
+    pub doubted_behind : (from to : ℕ) → (d : DoubtedLines house opening by turn before requests from to added)
+        → StateOver opening (before ++ added) (state_with d.over (recorded house d.over requests) (faults_of before + 1))
+    doubted_behind from to d =
+        let one : faults_of added ≡ 1 =
+        ap faults_of d.lines ∙ faults_append (adopts by turn d.kept) (doubts by turn (recorded house d.over requests) ++ Fault by turn from to ∷ [])
+        ∙ one_fault by turn d.kept (recorded house d.over requests) from to in
+        record {
+          entries = sym (doubted_lines_entries house opening by turn before requests from to added d);
+          doubt = inr (sym (doubted_open from to d));
+          faults = omega (arith, faults_append before added, one);
+        }
+
+module _ (house : House) (opening : List Entry) (by turn : ℕ) (before : List Line) (requests : List Request) (added : List Line) (closed : IsClosed before) where
+  decided_turn : (over : List Entry) → DecidedLines house opening by turn before requests over added → TellsTurn house opening before requests (Decides over) added
+  decided_turn over d =
+      let from = settled_from opening before d.kept over d.settled in
+      record {
         old = state_with (entries_of opening before) from.doubt (faults_of before);
         new = state_with (over ++ recorded house over requests) [] (faults_of before);
         over_before = record { entries = refl; doubt = from.is; faults = refl };
-        over_behind = record {
-          entries = sym (decided_entries house opening by turn before requests over added d);
-          doubt = inl refl;
-          faults = omega (arith, faults_append before added, none);
-        };
+        over_behind = decided_behind house opening by turn before requests added over d;
         turn = (d.few, from.settled, refl);
         closed = subst (λ (ls : List Line). IsClosed (before ++ ls)) (sym d.lines)
             (closed_more before (adopts by turn d.kept ++ commits by turn (recorded house over requests)) closed
@@ -287,11 +326,7 @@ module _ (house : House) (opening : List Entry) (by turn : ℕ) (before : List L
     old = state_with (entries_of opening before) (open_doubt before) (faults_of before);
     new = state_with (entries_of opening before) (open_doubt before) (faults_of before + 1);
     over_before = record { entries = refl; doubt = inr refl; faults = refl };
-    over_behind = record {
-      entries = sym (entries_append opening before added ∙ ap (λ (ls : List Line). entries_of opening before ++ filter_map entry_of ls) u.lines ∙ append-nil (entries_of opening before));
-      doubt = inr (sym (ap (λ (ls : List Line). open_doubt (before ++ ls)) u.lines ∙ doubt_faults before by turn from to));
-      faults = sym (faults_append before added ∙ ap (λ (ls : List Line). faults_of before + faults_of ls) u.lines);
-    };
+    over_behind = unsettled_behind house opening by turn before requests added from to u;
     turn = (few, inl (u.some, refl));
     closed = subst (λ (ls : List Line). IsClosed (before ++ ls)) (sym u.lines) (fault_last before from to);
   }
@@ -299,25 +334,14 @@ module _ (house : House) (opening : List Entry) (by turn : ℕ) (before : List L
   doubted_turn : (from to : ℕ) → faults_of before < MAX_FAULTS → DoubtedLines house opening by turn before requests from to added → TellsTurn house opening before requests (Fails from to) added
   doubted_turn from to few d =
       let start = settled_from opening before d.kept d.over d.settled in
-      let grouped : before ++ added ≡ ((before ++ adopts by turn d.kept) ++ doubts by turn (recorded house d.over requests)) ++ Fault by turn from to ∷ [] =
-      ap (λ (ls : List Line). before ++ ls) d.lines
-      ∙ sym (append_assoc before (adopts by turn d.kept) (doubts by turn (recorded house d.over requests) ++ Fault by turn from to ∷ []))
-      ∙ sym (append_assoc (before ++ adopts by turn d.kept) (doubts by turn (recorded house d.over requests)) (Fault by turn from to ∷ [])) in
-      let one : faults_of added ≡ 1 =
-      ap faults_of d.lines ∙ faults_append (adopts by turn d.kept) (doubts by turn (recorded house d.over requests) ++ Fault by turn from to ∷ [])
-      ∙ one_fault by turn d.kept (recorded house d.over requests) from to in
       record {
         old = state_with (entries_of opening before) start.doubt (faults_of before);
         new = state_with d.over (recorded house d.over requests) (faults_of before + 1);
         over_before = record { entries = refl; doubt = start.is; faults = refl };
-        over_behind = record {
-          entries = sym (doubted_lines_entries house opening by turn before requests from to added d);
-          doubt = inr (sym (ap open_doubt grouped ∙ doubt_faults ((before ++ adopts by turn d.kept) ++ doubts by turn (recorded house d.over requests)) by turn from to
-              ∙ doubts_are (before ++ adopts by turn d.kept) by turn (recorded house d.over requests) d.some (closed_more before (adopts by turn d.kept) closed (adopted_no_doubt by turn d.kept))));
-          faults = omega (arith, faults_append before added, one);
-        };
+        over_behind = doubted_behind house opening by turn before requests added closed from to d;
         turn = (few, inr (record { over = d.over; settled = start.settled; some = d.some; left = refl }));
-        closed = subst IsClosed (sym grouped) (fault_last ((before ++ adopts by turn d.kept) ++ doubts by turn (recorded house d.over requests)) from to);
+        closed = subst IsClosed (sym (grouped house opening by turn before requests added from to d))
+            (fault_last ((before ++ adopts by turn d.kept) ++ doubts by turn (recorded house d.over requests)) from to);
       }
 
   refused_turn : (faults_of before ≡ MAX_FAULTS) × (added ≡ []) → TellsTurn house opening before requests Refuses added

@@ -13,7 +13,7 @@ use Rattle.nb_turns.specs.declared.line.Line.{Line}
 use Rattle.nb_turns.specs.declared.mark.Mark.{Mark}
 use Rattle.nb_turns.specs.declared.mark.Mark.TheVariants.{At, Fault, Worn}
 use Rattle.nb_turns.specs.Turns.{Request, House, State, Outcome, Decides, Fails, Refuses, Answered, Round, SettlesInto, Unsettled, Doubts, Turn, FitTurn, Run, answer_over, answered, answered_in, decided, marks, recorded, failure_of, last_state, IsStateOf, places}
-use Rattle.nb_turns.specs.Lines.{AddsLines, AreBelow, AreOf, IsClosed, NeverFall, Sound, StateOver, entries_of, failures_in, faults_of, lines_by, next_turn, turn_of}
+use Rattle.nb_turns.specs.Lines.{AddsLines, AreBelow, AreOf, IsClosed, NeverFall, Sound, StateOver, entries_of, failures_in, faults_of, lines_by, next_turn, open_doubt, turn_of}
 use Rattle.nb_turns.specs.Callers.{Turned, AnsweredTurns, AreTaken, answers_in, lines_since, own_lines}
 
 -- the limits of a turn and of a house in numbers, and no turn is without requests
@@ -114,6 +114,25 @@ abbrev pub FailureLeavesDoubt : Type 0
 FailureLeavesDoubt = (house : House) (old new : State) (requests : List Request) (before after : ℕ) → Turn house old requests (Fails before after) new
     → (new.doubt ≢ []) × (old.doubt ≡ [] → recorded house old.entries requests ≢ [])
 
+-- ---- growth
+
+-- behind a turn stand the entries before it, then all that was in doubt or nothing of it, and then at most one entry for each request
+pub record Grows (old new : State) (requests : List Request) : Type 0 where
+  pub kept : List Entry
+  pub made : List Entry
+  pub of_doubt : (kept ≡ []) ⊎ (kept ≡ old.doubt)
+  pub few : length made ≤ length requests
+  pub grows : new.entries ≡ old.entries ++ (kept ++ made)
+
+-- so it is behind every turn
+abbrev pub TurnGrows : Type 0
+TurnGrows = (house : House) (old new : State) (requests : List Request) (outcome : Outcome) → Turn house old requests outcome new → Grows old new requests
+
+-- the entries of each state of a run begin with those at its start
+abbrev pub RunGrows : Type 0
+RunGrows = (house : House) (first : State) (rounds : List Round) (states : List State)
+    → Run house first rounds states → AllByRecursion (λ (state : State). (more : List Entry) × (state.entries ≡ first.entries ++ more)) states
+
 -- ---- Legal entries, and money
 
 -- what the verdicts over Legal entries record may come next, and there is room for it
@@ -188,6 +207,29 @@ pub record TellsTurn (house : House) (opening : List Entry) (before : List Line)
 abbrev pub LinesTellTurn : Type 0
 LinesTellTurn = (house : House) (opening : List Entry) (by turn : ℕ) (before : List Line) (requests : List Request) (outcome : Outcome) (added : List Line)
     → IsClosed before → AddsLines house opening by turn before requests outcome added → TellsTurn house opening before requests outcome added
+
+-- lines that a turn which went so adds, and behind which the house is in this state
+pub record TellsState (house : House) (opening : List Entry) (by turn : ℕ) (before : List Line) (requests : List Request) (outcome : Outcome) (new : State) : Type 0 where
+  pub added : List Line
+  pub adds : AddsLines house opening by turn before requests outcome added
+  pub over_behind : StateOver opening (before ++ added) new
+
+-- each turn from a state over the lines before it has lines that tell it: what a turn may do and what lines may tell are the same
+abbrev pub TurnAddsLines : Type 0
+TurnAddsLines = (house : House) (opening : List Entry) (by turn : ℕ) (before : List Line) (requests : List Request) (outcome : Outcome) (old new : State)
+    → IsClosed before → StateOver opening before old → length old.doubt ≤ MAX_REQUESTS → Turn house old requests outcome new
+    → TellsState house opening by turn before requests outcome new
+
+-- what the lines record is Legal and within the cap, also with what they tell to be in doubt
+pub record AreLegal (cap : ℕ) (opening : List Entry) (lines : List Line) : Type 0 where
+  pub legal : Legal (entries_of opening lines ++ open_doubt lines)
+  pub within : length (entries_of opening lines ++ open_doubt lines) ≤ cap
+
+-- lines keep this behind each turn. So nothing is in doubt any more behind an entry that is recorded: it would not be Legal there
+abbrev pub LinesKeepLegal : Type 0
+LinesKeepLegal = (house : House) (cap : ℕ) (opening : List Entry) (by turn : ℕ) (before : List Line) (requests : List Request) (outcome : Outcome) (added : List Line)
+    → IsLawful house cap → IsClosed before → AreLegal cap opening before → AddsLines house opening by turn before requests outcome added
+    → AreLegal cap opening (before ++ added)
 
 -- lines stay sound behind each turn
 abbrev pub LinesStaySound : Type 0

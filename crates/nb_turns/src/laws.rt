@@ -44,6 +44,16 @@ pub fn failure_leaves_doubt()
     ensures { law.FailureLeavesDoubt }
 {}
 
+/// Behind a turn stand the entries before it, then all that was in doubt or nothing of it, and then at most one entry a request.
+pub fn turn_grows()
+    ensures { law.TurnGrows }
+{}
+
+/// The entries of each state of a run begin with those at its start.
+pub fn run_grows()
+    ensures { law.RunGrows }
+{}
+
 /// A turn keeps the entries, also with those in doubt, Legal and within the cap.
 pub fn turn_keeps_legal()
     ensures { law.TurnKeepsLegal }
@@ -79,6 +89,18 @@ pub fn lines_are_of()
 pub fn lines_tell_turn()
     ensures { law.LinesTellTurn }
 {}
+
+/// Each turn from a state over the lines before it has lines that tell it.
+pub fn turn_adds_lines()
+    ensures { law.TurnAddsLines }
+{}
+
+/// Lines keep what they record, also with what they tell to be in doubt, Legal and within the cap.
+pub fn lines_keep_legal()
+    ensures { law.LinesKeepLegal }
+{
+    nb_book::laws::stays_legal();
+}
 
 /// Lines stay sound behind each turn: neighbours that adopt have all that was in doubt before them.
 pub fn lines_stay_sound()

@@ -1,5 +1,5 @@
 //! Turns of a house, over lists alone: what a turn of several requests may do, the lines that tell it, and what a caller was
-//! answered over several turns.
+//! answered over several turns. (The crate `nb_turn` is another thing: the lock-free turn, by which threads hand one value on.)
 //!
 //! A turn (`specs/Turns.antt`) takes from 1 to [`MAX_REQUESTS`] requests and goes on from a state of the house to another: it
 //! decides them one after another, and what they record is one item; or the disk failed in it, and an item may be in doubt; or

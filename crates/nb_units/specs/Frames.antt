@@ -4,7 +4,7 @@ use Rattle.std.specs.Prelude.{◌≡◌, ◌≢◌, ◌↔◌, ◌⊎◌, ℕ, �
 use Rattle.std.specs.List.{flat_map, AllByRecursion}
 use Rattle.std.specs.Int.{w32, from_be_bytes}
 use Rattle.nb_units.specs.Fields.{be4, sized}
-use Rattle.nb_units.specs.declared.frames.TheConstants.{FIRST_MAGIC, SECOND_MAGIC, VERSION, LAST_KIND, MAX_BODY, HEADER, ORDER_REQUEST, RESULT_REPLY, STATUS_REQUEST, STATUS_REPLY, GRANT_REPLY, ENROL_REQUEST, FUND_REQUEST, DONE_REPLY, REFUSED_REPLY}
+use Rattle.nb_units.specs.declared.frames.TheConstants.{FIRST_MAGIC, SECOND_MAGIC, VERSION, LAST_KIND, MAX_BODY, HEADER, PRICE_REQUEST, QUOTE_REPLY, GOODS_REQUEST, GOODS_REPLY, PAYMENT_REQUEST, ORDER_REQUEST, RESULT_REPLY, PAYMENT_REPLY, STATUS_REQUEST, STATUS_REPLY, TICKET_REQUEST, GRANT_REPLY, ENROL_REQUEST, FUND_REQUEST, DONE_REPLY, REFUSED_REPLY}
 
 -- its kind and its body
 pub record Frame : Type 0 where
@@ -118,8 +118,9 @@ FrameLayout = (f : Frame) → (frame f ≡ 0x4E ∷ 0x42 ∷ 0x01 ∷ f.kind ∷
 -- the kinds in numbers
 abbrev pub FrameKinds : Type 0
 FrameKinds =
-    ORDER_REQUEST ∷ RESULT_REPLY ∷ STATUS_REQUEST ∷ STATUS_REPLY ∷ GRANT_REPLY ∷ ENROL_REQUEST ∷ FUND_REQUEST ∷ DONE_REPLY ∷ REFUSED_REPLY ∷ []
-    ≡ 0x06 ∷ 0x07 ∷ 0x09 ∷ 0x0A ∷ 0x0C ∷ 0x0D ∷ 0x0E ∷ 0x0F ∷ 0x10 ∷ []
+    PRICE_REQUEST ∷ QUOTE_REPLY ∷ GOODS_REQUEST ∷ GOODS_REPLY ∷ PAYMENT_REQUEST ∷ ORDER_REQUEST ∷ RESULT_REPLY ∷ PAYMENT_REPLY
+    ∷ STATUS_REQUEST ∷ STATUS_REPLY ∷ TICKET_REQUEST ∷ GRANT_REPLY ∷ ENROL_REQUEST ∷ FUND_REQUEST ∷ DONE_REPLY ∷ REFUSED_REPLY ∷ []
+    ≡ 0x01 ∷ 0x02 ∷ 0x03 ∷ 0x04 ∷ 0x05 ∷ 0x06 ∷ 0x07 ∷ 0x08 ∷ 0x09 ∷ 0x0A ∷ 0x0B ∷ 0x0C ∷ 0x0D ∷ 0x0E ∷ 0x0F ∷ 0x10 ∷ []
 
 -- a whole frame at the front is read as that frame, whatever follows it
 abbrev pub FrontIsFrame : Type 0

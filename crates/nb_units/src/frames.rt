@@ -1,5 +1,5 @@
 //! What a frame of the protocol is. The definitions stand in `specs/Frames.antt`; here are the header's
-//! constants, the kinds that have a name, and the laws that make the definitions one reading of a stream.
+//! constants, the sixteen kinds, and the laws that make the definitions one reading of a stream.
 
 ghost use Rattle.nb_units.specs.Frames as law;
 
@@ -21,17 +21,38 @@ pub const MAX_BODY: u32 = 1_048_576;
 /// The bytes of a frame before its body: two of magic, the version, the kind, and four of length.
 pub const HEADER: usize = 8;
 
+/// The kind of a frame by which a consumer asks a merchant for a price.
+pub const PRICE_REQUEST: u8 = 0x01;
+
+/// The kind of a reply: the merchant quotes a price.
+pub const QUOTE_REPLY: u8 = 0x02;
+
+/// The kind of a frame by which a consumer asks a merchant for goods.
+pub const GOODS_REQUEST: u8 = 0x03;
+
+/// The kind of a reply: a part of the goods, enciphered.
+pub const GOODS_REPLY: u8 = 0x04;
+
+/// The kind of a frame by which a consumer gives a merchant its order to pay.
+pub const PAYMENT_REQUEST: u8 = 0x05;
+
 /// The kind of a frame by which a merchant hands in an order that it endorsed.
 pub const ORDER_REQUEST: u8 = 0x06;
 
 /// The kind of a reply: the result of an order.
 pub const RESULT_REPLY: u8 = 0x07;
 
+/// The kind of a reply: the merchant passes the result of an order on to the consumer.
+pub const PAYMENT_REPLY: u8 = 0x08;
+
 /// The kind of a frame by which a party asks for the status of an order.
 pub const STATUS_REQUEST: u8 = 0x09;
 
 /// The kind of a reply: the status of an order.
 pub const STATUS_REPLY: u8 = 0x0A;
+
+/// The kind of a frame by which a consumer asks the house for a ticket to a merchant.
+pub const TICKET_REQUEST: u8 = 0x0B;
 
 /// The kind of a reply: a ticket is granted.
 pub const GRANT_REPLY: u8 = 0x0C;

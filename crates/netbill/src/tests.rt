@@ -31,6 +31,7 @@ struct Case<'a> {
     source_fails: &'a [u64],
     sink_fails: &'a [u64],
     status: u8,
+    place: u64,
     output: &'a [&'a str],
 }
 
@@ -44,6 +45,7 @@ const BATCH: Case<'static> = Case {
     source_fails: &[],
     sink_fails: &[],
     status: 0,
+    place: 0,
     output: &[],
 };
 
@@ -216,7 +218,7 @@ static STATUSES: [Case<'static>; 2] = [
     },
 ];
 
-static INPUTS: [Case<'static>; 9] = [
+static INPUTS: [Case<'static>; 12] = [
     Case {
         name: "an empty input",
         ..BATCH
@@ -229,16 +231,26 @@ static INPUTS: [Case<'static>; 9] = [
         ..BATCH
     },
     Case {
+        name: "a first frame without its last byte",
+        input: &[ENROL_CUT],
+        status: 5,
+        place: 88,
+        ..BATCH
+    },
+    Case {
         name: "an input cut within a frame",
         input: &[ENROL_1, ENROL_2, FUND_CUT],
         status: 5,
+        place: 190,
         output: &[DONE_1, DONE_2],
         ..BATCH
     },
     Case {
-        name: "an input cut within a header",
+        name: "an input cut within a header, in pieces",
         input: &[ENROL_1, HEADER_CUT],
+        step: 7,
         status: 5,
+        place: 92,
         output: &[DONE_1],
         ..BATCH
     },
@@ -246,6 +258,7 @@ static INPUTS: [Case<'static>; 9] = [
         name: "a wrong magic",
         input: &[ENROL_1, BAD_MAGIC, ENROL_2],
         status: 5,
+        place: 90,
         output: &[DONE_1],
         ..BATCH
     },
@@ -253,6 +266,7 @@ static INPUTS: [Case<'static>; 9] = [
         name: "a wrong version",
         input: &[ENROL_1, BAD_VERSION, ENROL_2],
         status: 5,
+        place: 91,
         output: &[DONE_1],
         ..BATCH
     },
@@ -260,13 +274,16 @@ static INPUTS: [Case<'static>; 9] = [
         name: "kind 0",
         input: &[ENROL_1, KIND_0, ENROL_2],
         status: 5,
+        place: 92,
         output: &[DONE_1],
         ..BATCH
     },
     Case {
-        name: "kind 17",
+        name: "kind 17, a byte in each read",
         input: &[ENROL_1, KIND_17, ENROL_2],
+        step: 1,
         status: 5,
+        place: 92,
         output: &[DONE_1],
         ..BATCH
     },
@@ -274,7 +291,23 @@ static INPUTS: [Case<'static>; 9] = [
         name: "a frame that is too long",
         input: &[ENROL_1, TOO_LONG],
         status: 5,
+        place: 93,
         output: &[DONE_1],
+        ..BATCH
+    },
+    Case {
+        name: "a first frame that is too long",
+        input: &[TOO_LONG, ENROL_1],
+        status: 5,
+        place: 4,
+        ..BATCH
+    },
+    Case {
+        name: "a last byte that is none of a frame's",
+        input: &[ENROL_1, ENROL_2, "00"],
+        status: 5,
+        place: 178,
+        output: &[DONE_1, DONE_2],
         ..BATCH
     },
 ];
@@ -283,16 +316,16 @@ static FAULTS: [Case<'static>; 3] = [
     Case {
         name: "a source that fails within a frame",
         input: &[ENROL_1, ENROL_2],
-        step: 89,
+        step: 40,
         source_fails: &[2],
         status: 3,
         ..BATCH
     },
     Case {
-        name: "a source that fails at its third read, behind a frame",
+        name: "a source that fails at its second read, behind a frame and a part of one",
         input: &[ENROL_1, ENROL_2],
-        step: 89,
-        source_fails: &[3],
+        step: 100,
+        source_fails: &[2],
         status: 3,
         output: &[DONE_1],
         ..BATCH
@@ -486,10 +519,51 @@ fn hold(rt: &impl Abort, alloc: Global, cases: &[Case<'_>]) -> Result<(), Fail> 
     for case in cases {
         let (ending, written) = outcome(alloc, case)?;
         let wanted = bytes(alloc, case.output)?;
-        let status = case.status;
-        assert_eq!(rt; ending, Ending { status, place: 0 }, "{}", case.name);
+        let wants = Ending {
+            status: case.status,
+            place: case.place,
+        };
+        assert_eq!(rt; ending, wants, "{}", case.name);
         assert_eq!(rt; written.as_slice(), wanted.as_slice(), "{}", case.name);
     }
+    Ok(())
+}
+
+// A source that counts how often it is asked.
+#[derive(Drop)]
+struct Counted {
+    from: MemSource,
+    reads: u64,
+}
+
+impl Source for Counted {
+    ghost faults = { λ s. s.from.calls.faults };
+
+    ghost left = { λ s. Some s.from.left };
+
+    fn read(&mut self, buf: &mut [u8]) -> ReadOut {
+        self.reads = self.reads.saturating_add(1);
+        self.from.read(buf)
+    }
+}
+
+// A read brings many frames: all of 500, and a second one tells the end.
+#[test]
+fn frames_are_read_together(rt: HostRuntime) -> Result<(), Fail> {
+    let alloc = rt.alloc();
+    let input = faults::repeated(alloc, ENROL_1, 500)?;
+    assert_eq!(rt; input.len(), 44_500);
+    let from = MemSource::new(alloc, input.as_slice(), 65_536, &[])?;
+    let mut source = Counted { from, reads: 0 };
+    let mut sink = MemSink::new(alloc, &[])?;
+    let mut clock = MemClock::new(alloc, &[1000])?;
+    let disk = disk_of(alloc, JOURNAL)?;
+    let words = WORDS_OF_BATCH;
+    let (ending, _disk) = run_on(alloc, words, &mut source, &mut sink, disk, &mut clock)?;
+    let replies = faults::repeated(alloc, DONE_1, 500)?;
+    assert_eq!(rt; ending, GOOD);
+    assert_eq!(rt; sink.sent(), replies.as_slice());
+    assert_eq!(rt; source.reads, 2);
     Ok(())
 }
 

@@ -1,8 +1,8 @@
-use Rattle.std.proofs.Common.{sym, ap, subst, ◌∙◌, arith, ◌⊎◌, ◌≡◌, ◌≤◌, ℕ, inr}
+use Rattle.std.proofs.Common.{sym, subst, arith, ◌⊎◌, ◌≡◌, ◌≤◌, inr}
 use Rattle.nb_run.specs.declared.ending.Ending.{Ending}
 use Rattle.nb_run.specs.declared.ending.TheConstants.{CLEAN, OUT_OF_MEMORY}
 use Rattle.nb_batch.specs.Batch.{Outside}
-use Rattle.nb_run.specs.Ending.{at_no_place, status_of}
+use Rattle.nb_run.specs.Ending.{ended}
 use Rattle.nb_run.specs.Run.{Batch}
 use Rattle.nb_run.proofs.Completeness.{complete_end, unopened_end}
 use Rattle.nb_run.proofs.Running.{batch_of}
@@ -18,8 +18,8 @@ returns-clause-batch g c =
     let before : Outside = record { left = g.S.Source.left c.args.source.now; sent = g.K.Sink.sent c.args.sink.now; moments = g.C.Clock.moments c.args.clock.now } in
     let after : Outside = record { left = g.S.Source.left c.serve-end.new.source; sent = g.K.Sink.sent c.serve-end.new.sink; moments = g.C.Clock.moments c.serve-end.new.clock } in
     inr
-    (subst (λ (ending : Ending). Batch g.D.Disk.tells c.args.disk c.into_disk.result before after ending) (sym (c.at_no_place.ensures ∙ ap at_no_place c.status_of.ensures))
-    (subst (λ (disk : g.row.D.Denot). Batch g.D.Disk.tells c.args.disk disk before after (at_no_place (status_of c.serve-end.result))) (sym c.into_disk.ensures)
+    (subst (λ (ending : Ending). Batch g.D.Disk.tells c.args.disk c.into_disk.result before after ending) (sym c.ended.ensures)
+    (subst (λ (disk : g.row.D.Denot). Batch g.D.Disk.tells c.args.disk disk before after (ended c.serve-end.result)) (sym c.into_disk.ensures)
     (batch_of g.D.Disk.tells g.met.D.Disk.only_now c.serve-end.result c.args.disk c.in-Ok.house c.serve-end.new.house before after
     c.in-Ok.ensures.gives c.in-Ok.ensures.nothing c.in-Ok.ensures.count c.serve-end.ensures.served c.witness.ensures.keeps c.serve-end.ensures.origin)))
 
@@ -34,7 +34,6 @@ pub returns-clause-complete : goal.returns-clause-complete
 returns-clause-complete g c = λ journal input no_source no_sink no_disk.
     let before : Outside = record { left = g.S.Source.left c.args.source.now; sent = g.K.Sink.sent c.args.sink.now; moments = g.C.Clock.moments c.args.clock.now } in
     let after : Outside = record { left = g.S.Source.left c.serve-end.new.source; sent = g.K.Sink.sent c.serve-end.new.sink; moments = g.C.Clock.moments c.serve-end.new.clock } in
-    subst (λ (ending : Ending). (ending.status ≡ CLEAN) ⊎ (ending.status ≡ OUT_OF_MEMORY)) (sym c.at_no_place.ensures)
-    (subst (λ (n : ℕ). (n ≡ CLEAN) ⊎ (n ≡ OUT_OF_MEMORY)) (sym c.status_of.ensures)
+    subst (λ (ending : Ending). (ending.status ≡ CLEAN) ⊎ (ending.status ≡ OUT_OF_MEMORY)) (sym c.ended.ensures)
     (complete_end g.D.Disk.tells c.in-Ok.house c.serve-end.new.house c.serve-end.result before after (g.S.Source.faults c.args.source.now) (g.S.Source.faults c.serve-end.new.source) (g.K.Sink.faults c.args.sink.now) (g.K.Sink.faults c.serve-end.new.sink)
-    c.serve-end.ensures.served c.serve-end.ensures.fault input no_source no_sink))
+    c.serve-end.ensures.served c.serve-end.ensures.fault input no_source no_sink)

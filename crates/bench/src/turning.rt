@@ -1,0 +1,192 @@
+// Turns: each of so many threads takes and gives back a number so many times, and adds one to it each time. Beside it the same
+// under a mutex of std.
+
+ghost use Rattle.std.specs.Prelude.{◌≡◌, [], Some};
+ghost use Rattle.nb_turn.specs.Passes.{Belongs, held_sees, IsOf};
+
+use crate::Made;
+use nb_seal::NoMemory;
+use nb_turn::{Chronicle, Held, Pass, Turn};
+use std::alloc::Global;
+use std::sync::{Mutex, Wait};
+use std::thread::{Threads, join};
+
+/// The rows `turn` and `lock`: SIZE threads, which are 1, 2 or 4, of TIMES rounds each.
+pub fn run<R: Threads + Wait + Sync>(
+    rt: &R,
+    alloc: Global,
+    row: &str,
+    size: u32,
+    times: u32,
+) -> Result<Made, NoMemory> {
+    match (row, size) {
+        ("turn", 1 | 2 | 4) => turns(rt, alloc, size, times),
+        ("lock", 1 | 2 | 4) => locks(rt, alloc, size, times),
+        _ => Ok(Made::Unknown),
+    }
+}
+
+/// A number without a history.
+#[derive(Drop)]
+struct Counter {
+    count: u64,
+}
+
+impl Chronicle for Counter {
+    type Origin = ();
+
+    type Line = u8;
+
+    ghost use Rattle.std.specs.Prelude.{ℕ, []};
+
+    ghost origin = { λ counter. tt };
+
+    ghost history = { λ counter. [] };
+
+    ghost maker = { λ line. line };
+
+    fn lines(&self) -> u64 {
+        0
+    }
+}
+
+// Adds one and gives the turn back.
+fn count_once(turn: &Turn<Counter>, mut held: Held<Counter>) -> Pass<Counter>
+    requires turn { IsOf held turn.now }
+    requires origin { (held_sees held).origin ≡ Some tt }
+    requires lines { (held_sees held).seen ≡ [] }
+    ensures { Belongs result turn.now }
+{
+    let counter = held.value();
+    counter.count = counter.count.wrapping_add(1);
+    turn.give(held)
+}
+
+fn take_turns<R: Wait>(
+    rt: &R,
+    turn: &Turn<Counter>,
+    pass: Pass<Counter>,
+    times: u32,
+) -> Pass<Counter>
+    requires { Belongs pass turn.now }
+    ensures { Belongs result turn.now }
+{
+    let mut pass = pass;
+    for _ in 0..times {
+        pass = count_once(turn, turn.take(rt, pass));
+    }
+    pass
+}
+
+// Two threads take turns.
+fn take_by_two<R: Threads + Wait + Sync>(
+    rt: &R,
+    turn: &Turn<Counter>,
+    first: Pass<Counter>,
+    second: Pass<Counter>,
+    times: u32,
+) -> (Pass<Counter>, Pass<Counter>)
+    requires first { Belongs first turn.now }
+    requires second { Belongs second turn.now }
+    ensures { Belongs result.0 turn.now × Belongs result.1 turn.now }
+{
+    join(
+        rt,
+        || -> Pass<Counter>
+            requires { Belongs first turn.now }
+            ensures { Belongs result turn.entry.now }
+        { take_turns(rt, turn, first, times) },
+        || -> Pass<Counter>
+            requires { Belongs second turn.now }
+            ensures { Belongs result turn.entry.now }
+        { take_turns(rt, turn, second, times) },
+    )
+}
+
+// So many threads take turns: 1, 2 or 4.
+fn turns<R: Threads + Wait + Sync>(
+    rt: &R,
+    alloc: Global,
+    threads: u32,
+    times: u32,
+) -> Result<Made, NoMemory> {
+    let Ok((mut turn, pass)) = Turn::open(alloc, Counter { count: 0 }) else {
+        return Err(NoMemory);
+    };
+    if threads == 1 {
+        let pass = take_turns(rt, &turn, pass, times);
+        return counted(alloc, turn.close(rt, pass).count);
+    }
+    let Ok((first, second)) = turn.split(pass, 1) else {
+        return Ok(Made::Unknown);
+    };
+    if threads == 2 {
+        let (first, second) = take_by_two(rt, &turn, first, second, times);
+        let pass = turn.join(first, second);
+        return counted(alloc, turn.close(rt, pass).count);
+    }
+    let Ok((first, third)) = turn.split(first, 2) else {
+        return Ok(Made::Unknown);
+    };
+    let Ok((second, fourth)) = turn.split(second, 3) else {
+        return Ok(Made::Unknown);
+    };
+    let shared = &turn;
+    let (one, two) = join(
+        rt,
+        || -> (Pass<Counter>, Pass<Counter>)
+            requires { Belongs first shared.now × Belongs third shared.now }
+            ensures { Belongs result.0 shared.entry.now × Belongs result.1 shared.entry.now }
+        { take_by_two(rt, shared, first, third, times) },
+        || -> (Pass<Counter>, Pass<Counter>)
+            requires { Belongs second shared.now × Belongs fourth shared.now }
+            ensures { Belongs result.0 shared.entry.now × Belongs result.1 shared.entry.now }
+        { take_by_two(rt, shared, second, fourth, times) },
+    );
+    let first = turn.join(one.0, one.1);
+    let second = turn.join(two.0, two.1);
+    let pass = turn.join(first, second);
+    counted(alloc, turn.close(rt, pass).count)
+}
+
+fn lock_often<R: Wait>(rt: &R, count: &Mutex<u64>, times: u32) {
+    for _ in 0..times {
+        let mut count = count.lock(rt);
+        *count = count.wrapping_add(1);
+    }
+}
+
+fn lock_by_two<R: Threads + Wait + Sync>(rt: &R, count: &Mutex<u64>, times: u32) {
+    join(
+        rt,
+        || lock_often(rt, count, times),
+        || lock_often(rt, count, times),
+    );
+}
+
+// So many threads lock a mutex: 1, 2 or 4.
+fn locks<R: Threads + Wait + Sync>(
+    rt: &R,
+    alloc: Global,
+    threads: u32,
+    times: u32,
+) -> Result<Made, NoMemory> {
+    let count = Mutex::new(0);
+    match threads {
+        1 => lock_often(rt, &count, times),
+        2 => lock_by_two(rt, &count, times),
+        _ => {
+            join(
+                rt,
+                || lock_by_two(rt, &count, times),
+                || lock_by_two(rt, &count, times),
+            );
+        }
+    }
+    counted(alloc, count.into_inner())
+}
+
+// The count in 8 bytes, the highest first.
+fn counted(alloc: Global, count: u64) -> Result<Made, NoMemory> {
+    Ok(Made::Bytes(Vec::from_slice(alloc, &count.to_be_bytes())?))
+}

@@ -1,0 +1,11 @@
+use Rattle.std.proofs.Common.{[], sym, subst}
+use Rattle.nb_frame.specs.State.{Collected}
+use Rattle.nb_batch.specs.Fetch.{Reads}
+use Rattle.nb_batch.proofs.Fetching.{ends_at, same_waits}
+use Rattle.nb_batch.proofs.fetch.next_frame.Goals as goal
+
+pub returns-in-End-clause-fetched : goal.returns-in-End-clause-fetched
+returns-in-End-clause-fetched g c =
+    ends_at (g.S.Source.faults c.args.source.now) (g.S.Source.faults c.read.new.self) (g.S.Source.left c.args.source.now) (g.S.Source.left c.fetching.source) (g.S.Source.left c.read.new.self) c.args.frames.now c.next.new.self c.at_end.result
+    (subst (λ (held : Collected). Reads (g.S.Source.left c.args.source.now) (g.S.Source.left c.fetching.source) c.args.frames.now held []) (sym c.in-More.ensures.0) c.fetching.invariant.reads)
+    c.in-End.ensures.gives.1 c.in-End.ensures.gives.0 (same_waits c.fetching.frames c.next.new.self c.in-More.ensures.0 c.in-More.ensures.1) c.at_end.ensures

@@ -1,0 +1,9 @@
+pub mod Lists
+pub mod Rules
+pub mod Taking
+pub mod Counting
+pub mod Splitting
+pub mod Joining
+pub mod Passing
+pub mod Steps
+pub mod Giving
