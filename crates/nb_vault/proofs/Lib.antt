@@ -8,3 +8,4 @@ pub mod Restoring
 pub mod HoldingLaws
 pub mod Founding
 pub mod Paying
+pub mod Gating

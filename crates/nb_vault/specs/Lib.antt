@@ -7,3 +7,4 @@ pub mod Parts
 pub mod Restoring
 pub mod Opens
 pub mod Paying
+pub mod Gates

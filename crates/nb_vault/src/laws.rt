@@ -1,5 +1,6 @@
 //! What holds of every image of a disk and of every turn. Each function here does nothing: its contract is the law.
 
+ghost use Rattle.nb_vault.specs.Gates.{OneGate};
 ghost use Rattle.nb_vault.specs.Holdings.{OneList};
 ghost use Rattle.nb_vault.specs.Opens.{WholeIsGood};
 ghost use Rattle.nb_vault.specs.Paying.{PayableIsPaid};
@@ -20,4 +21,10 @@ pub fn whole_is_good()
 /// of the disk does not rise.
 pub fn payable_is_paid<D: Disk>()
     ensures { PayableIsPaid D.tells }
+{}
+
+/// One gate opens all entries of a turn, or none of them: each image that a stop leaves at any moment of it stands for the entries
+/// from before, without what was in doubt or with it, alone or with all that the turn records.
+pub fn one_gate<D: Disk>()
+    ensures { OneGate D.tells }
 {}

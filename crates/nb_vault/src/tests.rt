@@ -232,40 +232,36 @@ fn answer_one(
     })
 }
 
+// The line of an entry, by the letter for what became of it.
+fn line_of(fate: u8, by: u64, turn: u64, entry: Entry) -> Line {
+    match fate {
+        b'C' => Line::Commit { by, turn, entry },
+        b'A' => Line::Adopted { by, turn, entry },
+        _ => Line::Doubt { by, turn, entry },
+    }
+}
+
 // The lines that the letters tell of.
-fn lines_of(alloc: Global, letters: &str, turn: u64, faults: u64) -> Result<Vec<Line>, Fail> {
+fn lines_of(alloc: Global, letters: &str, turn: u64, before: u64) -> Result<Vec<Line>, Fail> {
     let by = maker(turn);
+    let after = before.saturating_add(1);
     let mut lines = Vec::new(alloc);
-    let letters = letters.as_bytes();
-    for i in 0..letters.len() / 2 {
-        let at = i.saturating_mul(2);
-        let fate = *letters.get(at).ok_or("lines have two letters")?;
-        let of = *letters
-            .get(at.saturating_add(1))
-            .ok_or("lines have two letters")?;
-        lines.push(match fate {
-            b'C' => Line::Commit {
-                by,
-                turn,
-                entry: entry_of(alloc, of)?,
-            },
-            b'A' => Line::Adopted {
-                by,
-                turn,
-                entry: entry_of(alloc, of)?,
-            },
-            b'D' => Line::Doubt {
-                by,
-                turn,
-                entry: entry_of(alloc, of)?,
-            },
-            _ => Line::Fault {
-                by,
-                turn,
-                before: faults,
-                after: faults.saturating_add(1),
-            },
-        })?;
+    let mut fate = b' ';
+    for letter in letters.as_bytes() {
+        if fate == b' ' {
+            fate = *letter;
+        } else {
+            lines.push(match *letter {
+                b'!' => Line::Fault {
+                    by,
+                    turn,
+                    before,
+                    after,
+                },
+                of => line_of(fate, by, turn, entry_of(alloc, of)?),
+            })?;
+            fate = b' ';
+        }
     }
     Ok(lines)
 }
@@ -282,7 +278,58 @@ fn answer_of(turn: &Turn, faults: u64) -> AnswerAll {
     }
 }
 
-// Takes turns, each with the lines before it told already, and gives the disk.
+// Asks for what a turn asks for.
+fn ask(
+    alloc: Global,
+    vault: &mut Vault<MemDisk>,
+    by: u64,
+    letters: &str,
+    ats: &mut Vec<u64>,
+    out: &mut Vec<u8>,
+) -> Result<AnswerAll, Fail> {
+    if letters.len() == 1 {
+        answer_one(alloc, vault, by, letters, ats, out)
+    } else {
+        answer_all(alloc, vault, by, letters, ats, out)
+    }
+}
+
+// Takes a turn with this number, behind so many faults.
+fn take(
+    rt: &impl Abort,
+    alloc: Global,
+    vault: &mut Vault<MemDisk>,
+    turn: &Turn,
+    number: u64,
+    faults: u64,
+) -> Result<(), Fail> {
+    let mut ats = Vec::new(alloc);
+    let mut out = Vec::new(alloc);
+    let said = ask(alloc, vault, maker(number), turn.asks, &mut ats, &mut out)?;
+    assert_eq!(rt; said, answer_of(turn, faults), "turn {number}");
+    assert_eq!(rt; ats.as_slice(), turn.places, "turn {number}");
+    let replies = replies(alloc, turn.replies)?;
+    assert_eq!(rt; out.as_slice(), replies.as_slice(), "turn {number}");
+    Ok(())
+}
+
+// The vault has these lines from this number on, and no more.
+fn tell(
+    rt: &impl Abort,
+    vault: &Vault<MemDisk>,
+    from: u64,
+    lines: &[Line],
+) -> u64 {
+    let mut told = from;
+    for line in lines {
+        assert_eq!(rt; vault.line(told), Some(*line), "line {told}");
+        told = told.saturating_add(1);
+    }
+    assert_eq!(rt; vault.line(told), None);
+    told
+}
+
+// Takes turns, and gives the disk.
 fn run(
     rt: &impl Abort,
     alloc: Global,
@@ -293,39 +340,11 @@ fn run(
     let mut faults = 0u64;
     let mut number = 0u64;
     for turn in turns {
-        let mut ats = Vec::from_slice(alloc, &[7u64])?;
-        let mut out = Vec::from_slice(alloc, b"before")?;
-        let by = maker(number);
-        let said = if turn.asks.len() == 1 {
-            answer_one(alloc, &mut vault, by, turn.asks, &mut ats, &mut out)?
-        } else {
-            answer_all(alloc, &mut vault, by, turn.asks, &mut ats, &mut out)?
-        };
-        let wanted = answer_of(turn, faults);
-        assert_eq!(rt; said, wanted, "turn {number}");
-        assert_eq!(rt;
-            ats.as_slice().split_at(ats.len().min(1)).1,
-            turn.places,
-            "turn {number}"
-        );
-        let replies = replies(alloc, turn.replies)?;
-        assert_eq!(rt;
-            out.as_slice().split_at(out.len().min(6)).1,
-            replies.as_slice(),
-            "turn {number}"
-        );
+        take(rt, alloc, &mut vault, turn, number, faults)?;
         let lines = lines_of(alloc, turn.lines, number, faults)?;
-        for line in &lines {
-            assert_eq!(rt; vault.line(told), Some(*line), "line {told}");
-            told = told.saturating_add(1);
-        }
-        assert_eq!(rt; vault.line(told), None);
-        if !lines.is_empty() {
-            number = number.saturating_add(1);
-        }
-        if turn.lines.ends_with("F!") {
-            faults = faults.saturating_add(1);
-        }
+        told = tell(rt, &vault, told, lines.as_slice());
+        number = number.saturating_add(u64::from(!lines.is_empty()));
+        faults = faults.saturating_add(u64::from(turn.lines.ends_with("F!")));
     }
     let (disk, lines) = vault.into_parts();
     assert_eq!(rt; lines.len() as u64, told);
