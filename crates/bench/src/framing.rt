@@ -1,6 +1,7 @@
 // Frames out of a stream in pieces, and a plain copy of as many bytes to set beside them.
 
-ghost use Rattle.std.specs.Prelude.{◌≤◌, ◌+◌, ◌<◌, length, OnOk};
+ghost use Rattle.std.specs.Prelude.{◌≤◌};
+ghost use Rattle.nb_units.specs.declared.frames.TheConstants.{MAX_BODY};
 ghost use Rattle.nb_frame.specs.declared.stream.TheConstants.{MAX_PIECE};
 
 use crate::Made;
@@ -10,6 +11,7 @@ use nb_seal::NoMemory;
 use nb_units::frames::{HEADER, LAST_KIND, MAX_BODY};
 use nb_units::room;
 use std::alloc::Global;
+use std::mem;
 
 // A stream has as many frames as have so many bytes, and at least one.
 const STREAM: usize = 262_144;
@@ -71,7 +73,7 @@ fn stream_of(alloc: Global, size: u32) -> Result<Vec<u8>, NoMemory>
     let mut kind = 1;
     let mut number: u8 = 0;
     let count = (STREAM / (HEADER + body.len())).max(1);
-    for _ in 0..count {
+    'writing: for _ in 0..count {
         if let Some(last) = body.last_mut() {
             *last = number;
         }
@@ -87,10 +89,10 @@ fn stream_of(alloc: Global, size: u32) -> Result<Vec<u8>, NoMemory>
 fn copied(alloc: Global, size: u32, times: u32) -> Result<Vec<u8>, NoMemory> {
     let mut from = pattern(alloc, size)?;
     let mut to = pattern(alloc, size)?;
-    for i in 0..times {
+    'copying: for i in 0..times {
         write_over(&i.to_be_bytes(), &mut from);
         to.copy_from_slice(&from);
-        std::mem::swap(&mut from, &mut to);
+        mem::swap(&mut from, &mut to);
     }
     Ok(from)
 }

@@ -1,6 +1,5 @@
 -- The addition to the count keeps the rule.
-use Rattle.std.proofs.Common.{◌≡◌, ◌≢◌, ℕ, suc, ◌+◌, ◌%◌, ◌^◌, ◌<◌, true, true≢false, List, [], ◌∷◌, ◌++◌, length, slice_index, set, Option, Some, is_some, sym, refl, ap, ◌∙◌, subst, ⊎_elim, arith, length-append}
-use Rattle.std.proofs.lemmas.Option.{same_Some}
+use Rattle.std.proofs.Common.{◌≡◌, ◌≢◌, ℕ, suc, ◌+◌, ◌%◌, ◌^◌, ◌<◌, true, List, [], ◌∷◌, ◌++◌, length, slice_index, set, Option, Some, sym, refl, ap, ◌∙◌, subst, ⊎_elim, arith, length-append}
 use Rattle.std.specs.Int.{bit_at}
 use mathlib.Core.Option.{some, none, some-ne-none, some-injective}
 use mathlib.Core.Option as maybe
@@ -12,12 +11,7 @@ use Rattle.nb_turn.specs.Views.{reseen, number_of}
 use Rattle.nb_turn.specs.Rule.{Knows, KeptWith, KeptAt, Kept}
 use Rattle.nb_turn.specs.Told.{Counts}
 use Rattle.nb_turn.proofs.Lists.{each_set, starts-refl, starts-more, at_firsts, length-first_sees, lone-refl, lone-more, lone_starts}
-use Rattle.nb_turn.proofs.Rules.{word_1, holder_kept}
-
--- the first part has the number
-first_number : {L : Type 0} (ps : List (ℕ × List L)) (n : ℕ) → number_of ps ≡ Some n → (p : ℕ × List L) × (get_elem? ps 0 ≡ some p) × (p.0 ≡ n)
-first_number [] n e = absurd (true≢false (ap is_some (sym e)))
-first_number (p ∷ ps) n e = (p, refl, same_Some p.0 n e)
+use Rattle.nb_turn.proofs.Rules.{number_at, word_1, holder_kept}
 
 module _ {T O L : Type 0} (origin : T → O) (history_of : T → List L) (maker : L → ℕ) (start : O) where
   abbrev V : Type 0
@@ -39,7 +33,7 @@ module _ {T O L : Type 0} (origin : T → O) (history_of : T → List L) (maker 
       let mine = k.each id v at in
       let held = mine.holds_is holds in
       let all = v.seen ++ l ∷ [] in
-      let first = first_number v.parts n number in
+      let first = number_at v.parts n number in
       let own = mine.parts_are 0 first.0 first.1 in
       -- the number of another part is another number
       let apart : (j i : ℕ) (p : ℕ × List L) → owner p.0 ≡ (j, i) → ((j ≡ id) → i ≡ 0 → ⊥) → maker l ≢ p.0 =

@@ -1,6 +1,7 @@
 -- The rule at three given words, and what is common to all steps.
 use Rattle.std.proofs.Common.{◌≡◌, ℕ, zero, suc, ◌<◌, true, List, [], ◌∷◌, length, slice_index, slice_set, set, Option, Some, None, is_some, true≢false, ◌++◌, drop, sym, refl, ap, ◌∙◌, subst, arith}
 use mathlib.Core.Option.{some, some-injective, some-ne-none}
+use Rattle.std.proofs.lemmas.Option.{same_Some}
 use mathlib.Core.Logic.{dite}
 use native.Mathlib.Decide.{ℕ_discrete}
 use lib.ListN.{get_elem?}
@@ -41,6 +42,11 @@ origin_at (Some x) start some_is is = ap Some (is x refl)
 pub has_part : {L : Type 0} (ps : List (ℕ × List L)) (n : ℕ) → number_of ps ≡ Some n → 0 < length ps
 has_part [] n e = absurd (true≢false (ap is_some (sym e)))
 has_part (p ∷ ps) n e = omega arith
+
+-- the first part has a pass's number
+pub number_at : {L : Type 0} (ps : List (ℕ × List L)) (n : ℕ) → number_of ps ≡ Some n → (p : ℕ × List L) × (get_elem? ps 0 ≡ some p) × (p.0 ≡ n)
+number_at [] n e = absurd (true≢false (ap is_some (sym e)))
+number_at (p ∷ ps) n e = (p, refl, same_Some p.0 n e)
 
 -- an element that is there is replaced
 pub set_there : {A : Type 0} (xs : List A) (i : ℕ) (a b : A) → get_elem? xs i ≡ some a → get_elem? (set xs i b) i ≡ some b

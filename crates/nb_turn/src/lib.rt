@@ -13,7 +13,9 @@
 //! the value has the pass's origin, and its lines begin with all that the pass had seen; for each of its numbers its own lines
 //! are exactly the value's lines of that number. The same is so at `close`. After `give` the pass has seen all lines.
 //!
-//! What holds of the words, the slot and all views between any two steps stands in `specs/Rule.antt`.
+//! What holds of the words, the slot and all views between any two steps stands in `specs/Rule.antt`. A crate above cites
+//! `specs/Passes.antt` (which also hands on the `TableId` that tells turns apart), `Told`, `Views` and `Lines`, and of the lemmas
+//! `number_at` of `proofs/Rules.antt` and `first_again` and `lone_own` of `proofs/Lists.antt`.
 //!
 //! Left to others: that a pass gets on. No clause says that a turn is ever given back, that `take` ends, or that a thread is not
 //! passed over. Passes and turns that are used together belong together: that is a condition of each call (`Belongs`).
