@@ -21,27 +21,28 @@ use Rattle.nb_units.proofs.FrameLaws.{has_reading}
 use Rattle.nb_batch.specs.Fetch.{Reads, EndsAs, IsReadEnd}
 use Rattle.nb_batch.proofs.Fetching.{reads_none}
 use Rattle.nb_journal.specs.Time.{LeavesOnly}
-use Rattle.nb_vault.proofs.Lines.{all_more}
+use Rattle.nb_vault.proofs.Joining.{all_more}
 use Rattle.nb_vault.proofs.Resting.{leaves_more, leaves_then}
 use Rattle.nb_vault.specs.declared.origin.Origin.{Origin}
 use Rattle.nb_vault.specs.Holdings.{StandsForEither}
-use Rattle.nb_vault.specs.Rules.{house_rules}
-use Rattle.nb_vault.specs.Turns.{Request, Ruling, State, Answered, Turn, Run, last_state, IsStateOf, replies, failure_of, failures_of}
-use Rattle.nb_vault.specs.Vaults.{Chronicled, Keeps, state_of, rules_of, entries_in, doubt_in, StandsForState as StandsForVault}
+use Rattle.nb_vault.specs.Rules.{house_of}
+use Rattle.nb_turns.specs.Turns.{House, State, Answered, last_state, IsStateOf, replies}
+use Rattle.nb_turns.specs.Laws.{TurnOfOne, RunOfOnes}
+use Rattle.nb_vault.specs.Vaults.{Chronicled, Keeps, state_of, house_in, entries_in, doubt_in, StandsForState as StandsForVault}
 use Rattle.nb_escrow.specs.Head.{head_of}
 use Rattle.nb_batch.specs.declared.batch.TheConstants.{MOST_FRAMES}
 use Rattle.nb_batch.specs.declared.batch.BatchEnd.{BatchEnd}
 use Rattle.nb_batch.specs.declared.batch.BatchEnd.TheVariants.{Clean, Cut, BadFrame, ReadFault, WriteFault, NoMemory, FrameLimit}
 use Rattle.nb_batch.specs.declared.batch.Step.TheVariants as step
 use Rattle.nb_batch.specs.Send.{SentPart}
-use Rattle.nb_batch.specs.Batch.{frame_of, moment_of, Outside, Gave, Stepped, Stopped, StepIs, AnswersAll, CountsAs, Wrote, Served, StandsInRun, HoldsState, GoesThrough, last_disk}
+use Rattle.nb_batch.specs.Batch.{failure_in_mark, failures_told, frame_of, moment_of, Outside, Gave, Stepped, Stopped, StepIs, AnswersAll, CountsAs, Wrote, Served, StandsInRun, HoldsState, GoesThrough, last_disk}
 
 -- these requests were answered, and the house came to these states
 pub record Went {D : Type 0} (tells : DiskTells D) (held : Collected) (old new : Chronicled D) (before after : Outside) (answered : List Answered) (states : List State) (disks : List D) : Type 0 where
-  pub turns : Run (rules_of old) (state_of old) answered states
+  pub turns : RunOfOnes (house_in old) (state_of old) answered states
   pub last : state_of new ≡ last_state (state_of old) states
   pub origin : new.origin ≡ old.origin
-  pub backed : Backed (tells.faults old.disk) (failures_of answered) (tells.faults new.disk)
+  pub backed : Backed (tells.faults old.disk) (failures_told answered) (tells.faults new.disk)
   pub stops : LeavesOnly tells old.disk new.disk (StandsInRun old.origin.head old.origin.cap (state_of old) states)
   pub through : GoesThrough tells old.origin.head old.origin.cap (state_of old) old.disk states disks
   pub last_is : new.disk ≡ last_disk old.disk disks
@@ -65,12 +66,12 @@ nothing_whole is = is
 
 -- ---- one more
 
-run_more : (rules : List Entry → Request → Ruling) (first next : State) (done : List Answered) (states : List State) (a : Answered) → Run rules first done states → Turn rules (last_state first states) a.request a.mark a.reply next
-    → Run rules first (done ++ a ∷ []) (states ++ next ∷ [])
-run_more rules first next [] [] a run turn = (turn, tt)
-run_more rules first next (x ∷ done) (s ∷ states) a run turn = (run.0, run_more rules s next done states a run.1 turn)
-run_more rules first next [] (s ∷ states) a run turn = absurd run
-run_more rules first next (x ∷ done) [] a run turn = absurd run
+run_more : (house : House) (first next : State) (done : List Answered) (states : List State) (a : Answered) → RunOfOnes house first done states → TurnOfOne house (last_state first states) a.request a.mark a.reply next
+    → RunOfOnes house first (done ++ a ∷ []) (states ++ next ∷ [])
+run_more house first next [] [] a run turn = (turn, tt)
+run_more house first next (x ∷ done) (s ∷ states) a run turn = (run.0, run_more house s next done states a run.1 turn)
+run_more house first next [] (s ∷ states) a run turn = absurd run
+run_more house first next (x ∷ done) [] a run turn = absurd run
 
 last_more : (first next : State) (states : List State) → next ≡ last_state first (states ++ next ∷ [])
 last_more first next [] = refl
@@ -80,11 +81,11 @@ last_is_one : (first : State) (states : List State) → IsStateOf first states (
 last_is_one first [] = (0, omega arith, refl)
 last_is_one first (s ∷ states) = Contains-append_right (first ∷ []) (s ∷ states) (last_state s states) (last_is_one s states)
 
-backed_more : (done : List Answered) (a : Answered) (from mid to : ℕ) → Backed from (failures_of done) mid → Backed mid (option_to_list (failure_of a.mark)) to → Backed from (failures_of (done ++ a ∷ [])) to
+backed_more : (done : List Answered) (a : Answered) (from mid to : ℕ) → Backed from (failures_told done) mid → Backed mid (option_to_list (failure_in_mark a.mark)) to → Backed from (failures_told (done ++ a ∷ [])) to
 backed_more done a from mid to backed one =
-    let last : List Failure = option_to_list (failure_of a.mark) in
-    let whole = flat_map-append (λ (b : Answered). option_to_list (failure_of b.mark)) done (a ∷ []) ∙ ap (λ (failures : List Failure). failures_of done ++ failures) (append-nil last) in
-    subst (λ (failures : List Failure). Backed from failures to) (sym whole) (backed_append (failures_of done) last from mid to backed one)
+    let last : List Failure = option_to_list (failure_in_mark a.mark) in
+    let whole = flat_map-append (λ (b : Answered). option_to_list (failure_in_mark b.mark)) done (a ∷ []) ∙ ap (λ (failures : List Failure). failures_told done ++ failures) (append-nil last) in
+    subst (λ (failures : List Failure). Backed from failures to) (sym whole) (backed_append (failures_told done) last from mid to backed one)
 
 all_less : {A : Type 0} (P : A → Type 0) (xs : List A) (x : A) → AllByRecursion P (xs ++ x ∷ []) → AllByRecursion P xs × P x
 all_less P [] x all = (tt, all.0)
@@ -211,13 +212,13 @@ module _ {D : Type 0} (tells : DiskTells D) where
   went_more held held' old mid new before between after answered states disks went more origin leaves quiet keeps =
       let Q : List ℕ → Type 0 = λ moments. Gave before.moments after.moments moments in
       let L : List Frame → Type 0 = λ fs. AllByRecursion IsFrame fs in
-      let T : (List Entry → Request → Ruling) → Type 0 = λ rules. Turn rules (state_of mid) more.one.request more.one.mark more.one.reply (state_of new) in
-      let S : State → Type 0 = λ state. Turn (rules_of old) state more.one.request more.one.mark more.one.reply (state_of new) in
+      let T : House → Type 0 = λ house. TurnOfOne house (state_of mid) more.one.request more.one.mark more.one.reply (state_of new) in
+      let S : State → Type 0 = λ state. TurnOfOne (house_in old) state more.one.request more.one.mark more.one.reply (state_of new) in
       let same : new.origin ≡ old.origin = origin ∙ went.origin in
       let Either : State → List ℕ → Type 0 = λ state image. StandsForEither old.origin.head old.origin.cap state.entries state.doubt image ⊎ StandsForEither old.origin.head old.origin.cap (entries_in new) (doubt_in new) image in
-      let same_rules : rules_of mid ≡ rules_of old = ap (λ (o : Origin). house_rules (head_of o.head) o.cap) went.origin in
+      let same_house : house_in mid ≡ house_in old = ap (λ (o : Origin). house_of (head_of o.head) o.cap) went.origin in
       record {
-        turns = run_more (rules_of old) (state_of old) (state_of new) answered states more.one went.turns (subst S went.last (subst T same_rules more.turn));
+        turns = run_more (house_in old) (state_of old) (state_of new) answered states more.one went.turns (subst S went.last (subst T same_house more.turn));
         last = last_more (state_of old) (state_of new) states;
         origin = same;
         backed = backed_more answered more.one (tells.faults old.disk) (tells.faults mid.disk) (tells.faults new.disk) went.backed more.backed;

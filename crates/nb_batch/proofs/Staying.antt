@@ -7,8 +7,11 @@ use Rattle.nb_port.specs.Tells.{DiskTells}
 use Rattle.nb_book.specs.declared.entry.Entry.{Entry}
 use Rattle.nb_escrow.specs.Head.{head_of}
 use Rattle.nb_vault.specs.Holdings.{StandsFor, StandsForEither}
-use Rattle.nb_vault.specs.Rules.{house_rules}
-use Rattle.nb_vault.specs.Turns.{Request, Ruling, State, Mark, At, Fault, Worn, NoMemory as Starved, Answered, Turn, Run}
+use Rattle.nb_vault.specs.Rules.{house_of}
+use Rattle.nb_turns.specs.declared.mark.Mark.{Mark}
+use Rattle.nb_turns.specs.declared.mark.Mark.TheVariants.{At, Fault, Worn}
+use Rattle.nb_turns.specs.Turns.{Request, House, State, Answered}
+use Rattle.nb_turns.specs.Laws.{TurnOfOne, RunOfOnes}
 use Rattle.nb_batch.specs.Batch.{HoldsState, GoesThrough, last_disk}
 use Rattle.nb_batch.specs.Acknowledged.{StandsForMore, Stays}
 
@@ -30,13 +33,12 @@ over_begins base over state begins settled = ⊎_elim
     settled
 
 -- behind a turn
-turn_begins : (rules : List Entry → Request → Ruling) (base : List Entry) (old new : State) (request : Request) (mark : Mark) (reply : List ℕ) → Begins base old → Turn rules old request mark reply new → Begins base new
-turn_begins rules base old new request (At place) reply begins turn =
+turn_begins : (house : House) (base : List Entry) (old new : State) (request : Request) (mark : Mark) (reply : List ℕ) → Begins base old → TurnOfOne house old request mark reply new → Begins base new
+turn_begins house base old new request (At place) reply begins turn =
     let d = turn.1 in
-    begins_more base d.over (option_to_list (rules d.over request).entry) new (over_begins base d.over old begins d.settled) (ap (λ (s : State). s.entries) d.left)
-turn_begins rules base old new request Worn reply begins turn = subst (Begins base) (sym turn.2) begins
-turn_begins rules base old new request Starved reply begins turn = subst (Begins base) (sym turn.2) begins
-turn_begins rules base old new request (Fault before after) reply begins turn = ⊎_elim
+    begins_more base d.over (option_to_list (house.rules d.over request).entry) new (over_begins base d.over old begins d.settled) (ap (λ (s : State). s.entries) d.left)
+turn_begins house base old new request Worn reply begins turn = subst (Begins base) (sym turn.2) begins
+turn_begins house base old new request (Fault before after) reply begins turn = ⊎_elim
     (λ unsettled. begins_more base old.entries [] new begins (ap (λ (s : State). s.entries) unsettled.1 ∙ sym (append-nil old.entries)))
     (λ doubts. begins_more base doubts.over [] new (over_begins base doubts.over old begins doubts.settled) (ap (λ (s : State). s.entries) doubts.left ∙ sym (append-nil doubts.over)))
     turn.2
@@ -53,12 +55,12 @@ more_in head cap base state image begins stands = ⊎_elim
 
 module _ {D : Type 0} (tells : DiskTells D) (only_now : (d : D) (c : List ℕ) → tells.left d (tells.moment d) c → tells.allowed d c) (head : List ℕ) (cap : ℕ) where
   -- all that comes later leaves it
-  stays_on : (since : ℕ) (base : List Entry) (first : State) (disk : D) (answered : List Answered) (states : List State) (disks : List D) → Run (house_rules (head_of head) cap) first answered states → GoesThrough tells head cap first disk states disks
+  stays_on : (since : ℕ) (base : List Entry) (first : State) (disk : D) (answered : List Answered) (states : List State) (disks : List D) → RunOfOnes (house_of (head_of head) cap) first answered states → GoesThrough tells head cap first disk states disks
       → Begins base first → since ≤ tells.moment disk → ((image : List ℕ) → tells.left disk since image → StandsForMore head cap base image)
       → (image : List ℕ) → tells.left (last_disk disk disks) since image → StandsForMore head cap base image
   stays_on since base first disk [] [] [] run through begins le here image left = here image left
   stays_on since base first disk (a ∷ answered) (s ∷ states) (d ∷ disks) run through begins le here image left =
-      let next = turn_begins (house_rules (head_of head) cap) base first s a.request a.mark a.reply begins run.0 in
+      let next = turn_begins (house_of (head_of head) cap) base first s a.request a.mark a.reply begins run.0 in
       stays_on since base s d answered states disks run.1 through.2 next (omega (arith, le, through.1.later))
       (λ c is. ⊎_elim (here c) (λ either. ⊎_elim (more_in head cap base first c begins) (more_in head cap base s c next) either) (through.1.before since c le is))
       image left
@@ -75,7 +77,7 @@ module _ {D : Type 0} (tells : DiskTells D) (only_now : (d : D) (c : List ℕ) �
   holds_first first disk (s ∷ states) [] through = absurd through
 
   -- what was there at the start
-  pub opening_stays : (first : State) (opened : D) (answered : List Answered) (states : List State) (disks : List D) → Run (house_rules (head_of head) cap) first answered states → GoesThrough tells head cap first opened states disks
+  pub opening_stays : (first : State) (opened : D) (answered : List Answered) (states : List State) (disks : List D) → RunOfOnes (house_of (head_of head) cap) first answered states → GoesThrough tells head cap first opened states disks
       → (image : List ℕ) → tells.left (last_disk opened disks) (tells.moment opened) image → StandsForMore head cap first.entries image
   opening_stays first opened answered states disks run through image left =
       let begins : Begins first.entries first = ([], sym (append-nil first.entries)) in
@@ -84,30 +86,30 @@ module _ {D : Type 0} (tells : DiskTells D) (only_now : (d : D) (c : List ℕ) �
 
   -- the first turn of what is left
   stays_here : (first state : State) (disk : D) (request : Request) (place : ℕ) (reply : List ℕ) (answered : List Answered) (states : List State) (disks : List D)
-      → Turn (house_rules (head_of head) cap) first request (At place) reply state → Run (house_rules (head_of head) cap) state answered states → GoesThrough tells head cap state disk states disks
+      → TurnOfOne (house_of (head_of head) cap) first request (At place) reply state → RunOfOnes (house_of (head_of head) cap) state answered states → GoesThrough tells head cap state disk states disks
       → Stays tells head cap request place reply state disk (last_disk disk disks)
   stays_here first state disk request place reply answered states disks turn run through =
-      let rules = house_rules (head_of head) cap in
+      let house = house_of (head_of head) cap in
       let d = turn.1 in
-      let entries : state.entries ≡ d.over ++ option_to_list (rules d.over request).entry = ap (λ (s : State). s.entries) d.left in
-      let front : take place state.entries ≡ d.over = ap (take place) entries ∙ ap (λ (n : ℕ). take n (d.over ++ option_to_list (rules d.over request).entry)) d.at ∙ take-append_seam d.over (option_to_list (rules d.over request).entry) in
+      let entries : state.entries ≡ d.over ++ option_to_list (house.rules d.over request).entry = ap (λ (s : State). s.entries) d.left in
+      let front : take place state.entries ≡ d.over = ap (take place) entries ∙ ap (λ (n : ℕ). take n (d.over ++ option_to_list (house.rules d.over request).entry)) d.at ∙ take-append_seam d.over (option_to_list (house.rules d.over request).entry) in
       let begins : Begins state.entries state = ([], sym (append-nil state.entries)) in
       record {
-        told = d.told ∙ ap (λ (over : List Entry). (rules over request).reply) (sym front);
-        recorded = entries ∙ ap (λ (over : List Entry). over ++ option_to_list (rules over request).entry) (sym front);
+        told = d.told ∙ ap (λ (over : List Entry). (house.rules over request).reply) (sym front);
+        recorded = entries ∙ ap (λ (over : List Entry). over ++ option_to_list (house.rules over request).entry) (sym front);
         images = stays_on (tells.moment disk) state.entries state disk answered states disks run through begins (omega arith)
             (λ c left. more_in head cap state.entries state c begins (holds_first state disk states disks through c (only_now disk c left)));
       }
 
   pub acknowledged : (first : State) (opened : D) (answered : List Answered) (states : List State) (disks : List D)
-      → Run (house_rules (head_of head) cap) first answered states → GoesThrough tells head cap first opened states disks
+      → RunOfOnes (house_of (head_of head) cap) first answered states → GoesThrough tells head cap first opened states disks
       → (turn place : ℕ) (request : Request) (reply : List ℕ) (state : State) (disk : D)
       → slice_get answered turn ≡ Some (record { request = request; mark = At place; reply = reply })
       → slice_get states turn ≡ Some state → slice_get disks turn ≡ Some disk
       → Stays tells head cap request place reply state disk (last_disk opened disks)
   acknowledged first opened (a ∷ answered) (s ∷ states) (d ∷ disks) run through zero place request reply state disk one is behind =
-      let T : Answered → State → Type 0 = λ b t. Turn (house_rules (head_of head) cap) first b.request b.mark b.reply t in
-      let P : Answered → State → D → Type 0 = λ b t e. Turn (house_rules (head_of head) cap) first b.request b.mark b.reply t × Run (house_rules (head_of head) cap) t answered states × GoesThrough tells head cap t e states disks in
+      let T : Answered → State → Type 0 = λ b t. TurnOfOne (house_of (head_of head) cap) first b.request b.mark b.reply t in
+      let P : Answered → State → D → Type 0 = λ b t e. TurnOfOne (house_of (head_of head) cap) first b.request b.mark b.reply t × RunOfOnes (house_of (head_of head) cap) t answered states × GoesThrough tells head cap t e states disks in
       let asked : Answered = record { request = request; mark = At place; reply = reply } in
       let all : P asked state disk =
       subst (λ (e : D). P asked state e) (some_same d disk behind) (subst (λ (t : State). P asked t d) (some_same s state is) (subst (λ (b : Answered). P b s d) (some_same a asked one) (run.0, run.1, through.2))) in

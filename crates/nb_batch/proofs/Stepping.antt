@@ -1,22 +1,28 @@
 -- One step of a batch, from what its calls ensure.
-use Rattle.std.proofs.Common.{◌≡◌, ◌⊎◌, ℕ, ◌≤◌, List, [], ◌∷◌, ◌++◌, take, drop, Option, refl, sym, ap, subst, ◌∙◌, inl, arith}
+use Rattle.std.proofs.Common.{◌≡◌, ◌⊎◌, ℕ, ◌≤◌, List, [], ◌∷◌, ◌++◌, length, take, drop, Option, refl, sym, ap, subst, ◌∙◌, append-nil, inl, arith}
 use Rattle.std.specs.Option.{option_to_list}
 use Rattle.nb_port.specs.Tells.{DiskTells}
 use Rattle.nb_port.specs.Faults.{Rose, Backed}
 use Rattle.nb_port.specs.Clock.{Gives}
 use Rattle.nb_units.specs.Frames.{Frame, IsFrame}
-use Rattle.nb_endorse.specs.declared.refusal.TheConstants.{DISK_FAULT, WORN, NO_MEMORY}
+use Rattle.nb_endorse.specs.declared.refusal.TheConstants.{DISK_FAULT, WORN}
 use Rattle.nb_frame.specs.State.{Collected, waiting}
 use Rattle.nb_frame.specs.Collected.{frame_at}
 use Rattle.nb_frame.specs.declared.stream.FrameAt.{FrameAt}
-use Rattle.nb_vault.specs.declared.vault.Answer.TheVariants as answers
-use Rattle.nb_vault.specs.Turns.{Request, Ruling, State, Mark, At, Fault, Worn, NoMemory, Turn, failure_of, refused}
+use Rattle.nb_turns.specs.declared.limits.TheConstants.{MAX_FAULTS}
+use Rattle.nb_turns.specs.declared.mark.Mark.{Mark}
+use Rattle.nb_turns.specs.declared.mark.Mark.TheVariants.{At, Fault, Worn}
+use Rattle.nb_turns.specs.Turns.{Request, House, State, Outcome, Decides, Fails, Refuses, answered as answered_by}
+use Rattle.nb_turns.specs.Laws.{TurnOfOne, one_answer}
+use Rattle.nb_turns.proofs.Single.{one_is_turn}
+use Rattle.nb_vault.specs.declared.answer.AnswerAll.TheVariants as answers
+use Rattle.nb_vault.specs.Asking.{request_of}
 use Rattle.nb_journal.proofs.Moments.{started}
 use Rattle.nb_journal.specs.Time.{LeavesOnly}
 use Rattle.nb_vault.proofs.Resting.{leaves_more}
-use Rattle.nb_vault.specs.Vaults.{Chronicled, Keeps, IsDurable, StandsForState, state_of, entries_in, rules_of, request_of, TurnOf, FaultWithin}
+use Rattle.nb_vault.specs.Vaults.{Chronicled, Keeps, IsDurable, StandsForState, Went, state_of, entries_in, house_in, TurnOf, FaultWithin}
 use Rattle.nb_vault.specs.declared.origin.Origin.{Origin}
-use Rattle.nb_vault.specs.Rules.{house_rules}
+use Rattle.nb_vault.specs.Rules.{house_of, refused}
 use Rattle.nb_escrow.specs.Head.{head_of}
 use Rattle.nb_book.specs.declared.entry.Entry.{Entry}
 use Rattle.std.proofs.Math.Seq.{take-append_seam}
@@ -24,7 +30,7 @@ use Rattle.nb_batch.specs.declared.batch.BatchEnd.{BatchEnd}
 use Rattle.nb_batch.specs.declared.batch.BatchEnd.TheVariants.{Clean, Cut, BadFrame, ReadFault, WriteFault, NoMemory as Starved, FrameLimit}
 use Rattle.nb_batch.specs.declared.batch.Step.TheVariants as step
 use Rattle.nb_batch.specs.Fetch.{Reads, EndsAs, IsReadEnd}
-use Rattle.nb_batch.specs.Batch.{MaySend, AnswersWith, Outside, Stepped, StepIs, FaultOf}
+use Rattle.nb_batch.specs.Batch.{MaySend, AnswersWith, failure_in_mark, Outside, Stepped, StepIs, FaultOf}
 
 -- ---- where nothing is done
 
@@ -38,47 +44,66 @@ module _ {D : Type 0} (tells : DiskTells D) (only_now : (d : D) (c : List ℕ) �
 
 -- ---- one answer
 
-module _ {D : Type 0} (tells : DiskTells D) (old new : Chronicled D) (request : Request) where
+module _ {D : Type 0} (tells : DiskTells D) (old new : Chronicled D) (by : ℕ) (request : Request) where
+  -- the turn of one request
+  one_turn : (outcome : Outcome) (found out out' : List ℕ) (mark : Mark) (reply : List ℕ) → Went tells old new by (request ∷ []) outcome found out out' → one_answer request mark reply ≡ answered_by (house_in old) (request ∷ []) outcome
+      → TurnOfOne (house_in old) (state_of old) request mark reply (state_of new)
+  one_turn outcome found out out' mark reply went told =
+      (one_is_turn (house_in old) (state_of old) (state_of new) request mark reply).1 (record { outcome = outcome; turn = went.turn; told = told })
+
   -- the mark's reply is what is sent
-  answers_with : (mark : Mark) (told sent : List ℕ) → Turn (rules_of old) (state_of old) request mark told (state_of new) → Backed (tells.faults old.disk) (option_to_list (failure_of mark)) (tells.faults new.disk) → sent ≡ told
+  answers_with : (mark : Mark) (told sent : List ℕ) → TurnOfOne (house_in old) (state_of old) request mark told (state_of new) → Backed (tells.faults old.disk) (option_to_list (failure_in_mark mark)) (tells.faults new.disk) → sent ≡ told
       → AnswersWith tells old new request sent
   answers_with mark told sent turn backed is =
-      record { mark = mark; turn = subst (λ (bytes : List ℕ). Turn (rules_of old) (state_of old) request mark bytes (state_of new)) (sym is) turn; backed = backed }
+      record { mark = mark; turn = subst (λ (bytes : List ℕ). TurnOfOne (house_in old) (state_of old) request mark bytes (state_of new)) (sym is) turn; backed = backed }
 
-  pub answered : (out sent : List ℕ) (place : ℕ) → out ≡ [] → TurnOf old new request out sent (answers.Answered place) → tells.faults old.disk ≤ tells.faults new.disk → AnswersWith tells old new request sent
-  answered out sent place none is count = answers_with (At place) is.0 sent is.1 count (is.2 ∙ ap (λ (xs : List ℕ). xs ++ is.0) none)
+  -- a request was decided over these entries, at this place
+  decided_at : (over : List Entry) (out sent : List ℕ) (place : ℕ) → Went tells old new by (request ∷ []) (Decides over) (place ∷ []) out sent → TurnOfOne (house_in old) (state_of old) request (At place) ((house_in old).rules over request).reply (state_of new)
+  decided_at over out sent place went =
+      let at : place ≡ length over = same_first place (length over) went.found_is in
+      one_turn (Decides over) (place ∷ []) out sent (At place) ((house_in old).rules over request).reply went (ap (λ (n : ℕ). one_answer request (At n) ((house_in old).rules over request).reply) at)
+    where
+      same_first : (x y : ℕ) → x ∷ [] ≡ y ∷ [] → x ≡ y
+      same_first x y is = cc
 
-  pub failed : (out out' sent : List ℕ) (before after : ℕ) → out ≡ [] → TurnOf old new request out out' (answers.DiskFault before after) → FaultWithin tells old new (answers.DiskFault before after)
+  -- what is sent is its reply
+  sent_is : (over : List Entry) (out sent found : List ℕ) → out ≡ [] → Went tells old new by (request ∷ []) (Decides over) found out sent → sent ≡ ((house_in old).rules over request).reply
+  sent_is over out sent found none went =
+      went.out_is ∙ ap (λ (xs : List ℕ). xs ++ (((house_in old).rules over request).reply ++ [])) none ∙ append-nil ((house_in old).rules over request).reply
+
+  pub answered : (out sent : List ℕ) (place : ℕ) → out ≡ [] → TurnOf tells old new by (request ∷ []) (place ∷ []) out sent answers.Answered → tells.faults old.disk ≤ tells.faults new.disk → AnswersWith tells old new request sent
+  answered out sent place none is count =
+      answers_with (At place) ((house_in old).rules is.0 request).reply sent (decided_at is.0 out sent place is.1) count (sent_is is.0 out sent (place ∷ []) none is.1)
+
+  pub failed : (out out' sent : List ℕ) (before after : ℕ) → out ≡ [] → TurnOf tells old new by (request ∷ []) [] out out' (answers.DiskFault before after) → FaultWithin tells old new (answers.DiskFault before after)
       → sent ≡ out' ++ refused DISK_FAULT before after → AnswersWith tells old new request sent
   failed out out' sent before after none is within put =
-      answers_with (Fault before after) (refused DISK_FAULT before after) sent is.0 (within.0, within.2, omega (arith, within.3)) (put ∙ ap (λ (xs : List ℕ). xs ++ refused DISK_FAULT before after) (is.1 ∙ none))
+      answers_with (Fault before after) (refused DISK_FAULT before after) sent (one_turn (Fails before after) [] out out' (Fault before after) (refused DISK_FAULT before after) is refl) (within.0, within.2, omega (arith, within.3))
+      (put ∙ ap (λ (xs : List ℕ). xs ++ refused DISK_FAULT before after) (is.out_is ∙ append-nil out ∙ none))
 
-  pub worn : (out out' sent : List ℕ) (count : ℕ) → out ≡ [] → TurnOf old new request out out' (answers.Worn count) → tells.faults old.disk ≤ tells.faults new.disk → sent ≡ out' ++ refused WORN count 0 → AnswersWith tells old new request sent
+  pub worn : (out out' sent : List ℕ) (count : ℕ) → out ≡ [] → TurnOf tells old new by (request ∷ []) [] out out' (answers.Worn count) → tells.faults old.disk ≤ tells.faults new.disk → sent ≡ out' ++ refused WORN count 0 → AnswersWith tells old new request sent
   worn out out' sent count none is rises put =
-      answers_with Worn (refused WORN count 0) sent is.1 rises (put ∙ ap (λ (xs : List ℕ). xs ++ refused WORN count 0) (is.2 ∙ none))
-
-  pub starved : (out out' sent : List ℕ) → out ≡ [] → TurnOf old new request out out' answers.NoMemory → tells.faults old.disk ≤ tells.faults new.disk → sent ≡ out' ++ refused NO_MEMORY 0 0 → AnswersWith tells old new request sent
-  starved out out' sent none is rises put =
-      answers_with NoMemory (refused NO_MEMORY 0 0) sent is.0 rises (put ∙ ap (λ (xs : List ℕ). xs ++ refused NO_MEMORY 0 0) (is.1 ∙ none))
+      answers_with Worn (refused WORN MAX_FAULTS 0) sent (one_turn Refuses [] out out' Worn (refused WORN MAX_FAULTS 0) is.1 refl) rises
+      (put ∙ ap (λ (xs : List ℕ). xs ++ refused WORN count 0) (is.1.out_is ∙ append-nil out ∙ none) ∙ ap (λ (n : ℕ). refused WORN n 0) is.0)
 
 -- a decided reply may be sent
-pub may_send : {D : Type 0} (tells : DiskTells D) (old new : Chronicled D) (request : Request) (out sent : List ℕ) (place : ℕ) → out ≡ [] → new.origin ≡ old.origin → IsDurable tells new
-    → TurnOf old new request out sent (answers.Answered place) → MaySend tells new sent
-may_send tells old new request out sent place none same durable is =
-    let d = is.1.1 in
-    let rules : rules_of old ≡ rules_of new = ap (λ (o : Origin). house_rules (head_of o.head) o.cap) (sym same) in
-    let entries : entries_in new ≡ d.over ++ option_to_list (rules_of old d.over request).entry = ap (λ (s : State). s.entries) d.left in
+pub may_send : {D : Type 0} (tells : DiskTells D) (old new : Chronicled D) (by : ℕ) (request : Request) (out sent : List ℕ) (place : ℕ) → out ≡ [] → new.origin ≡ old.origin → IsDurable tells new
+    → TurnOf tells old new by (request ∷ []) (place ∷ []) out sent answers.Answered → MaySend tells new sent
+may_send tells old new by request out sent place none same durable is =
+    let d = (decided_at tells old new by request is.0 out sent place is.1).1 in
+    let house : house_in old ≡ house_in new = ap (λ (o : Origin). house_of (head_of o.head) o.cap) (sym same) in
+    let entries : entries_in new ≡ d.over ++ option_to_list ((house_in old).rules d.over request).entry = ap (λ (s : State). s.entries) d.left in
     let front : d.over ≡ take place (entries_in new) =
-    sym (ap (take place) entries ∙ ap (λ (n : ℕ). take n (d.over ++ option_to_list (rules_of old d.over request).entry)) d.at ∙ take-append_seam d.over (option_to_list (rules_of old d.over request).entry)) in
-    let T : (List Entry → Request → Ruling) → List Entry → Type 0 = λ rs over. sent ≡ (rs over request).reply in
-    let R : (List Entry → Request → Ruling) → List Entry → Type 0 = λ rs over. entries_in new ≡ over ++ option_to_list (rs over request).entry in
+    sym (ap (take place) entries ∙ ap (λ (n : ℕ). take n (d.over ++ option_to_list ((house_in old).rules d.over request).entry)) d.at ∙ take-append_seam d.over (option_to_list ((house_in old).rules d.over request).entry)) in
+    let T : House → List Entry → Type 0 = λ h over. sent ≡ (h.rules over request).reply in
+    let R : House → List Entry → Type 0 = λ h over. entries_in new ≡ over ++ option_to_list (h.rules over request).entry in
     inl (
       durable,
       record {
         request = request;
         place = place;
-        told = subst (T (rules_of new)) front (subst (λ rs. T rs d.over) rules (is.2 ∙ ap (λ (xs : List ℕ). xs ++ is.0) none ∙ d.told));
-        recorded = subst (R (rules_of new)) front (subst (λ rs. R rs d.over) rules entries);
+        told = subst (T (house_in new)) front (subst (λ h. T h d.over) house (sent_is tells old new by request is.0 out sent (place ∷ []) none is.1 ∙ d.told));
+        recorded = subst (R (house_in new)) front (subst (λ h. R h d.over) house entries);
       },
     )
 

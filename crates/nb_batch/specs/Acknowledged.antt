@@ -6,8 +6,10 @@ use Rattle.nb_port.specs.Tells.{DiskTells}
 use Rattle.nb_book.specs.declared.entry.Entry.{Entry}
 use Rattle.nb_escrow.specs.Head.{head_of}
 use Rattle.nb_vault.specs.Holdings.{StandsFor}
-use Rattle.nb_vault.specs.Rules.{house_rules}
-use Rattle.nb_vault.specs.Turns.{Request, State, At, Answered, Run}
+use Rattle.nb_turns.specs.declared.mark.Mark.TheVariants.{At}
+use Rattle.nb_turns.specs.Turns.{Request, State, Answered}
+use Rattle.nb_turns.specs.Laws.{RunOfOnes}
+use Rattle.nb_vault.specs.Rules.{house_of, house_rules}
 use Rattle.nb_batch.specs.Batch.{GoesThrough, last_disk}
 
 -- the image stands for a list that begins with these entries
@@ -27,14 +29,14 @@ pub record Stays {D : Type 0} (tells : DiskTells D) (head : List ℕ) (cap : ℕ
 abbrev pub OpeningStays : {D : Type 0} → DiskTells D → Type 0
 OpeningStays {D} tells =
     (head : List ℕ) (cap : ℕ) (first : State) (opened : D) (answered : List Answered) (states : List State) (disks : List D)
-    → Run (house_rules (head_of head) cap) first answered states → GoesThrough tells head cap first opened states disks
+    → RunOfOnes (house_of (head_of head) cap) first answered states → GoesThrough tells head cap first opened states disks
     → (image : List ℕ) → tells.left (last_disk opened disks) (tells.moment opened) image → StandsForMore head cap first.entries image
 
 -- so it is of each turn of a batch that decided
 abbrev pub AcknowledgedStays : {D : Type 0} → DiskTells D → Type 0
 AcknowledgedStays {D} tells =
     (head : List ℕ) (cap : ℕ) (first : State) (opened : D) (answered : List Answered) (states : List State) (disks : List D)
-    → Run (house_rules (head_of head) cap) first answered states → GoesThrough tells head cap first opened states disks
+    → RunOfOnes (house_of (head_of head) cap) first answered states → GoesThrough tells head cap first opened states disks
     → (turn place : ℕ) (request : Request) (reply : List ℕ) (state : State) (disk : D)
     → slice_get answered turn ≡ Some (record { request = request; mark = At place; reply = reply })
     → slice_get states turn ≡ Some state → slice_get disks turn ≡ Some disk

@@ -4,16 +4,20 @@ use Rattle.std.specs.List.{flat_map, AllByRecursion}
 use Rattle.std.specs.Option.{option_to_list}
 use Rattle.std.specs.Io.KnownBytes.{Consumes, Appends}
 use Rattle.nb_port.specs.Tells.{DiskTells}
-use Rattle.nb_port.specs.Faults.{Rose, Backed}
+use Rattle.nb_port.specs.Faults.{Rose, Failure, Backed}
 use Rattle.nb_port.specs.Clock.{Gives}
 use Rattle.nb_units.specs.Frames.{Frame, frame, IsFrame, Splits}
 use Rattle.nb_frame.specs.State.{Collected, waiting}
 use Rattle.nb_journal.specs.Time.{LeavesOnly}
 use Rattle.nb_book.specs.declared.entry.Entry.{Entry}
-use Rattle.nb_endorse.specs.declared.refusal.TheConstants.{DISK_FAULT, WORN, NO_MEMORY}
+use Rattle.nb_endorse.specs.declared.refusal.TheConstants.{DISK_FAULT, WORN}
+use Rattle.nb_turns.specs.declared.mark.Mark.{Mark}
+use Rattle.nb_turns.specs.declared.mark.Mark.TheVariants.{At, Fault}
+use Rattle.nb_turns.specs.Turns.{Request, State, Answered, last_state, IsStateOf, replies}
+use Rattle.nb_turns.specs.Laws.{TurnOfOne, RunOfOnes}
 use Rattle.nb_vault.specs.Holdings.{StandsForEither}
-use Rattle.nb_vault.specs.Turns.{Request, State, Mark, Answered, Turn, Run, last_state, IsStateOf, replies, failure_of, failures_of, refused}
-use Rattle.nb_vault.specs.Vaults.{Chronicled, state_of, entries_in, rules_of, IsDurable}
+use Rattle.nb_vault.specs.Rules.{refused}
+use Rattle.nb_vault.specs.Vaults.{Chronicled, state_of, entries_in, house_in, IsDurable}
 use Rattle.nb_batch.specs.declared.batch.TheConstants.{MOST_FRAMES}
 use Rattle.nb_batch.specs.declared.batch.BatchEnd.{BatchEnd}
 use Rattle.nb_batch.specs.declared.batch.BatchEnd.TheVariants.{ReadFault, WriteFault, NoMemory, FrameLimit}
@@ -33,6 +37,24 @@ frame_of a = record { kind = a.request.kind; body = a.request.body }
 -- the moment at which it was answered
 abbrev pub moment_of : Answered → ℕ
 moment_of a = a.request.moment
+
+-- the counts of the disk's faults between which its turn failed
+abbrev pub failure_in_mark : Mark → Option Failure
+failure_in_mark (Fault before after) = Some (record { before = before; after = after })
+failure_in_mark other = None
+
+-- the failures of these turns, in their order
+abbrev pub failures_told : List Answered → List Failure
+failures_told answered = flat_map (λ (a : Answered). option_to_list (failure_in_mark a.mark)) answered
+
+-- a turn decided
+abbrev pub IsDecided : Mark → Type 0
+IsDecided (At place) = ⊤
+IsDecided other = ⊥
+
+-- each turn decided
+abbrev pub AllDecided : List Answered → Type 0
+AllDecided answered = AllByRecursion (λ (a : Answered). IsDecided a.mark) answered
 
 -- what the source, the sink and the clock tell: the bytes left, the bytes sent, the moments given
 pub record Outside : Type 0 where
@@ -77,19 +99,19 @@ last_disk first (next ∷ disks) = last_disk next disks
 -- a request was answered so: by a turn, whose fault lies between the disk's counts before it and after
 pub record AnswersWith {D : Type 0} (tells : DiskTells D) (old new : Chronicled D) (request : Request) (reply : List ℕ) : Type 0 where
   pub mark : Mark
-  pub turn : Turn (rules_of old) (state_of old) request mark reply (state_of new)
-  pub backed : Backed (tells.faults old.disk) (option_to_list (failure_of mark)) (tells.faults new.disk)
+  pub turn : TurnOfOne (house_in old) (state_of old) request mark reply (state_of new)
+  pub backed : Backed (tells.faults old.disk) (option_to_list (failure_in_mark mark)) (tells.faults new.disk)
 
 -- the reply is the refusal of a request that was not decided
 abbrev pub IsUndecided : List ℕ → Type 0
-IsUndecided reply = (a b : ℕ) × ((reply ≡ refused DISK_FAULT a b) ⊎ (reply ≡ refused WORN a b) ⊎ (reply ≡ refused NO_MEMORY a b))
+IsUndecided reply = (a b : ℕ) × ((reply ≡ refused DISK_FAULT a b) ⊎ (reply ≡ refused WORN a b))
 
 -- the reply is the verdict's on a request over the entries that stand before a place, and what the verdict records stands there
 pub record IsRecorded {D : Type 0} (house : Chronicled D) (reply : List ℕ) : Type 0 where
   pub request : Request
   pub place : ℕ
-  pub told : reply ≡ (rules_of house (take place (entries_in house)) request).reply
-  pub recorded : entries_in house ≡ take place (entries_in house) ++ option_to_list (rules_of house (take place (entries_in house)) request).entry
+  pub told : reply ≡ ((house_in house).rules (take place (entries_in house)) request).reply
+  pub recorded : entries_in house ≡ take place (entries_in house) ++ option_to_list ((house_in house).rules (take place (entries_in house)) request).entry
 
 -- a reply may be sent: what it tells of is recorded in this house, and each image that a stop may leave by now stands for the entries
 -- of the house; or nothing was decided
@@ -99,8 +121,8 @@ MaySend tells house reply = (IsDurable tells house × IsRecorded house reply) �
 -- a frame was given out, the clock was asked, and a turn answered it
 pub record Stepped {D : Type 0} (tells : DiskTells D) (held held' : Collected) (old new : Chronicled D) (before after : Outside) : Type 0 where
   pub one : Answered
-  pub turn : Turn (rules_of old) (state_of old) one.request one.mark one.reply (state_of new)
-  pub backed : Backed (tells.faults old.disk) (option_to_list (failure_of one.mark)) (tells.faults new.disk)
+  pub turn : TurnOfOne (house_in old) (state_of old) one.request one.mark one.reply (state_of new)
+  pub backed : Backed (tells.faults old.disk) (option_to_list (failure_in_mark one.mark)) (tells.faults new.disk)
   pub lawful : IsFrame (frame_of one)
   pub read : Reads before.left after.left held held' (frame_of one ∷ [])
   pub asked : Gives before.moments after.moments one.request.moment
@@ -166,9 +188,9 @@ pub record Served {D : Type 0} (tells : DiskTells D) (old new : Chronicled D) (b
   pub ends : EndsAs end (length (flat_map frame (map frame_of answered))) rest after.left
   pub counted : CountsAs end (length answered)
   pub asked : Gave before.moments after.moments (map moment_of answered)
-  pub turns : Run (rules_of old) (state_of old) answered states
+  pub turns : RunOfOnes (house_in old) (state_of old) answered states
   pub last : state_of new ≡ last_state (state_of old) states
-  pub backed : Backed (tells.faults old.disk) (failures_of answered) (tells.faults new.disk)
+  pub backed : Backed (tells.faults old.disk) (failures_told answered) (tells.faults new.disk)
   pub stops : LeavesOnly tells old.disk new.disk (StandsInRun old.origin.head old.origin.cap (state_of old) states)
   pub through : GoesThrough tells old.origin.head old.origin.cap (state_of old) old.disk states disks
   pub last_is : new.disk ≡ last_disk old.disk disks

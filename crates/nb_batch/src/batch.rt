@@ -3,14 +3,15 @@ ghost use Rattle.nb_frame.specs.declared.stream.TheConstants.{MAX_PIECE};
 ghost use Rattle.nb_journal.specs.Time.{LeavesOnly};
 ghost use Rattle.nb_msgs.specs.declared.reply.TheConstants.{REPLY_ROOM};
 ghost use Rattle.nb_units.specs.Room.{spare_of};
-ghost use Rattle.nb_vault.specs.Turns.{refused};
-ghost use Rattle.nb_vault.specs.Vaults.{Keeps, StandsForState, request_of, state_of};
+ghost use Rattle.nb_vault.specs.Asking.{request_of};
+ghost use Rattle.nb_vault.specs.Rules.{refused};
+ghost use Rattle.nb_vault.specs.Vaults.{Keeps, StandsForState, state_of};
 ghost use Rattle.nb_batch.specs.Batch as batch;
 ghost use Rattle.nb_batch.specs.Numbers.{LimitIs};
 
 use crate::fetch::{Fetched, next_frame};
 use crate::send::{Sent, send_reply};
-use nb_endorse::refusal::{DISK_FAULT, NO_MEMORY, WORN};
+use nb_endorse::refusal::{DISK_FAULT, WORN};
 use nb_endorse::{Refusal, Reply, ReplyKeys};
 use nb_frame::{FrameFault, Frames, MAX_PIECE};
 use nb_msgs::{REPLY_ROOM, write_reply};
@@ -164,7 +165,6 @@ fn answer_with<D: Disk>(
         Answer::Answered { .. } => {}
         Answer::DiskFault { before, after } => refuse(DISK_FAULT, before, after, reply),
         Answer::Worn { faults } => refuse(WORN, u64::from(faults), 0, reply),
-        Answer::NoMemory => refuse(NO_MEMORY, 0, 0, reply),
     }
 }
 

@@ -2,7 +2,7 @@
 //!
 //! [`serve`] takes one frame after another, asks the clock, lets the vault answer, and sends the reply. Where the vault answers
 //! none, the reply is the refusal that says why. What is promised (`specs/Batch.antt`, `Served`): the frames that were answered are
-//! the first of the bytes that were taken; they were answered by a run of turns (`Run` of nb_vault), whose replies are what was
+//! the first of the bytes that were taken; they were answered by a run of turns (`RunOfOnes` of nb_turns), whose replies are what was
 //! sent; a stop at any moment leaves the entries of one of the states of that run, without what is in doubt in it or with it; and
 //! how the batch ended says what is left of the input and what failed. The entry of a request that was answered stays, whatever
 //! comes behind it ([`laws::acknowledged_stays`]).

@@ -1,10 +1,7 @@
--- What a `Book` is seen as: its entries, how many it may hold, how many can be applied without taking memory, and how
--- many the memory that it took has places for.
+-- What a `Book` is seen as: its entries, and how many it may hold.
 use Rattle.std.specs.Prelude.{ℕ, List}
 use Rattle.nb_book.specs.declared.entry.Entry.{Entry}
 
 pub record Ledger : Type 0 where
   pub entries : List Entry
   pub cap : ℕ
-  pub spare : ℕ
-  pub places : ℕ

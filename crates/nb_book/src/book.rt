@@ -1,4 +1,4 @@
-ghost use Rattle.std.specs.Prelude.{◌≡◌, ◌≤◌, ◌<◌, ◌+◌, ◌-◌, ◌↔◌, [], ◌∷◌, ◌++◌, length, take, Some, IsTrue, IsOk, IfOk, IfSome, OnOk, OnErr};
+ghost use Rattle.std.specs.Prelude.{◌≡◌, ◌≤◌, ◌<◌, ◌-◌, ◌↔◌, [], ◌∷◌, ◌++◌, length, take, Some, IsTrue, IfOk, IfSome};
 ghost use Rattle.nb_units.specs.declared.limits.TheConstants.{MAX_CAP};
 ghost use Rattle.nb_book.specs.declared.limits.TheConstants.{MAX_TOTAL};
 ghost use Rattle.nb_book.specs.Searches.{party_in, holder_in, funded_in, order_in};
@@ -20,26 +20,22 @@ use std::marker::Model;
 #[derive(Drop)]
 pub struct Book {
     list: EntryList,
-    // How many entries more were asked for and not applied yet.
-    spare: u32,
 }
 
 impl Model for Book {
     ghost use Rattle.std.specs.Prelude.{◌≤◌, vec_len, vec_capacity};
-    ghost use Rattle.nb_units.specs.declared.limits.TheConstants.{MAX_CAP};
     ghost use Rattle.nb_book.specs.Ledger.{Ledger};
     ghost use Rattle.nb_book.specs.Legal.{Legal};
     ghost use Rattle.nb_book.specs.Indexes.{Tied};
 
     ghost Value = { Ledger };
 
-    ghost view = { λ b. record { entries = b.list.entries.items; cap = b.list.cap; spare = b.spare; places = vec_capacity b.list.entries } };
+    ghost view = { λ b. record { entries = b.list.entries.items; cap = b.list.cap } };
 
     ghost invariant = { λ b. record {
       within : vec_len b.list.entries ≤ b.list.cap;
       some : 1 ≤ b.list.cap;
       legal : Legal b.list.entries.items;
-      promised : b.spare ≤ MAX_CAP;
       room : b.list.cap ≤ vec_capacity b.list.entries;
       tied : Tied b.list b.list.entries.items;
     } };
@@ -47,7 +43,7 @@ impl Model for Book {
 
 #[tactic(auto, using(crate::proofs::Summing::total_fits))]
 impl Book {
-    /// An empty book for at most `cap` entries, from 1 to [`MAX_CAP`], with spare 0. It takes the memory for all of them, and answers
+    /// An empty book for at most `cap` entries, from 1 to [`MAX_CAP`]. It takes the memory for all of them, and answers
     /// [`NoMemory`] where there is none. By the key, 16 bytes, its look-ups are spread: who does not know it cannot choose
     /// numbers and identifiers that make them slow.
     pub fn new(alloc: Global, cap: u32, key: &[u8; 16]) -> Result<Book, NoMemory>
@@ -55,11 +51,9 @@ impl Book {
         requires most { cap ≤ MAX_CAP }
         ensures entries { IfOk result (λ book. book.entries ≡ []) }
         ensures cap { IfOk result (λ book. book.cap ≡ cap) }
-        ensures spare { IfOk result (λ book. book.spare ≡ 0) }
     {
         Ok(Book {
             list: EntryList::new(alloc, cap, key)?,
-            spare: 0,
         })
     }
 
@@ -149,32 +143,14 @@ impl Book {
         e.is_legal_after(self)
     }
 
-    /// Makes the spare at least `n`. The memory is there since [`Book::new`], so this answers Ok.
-    pub fn reserve(&mut self, n: u32) -> Result<(), NoMemory>
-        requires { n ≤ MAX_CAP }
-        ensures ok { OnOk result (n ≤ self.new.spare) }
-        ensures kept { self.old.spare ≤ self.new.spare }
-        ensures entries { self.new.entries ≡ self.old.entries }
-        ensures cap { self.new.cap ≡ self.old.cap }
-        ensures err { OnErr result (self.new ≡ self.old) }
-        ensures had { n ≤ self.old.spare → IsOk result }
-    {
-        self.spare = self.spare.max(n);
-        Ok(())
-    }
-
-    /// Appends the entry. This takes no memory: it uses up one of the spare.
+    /// Appends the entry. This takes no memory.
     pub fn apply(&mut self, e: &Entry)
         requires legal { LegalAfter self.old.entries e.now }
         requires room { length self.old.entries < self.old.cap }
-        requires spare { 1 ≤ self.old.spare }
         ensures entries { self.new.entries ≡ self.old.entries ++ e.now ∷ [] }
         ensures cap { self.new.cap ≡ self.old.cap }
-        ensures spare { self.new.spare + 1 ≡ self.old.spare }
-        ensures places { self.new.places ≡ self.old.places }
     {
         self.list.push(e);
-        self.spare -= 1;
     }
 
     /// Takes the last entry off: the entries are as they were before it was applied. This takes no memory.
@@ -183,8 +159,6 @@ impl Book {
         requires { 0 < length self.old.entries }
         ensures entries { self.new.entries ≡ take (length self.old.entries - 1) self.old.entries }
         ensures cap { self.new.cap ≡ self.old.cap }
-        ensures spare { self.new.spare ≡ self.old.spare }
-        ensures places { self.new.places ≡ self.old.places }
     {
         self.list.pop();
     }

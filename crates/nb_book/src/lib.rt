@@ -1,8 +1,7 @@
 //! The book of a house: its entries in order, what they say of parties, accounts, orders and money, and their bytes.
 //!
-//! A [`Book`] is seen as a [`Ledger`](specs/Ledger.antt): the list of its entries, its cap, and its spare, the
-//! number of entries that can be applied without taking memory. A look-up gives the first entry that names its
-//! key, a balance is a sum over the whole list, and [`Book::legal`] says whether an entry may come next. The list
+//! A [`Book`] is seen as a [`Ledger`](specs/Ledger.antt): the list of its entries, and its cap. All memory is taken when it is made.
+//! A look-up gives the first entry that names its key, a balance is a sum over the whole list, and [`Book::legal`] says whether an entry may come next. The list
 //! of a book is Legal at all times: each entry was legal after those before it.
 //!
 //! An entry has one spelling in bytes, which [`write_entry`] appends and [`read_entry`] reads at the place of a cut; an item

@@ -70,7 +70,6 @@ fn book_of(rt: &impl Abort, alloc: Global, entries: &[Entry]) -> Result<Book, No
     for e in entries {
         assert!(rt; book.legal(e), "{e:?}");
         assert!(rt; book.len() < book.cap());
-        book.reserve(1)?;
         book.apply(e);
     }
     Ok(book)

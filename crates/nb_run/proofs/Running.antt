@@ -15,65 +15,66 @@ use Rattle.nb_frame.specs.Faults.{place_of}
 use Rattle.nb_frame.specs.Looks.{IsShort}
 use Rattle.nb_frame.proofs.Shortness.{short_not_bad, nothing_bad}
 use Rattle.nb_journal.specs.Time.{Unwritten}
-use Rattle.nb_vault.specs.declared.line.Line.{Line}
+use Rattle.nb_turns.specs.declared.line.Line.{Line}
 use Rattle.nb_vault.specs.declared.origin.Origin.{Origin}
 use Rattle.nb_vault.specs.Holdings.{StandsForEither}
 use Rattle.nb_vault.specs.Opens.{VaultOpensAs}
-use Rattle.nb_vault.specs.Rules.{house_rules}
-use Rattle.nb_vault.specs.Turns.{Request, Ruling, State, Mark, At, Fault, Worn, NoMemory as Starved, Answered, Turn, Run, last_state, replies, decided, AllDecided, IsDecided, IsFaultless, NoneFaulty, failure_of, failures_of}
+use Rattle.nb_turns.specs.declared.mark.Mark.{Mark}
+use Rattle.nb_turns.specs.declared.mark.Mark.TheVariants.{At, Fault, Worn}
+use Rattle.nb_turns.specs.Turns.{Request, House, State, Answered, decided, last_state, replies}
+use Rattle.nb_turns.specs.Laws.{TurnOfOne, RunOfOnes}
+use Rattle.nb_vault.specs.Rules.{house_of}
 use Rattle.nb_vault.specs.Vaults.{Chronicled, state_of, entries_in, doubt_in, Keeps}
 use Rattle.nb_run.specs.declared.ending.TheConstants.{CLEAN, SOURCE_FAILED, SINK_FAILED, BAD_INPUT, OUT_OF_MEMORY, FRAME_LIMIT}
 use Rattle.nb_batch.specs.declared.batch.TheConstants.{MOST_FRAMES}
 use Rattle.nb_batch.specs.declared.batch.BatchEnd.{BatchEnd}
 use Rattle.nb_batch.specs.declared.batch.BatchEnd.TheVariants.{Clean, Cut, BadFrame, ReadFault, WriteFault, NoMemory, FrameLimit}
-use Rattle.nb_batch.specs.Batch.{at_rest, Outside, frame_of, CountsAs, AnswersAll, Wrote, WroteShort, Served, StandsInRun, GoesThrough}
+use Rattle.nb_batch.specs.Batch.{at_rest, AllDecided, IsDecided, failure_in_mark, failures_told, Outside, frame_of, CountsAs, AnswersAll, Wrote, WroteShort, Served, StandsInRun, GoesThrough}
 use Rattle.nb_batch.specs.Fetch.{EndsAs}
 use Rattle.nb_run.specs.Ending.{ended, status_of}
 use Rattle.nb_run.specs.Run.{EndsBadly, Batch}
 
 -- ---- where each turn decides
 
-decides_on : (rules : List Entry → Request → Ruling) (entries : List Entry) (request : Request) (mark : Mark) (reply : List ℕ) (new : State) → Turn rules (at_rest entries) request mark reply new → IsDecided mark
-    → (reply ≡ (rules entries request).reply) × (new ≡ at_rest (entries ++ option_to_list (rules entries request).entry))
-decides_on rules entries request (At place) reply new turn is = on turn.1.over (over_is turn.1.settled) turn.1.told turn.1.left
+decides_on : (house : House) (entries : List Entry) (request : Request) (mark : Mark) (reply : List ℕ) (new : State) → TurnOfOne house (at_rest entries) request mark reply new → IsDecided mark
+    → (reply ≡ (house.rules entries request).reply) × (new ≡ at_rest (entries ++ option_to_list (house.rules entries request).entry))
+decides_on house entries request (At place) reply new turn is = on turn.1.over (over_is turn.1.settled) turn.1.told turn.1.left
   where
     over_is : (turn.1.over ≡ entries) ⊎ (turn.1.over ≡ entries ++ []) → turn.1.over ≡ entries
     over_is settled = elim settled [ inl e ↦ e | inr e ↦ e ∙ append-nil entries ]
 
-    on : (over : List Entry) → over ≡ entries → reply ≡ (rules over request).reply → new ≡ at_rest (over ++ option_to_list (rules over request).entry)
-        → (reply ≡ (rules entries request).reply) × (new ≡ at_rest (entries ++ option_to_list (rules entries request).entry))
+    on : (over : List Entry) → over ≡ entries → reply ≡ (house.rules over request).reply → new ≡ at_rest (over ++ option_to_list (house.rules over request).entry)
+        → (reply ≡ (house.rules entries request).reply) × (new ≡ at_rest (entries ++ option_to_list (house.rules entries request).entry))
     on over e told left =
-        (told ∙ ap (λ (H : List Entry). (rules H request).reply) e, left ∙ ap (λ (H : List Entry). at_rest (H ++ option_to_list (rules H request).entry)) e)
-decides_on rules entries request Starved reply new turn is = absurd is
-decides_on rules entries request (Fault before after) reply new turn is = absurd is
-decides_on rules entries request Worn reply new turn is = absurd is
+        (told ∙ ap (λ (H : List Entry). (house.rules H request).reply) e, left ∙ ap (λ (H : List Entry). at_rest (H ++ option_to_list (house.rules H request).entry)) e)
+decides_on house entries request (Fault before after) reply new turn is = absurd is
+decides_on house entries request Worn reply new turn is = absurd is
 
 -- a turn from rest that decides goes on to rest, over the entries
-replies-decided : (rules : List Entry → Request → Ruling) (entries : List Entry) (answered : List Answered) (states : List State) → Run rules (at_rest entries) answered states → AllDecided answered
-    → replies answered ≡ decided rules entries answered
-replies-decided rules entries [] [] run all = refl
-replies-decided rules entries (a ∷ more) (s ∷ states) run all =
-    let next = decides_on rules entries a.request a.mark a.reply s run.0 all.0 in
-    let P : State → Type 0 = λ state. Run rules state more states in
-    let rest = replies-decided rules (entries ++ option_to_list (rules entries a.request).entry) more states (subst P next.1 run.1) all.1 in
-    ap (λ (bytes : List ℕ). bytes ++ replies more) next.0 ∙ ap (λ (bytes : List ℕ). (rules entries a.request).reply ++ bytes) rest
-replies-decided rules entries [] (s ∷ states) run all = absurd run
-replies-decided rules entries (a ∷ more) [] run all = absurd run
+replies-decided : (house : House) (entries : List Entry) (answered : List Answered) (states : List State) → RunOfOnes house (at_rest entries) answered states → AllDecided answered
+    → replies answered ≡ replies (decided house entries (map (λ (a : Answered). a.request) answered))
+replies-decided house entries [] [] run all = refl
+replies-decided house entries (a ∷ more) (s ∷ states) run all =
+    let next = decides_on house entries a.request a.mark a.reply s run.0 all.0 in
+    let P : State → Type 0 = λ state. RunOfOnes house state more states in
+    let rest = replies-decided house (entries ++ option_to_list (house.rules entries a.request).entry) more states (subst P next.1 run.1) all.1 in
+    ap (λ (bytes : List ℕ). bytes ++ replies more) next.0 ∙ ap (λ (bytes : List ℕ). (house.rules entries a.request).reply ++ bytes) rest
+replies-decided house entries [] (s ∷ states) run all = absurd run
+replies-decided house entries (a ∷ more) [] run all = absurd run
 
 -- ---- the counts of faults
 
--- a house that had no fault has none where the count does not rise
-none_faulty : (rules : List Entry → Request → Ruling) (first : State) (answered : List Answered) (states : List State) (from to : ℕ) → first.faults ≡ 0 → Run rules first answered states → Backed from (failures_of answered) to → (Rose from to → ⊥)
-    → NoneFaulty answered
-none_faulty rules first [] states from to none run backed calm = tt
-none_faulty rules first (a ∷ more) [] from to none run backed calm = absurd run
-none_faulty rules first (a ∷ more) (s ∷ states) from to none run backed calm = by_mark a.mark (λ still is. none_faulty rules s more states from to still run.1 is calm) run.0 backed
+-- in a house where no turn failed each turn decides where the count does not rise
+all_decided : (house : House) (first : State) (answered : List Answered) (states : List State) (from to : ℕ) → first.faults ≡ 0 → RunOfOnes house first answered states → Backed from (failures_told answered) to → (Rose from to → ⊥)
+    → AllDecided answered
+all_decided house first [] states from to none run backed calm = tt
+all_decided house first (a ∷ more) [] from to none run backed calm = absurd run
+all_decided house first (a ∷ more) (s ∷ states) from to none run backed calm = by_mark a.mark (λ still is. all_decided house s more states from to still run.1 is calm) run.0 backed
   where
-    by_mark : (mark : Mark) → (s.faults ≡ 0 → Backed from (failures_of more) to → NoneFaulty more) → Turn rules first a.request mark a.reply s → Backed from (option_to_list (failure_of mark) ++ failures_of more) to → IsFaultless mark × NoneFaulty more
+    by_mark : (mark : Mark) → (s.faults ≡ 0 → Backed from (failures_told more) to → AllDecided more) → TurnOfOne house first a.request mark a.reply s → Backed from (option_to_list (failure_in_mark mark) ++ failures_told more) to → IsDecided mark × AllDecided more
     by_mark (At place) again turn is = (tt, again (ap (λ (state : State). state.faults) turn.1.left ∙ none) is)
-    by_mark Starved again turn is = (tt, again (ap (λ (state : State). state.faults) turn.2 ∙ none) is)
     by_mark Worn again turn is = absurd (omega (arith, none, turn.0))
-    by_mark (Fault before after) again turn is = absurd (calm (omega (arith, is.0, is.1, backed_grows (failures_of more) after to is.2)))
+    by_mark (Fault before after) again turn is = absurd (calm (omega (arith, is.0, is.1, backed_grows (failures_told more) after to is.2)))
 
 -- ---- by how the batch ended
 
@@ -236,9 +237,9 @@ module _ {D : Type 0} (tells : DiskTells D) where
       → Batch tells disk house.disk before after (ended end)
   batch_of only_now end disk opened house before after opens unwritten count s keeps same =
       let rest : state_of opened ≡ at_rest opened.origin.entries = opened_rests opened opens.lines opens.durable.fresh in
-      let R : State → Type 0 = λ state. Run (house_rules (head_of opened.origin.head) opened.origin.cap) state s.answered s.states in
+      let R : State → Type 0 = λ state. RunOfOnes (house_of (head_of opened.origin.head) opened.origin.cap) state s.answered s.states in
       let turns = subst R rest s.turns in
-      let backed = backed_earlier (failures_of s.answered) (tells.faults disk) (tells.faults opened.disk) (tells.faults house.disk) count s.backed in
+      let backed = backed_earlier (failures_told s.answered) (tells.faults disk) (tells.faults opened.disk) (tells.faults house.disk) count s.backed in
       record {
         head = opened.origin.head;
         cap = opened.origin.cap;
@@ -261,8 +262,8 @@ module _ {D : Type 0} (tells : DiskTells D) where
         wrote = wrote_all end before after s.answered s.wrote;
         wrote_short = wrote_part end before after s.answered s.wrote;
         backed = backed;
-        steady = none_faulty (house_rules (head_of opened.origin.head) opened.origin.cap) (at_rest opened.origin.entries) s.answered s.states (tells.faults disk) (tells.faults house.disk) refl turns backed;
-        alone = replies-decided (house_rules (head_of opened.origin.head) opened.origin.cap) opened.origin.entries s.answered s.states turns;
+        steady = all_decided (house_of (head_of opened.origin.head) opened.origin.cap) (at_rest opened.origin.entries) s.answered s.states (tells.faults disk) (tells.faults house.disk) refl turns backed;
+        alone = replies-decided (house_of (head_of opened.origin.head) opened.origin.cap) opened.origin.entries s.answered s.states turns;
         content_rests = subst (λ (o : Origin). IfSome (tells.content house.disk) (λ (image : List ℕ). StandsForEither o.head o.cap (entries_in house) (doubt_in house) image)) same keeps.bytes;
         images_rest = λ image is. subst (λ (o : Origin). StandsForEither o.head o.cap (entries_in house) (doubt_in house) image) same (keeps.images image is);
         opened_so = unwritten;

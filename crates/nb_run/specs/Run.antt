@@ -15,16 +15,16 @@ use Rattle.nb_vault.specs.declared.vault.opening.VaultFault.{VaultFault}
 use Rattle.nb_vault.specs.declared.vault.opening.VaultFault.TheVariants.{Unborn, Damaged, BadEntry, DiskFault, NoMemory}
 use Rattle.nb_vault.specs.Holdings.{StandsFor, StandsForEither}
 use Rattle.nb_vault.specs.Opens.{VaultOpenFails}
-use Rattle.nb_vault.specs.Rules.{house_rules}
-use Rattle.nb_vault.specs.Turns.{State, Answered, Run, last_state, replies, decided, AllDecided, NoneFaulty, failures_of}
-use Rattle.nb_vault.specs.Vaults.{IsBalanced}
+use Rattle.nb_turns.specs.Turns.{State, Answered, decided, last_state, replies}
+use Rattle.nb_turns.specs.Laws.{IsBalanced, RunOfOnes}
+use Rattle.nb_vault.specs.Rules.{house_of}
 use Rattle.nb_batch.specs.declared.batch.TheConstants.{MOST_FRAMES}
 use Rattle.nb_run.specs.declared.ending.Ending.{Ending}
 use Rattle.nb_run.specs.declared.ending.TheConstants.{CLEAN, BAD_WORDS, SOURCE_FAILED, SINK_FAILED, BAD_INPUT, OUT_OF_MEMORY, DISK_FAILED, NO_JOURNAL, NOT_MADE, FRAME_LIMIT}
 use Rattle.nb_run.specs.declared.init.InitEnd.{InitEnd}
 use Rattle.nb_run.specs.Ending.{at_no_place}
 use Rattle.nb_run.specs.Init.{MakesAs, ending_of}
-use Rattle.nb_batch.specs.Batch.{at_rest, frame_of, moment_of, Outside, Gave, WroteShort, StandsInRun, GoesThrough, last_disk}
+use Rattle.nb_batch.specs.Batch.{at_rest, frame_of, moment_of, AllDecided, failures_told, Outside, Gave, WroteShort, StandsInRun, GoesThrough, last_disk}
 
 -- the statuses that a run can end with
 abbrev pub IsStatus : ℕ → Type 0
@@ -91,17 +91,17 @@ pub record Batch {D : Type 0} (tells : DiskTells D) (old new : D) (before after 
   -- one answer of the clock for each
   pub asked : Gave before.moments after.moments (map moment_of answered)
   -- there is a run of turns over them, from the entries with nothing in doubt
-  pub turns : Run (house_rules (head_of head) cap) (at_rest opening) answered states
+  pub turns : RunOfOnes (house_of (head_of head) cap) (at_rest opening) answered states
   pub last_is : last ≡ last_state (at_rest opening) states
   -- their replies are what was written
   pub wrote : ending.status ≢ SINK_FAILED → Appends before.sent after.sent (replies answered)
   -- after a failed write: all replies before the last one, and a part of that
   pub wrote_short : ending.status ≡ SINK_FAILED → WroteShort before after answered
-  -- the faults of turns lie one after another between the disk's counts; where these did not rise, no turn failed
-  pub backed : Backed (tells.faults old) (failures_of answered) (tells.faults new)
-  pub steady : (Rose (tells.faults old) (tells.faults new) → ⊥) → NoneFaulty answered
+  -- the faults of turns lie one after another between the disk's counts; where these did not rise, each turn decided
+  pub backed : Backed (tells.faults old) (failures_told answered) (tells.faults new)
+  pub steady : (Rose (tells.faults old) (tells.faults new) → ⊥) → AllDecided answered
   -- where each turn decides, the replies are a function of the entries, the head, the cap and the requests alone
-  pub alone : AllDecided answered → replies answered ≡ decided (house_rules (head_of head) cap) opening answered
+  pub alone : AllDecided answered → replies answered ≡ replies (decided (house_of (head_of head) cap) opening (map (λ (a : Answered). a.request) answered))
   -- the disk is at rest in the last state: its content, and all that a stop now leaves, stands for its entries, without what is in
   -- doubt or with it
   pub content_rests : IfSome (tells.content new) (StandsForEither head cap last.entries last.doubt)

@@ -24,7 +24,7 @@ entries_append opening lines more =
 pub faults_append : (lines more : List Line) → faults_of (lines ++ more) ≡ faults_of lines + faults_of more
 faults_append lines more = sum_by-append (λ (l : Line). cond (is_fault l) 1 0) lines more
 
-no_faults : (lines : List Line) → AllByRecursion (λ (l : Line). is_fault l ≡ false) lines → faults_of lines ≡ 0
+pub no_faults : (lines : List Line) → AllByRecursion (λ (l : Line). is_fault l ≡ false) lines → faults_of lines ≡ 0
 no_faults [] all = refl
 no_faults (l ∷ ls) all =
     let first : faults_of (l ∷ ls) ≡ cond (is_fault l) 1 0 + faults_of ls = sum_by-cons (λ (k : Line). cond (is_fault k) 1 0) l ls in
@@ -138,7 +138,7 @@ first_none [] older all closed = closed
 first_none (l ∷ ls) older all closed = all.0
 
 -- lines that tell no doubt leave lines closed
-closed_more : (lines more : List Line) → IsClosed lines → AllByRecursion (λ (l : Line). is_doubt l ≡ false) more → IsClosed (lines ++ more)
+pub closed_more : (lines more : List Line) → IsClosed lines → AllByRecursion (λ (l : Line). is_doubt l ≡ false) more → IsClosed (lines ++ more)
 closed_more lines more closed all =
     subst (FirstFails is_doubt) (sym (reverse-append lines more)) (first_none (reverse more) (reverse lines) (all_reverse (λ (l : Line). is_doubt l ≡ false) more all) closed)
 
@@ -202,7 +202,7 @@ no_lines by turn (e ∷ es) none = absurd (never (Doubt by turn e) (doubts by tu
     never l ls none = cc
 
 -- doubts behind closed lines are what is in doubt
-doubts_are : (lines : List Line) (by turn : ℕ) (es : List Entry) → (es ≡ [] → ⊥) → IsClosed lines → open_doubt (lines ++ doubts by turn es) ≡ es
+pub doubts_are : (lines : List Line) (by turn : ℕ) (es : List Entry) → (es ≡ [] → ⊥) → IsClosed lines → open_doubt (lines ++ doubts by turn es) ≡ es
 doubts_are lines by turn es some closed =
     let all : AllByRecursion (λ (l : Line). is_doubt l ≡ true) (reverse (doubts by turn es)) = all_reverse (λ (l : Line). is_doubt l ≡ true) (doubts by turn es) (are_doubts by turn es) in
     ap (λ (xs : List Line). reverse (filter_map doubted (take_while is_doubt (drop (prefix_len is_fault xs) xs)))) (reverse-append lines (doubts by turn es))
@@ -215,9 +215,20 @@ last_fault : (by turn from to : ℕ) → faults_of (Fault by turn from to ∷ []
 last_fault by turn from to = refl
 
 -- of the lines of a doubt one is a fault
-one_fault : (by turn : ℕ) (kept more : List Entry) (from to : ℕ) → faults_of (adopts by turn kept) + faults_of (doubts by turn more ++ Fault by turn from to ∷ []) ≡ 1
+pub one_fault : (by turn : ℕ) (kept more : List Entry) (from to : ℕ) → faults_of (adopts by turn kept) + faults_of (doubts by turn more ++ Fault by turn from to ∷ []) ≡ 1
 one_fault by turn kept more from to =
     omega (arith, no_faults (adopts by turn kept) (adopted_no_fault by turn kept), faults_append (doubts by turn more) (Fault by turn from to ∷ []), no_faults (doubts by turn more) (doubted_no_fault by turn more), last_fault by turn from to)
+
+-- behind closed lines, those of a doubt tell what is in doubt
+pub doubted_are : (lines : List Line) (by turn from to : ℕ) (kept es : List Entry) → (es ≡ [] → ⊥) → IsClosed lines
+    → open_doubt (lines ++ (adopts by turn kept ++ (doubts by turn es ++ Fault by turn from to ∷ []))) ≡ es
+doubted_are lines by turn from to kept es some closed =
+    let adopted : List Line = adopts by turn kept in
+    let doubted : List Line = doubts by turn es in
+    let grouped : lines ++ (adopted ++ (doubted ++ Fault by turn from to ∷ [])) ≡ ((lines ++ adopted) ++ doubted) ++ Fault by turn from to ∷ [] =
+    sym (append_assoc lines adopted (doubted ++ Fault by turn from to ∷ [])) ∙ sym (append_assoc (lines ++ adopted) doubted (Fault by turn from to ∷ [])) in
+    ap open_doubt grouped ∙ doubt_faults ((lines ++ adopted) ++ doubted) by turn from to
+    ∙ doubts_are (lines ++ adopted) by turn es some (closed_more lines adopted closed (adopted_no_doubt by turn kept))
 
 -- ---- the turn that lines tell
 

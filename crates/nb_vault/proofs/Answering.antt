@@ -1,321 +1,386 @@
--- A turn, from its steps: settling, and making the entry of the verdict durable.
-use Rattle.std.proofs.Common.{◌≡◌, ◌⊎◌, ◌≢◌, inl, inr, ℕ, ◌+◌, ◌≤◌, false, List, [], ◌∷◌, ◌++◌, length, Option, None, Some, IfSome, Ok, Err, refl, sym, ap, subst, ◌∙◌, arith}
-use Rattle.std.specs.Option.{option_to_list}
+-- A turn, from its steps: settling, the verdicts, and making what they record durable.
+use Rattle.std.proofs.Common.{◌≡◌, ◌⊎◌, inl, inr, ⊎_elim, ℕ, ◌+◌, ◌≤◌, ◌<◌, Bool, false, true, cond, List, [], ◌∷◌, ◌++◌, length, Option, IfSome, refl, sym, ap, subst, ◌∙◌, append_assoc, arith}
 use Rattle.std.proofs.lemmas.List.{append-nil, length-append}
 use Rattle.nb_port.specs.Faults.{Rose}
 use Rattle.nb_port.specs.Tells.{DiskTells}
 use Rattle.nb_book.specs.declared.entry.Entry.{Entry}
 use Rattle.nb_journal.specs.declared.journal.Journal.{Journal}
-use Rattle.nb_journal.specs.Layout.{front_bytes}
 use Rattle.nb_journal.specs.Time.{LeavesOnly}
-use Rattle.nb_escrow.specs.declared.decision.Decision.{Decision}
-use Rattle.nb_escrow.specs.declared.head.Head.{Head}
+use Rattle.nb_journal.proofs.Moments.{started}
 use Rattle.nb_escrow.specs.Head.{head_of}
-use Rattle.nb_escrow.specs.Verdict.{verdict}
-use Rattle.nb_vault.specs.declared.line.Line.{Line}
-use Rattle.nb_vault.specs.declared.line.Line.TheVariants.{Doubt, Fault}
+use Rattle.nb_turns.specs.declared.limits.TheConstants.{MAX_FAULTS}
+use Rattle.nb_turns.specs.declared.line.Line.{Line}
+use Rattle.nb_turns.specs.declared.line.Line.TheVariants.{Fault}
+use Rattle.nb_turns.specs.Turns.{Request, House, State, Outcome, Decides, Fails, Refuses, SettlesInto, Turn, decided, recorded, replies}
+use Rattle.nb_turns.specs.Lines.{AddsLines, Settled, DecidedLines, DoubtedLines, adopts, commits, doubts, entries_of, faults_of, next_turn, open_doubt}
+use Rattle.nb_turns.proofs.Lining.{decided_entries, doubt_faults, doubted_are, doubted_lines_entries, entries_append}
 use Rattle.nb_vault.specs.declared.parts.Parts.{Parts}
 use Rattle.nb_vault.specs.declared.records.Counts.{Counts}
-use Rattle.nb_vault.specs.Holdings.{StandsFor, StandsForEither, WritesEntry, TearsEntry}
-use Rattle.nb_vault.specs.declared.vault.Answer.{Answer}
-use Rattle.nb_vault.specs.Lines.{AreOf, next_turn}
-use Rattle.nb_vault.specs.Parts.{IsVault, SameOrigin, SameButRoom, CommitGives, CommitWrites, seen_as}
-use Rattle.nb_vault.specs.Records.{RestsIn, Failed, EitherOf, WithOrWithout, disk_under}
-use Rattle.nb_vault.specs.Turns.{Request, State, SettlesInto, Decides, Doubts}
-use Rattle.nb_vault.specs.Vaults.{Chronicled, state_of, rules_of, StandsForState, adopts, commits, KeptOf, SettledOver, DecidedLines, DoubtedLines, UnsettledLines, IsDurable, Adds, LinesOf}
-use Rattle.nb_vault.proofs.Lines.{no_both}
-use Rattle.nb_vault.proofs.Resting.{leaves_more, leaves_then, rest_images, rest_content}
-use Rattle.nb_journal.proofs.Moments.{started}
-use Rattle.nb_vault.proofs.Seeing.{state_at, state_seen, entries_seen, doubt_seen, either_seen, settled_fresh, room_seen}
+use Rattle.nb_vault.specs.Holdings.{StandsFor, StandsForEither, WritesItem, TearsItem}
+use Rattle.nb_vault.specs.Parts.{HasLines, IsVault, SameOrigin, Readied, Unready, Committed, Doubted, opening_of, seen_as}
+use Rattle.nb_vault.specs.Records.{Rests, EitherOf, RecordWrites, WithOrWithout, disk_under, doubt_of, over_of}
+use Rattle.nb_vault.specs.Rules.{house_of}
+use Rattle.nb_vault.specs.Vaults.{Went, doubt_in, house_in, handed_places, state_of, StandsForState}
+use Rattle.nb_vault.proofs.Resting.{leaves_more, leaves_then, fresh_content, rest_images}
+use Rattle.nb_vault.proofs.Seeing.{doubt_seen, either_seen, entries_seen, state_at, state_seen}
+use Rattle.nb_vault.proofs.Vaulting.{decided_faults, failed_faults, same_opening, vault_behind}
 
--- what is kept of a doubt: nothing, or all of it
-abbrev pub IsKept : Option Entry → Option Entry → Type 0
-IsKept kept doubt = (kept ≡ None) ⊎ (kept ≡ doubt)
+-- the steps of a turn before what it records is made durable: from the vault, what was in doubt is settled, and the requests are decided
+pub record Steps {D : Type 0} (tells : DiskTells D) (old mid p : Parts D) (by : ℕ) (requests : List Request) : Type 0 where
+  pub vault : IsVault tells old
+  pub few : old.faults < MAX_FAULTS
+  pub ready : Readied old mid by (next_turn old.lines.items)
+  pub rests : Rests tells mid.records
+  pub first : SameOrigin old mid
+  pub content : tells.content (disk_under mid.records) ≡ tells.content (disk_under old.records)
+  pub second : SameOrigin mid p
+  pub journal : p.records.journal ≡ mid.records.journal
+  pub over : over_of p.records ≡ mid.records.book.entries
+  pub group : p.records.group.items ≡ recorded (house_of mid.head mid.records.book.cap) mid.records.book.entries requests
+  pub lines : p.lines.items ≡ mid.lines.items
+  pub faults : p.faults ≡ mid.faults
 
--- a verdict is taken over the entries without the one in doubt, or with it
-pub settles : (entries : List Entry) (doubt kept : Option Entry) (n : ℕ) → IsKept kept doubt → SettlesInto (record { entries = entries; doubt = option_to_list doubt; faults = n }) (entries ++ option_to_list kept)
-settles entries doubt kept n (inl none) = inl (ap (λ (o : Option Entry). entries ++ option_to_list o) none ∙ append-nil entries)
-settles entries doubt kept n (inr all) = inr (ap (λ (o : Option Entry). entries ++ option_to_list o) all)
+pub then_same : {D : Type 0} (old mid new : Parts D) → SameOrigin old mid → SameOrigin mid new → SameOrigin old new
+then_same old mid new first second = record {
+  terms = record { head = second.terms.head ∙ first.terms.head; cap = second.terms.cap ∙ first.terms.cap };
+  opening = second.opening ∙ first.opening;
+  count = second.count ∙ first.count;
+  head = second.head ∙ first.head;
+}
 
--- an entry in doubt stands behind the others
-pub together : (last over : List Entry) (doubt entry : Option Entry) (e : Entry) → last ≡ over → doubt ≡ Some e → entry ≡ Some e → last ++ option_to_list doubt ≡ over ++ option_to_list entry
-together last over doubt entry e a b d = rw (a, b, d) refl
+-- what a vault was opened with stays
+origin_is : {D : Type 0} (tells : DiskTells D) (old new : Parts D) (more : List Entry) → IsVault tells old → SameOrigin old new → new.records.book.entries ≡ old.records.book.entries ++ more → (seen_as new).origin ≡ (seen_as old).origin
+origin_is tells old new more vault same grown = rw (same_opening tells old new more vault same grown, same.terms.head, same.terms.cap, same.count) refl
 
--- the lines are of one turn
-pub adopts_are : (by turn : ℕ) (kept : Option Entry) (more : List Line) → AreOf by turn more → AreOf by turn (adopts by turn kept ++ more)
-adopts_are by turn None more are = are
-adopts_are by turn (Some entry) more are = ((refl, refl), are)
+-- those in doubt behind a turn that failed so
+pub doubted_all : {D : Type 0} (tells : DiskTells D) (p new : Parts D) (by turn : ℕ) (counts : Counts) → Doubted tells p new by turn counts → doubt_of new.records ≡ p.records.group.items
+doubted_all tells p new by turn counts d = ap (λ (b : Bool). cond b new.records.group.items []) d.stale ∙ d.group
 
-pub commits_are : (by turn : ℕ) (entry : Option Entry) → AreOf by turn (commits by turn entry)
-commits_are by turn None = tt
-commits_are by turn (Some entry) = ((refl, refl), tt)
+-- the house stays
+pub house_is : {D : Type 0} (tells : DiskTells D) (old mid : Parts D) → IsVault tells old → SameOrigin old mid → house_of mid.head mid.records.book.cap ≡ house_in (seen_as old)
+house_is tells old mid vault same =
+    ap (λ h. house_of h mid.records.book.cap) (same.head ∙ vault.keys) ∙ ap (λ (cap : ℕ). house_of (head_of old.records.head) cap) same.terms.cap
 
--- ---- images
+pub stepped : {D : Type 0} (tells : DiskTells D) (old mid p : Parts D) (by turn : ℕ) (requests : List Request) → IsVault tells old → old.faults < MAX_FAULTS → turn ≡ next_turn old.lines.items → Readied old mid by turn → Rests tells mid.records
+    → SameOrigin old mid → tells.content (disk_under mid.records) ≡ tells.content (disk_under old.records) → SameOrigin mid p → p.records.journal ≡ mid.records.journal → over_of p.records ≡ mid.records.book.entries
+    → p.records.group.items ≡ recorded (house_of mid.head mid.records.book.cap) mid.records.book.entries requests → p.lines.items ≡ mid.lines.items → p.faults ≡ mid.faults → Steps tells old mid p by requests
+stepped tells old mid p by turn requests vault few turn_is ready rests first content second journal over group lines faults = record {
+  vault = vault;
+  few = few;
+  ready = subst (λ (n : ℕ). Readied old mid by n) turn_is ready;
+  rests = rests;
+  first = first;
+  content = content;
+  second = second;
+  journal = journal;
+  over = over;
+  group = group;
+  lines = lines;
+  faults = faults;
+}
 
--- what is left while the entry is made durable
-pub image_behind : (head : List ℕ) (cap : ℕ) (entries over last rest : List Entry) (doubt kept entry : Option Entry) (image : List ℕ) → IsKept kept doubt → over ≡ entries ++ option_to_list kept
-    → (last ≡ over ++ option_to_list entry) ⊎ (last ++ rest ≡ over ++ option_to_list entry) → StandsForEither head cap over (option_to_list entry) image
-    → StandsForEither head cap entries (option_to_list doubt) image ⊎ StandsForEither head cap last rest image
-image_behind head cap entries over last rest doubt kept entry image is over_is last_is (inl before) = inl (without is)
-  where
-    without : IsKept kept doubt → StandsForEither head cap entries (option_to_list doubt) image
-    without (inl none) = inl (subst (λ (es : List Entry). StandsFor head cap es image) (over_is ∙ ap (λ (o : Option Entry). entries ++ option_to_list o) none ∙ append-nil entries) before)
-    without (inr all) = inr (subst (λ (es : List Entry). StandsFor head cap es image) (over_is ∙ ap (λ (o : Option Entry). entries ++ option_to_list o) all) before)
-image_behind head cap entries over last rest doubt kept entry image is over_is (inl last_is) (inr behind) = inr (inl (subst (λ (es : List Entry). StandsFor head cap es image) (sym last_is) behind))
-image_behind head cap entries over last rest doubt kept entry image is over_is (inr last_is) (inr behind) = inr (inr (subst (λ (es : List Entry). StandsFor head cap es image) (sym last_is) behind))
+module _ {D : Type 0} (tells : DiskTells D) (old mid p : Parts D) (by : ℕ) (requests : List Request) (s : Steps tells old mid p by requests) where
+  -- the entries that the first verdict is over
+  pub over_is : over_of p.records ≡ old.records.book.entries ++ s.ready.kept
+  over_is = s.over ∙ s.ready.entries
 
-module _ {D : Type 0} (tells : DiskTells D) where
-  module _ (old mid : Parts D) (vault : IsVault tells old) (settled : IsVault tells mid) (same : SameOrigin old mid) (by turn : ℕ) (kept : Option Entry)
-      (kept_is : IsKept kept old.records.doubt) (entries : mid.records.book.entries ≡ old.records.book.entries ++ option_to_list kept) (none : mid.records.doubt ≡ None) (same_content : tells.content (disk_under mid.records) ≡ tells.content (disk_under old.records)) where
-    -- what is kept was in doubt
-    kept_of : (k : Option Entry) → IsKept k old.records.doubt → KeptOf (seen_as old) k
-    kept_of None is = tt
-    kept_of (Some entry) (inl e) = absurd cc
-    kept_of (Some entry) (inr was) = doubt_seen tells old vault ∙ ap option_to_list (sym was)
+  group_is : p.records.group.items ≡ recorded (house_in (seen_as old)) (over_of p.records) requests
+  group_is =
+      s.group ∙ ap (λ (h : House). recorded h mid.records.book.entries requests) (house_is tells old mid s.vault s.first)
+      ∙ ap (λ (es : List Entry). recorded (house_in (seen_as old)) es requests) (sym s.over)
 
-    -- what was in doubt is settled as the disk had it
-    pub settled_as : SettledOver tells (seen_as old) kept mid.records.book.entries
-    settled_as = record {
-      of_doubt = kept_of kept kept_is;
-      over_is = entries ∙ ap (λ (es : List Entry). es ++ option_to_list kept) (sym (entries_seen tells old vault));
-      told = subst (λ (t : Option (List ℕ)). IfSome t (StandsFor old.records.head old.records.book.cap mid.records.book.entries)) same_content (told (tells.content (disk_under mid.records)) (rest_content tells mid.records settled.rests));
+  same : SameOrigin old p
+  same = then_same old mid p s.first s.second
+
+  -- what was in doubt is kept or dropped, whole
+  settled : Settled (opening_of old) old.lines.items s.ready.kept (over_of p.records)
+  settled = record {
+    of_doubt = ⊎_elim inl (λ is. ⊎_elim (λ none. inl (is ∙ none)) (λ told. inr (is ∙ told)) s.vault.told.doubt_is) s.ready.kept_is;
+    most = s.ready.most;
+    over_is = over_is ∙ ap (λ (es : List Entry). es ++ s.ready.kept) s.vault.told.listed;
+  }
+
+  settles : SettlesInto (state_of (seen_as old)) (over_of p.records)
+  settles = subst (λ (st : State). SettlesInto st (over_of p.records)) (sym (state_seen tells old s.vault))
+      (⊎_elim (λ none. inl (over_is ∙ ap (λ (es : List Entry). old.records.book.entries ++ es) none ∙ append-nil old.records.book.entries))
+      (λ is. inr (over_is ∙ ap (λ (es : List Entry). old.records.book.entries ++ es) is)) s.ready.kept_is)
+
+  few_told : faults_of old.lines.items < MAX_FAULTS
+  few_told = omega (arith, s.few, s.vault.faults_are)
+
+  -- the content stood for these entries
+  told_over : IfSome (tells.content (disk_under old.records)) (StandsFor old.records.head old.records.book.cap (over_of p.records))
+  told_over =
+      subst (λ (t : Option (List ℕ)). IfSome t (StandsFor old.records.head old.records.book.cap (over_of p.records))) s.content
+      (subst (λ (es : List Entry). IfSome (tells.content (disk_under mid.records)) (StandsFor old.records.head old.records.book.cap es)) (sym s.over)
+      (subst (λ (cap : ℕ). IfSome (tells.content (disk_under mid.records)) (StandsFor old.records.head cap mid.records.book.entries)) s.first.terms.cap
+      (subst (λ (head : List ℕ). IfSome (tells.content (disk_under mid.records)) (StandsFor head mid.records.book.cap mid.records.book.entries)) s.first.terms.head
+      (fresh_content tells mid.records s.rests s.ready.fresh))))
+
+  pub content_is : tells.content (disk_under p.records) ≡ tells.content (disk_under old.records)
+  content_is = ap (λ (j : Journal D). tells.content j.disk) s.journal ∙ s.content
+
+  -- ---- a turn that decided
+
+  module _ (new : Parts D) (c : Committed p new by (next_turn old.lines.items)) where
+    decided_behind : new.lines.items ≡ old.lines.items ++ (adopts by (next_turn old.lines.items) s.ready.kept ++ commits by (next_turn old.lines.items) (recorded (house_in (seen_as old)) (over_of p.records) requests))
+    decided_behind =
+        c.lines ∙ ap (λ (ls : List Line). ls ++ commits by (next_turn old.lines.items) p.records.group.items) (s.lines ∙ s.ready.lines)
+        ∙ append_assoc old.lines.items (adopts by (next_turn old.lines.items) s.ready.kept) (commits by (next_turn old.lines.items) p.records.group.items)
+        ∙ ap (λ (es : List Entry). old.lines.items ++ (adopts by (next_turn old.lines.items) s.ready.kept ++ commits by (next_turn old.lines.items) es)) group_is
+
+    decided_adds : DecidedLines (house_in (seen_as old)) (opening_of old) by (next_turn old.lines.items) old.lines.items requests (over_of p.records)
+        (adopts by (next_turn old.lines.items) s.ready.kept ++ commits by (next_turn old.lines.items) (recorded (house_in (seen_as old)) (over_of p.records) requests))
+    decided_adds = record { few = few_told; kept = s.ready.kept; settled = settled; lines = refl }
+
+    decided_list : new.records.book.entries ≡ over_of p.records ++ recorded (house_in (seen_as old)) (over_of p.records) requests
+    decided_list = c.entries ∙ ap (λ (es : List Entry). over_of p.records ++ es) group_is
+
+    decided_fresh : doubt_of new.records ≡ []
+    decided_fresh = ap (λ (b : Bool). cond b new.records.group.items []) c.fresh
+
+    decided_count : new.faults ≡ old.faults
+    decided_count = c.faults ∙ s.faults ∙ s.ready.faults
+
+    pub decided_vault : SameOrigin p new → Rests tells new.records → HasLines new new.records.book.entries → tells.faults (disk_under old.records) ≤ tells.faults (disk_under new.records) → IsVault tells new
+    decided_vault last rests has count =
+        vault_behind tells old new (s.ready.kept ++ recorded (house_in (seen_as old)) (over_of p.records) requests) (house_in (seen_as old)) by requests (Decides (over_of p.records))
+        (adopts by (next_turn old.lines.items) s.ready.kept ++ commits by (next_turn old.lines.items) (recorded (house_in (seen_as old)) (over_of p.records) requests))
+        s.vault (then_same old p new same last) rests has
+        (decided_list ∙ ap (λ (es : List Entry). es ++ recorded (house_in (seen_as old)) (over_of p.records) requests) over_is ∙ append_assoc old.records.book.entries s.ready.kept (recorded (house_in (seen_as old)) (over_of p.records) requests))
+        decided_adds decided_behind
+        (decided_list ∙ sym (decided_entries (house_in (seen_as old)) (opening_of old) by (next_turn old.lines.items) old.lines.items requests (over_of p.records) _ decided_adds))
+        (inl decided_fresh) count
+        (decided_count ∙ s.vault.faults_are ∙ sym (decided_faults (house_in (seen_as old)) (opening_of old) by (next_turn old.lines.items) old.lines.items requests _ s.vault.told.closed (over_of p.records) decided_adds))
+        (omega (arith, decided_count, s.vault.few))
+
+    pub decided_origin : SameOrigin p new → (seen_as new).origin ≡ (seen_as old).origin
+    decided_origin last = origin_is tells old new (s.ready.kept ++ p.records.group.items) s.vault (then_same old p new same last)
+        (c.entries ∙ ap (λ (es : List Entry). es ++ p.records.group.items) over_is ∙ append_assoc old.records.book.entries s.ready.kept p.records.group.items)
+
+    pub decided_went : IsVault tells new → WritesItem p.records.head p.records.book.cap (over_of p.records) p.records.group.items (tells.content (disk_under p.records)) (tells.content (disk_under new.records))
+        → (found out out' : List ℕ) → found ≡ handed_places (house_in (seen_as old)) requests (Decides (over_of p.records)) → out' ≡ out ++ replies (decided (house_in (seen_as old)) (over_of p.records) requests)
+        → Went tells (seen_as old) (seen_as new) by requests (Decides (over_of p.records)) found out out'
+    decided_went vault wrote found out out' places bytes = record {
+      turn = (few_told, settles, state_seen tells new vault ∙ rw (decided_list, decided_fresh, decided_count, s.vault.faults_are) refl);
+      found_is = places;
+      out_is = bytes;
+      added = adopts by (next_turn old.lines.items) s.ready.kept ++ commits by (next_turn old.lines.items) (recorded (house_in (seen_as old)) (over_of p.records) requests);
+      behind = decided_behind;
+      lines = decided_adds;
+      disk = record {
+        told = told_over;
+        written = subst (λ (es : List Entry). WritesItem old.records.head old.records.book.cap (over_of p.records) es (tells.content (disk_under old.records)) (tells.content (disk_under new.records))) group_is
+            (subst (λ (t : Option (List ℕ)). WritesItem old.records.head old.records.book.cap (over_of p.records) p.records.group.items t (tells.content (disk_under new.records))) content_is
+            (subst (λ (cap : ℕ). WritesItem old.records.head cap (over_of p.records) p.records.group.items (tells.content (disk_under p.records)) (tells.content (disk_under new.records))) same.terms.cap
+            (subst (λ (head : List ℕ). WritesItem head p.records.book.cap (over_of p.records) p.records.group.items (tells.content (disk_under p.records)) (tells.content (disk_under new.records))) same.terms.head wrote)));
+      };
     }
-      where
-        alone : (image : List ℕ) → StandsForEither mid.records.head mid.records.book.cap mid.records.book.entries [] image → StandsFor mid.records.head mid.records.book.cap mid.records.book.entries image
-        alone image (inl is) = is
-        alone image (inr is) = subst (λ (es : List Entry). StandsFor mid.records.head mid.records.book.cap es image) (append-nil mid.records.book.entries) is
 
-        told : (t : Option (List ℕ)) → IfSome t (EitherOf mid.records) → IfSome t (StandsFor old.records.head old.records.book.cap mid.records.book.entries)
-        told None is = tt
-        told (Some image) is =
-            subst (λ (head : List ℕ). StandsFor head old.records.book.cap mid.records.book.entries image) same.terms.head
-            (subst (λ (cap : ℕ). StandsFor mid.records.head cap mid.records.book.entries image) same.terms.cap
-            (alone image (subst (λ (d : Option Entry). StandsForEither mid.records.head mid.records.book.cap mid.records.book.entries (option_to_list d) image) none is)))
+  -- ---- a turn whose item could not be made durable
 
-    pub settles_over : SettlesInto (state_of (seen_as old)) mid.records.book.entries
-    settles_over = subst (λ (s : State). SettlesInto s mid.records.book.entries) (sym (state_seen tells old vault)) (subst (SettlesInto (state_at old)) (sym entries) (settles old.records.book.entries old.records.doubt kept old.faults kept_is))
+  module _ (new : Parts D) (counts : Counts) (d : Doubted tells p new by (next_turn old.lines.items) counts) where
+    some_recorded : recorded (house_in (seen_as old)) (over_of p.records) requests ≡ [] → ⊥
+    some_recorded none = d.some (group_is ∙ none)
 
-    -- what is written, by what the vault was before
-    writes_from : (entry : Option Entry) (new : Option (List ℕ)) → WritesEntry mid.records.head mid.records.book.cap mid.records.book.entries entry (tells.content (disk_under mid.records)) new
-        → WritesEntry old.records.head old.records.book.cap mid.records.book.entries entry (tells.content (disk_under old.records)) new
-    writes_from entry new is =
-        subst (λ (t : Option (List ℕ)). WritesEntry old.records.head old.records.book.cap mid.records.book.entries entry t new) same_content
-        (subst (λ (cap : ℕ). WritesEntry old.records.head cap mid.records.book.entries entry (tells.content (disk_under mid.records)) new) same.terms.cap
-        (subst (λ (head : List ℕ). WritesEntry head mid.records.book.cap mid.records.book.entries entry (tells.content (disk_under mid.records)) new) same.terms.head is))
+    doubted_behind : new.lines.items ≡ old.lines.items ++ (adopts by (next_turn old.lines.items) s.ready.kept
+        ++ (doubts by (next_turn old.lines.items) (recorded (house_in (seen_as old)) (over_of p.records) requests) ++ Fault by (next_turn old.lines.items) counts.before counts.after ∷ []))
+    doubted_behind =
+        d.lines
+        ∙ ap (λ (ls : List Line). ls ++ (doubts by (next_turn old.lines.items) p.records.group.items ++ Fault by (next_turn old.lines.items) counts.before counts.after ∷ [])) (s.lines ∙ s.ready.lines)
+        ∙ append_assoc old.lines.items (adopts by (next_turn old.lines.items) s.ready.kept) (doubts by (next_turn old.lines.items) p.records.group.items ++ Fault by (next_turn old.lines.items) counts.before counts.after ∷ [])
+        ∙ ap (λ (es : List Entry). old.lines.items ++ (adopts by (next_turn old.lines.items) s.ready.kept ++ (doubts by (next_turn old.lines.items) es ++ Fault by (next_turn old.lines.items) counts.before counts.after ∷ []))) group_is
 
-    tears_from : (entry : Entry) (new : Option (List ℕ)) → TearsEntry mid.records.head mid.records.book.cap mid.records.book.entries entry (tells.content (disk_under mid.records)) new
-        → TearsEntry old.records.head old.records.book.cap mid.records.book.entries entry (tells.content (disk_under old.records)) new
-    tears_from entry new is =
-        subst (λ (t : Option (List ℕ)). TearsEntry old.records.head old.records.book.cap mid.records.book.entries entry t new) same_content
-        (subst (λ (cap : ℕ). TearsEntry old.records.head cap mid.records.book.entries entry (tells.content (disk_under mid.records)) new) same.terms.cap
-        (subst (λ (head : List ℕ). TearsEntry head mid.records.book.cap mid.records.book.entries entry (tells.content (disk_under mid.records)) new) same.terms.head is))
+    abbrev doubted_lines : DoubtedLines (house_in (seen_as old)) (opening_of old) by (next_turn old.lines.items) old.lines.items requests counts.before counts.after
+        (adopts by (next_turn old.lines.items) s.ready.kept ++ (doubts by (next_turn old.lines.items) (recorded (house_in (seen_as old)) (over_of p.records) requests) ++ Fault by (next_turn old.lines.items) counts.before counts.after ∷ []))
+    doubted_lines = record { kept = s.ready.kept; over = over_of p.records; settled = settled; some = some_recorded; lines = refl }
 
-    -- the turn decided
-    pub decides : (new : Parts D) → IsVault tells new → (request : Request) (at : ℕ) (reply : List ℕ) (entry : Option Entry) → at ≡ length mid.records.book.entries → entry ≡ (rules_of (seen_as old) mid.records.book.entries request).entry
-        → reply ≡ (rules_of (seen_as old) mid.records.book.entries request).reply → new.records.book.entries ≡ mid.records.book.entries ++ option_to_list entry → new.records.doubt ≡ None → new.faults ≡ old.faults
-        → Decides (rules_of (seen_as old)) (state_of (seen_as old)) request at reply (state_of (seen_as new))
-    decides new done request at reply entry at_is entry_is reply_is more none few = record {
-      over = mid.records.book.entries;
-      settled = settles_over;
-      at = at_is;
-      told = reply_is;
-      left = state_seen tells new done ∙ rw (more, none, few, sym entry_is, vault.faults_are) refl;
+    doubted_stale : doubt_of new.records ≡ recorded (house_in (seen_as old)) (over_of p.records) requests
+    doubted_stale = ap (λ (b : Bool). cond b new.records.group.items []) d.stale ∙ d.group ∙ group_is
+
+    pub doubted_count : new.faults ≡ old.faults + 1
+    doubted_count = d.faults ∙ ap (λ (n : ℕ). n + 1) (s.faults ∙ s.ready.faults)
+
+    pub doubted_vault : SameOrigin p new → Rests tells new.records → HasLines new new.records.book.entries → tells.faults (disk_under old.records) ≤ tells.faults (disk_under mid.records) → IsVault tells new
+    doubted_vault last rests has count =
+        vault_behind tells old new s.ready.kept (house_in (seen_as old)) by requests (Fails counts.before counts.after)
+        (adopts by (next_turn old.lines.items) s.ready.kept ++ (doubts by (next_turn old.lines.items) (recorded (house_in (seen_as old)) (over_of p.records) requests) ++ Fault by (next_turn old.lines.items) counts.before counts.after ∷ []))
+        s.vault (then_same old p new same last) rests has (d.entries ∙ over_is)
+        (few_told, inr doubted_lines) doubted_behind
+        (d.entries ∙ sym (doubted_lines_entries (house_in (seen_as old)) (opening_of old) by (next_turn old.lines.items) old.lines.items requests counts.before counts.after (adopts by (next_turn old.lines.items) s.ready.kept ++ (doubts by (next_turn old.lines.items) (recorded (house_in (seen_as old)) (over_of p.records) requests) ++ Fault by (next_turn old.lines.items) counts.before counts.after ∷ [])) doubted_lines))
+        (inr (doubted_stale ∙ sym (doubted_are old.lines.items by (next_turn old.lines.items) counts.before counts.after s.ready.kept (recorded (house_in (seen_as old)) (over_of p.records) requests) some_recorded s.vault.told.closed)))
+        (omega (arith, count, d.failed.before, ap (λ (j : Journal D). tells.faults j.disk) s.journal), d.failed.rose, omega (arith, d.failed.after))
+        (doubted_count ∙ ap (λ (n : ℕ). n + 1) s.vault.faults_are
+        ∙ sym (failed_faults (house_in (seen_as old)) (opening_of old) by (next_turn old.lines.items) old.lines.items requests (adopts by (next_turn old.lines.items) s.ready.kept ++ (doubts by (next_turn old.lines.items) (recorded (house_in (seen_as old)) (over_of p.records) requests) ++ Fault by (next_turn old.lines.items) counts.before counts.after ∷ [])) s.vault.told.closed counts.before counts.after (few_told, inr doubted_lines)))
+        (omega (arith, doubted_count, s.few))
+
+    pub doubted_origin : SameOrigin p new → (seen_as new).origin ≡ (seen_as old).origin
+    doubted_origin last = origin_is tells old new s.ready.kept s.vault (then_same old p new same last) (d.entries ∙ over_is)
+
+    pub doubted_went : IsVault tells new → TearsItem p.records.head p.records.book.cap (over_of p.records) p.records.group.items (tells.content (disk_under p.records)) (tells.content (disk_under new.records))
+        → (out out' : List ℕ) → out' ≡ out → Went tells (seen_as old) (seen_as new) by requests (Fails counts.before counts.after) [] out out'
+    doubted_went vault torn out out' bytes = record {
+      turn = (
+        few_told,
+        inr (record {
+          over = over_of p.records;
+          settled = settles;
+          some = some_recorded;
+          left = state_seen tells new vault ∙ rw (d.entries, doubted_stale, doubted_count, s.vault.faults_are) refl;
+        }),
+      );
+      found_is = refl;
+      out_is = bytes ∙ sym (append-nil out);
+      added = adopts by (next_turn old.lines.items) s.ready.kept ++ (doubts by (next_turn old.lines.items) (recorded (house_in (seen_as old)) (over_of p.records) requests) ++ Fault by (next_turn old.lines.items) counts.before counts.after ∷ []);
+      behind = doubted_behind;
+      lines = (few_told, inr doubted_lines);
+      disk = inr (record {
+        over = over_of p.records;
+        told = told_over;
+        entries = entries_seen tells new vault ∙ d.entries;
+        doubt = doubt_seen tells new vault ∙ doubted_stale;
+        written = subst (λ (es : List Entry). TearsItem old.records.head old.records.book.cap (over_of p.records) es (tells.content (disk_under old.records)) (tells.content (disk_under new.records))) group_is
+            (subst (λ (t : Option (List ℕ)). TearsItem old.records.head old.records.book.cap (over_of p.records) p.records.group.items t (tells.content (disk_under new.records))) content_is
+            (subst (λ (cap : ℕ). TearsItem old.records.head cap (over_of p.records) p.records.group.items (tells.content (disk_under p.records)) (tells.content (disk_under new.records))) same.terms.cap
+            (subst (λ (head : List ℕ). TearsItem head p.records.book.cap (over_of p.records) p.records.group.items (tells.content (disk_under p.records)) (tells.content (disk_under new.records))) same.terms.head torn)));
+      });
     }
 
-    -- the lines of it
-    pub decided_lines : (new : Parts D) (request : Request) (at : ℕ) (entry : Option Entry) (added : List Line) → at ≡ length mid.records.book.entries → entry ≡ (rules_of (seen_as old) mid.records.book.entries request).entry
-        → added ≡ adopts by turn kept ++ commits by turn entry → WritesEntry mid.records.head mid.records.book.cap mid.records.book.entries entry (tells.content (disk_under mid.records)) (tells.content (disk_under new.records))
-        → DecidedLines tells (seen_as old) (seen_as new) by turn at request added
-    decided_lines new request at entry added at_is entry_is is wrote = record {
-      kept = kept;
-      over = mid.records.book.entries;
-      settled = settled_as;
-      place = at_is;
-      lines = is ∙ ap (λ (o : Option Entry). adopts by turn kept ++ commits by turn o) entry_is;
-      written = subst (λ (o : Option Entry). WritesEntry old.records.head old.records.book.cap mid.records.book.entries o (tells.content (disk_under old.records)) (tells.content (disk_under new.records))) entry_is
-          (writes_from entry (tells.content (disk_under new.records)) wrote);
-    }
+  -- ---- images
 
-    -- the entry could not be made durable
-    pub doubts : (new : Parts D) → IsVault tells new → (request : Request) (entry : Entry) → Some entry ≡ (rules_of (seen_as old) mid.records.book.entries request).entry
-        → new.records.book.entries ≡ mid.records.book.entries → new.records.doubt ≡ Some entry → new.faults ≡ old.faults + 1 → Doubts (rules_of (seen_as old)) (state_of (seen_as old)) request (state_of (seen_as new))
-    doubts new done request entry entry_is more doubt one = record {
-      over = mid.records.book.entries;
-      entry = entry;
-      settled = settles_over;
-      recorded = sym entry_is;
-      left = state_seen tells new done ∙ rw (more, doubt, one, vault.faults_are) refl;
-    }
+  -- what is left while the item is written: what stood before the turn, or what stands behind it
+  pub turn_leaves : (new : Parts D) → IsVault tells new → SameOrigin p new
+      → (new.records.book.entries ≡ over_of p.records ++ p.records.group.items) ⊎ (new.records.book.entries ++ doubt_of new.records ≡ over_of p.records ++ p.records.group.items)
+      → LeavesOnly tells (disk_under old.records) (disk_under mid.records) (EitherOf old.records) → LeavesOnly tells (disk_under p.records) (disk_under new.records) (WithOrWithout p.records (over_of p.records) p.records.group.items)
+      → LeavesOnly tells (disk_under old.records) (disk_under new.records) (λ image. StandsForState (seen_as old) image ⊎ StandsForState (seen_as new) image)
+  turn_leaves new vault last list leaves more =
+      leaves_then tells (disk_under old.records) (disk_under mid.records) (disk_under new.records) (EitherOf old.records) (WithOrWithout p.records (over_of p.records) p.records.group.items)
+      (λ image. StandsForState (seen_as old) image ⊎ StandsForState (seen_as new) image)
+      leaves
+      (subst (λ (j : Journal D). LeavesOnly tells j.disk (disk_under new.records) (WithOrWithout p.records (over_of p.records) p.records.group.items)) s.journal more)
+      (λ c is. inl (either_seen tells old s.vault c is)) (λ c is. ⊎_elim (λ before. inl (without c before)) (λ behind. inr (with_group c behind list)) is)
+    where
+      -- the terms are those at the start
+      at_start : (es : List Entry) (c : List ℕ) → StandsFor p.records.head p.records.book.cap es c → StandsFor old.records.head old.records.book.cap es c
+      at_start es c is =
+          subst (λ (head : List ℕ). StandsFor head old.records.book.cap es c) same.terms.head
+          (subst (λ (cap : ℕ). StandsFor p.records.head cap es c) same.terms.cap is)
 
-    pub doubted_lines : (new : Parts D) → IsVault tells new → (request : Request) (entry : Entry) (before after : ℕ) (added : List Line) → Some entry ≡ (rules_of (seen_as old) mid.records.book.entries request).entry
-        → new.records.doubt ≡ Some entry → added ≡ adopts by turn kept ++ Doubt by turn entry ∷ Fault by turn before after ∷ []
-        → TearsEntry mid.records.head mid.records.book.cap mid.records.book.entries entry (tells.content (disk_under mid.records)) (tells.content (disk_under new.records)) → DoubtedLines tells (seen_as old) (seen_as new) by turn before after request added
-    doubted_lines new done request entry before after added entry_is doubt is torn = record {
-      kept = kept;
-      over = mid.records.book.entries;
-      entry = entry;
-      settled = settled_as;
-      verdict = sym entry_is;
-      lines = is;
-      written = tears_from entry (tells.content (disk_under new.records)) torn;
-      doubt = doubt_seen tells new done ∙ ap option_to_list doubt;
-    }
+      at_end : (es : List Entry) (c : List ℕ) → StandsFor p.records.head p.records.book.cap es c → StandsFor new.records.head new.records.book.cap es c
+      at_end es c is =
+          subst (λ (head : List ℕ). StandsFor head new.records.book.cap es c) (sym last.terms.head)
+          (subst (λ (cap : ℕ). StandsFor p.records.head cap es c) (sym last.terms.cap) is)
 
-  some_doubt : (d : Option Entry) → d ≢ None → option_to_list d ≢ []
-  some_doubt None some is = some refl
-  some_doubt (Some e) some is = cc
+      without : (c : List ℕ) → StandsFor p.records.head p.records.book.cap (over_of p.records) c → StandsForState (seen_as old) c
+      without c is = either_seen tells old s.vault c (⊎_elim
+          (λ none. inl (at_start old.records.book.entries c (subst (λ (es : List Entry). StandsFor p.records.head p.records.book.cap es c) (over_is ∙ ap (λ (es : List Entry). old.records.book.entries ++ es) none ∙ append-nil old.records.book.entries) is)))
+          (λ all. inr (at_start (old.records.book.entries ++ doubt_of old.records) c (subst (λ (es : List Entry). StandsFor p.records.head p.records.book.cap es c) (over_is ∙ ap (λ (es : List Entry). old.records.book.entries ++ es) all) is)))
+          s.ready.kept_is)
 
-  -- what was in doubt still is
-  pub unsettled_lines : (old new : Parts D) → IsVault tells old → IsVault tells new → (by turn before after : ℕ) (added : List Line) → old.records.doubt ≢ None → new.records.doubt ≡ old.records.doubt
-      → new.records.book.entries ≡ old.records.book.entries → before ≡ tells.faults (disk_under old.records) → added ≡ Fault by turn before after ∷ [] → tells.content (disk_under new.records) ≡ tells.content (disk_under old.records) → UnsettledLines tells (seen_as old) (seen_as new) by turn before after added
-  unsettled_lines old new vault done by turn before after added some doubt entries counted is unwritten = record {
-    some = λ e. some_doubt old.records.doubt some (sym (doubt_seen tells old vault) ∙ e);
-    from = counted;
-    lines = is;
-    written = unwritten;
-    entries = entries_seen tells new done ∙ entries ∙ sym (entries_seen tells old vault);
-    doubt = doubt_seen tells new done ∙ ap option_to_list doubt ∙ sym (doubt_seen tells old vault);
+      with_group : (c : List ℕ) → StandsFor p.records.head p.records.book.cap (over_of p.records ++ p.records.group.items) c
+          → (new.records.book.entries ≡ over_of p.records ++ p.records.group.items) ⊎ (new.records.book.entries ++ doubt_of new.records ≡ over_of p.records ++ p.records.group.items) → StandsForState (seen_as new) c
+      with_group c is (inl alone) = either_seen tells new vault c (inl (at_end new.records.book.entries c (subst (λ (es : List Entry). StandsFor p.records.head p.records.book.cap es c) (sym alone) is)))
+      with_group c is (inr both) = either_seen tells new vault c (inr (at_end (new.records.book.entries ++ doubt_of new.records) c (subst (λ (es : List Entry). StandsFor p.records.head p.records.book.cap es c) (sym both) is)))
+
+-- ---- a turn that could not settle what was in doubt
+
+module _ {D : Type 0} (tells : DiskTells D) (old new : Parts D) (by : ℕ) (requests : List Request) (counts : Counts) (vault : IsVault tells old) (few : old.faults < MAX_FAULTS) (u : Unready tells old new by (next_turn old.lines.items) counts) where
+  open_told : open_doubt old.lines.items ≡ [] → ⊥
+  open_told none =
+      let here : doubt_of old.records ≡ old.records.group.items = ap (λ (b : Bool). cond b old.records.group.items []) u.was in
+      (vault.rests.doubt u.was).some (sym here ∙ ⊎_elim (λ is. is) (λ is. is ∙ none) vault.told.doubt_is)
+
+  unready_few : faults_of old.lines.items < MAX_FAULTS
+  unready_few = omega (arith, few, vault.faults_are)
+
+  unready_adds : AddsLines (house_in (seen_as old)) (opening_of old) by (next_turn old.lines.items) old.lines.items requests (Fails counts.before counts.after) (Fault by (next_turn old.lines.items) counts.before counts.after ∷ [])
+  unready_adds = (unready_few, inl (record { some = open_told; lines = refl }))
+
+  unready_doubt : doubt_of new.records ≡ doubt_of old.records
+  unready_doubt =
+      ap (λ (b : Bool). cond b new.records.group.items []) u.stale ∙ u.group ∙ ap (λ (b : Bool). cond b old.records.group.items []) (sym u.was)
+
+  pub unready_vault : SameOrigin old new → Rests tells new.records → HasLines new new.records.book.entries → IsVault tells new
+  unready_vault same rests has =
+      vault_behind tells old new [] (house_in (seen_as old)) by requests (Fails counts.before counts.after) (Fault by (next_turn old.lines.items) counts.before counts.after ∷ [])
+      vault same rests has (u.entries ∙ sym (append-nil old.records.book.entries)) unready_adds u.lines
+      (u.entries ∙ vault.told.listed ∙ sym (entries_append (opening_of old) old.lines.items (Fault by (next_turn old.lines.items) counts.before counts.after ∷ []) ∙ append-nil (entries_of (opening_of old) old.lines.items)))
+      (⊎_elim (λ none. inl (unready_doubt ∙ none)) (λ is. inr (unready_doubt ∙ is ∙ sym (doubt_faults old.lines.items by (next_turn old.lines.items) counts.before counts.after))) vault.told.doubt_is)
+      (omega (arith, u.failed.before), u.failed.rose, omega (arith, u.failed.after))
+      (u.faults ∙ ap (λ (n : ℕ). n + 1) vault.faults_are
+      ∙ sym (failed_faults (house_in (seen_as old)) (opening_of old) by (next_turn old.lines.items) old.lines.items requests _ vault.told.closed counts.before counts.after unready_adds))
+      (omega (arith, u.faults, few))
+
+  pub unready_origin : SameOrigin old new → (seen_as new).origin ≡ (seen_as old).origin
+  unready_origin same = origin_is tells old new [] vault same (u.entries ∙ sym (append-nil old.records.book.entries))
+
+  -- one more turn failed
+  failed_more : state_at new ≡ record { entries = (state_of (seen_as old)).entries; doubt = (state_of (seen_as old)).doubt; faults = (state_of (seen_as old)).faults + 1 }
+  failed_more =
+      let one_more : State → State = λ st. record { entries = st.entries; doubt = st.doubt; faults = st.faults + 1 } in
+      let here : state_at new ≡ one_more (state_at old) = rw (u.entries, unready_doubt, u.faults) refl in
+      here ∙ ap one_more (sym (state_seen tells old vault))
+
+  pub unready_went : IsVault tells new → tells.content (disk_under new.records) ≡ tells.content (disk_under old.records) → (out : List ℕ) → Went tells (seen_as old) (seen_as new) by requests (Fails counts.before counts.after) [] out out
+  unready_went done unwritten out = record {
+    turn = (unready_few, inl (was_some, state_seen tells new done ∙ failed_more));
+    found_is = refl;
+    out_is = sym (append-nil out);
+    added = Fault by (next_turn old.lines.items) counts.before counts.after ∷ [];
+    behind = u.lines;
+    lines = unready_adds;
+    disk = inl (record {
+      from = u.failed.before;
+      entries = entries_seen tells new done ∙ u.entries ∙ sym (entries_seen tells old vault);
+      some = was_some;
+      doubt = doubt_seen tells new done ∙ unready_doubt ∙ sym (doubt_seen tells old vault);
+      written = unwritten;
+    });
+  }
+    where
+      was_some : doubt_in (seen_as old) ≡ [] → ⊥
+      was_some none = (vault.rests.doubt u.was).some (ap (λ (b : Bool). cond b old.records.group.items []) (sym u.was) ∙ sym (doubt_seen tells old vault) ∙ none)
+
+  pub unready_leaves : IsVault tells new → LeavesOnly tells (disk_under old.records) (disk_under new.records) (EitherOf old.records)
+      → LeavesOnly tells (disk_under old.records) (disk_under new.records) (λ image. StandsForState (seen_as old) image ⊎ StandsForState (seen_as new) image)
+  unready_leaves done leaves =
+      leaves_more tells (disk_under old.records) (disk_under new.records) (EitherOf old.records) (λ image. StandsForState (seen_as old) image ⊎ StandsForState (seen_as new) image)
+      (λ c is. inl (either_seen tells old vault c is)) leaves
+
+-- ---- a turn that was refused
+
+module _ {D : Type 0} (tells : DiskTells D) (p : Parts D) (vault : IsVault tells p) where
+  pub worn_went : (by : ℕ) (requests : List Request) (out : List ℕ) → p.faults ≡ MAX_FAULTS → Went tells (seen_as p) (seen_as p) by requests Refuses [] out out
+  worn_went by requests out many = record {
+    turn = (sym vault.faults_are ∙ many, refl);
+    found_is = refl;
+    out_is = sym (append-nil out);
+    added = [];
+    behind = sym (append-nil p.lines.items);
+    lines = (sym vault.faults_are ∙ many, refl);
+    disk = refl;
   }
 
   -- nothing was done
-  pub leaves_here : (p new : Parts D) → IsVault tells p → ((c : List ℕ) → tells.left (disk_under p.records) (tells.moment (disk_under p.records)) c → tells.allowed (disk_under p.records) c) → disk_under new.records ≡ disk_under p.records
-      → LeavesOnly tells (disk_under p.records) (disk_under new.records) (λ image. StandsForState (seen_as p) image ⊎ StandsForState (seen_as new) image)
-  leaves_here p new vault only_now same =
-      subst (λ (d : D). LeavesOnly tells (disk_under p.records) d (λ image. StandsForState (seen_as p) image ⊎ StandsForState (seen_as new) image)) (sym same)
-      (started tells (disk_under p.records) (λ image. StandsForState (seen_as p) image ⊎ StandsForState (seen_as new) image)
-      (λ c is. inl (either_seen tells p vault c (rest_images tells p.records vault.rests c (only_now c is)))))
-
-  -- settling failed
-  pub leaves_unsettled : (p : Parts D) (new : D) (Q : List ℕ → Type 0) → IsVault tells p → LeavesOnly tells (disk_under p.records) new (EitherOf p.records)
-      → LeavesOnly tells (disk_under p.records) new (λ image. StandsForState (seen_as p) image ⊎ Q image)
-  leaves_unsettled p new Q vault leaves =
-      leaves_more tells (disk_under p.records) new (EitherOf p.records) (λ image. StandsForState (seen_as p) image ⊎ Q image) (λ c is. inl (either_seen tells p vault c is)) leaves
-
-  -- both steps were taken
-  pub leaves_both : (old mid new : Parts D) (vault : IsVault tells old) → IsVault tells new → SameOrigin old mid → SameOrigin mid new → (kept entry : Option Entry) → IsKept kept old.records.doubt
-      → mid.records.book.entries ≡ old.records.book.entries ++ option_to_list kept
-      → (new.records.book.entries ≡ mid.records.book.entries ++ option_to_list entry) ⊎ (new.records.book.entries ++ option_to_list new.records.doubt ≡ mid.records.book.entries ++ option_to_list entry)
-      → LeavesOnly tells (disk_under old.records) (disk_under mid.records) (EitherOf old.records) → LeavesOnly tells (disk_under mid.records) (disk_under new.records) (WithOrWithout mid.records (option_to_list entry))
-      → LeavesOnly tells (disk_under old.records) (disk_under new.records) (λ image. StandsForState (seen_as old) image ⊎ StandsForState (seen_as new) image)
-  leaves_both old mid new vault done first second kept entry kept_is entries last leaves more =
-      leaves_then tells (disk_under old.records) (disk_under mid.records) (disk_under new.records) (EitherOf old.records) (WithOrWithout mid.records (option_to_list entry)) (λ image. StandsForState (seen_as old) image ⊎ StandsForState (seen_as new) image)
-      leaves more (λ c is. inl (either_seen tells old vault c is)) (λ c is. seen c (behind c is))
-    where
-      behind : (c : List ℕ) → WithOrWithout mid.records (option_to_list entry) c → EitherOf old.records c ⊎ StandsForEither old.records.head old.records.book.cap new.records.book.entries (option_to_list new.records.doubt) c
-      behind c is =
-          image_behind old.records.head old.records.book.cap old.records.book.entries mid.records.book.entries new.records.book.entries (option_to_list new.records.doubt) old.records.doubt kept entry c kept_is entries last
-          (subst (λ (head : List ℕ). StandsForEither head old.records.book.cap mid.records.book.entries (option_to_list entry) c) first.terms.head
-          (subst (λ (cap : ℕ). StandsForEither mid.records.head cap mid.records.book.entries (option_to_list entry) c) first.terms.cap is))
-
-      seen : (c : List ℕ) → EitherOf old.records c ⊎ StandsForEither old.records.head old.records.book.cap new.records.book.entries (option_to_list new.records.doubt) c → StandsForState (seen_as old) c ⊎ StandsForState (seen_as new) c
-      seen c (inl was) = inl (either_seen tells old vault c was)
-      seen c (inr now) = inr (either_seen tells new done c
-          (subst (λ (head : List ℕ). StandsForEither head new.records.book.cap new.records.book.entries (option_to_list new.records.doubt) c) (sym (second.terms.head ∙ first.terms.head))
-          (subst (λ (cap : ℕ). StandsForEither old.records.head cap new.records.book.entries (option_to_list new.records.doubt) c) (sym (second.terms.cap ∙ first.terms.cap)) now)))
-
-  -- what was answered is durable
-  pub durable : (p : Parts D) → IsVault tells p → p.records.doubt ≡ None → IsDurable tells (seen_as p)
-  durable p vault none = record {
-    fresh = settled_fresh tells p.records vault.rests none;
-    images = λ image is.
-        let all : EitherOf p.records image = rest_images tells p.records vault.rests image is in
-        subst (λ (es : List Entry). StandsFor p.records.head p.records.book.cap es image) (sym (entries_seen tells p vault))
-        (alone image (subst (λ (d : Option Entry). StandsForEither p.records.head p.records.book.cap p.records.book.entries (option_to_list d) image) none all));
-  }
-    where
-      alone : (image : List ℕ) → StandsForEither p.records.head p.records.book.cap p.records.book.entries [] image → StandsFor p.records.head p.records.book.cap p.records.book.entries image
-      alone image (inl is) = is
-      alone image (inr is) = subst (λ (es : List Entry). StandsFor p.records.head p.records.book.cap es image) (append-nil p.records.book.entries) is
-
-  -- ---- the steps, by cases on the entry
-
-  pub commit_ok : (mid new : Parts D) (by turn : ℕ) (entry : Option Entry) → mid.records.doubt ≡ None → CommitGives tells mid new by turn entry (Ok tt)
-      → (new.records.book.entries ≡ mid.records.book.entries ++ option_to_list entry) × (new.records.doubt ≡ None) × (new.lines.items ≡ mid.lines.items ++ commits by turn entry) × (new.faults ≡ mid.faults)
-  commit_ok mid new by turn None none gives =
-      (ap (λ (p : Parts D). p.records.book.entries) gives.0 ∙ sym (append-nil mid.records.book.entries), ap (λ (p : Parts D). p.records.doubt) gives.0 ∙ none, ap (λ (p : Parts D). p.lines.items) gives.0 ∙ sym (append-nil mid.lines.items), ap (λ (p : Parts D). p.faults) gives.0)
-  commit_ok mid new by turn (Some entry) none gives = (gives.2, gives.0, gives.1, gives.3)
-
-  pub commit_err : (mid new : Parts D) (by turn : ℕ) (entry : Option Entry) (counts : Counts) → CommitGives tells mid new by turn entry (Err counts)
-      → (e : Entry) × (entry ≡ Some e) × (new.records.book.entries ≡ mid.records.book.entries) × (new.records.doubt ≡ Some e)
-      × (new.lines.items ≡ mid.lines.items ++ Doubt by turn e ∷ Fault by turn counts.before counts.after ∷ []) × (new.faults ≡ mid.faults + 1)
-  commit_err mid new by turn None counts gives = absurd cc
-  commit_err mid new by turn (Some e) counts gives = (e, refl, gives.2.entries, gives.0, gives.1, gives.3)
-
-  pub then_same : (old mid new : Parts D) → SameOrigin old mid → SameOrigin mid new → SameOrigin old new
-  then_same old mid new first second = record {
-    terms = record { head = second.terms.head ∙ first.terms.head; cap = second.terms.cap ∙ first.terms.cap };
-    opening = second.opening ∙ first.opening;
-    count = second.count ∙ first.count;
-    head = second.head ∙ first.head;
-  }
-
-  -- an entry that failed was torn
-  pub tears_err : (old : Parts D) (entry : Option Entry) (e : Entry) (counts : Counts) (before after : Option (List ℕ)) → entry ≡ Some e → CommitWrites old entry before after (Err counts)
-      → TearsEntry old.records.head old.records.book.cap old.records.book.entries e before after
-  tears_err old entry e counts before after is writes = subst (λ (o : Option Entry). CommitWrites old o before after (Err counts)) is writes
-
-  -- the counts of one that failed, from those before the turn
-  pub counts_err : (old start mid new : Parts D) (by turn : ℕ) (entry : Option Entry) (counts : Counts) → SameButRoom old start → IsVault tells start → tells.faults (disk_under start.records) ≤ tells.faults (disk_under mid.records)
-      → (start.records.doubt ≡ None → tells.faults (disk_under mid.records) ≡ tells.faults (disk_under start.records)) → CommitGives tells mid new by turn entry (Err counts)
-      → (tells.faults (disk_under old.records) ≤ counts.before) × (old.records.journal.stale ≡ false → counts.before ≡ tells.faults (disk_under old.records)) × Rose counts.before counts.after × (counts.after ≡ tells.faults (disk_under new.records))
-  counts_err old start mid new by turn entry counts same vault grows idle gives =
-      let failed = failed_by entry gives in
-      let from : tells.faults (disk_under start.records) ≡ tells.faults (disk_under old.records) = ap (λ (j : Journal D). tells.faults j.disk) same.journal in (
-        omega (arith, failed.before, grows, from),
-        λ fresh. failed.before ∙ idle (none_fresh start.records.doubt (front_bytes start.records.book.cap start.records.head) vault.rests.items start.records.journal vault.rests.journal (ap (λ (j : Journal D). j.stale) same.journal ∙ fresh)) ∙ from,
-        failed.rose,
-        failed.after,
-      )
-    where
-      failed_by : (e : Option Entry) → CommitGives tells mid new by turn e (Err counts) → Failed tells mid.records new.records counts
-      failed_by None is = absurd cc
-      failed_by (Some e) is = is.2
-
-      none_fresh : (d : Option Entry) (front : List ℕ) (items : List (List ℕ)) (j : Journal D) → RestsIn tells front items d j → j.stale ≡ false → d ≡ None
-      none_fresh None front items j rests fresh = refl
-      none_fresh (Some e) front items j rests fresh = absurd (no_both j.stale fresh rests.stale)
-
-  -- ---- the verdict
-
-  pub verdict_is : (old mid : Parts D) → IsVault tells old → SameOrigin old mid → (kind moment : ℕ) (body : List ℕ) (decision : Decision)
-      → decision ≡ verdict mid.records.book.entries mid.head mid.records.book.cap kind body moment → decision ≡ verdict mid.records.book.entries (head_of old.records.head) old.records.book.cap kind body moment
-  verdict_is old mid vault same kind moment body decision is =
-      is ∙ ap (λ (head : Head). verdict mid.records.book.entries head mid.records.book.cap kind body moment) (same.head ∙ vault.keys)
-      ∙ ap (λ (cap : ℕ). verdict mid.records.book.entries (head_of old.records.head) cap kind body moment) same.terms.cap
-
-  -- ---- from before the memory was taken
-
-  pub from_start : (old start new : Parts D) → SameButRoom old start
-      → LeavesOnly tells (disk_under start.records) (disk_under new.records) (λ image. StandsForState (seen_as start) image ⊎ StandsForState (seen_as new) image)
-      → LeavesOnly tells (disk_under old.records) (disk_under new.records) (λ image. StandsForState (seen_as old) image ⊎ StandsForState (seen_as new) image)
-  from_start old start new same leaves =
-      subst (λ (v : Chronicled D). LeavesOnly tells v.disk (disk_under new.records) (λ image. StandsForState v image ⊎ StandsForState (seen_as new) image)) (room_seen tells old start same) leaves
-
-  pub adds_from : (old start new : Parts D) → SameButRoom old start → (by turn : ℕ) (request : Request) (answer : Answer) (added : List Line) → turn ≡ next_turn start.lines.items → new.lines.items ≡ start.lines.items ++ added → AreOf by turn added
-      → LinesOf tells (seen_as start) (seen_as new) by turn request added answer → Adds tells (seen_as old) (seen_as new) by request answer
-  adds_from old start new same by turn request answer added turn_is behind made lines =
-      subst (λ (v : Chronicled D). Adds tells v (seen_as new) by request answer) (room_seen tells old start same)
-      (record {
-        added = added;
-        behind = behind;
-        made = subst (λ (n : ℕ). AreOf by n added) turn_is made;
-        lines = subst (λ (n : ℕ). LinesOf tells (seen_as start) (seen_as new) by n request added answer) turn_is lines;
-      })
+  pub leaves_here : ((c : List ℕ) → tells.left (disk_under p.records) (tells.moment (disk_under p.records)) c → tells.allowed (disk_under p.records) c)
+      → LeavesOnly tells (disk_under p.records) (disk_under p.records) (λ image. StandsForState (seen_as p) image ⊎ StandsForState (seen_as p) image)
+  leaves_here only_now =
+      started tells (disk_under p.records) (λ image. StandsForState (seen_as p) image ⊎ StandsForState (seen_as p) image)
+      (λ c is. inl (either_seen tells p vault c (rest_images tells p.records vault.rests c (only_now c is))))
 
 -- ---- where the state stays as it was
 
-module _ {D : Type 0} (tells : DiskTells D) where
-  -- the state, from the fields
-  same_state : (old new : Parts D) → IsVault tells old → IsVault tells new → state_of (seen_as new) ≡ state_of (seen_as old) → state_at new ≡ state_at old
-  same_state old new before after same = sym (state_seen tells new after) ∙ same ∙ state_seen tells old before
+module _ {D : Type 0} (tells : DiskTells D) (old new : Parts D) (before : IsVault tells old) (after : IsVault tells new) (same : state_of (seen_as new) ≡ state_of (seen_as old)) where
+  same_state : state_at new ≡ state_at old
+  same_state = sym (state_seen tells new after) ∙ same ∙ state_seen tells old before
 
-  -- then nothing was recorded, and so nothing was written
-  pub quiet_ok : (old mid new : Parts D) (by turn : ℕ) (kept entry : Option Entry) → IsVault tells old → IsVault tells new → mid.records.book.entries ≡ old.records.book.entries ++ option_to_list kept
-      → CommitGives tells mid new by turn entry (Ok tt) → tells.content (disk_under mid.records) ≡ tells.content (disk_under old.records) → state_of (seen_as new) ≡ state_of (seen_as old) → tells.content (disk_under new.records) ≡ tells.content (disk_under old.records)
-  quiet_ok old mid new by turn kept None before after is gives unwritten same = ap (λ (p : Parts D). tells.content (disk_under p.records)) gives.0 ∙ unwritten
-  quiet_ok old mid new by turn kept (Some e) before after is gives unwritten same =
-      absurd (omega (arith, ap length gives.2, length-append mid.records.book.entries (e ∷ []), ap length is, length-append old.records.book.entries (option_to_list kept), ap (λ (s : State). length s.entries) (same_state old new before after same)))
+  -- then no turn failed
+  pub quiet_failed : new.faults ≡ old.faults + 1 → tells.content (disk_under new.records) ≡ tells.content (disk_under old.records)
+  quiet_failed more = absurd (omega (arith, more, ap (λ (s : State). s.faults) same_state))
 
-  -- and none failed
-  pub quiet_err : (old new : Parts D) → IsVault tells old → IsVault tells new → new.faults ≡ old.faults + 1 → state_of (seen_as new) ≡ state_of (seen_as old) → tells.content (disk_under new.records) ≡ tells.content (disk_under old.records)
-  quiet_err old new before after more same = absurd (omega (arith, more, ap (λ (s : State). s.faults) (same_state old new before after same)))
+  -- and nothing was recorded, and so nothing was written
+  pub quiet_decided : (head : List ℕ) (cap : ℕ) (over group kept : List Entry) → over ≡ old.records.book.entries ++ kept → new.records.book.entries ≡ over ++ group
+      → WritesItem head cap over group (tells.content (disk_under old.records)) (tells.content (disk_under new.records)) → tells.content (disk_under new.records) ≡ tells.content (disk_under old.records)
+  quiet_decided head cap over [] kept is list wrote = wrote
+  quiet_decided head cap over (e ∷ more) kept is list wrote =
+      absurd (omega (arith, ap length list, length-append over (e ∷ more), ap length is, length-append old.records.book.entries kept, ap (λ (s : State). length s.entries) same_state))

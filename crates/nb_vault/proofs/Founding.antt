@@ -1,19 +1,28 @@
 -- What a vault that was opened stands for.
-use Rattle.std.proofs.Common.{◌≡◌, inl, inr, ℕ, List, [], take, Option, None, Some, IfSome, Err, sym, ap, subst, ◌∙◌, arith}
-use Rattle.std.specs.Option.{option_to_list}
+use Rattle.std.proofs.Common.{◌≡◌, inl, ℕ, ◌+◌, ◌≤◌, Bool, false, cond, List, [], ◌∷◌, ◌++◌, length, take, Option, Some, IfSome, Err, refl, sym, ap, subst, ◌∙◌, arith}
 use Rattle.std.proofs.lemmas.List.{append-nil, take_all}
 use Rattle.nb_book.specs.declared.entry.Entry.{Entry}
+use Rattle.std.specs.Vec.{vec_capacity}
+use Rattle.nb_book.specs.Legal.{Legal}
+use Rattle.nb_escrow.specs.Head.{head_of}
+use Rattle.nb_journal.specs.declared.journal.Journal.{Journal}
 use Rattle.nb_journal.specs.declared.opening.Opened.{Opened}
+use Rattle.nb_journal.specs.Layout.{front_bytes}
+use Rattle.nb_journal.specs.States.{AtRest}
+use Rattle.nb_turns.specs.declared.line.Line.{Line}
+use Rattle.nb_turns.specs.Lines.{faults_of}
 use Rattle.nb_journal.specs.Reading.{Holds}
 use Rattle.nb_vault.specs.declared.parts.Parts.{Parts}
+use Rattle.nb_vault.specs.declared.parts.TheConstants.{MOST_LINES}
 use Rattle.nb_vault.specs.declared.vault.opening.VaultFault.{VaultFault}
 use Rattle.nb_vault.specs.declared.vault.opening.VaultFault.TheVariants as opens
-use Rattle.nb_vault.specs.Holdings.{StandsFor, StandsForEither}
-use Rattle.nb_vault.specs.Opens.{IsRestored, RestoreFails, OpensWhole}
-use Rattle.nb_vault.specs.Parts.{seen_as}
-use Rattle.nb_vault.specs.Records.{EitherOf}
+use Rattle.nb_vault.specs.Holdings.{Joins, StandsFor}
+use Rattle.nb_vault.specs.Opens.{IsOpened, IsRestored, RestoreFails, OpensWhole}
+use Rattle.nb_vault.specs.Parts.{Tells, opening_of, seen_as}
+use Rattle.nb_vault.specs.Records.{HasRoom, disk_under, doubt_of}
 use Rattle.nb_vault.specs.Vaults.{Chronicled}
-use Rattle.nb_vault.proofs.Resting.{rest_content}
+use Rattle.nb_vault.proofs.Joining.{no_both}
+use Rattle.nb_vault.proofs.Resting.{fresh_content}
 use Rattle.nb_vault.proofs.HoldingLaws.{no_bad, one_list}
 use Rattle.nb_port.specs.Tells.{DiskTells}
 
@@ -21,23 +30,73 @@ use Rattle.nb_port.specs.Tells.{DiskTells}
 pub told_of : (told : Option (List ℕ)) (P : List ℕ → Type 0) (c : List ℕ) → told ≡ Some c → IfSome told P → P c
 told_of told P c is some = subst (λ (o : Option (List ℕ)). IfSome o P) is some
 
+-- ---- no line is told yet
+
+no_lines : (before run behind : List Line) → [] ≡ before ++ (run ++ behind) → run ≡ []
+no_lines [] [] behind split = refl
+no_lines [] (l ∷ run) behind split = absurd cc
+no_lines (l ∷ before) run behind split = absurd cc
+
+tells_nothing : (opening entries doubt : List Entry) (from to : ℕ) (lines : List Line) → lines ≡ [] → opening ≡ entries → doubt ≡ [] → from ≤ to → Tells opening entries doubt from to lines
+tells_nothing opening entries doubt from to lines none at settled le =
+    subst (λ (ls : List Line). Tells opening entries doubt from to ls) (sym none)
+    (record {
+      listed = sym at ∙ sym (append-nil opening);
+      doubt_is = inl settled;
+      closed = tt;
+      sound = λ before run behind split is. absurd (is.some (no_lines before run behind split));
+      backed = le;
+      turns = tt;
+      numbers = omega arith;
+    })
+
+-- a vault over the items of a journal that was opened
+pub restored_as : {D : Type 0} (tells : DiskTells D) (o : Opened D) (count : ℕ) (p : Parts D) → IsOpened tells o → count ≤ tells.faults o.journal.disk → HasRoom p.records
+    → p.records.journal ≡ o.journal → p.records.head ≡ o.head → p.records.book.cap ≡ o.cap → Joins o.items.items p.records.book.entries → Legal p.records.book.entries → length p.records.book.entries ≤ p.records.book.cap
+    → p.opening ≡ length p.records.book.entries → p.count ≡ count → p.lines.items ≡ [] → p.faults ≡ 0 → p.records.book.cap + MOST_LINES ≤ vec_capacity p.lines → p.head ≡ head_of p.records.head → IsRestored tells o count p
+restored_as tells o count p opened le has journal head cap joins legal within opening from lines none room keys =
+    let rest : AtRest tells (front_bytes p.records.book.cap p.records.head) o.items.items p.records.journal = rw (journal, cap, head) opened.rest in
+    let all : take p.opening p.records.book.entries ≡ p.records.book.entries = take_all p.opening p.records.book.entries (omega (arith, opening)) in
+    record {
+      vault = record {
+        rests = record {
+          items = o.items.items;
+          carries = record {
+            joins = joins;
+            terms = rw (cap, head) opened.terms;
+            cap = ap (λ (j : Journal _). j.cap) journal ∙ opened.cap ∙ sym cap;
+            room = ap (λ (j : Journal _). j.room) journal ∙ opened.room;
+            legal = legal;
+            count = within;
+          };
+          has = has;
+          fresh = λ (fresh : p.records.journal.stale ≡ false). rest;
+          doubt = λ stale. absurd (no_both p.records.journal.stale rest.fresh stale);
+        };
+        opened = omega (arith, opening);
+        told = tells_nothing (opening_of p) p.records.book.entries (doubt_of p.records) p.count (tells.faults (disk_under p.records)) p.lines.items lines all
+            (ap (λ (b : Bool). cond b p.records.group.items []) rest.fresh) (omega (arith, from, le, ap (λ (j : Journal _). tells.faults j.disk) journal));
+        has = record { told = omega (arith, opening, ap length lines); room = room };
+        faults_are = none ∙ ap faults_of (sym lines);
+        few = omega (arith, none);
+        keys = keys;
+      };
+      joins = joins;
+      opening = opening;
+      fresh = rest.fresh;
+      lines = lines;
+      from = from;
+      head = head;
+      cap = cap;
+      disk = ap (λ (j : Journal _). j.disk) journal;
+    }
+
 module _ {D : Type 0} (tells : DiskTells D) (disk : D) (o : Opened D) (count : ℕ) where
   -- the content stands for the entries that were read
   pub opens_stands : (p : Parts D) → IsRestored tells o count p → tells.content o.journal.disk ≡ tells.content disk → IfSome (tells.content disk) (StandsFor (seen_as p).origin.head (seen_as p).origin.cap (seen_as p).origin.entries)
-  opens_stands p r same = told (tells.content disk) (subst (λ (t : Option (List ℕ)). IfSome t (EitherOf p.records)) (ap tells.content r.disk ∙ same) (rest_content tells p.records r.vault.rests))
-    where
-      all : take p.opening p.records.book.entries ≡ p.records.book.entries
-      all = take_all p.opening p.records.book.entries (omega (arith, r.opening))
-
-      alone : (image : List ℕ) → StandsForEither p.records.head p.records.book.cap p.records.book.entries [] image → StandsFor p.records.head p.records.book.cap p.records.book.entries image
-      alone image (inl is) = is
-      alone image (inr is) = subst (λ (es : List Entry). StandsFor p.records.head p.records.book.cap es image) (append-nil p.records.book.entries) is
-
-      told : (t : Option (List ℕ)) → IfSome t (EitherOf p.records) → IfSome t (StandsFor p.records.head p.records.book.cap (take p.opening p.records.book.entries))
-      told None is = tt
-      told (Some image) is =
-          subst (λ (es : List Entry). StandsFor p.records.head p.records.book.cap es image) (sym all)
-          (alone image (subst (λ (d : Option Entry). StandsForEither p.records.head p.records.book.cap p.records.book.entries (option_to_list d) image) r.settled is))
+  opens_stands p r same =
+      subst (λ (es : List Entry). IfSome (tells.content disk) (StandsFor p.records.head p.records.book.cap es)) (sym (take_all p.opening p.records.book.entries (omega (arith, r.opening))))
+      (subst (λ (t : Option (List ℕ)). IfSome t (StandsFor p.records.head p.records.book.cap p.records.book.entries)) (ap tells.content r.disk ∙ same) (fresh_content tells p.records r.vault.rests r.fresh))
 
   -- they are the entries that the content stands for
   pub opens_whole : (v : Chronicled D) → IfSome (tells.content disk) (StandsFor v.origin.head v.origin.cap v.origin.entries) → (image head : List ℕ) (cap : ℕ) (entries : List Entry) → tells.content disk ≡ Some image → StandsFor head cap entries image

@@ -15,7 +15,7 @@ use Rattle.nb_journal.proofs.ReadingLaws.{stands_read, one_journal, whole_not_da
 use Rattle.nb_vault.specs.Holdings.{Joins, StandsFor, OneList}
 use Rattle.nb_vault.specs.Opens.{IsBadEntry}
 use Rattle.nb_vault.specs.Restoring.{FirstBad}
-use Rattle.nb_vault.proofs.Resting.{few_items}
+use Rattle.nb_vault.proofs.Joining.{few_items, short_entries}
 
 abbrev AreGroups : List (List Entry) → Type 0
 AreGroups groups = AllByRecursion (λ (group : List Entry). Spells (entries_bytes group) group) groups
@@ -40,11 +40,7 @@ groups_one (g ∷ gs) (h ∷ hs) all each same =
 pub joins_one : (items : List (List ℕ)) (entries others : List Entry) → Joins items entries → Joins items others → entries ≡ others
 joins_one items entries others first second = first.joined ∙ ap joined (groups_one first.groups second.groups first.each second.each (sym first.spelled ∙ second.spelled)) ∙ sym second.joined
 
--- ---- an item is short
-
-short_entries : (es : List Entry) → AllByRecursion IsEntry es → length (entries_bytes es) ≤ 117 * length es
-short_entries [] each = omega arith
-short_entries (e ∷ es) each = omega (arith, (entry_layout.0 e each.0).1, short_entries es each.1, length-append (entry_bytes e) (entries_bytes es))
+-- ---- items are short
 
 items_short : (groups : List (List Entry)) → AreGroups groups → AllByRecursion IsItem (map entries_bytes groups)
 items_short [] each = tt

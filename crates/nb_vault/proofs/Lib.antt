@@ -1,9 +1,11 @@
-pub mod Lines
+pub mod Joining
 pub mod Resting
-pub mod Vaulting
 pub mod Seeing
+pub mod Verdicts
+pub mod Vaulting
 pub mod Answering
 pub mod Restoring
 pub mod HoldingLaws
 pub mod Founding
 pub mod Paying
+pub mod Gating

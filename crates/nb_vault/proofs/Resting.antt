@@ -1,15 +1,14 @@
--- Entries in a journal: one more, and what images stand for.
-use Rattle.std.proofs.Common.{◌≡◌, ◌⊎◌, inl, inr, ⊎_elim, ℕ, ◌+◌, ◌<◌, ◌≤◌, Bool, ltb, false, true, List, [], ◌∷◌, ◌++◌, length, take, get_or, Option, None, Some, IfSome, refl, sym, ap, subst, ◌∙◌, arith}
-use Rattle.std.specs.Prelude.{map}
-use Rattle.std.specs.List.{flat_map, AllByRecursion}
-use Rattle.std.specs.Option.{option_to_list}
-use Rattle.std.proofs.lemmas.List.{map-append, append-nil, length-append, take-append-le, get_or_append_left}
-use Rattle.std.proofs.Math.Seq.{take-append_seam, get_or-append_seam}
-use Rattle.std.proofs.lemmas.Bool.{ltb-true, ltb-false}
+-- Records between two turns and within one: what images stand for, and what becomes of the group.
+use Rattle.std.proofs.Common.{◌≡◌, ◌⊎◌, inl, inr, ⊎_elim, ℕ, ◌+◌, ◌<◌, ◌≤◌, Bool, cond, false, true, List, [], ◌∷◌, ◌++◌, length, take, Option, None, Some, IfSome, refl, sym, ap, subst, ◌∙◌, append_assoc, arith}
+use Rattle.std.specs.List.{AllByRecursion}
+use Rattle.std.specs.Vec.{vec_capacity}
+use Rattle.std.proofs.lemmas.List.{append-nil, length-append, take-append-le}
 use Rattle.std.proofs.lemmas.Grind.{flat_map-append}
 use Rattle.nb_book.specs.declared.entry.Entry.{Entry}
-use Rattle.nb_book.specs.Legal.{LegalAfter, Legal}
+use Rattle.nb_book.specs.Legal.{Legal, LegalAfter}
 use Rattle.nb_book.specs.Spelling.{entry_bytes, entries_bytes, IsEntry, Spells}
+use Rattle.nb_book.specs.declared.spelling.TheConstants.{MAX_ENTRY, MAX_ITEM_ENTRIES}
+use Rattle.nb_journal.specs.declared.journal.Journal.{Journal}
 use Rattle.nb_journal.specs.Layout.{front_bytes, item_bytes, AreTerms}
 use Rattle.nb_journal.specs.Stands.{Stands, BeforeOrAfter}
 use Rattle.nb_journal.specs.States.{AtRest, InDoubt}
@@ -17,72 +16,32 @@ use Rattle.nb_journal.specs.Time.{LeavesOnly}
 use Rattle.nb_journal.proofs.Appending.{stands_now}
 use Rattle.nb_port.specs.Tells.{DiskTells}
 use Rattle.nb_port.specs.Disk.{wrote_at, MayTear}
-use Rattle.nb_vault.specs.Holdings.{Joins, StandsFor, StandsForEither, IsGate, WritesEntry, TearsEntry}
-use Rattle.nb_vault.specs.Records.{Rests, RestsIn, WithOrWithout, EitherOf, disk_under}
+use Rattle.nb_vault.specs.Holdings.{Joins, StandsFor, StandsForEither, IsGate, WritesItem, TearsItem}
+use Rattle.nb_vault.specs.Records.{Carries, Gathers, HasRoom, IsDoubted, IsGroup, Rests, EitherOf, WithOrWithout, disk_under, over_of}
 use Rattle.nb_vault.specs.declared.records.Records.{Records}
-
--- ---- one entry more
-
-all_more : {A : Type 0} (P : A → Type 0) (xs : List A) (x : A) → AllByRecursion P xs → P x → AllByRecursion P (xs ++ x ∷ [])
-all_more P [] x all one = (one, tt)
-all_more P (y ∷ ys) x all one = (all.0, all_more P ys x all.1 one)
-
--- an entry alone is an item
-alone : (e : Entry) → IsEntry e → Spells (entries_bytes (e ∷ [])) (e ∷ [])
-alone e fits = record { bytes = refl; each = (fits, tt); some = omega arith; most = omega arith }
-
-pub joins_more : (items : List (List ℕ)) (entries : List Entry) (e : Entry) → Joins items entries → IsEntry e → Joins (items ++ entry_bytes e ∷ []) (entries ++ e ∷ [])
-joins_more items entries e joins fits = record {
-  groups = joins.groups ++ (e ∷ []) ∷ [];
-  spelled = ap (λ (xs : List (List ℕ)). xs ++ entry_bytes e ∷ []) joins.spelled ∙ ap (λ (x : List ℕ). map entries_bytes joins.groups ++ x ∷ []) (sym (append-nil (entry_bytes e))) ∙ sym (map-append entries_bytes joins.groups ((e ∷ []) ∷ []));
-  each = all_more (λ (group : List Entry). Spells (entries_bytes group) group) joins.groups (e ∷ []) joins.each (alone e fits);
-  joined = ap (λ (xs : List Entry). xs ++ e ∷ []) joins.joined ∙ sym (flat_map-append (λ (group : List Entry). group) joins.groups ((e ∷ []) ∷ []));
-}
-
--- there are no more items than entries
-pub few_items : (items : List (List ℕ)) (entries : List Entry) → Joins items entries → length items ≤ length entries
-few_items items entries joins = omega (arith, ap length joins.spelled, ap length joins.joined, count joins.groups joins.each)
-  where
-    count : (groups : List (List Entry)) → AllByRecursion (λ (group : List Entry). Spells (entries_bytes group) group) groups → length (map entries_bytes groups) ≤ length (flat_map (λ (group : List Entry). group) groups)
-    count [] each = omega arith
-    count (g ∷ gs) each = omega (arith, each.0.some, count gs each.1, length-append g (flat_map (λ (group : List Entry). group) gs))
-
-split : (i n : ℕ) → i < n + 1 → (i < n) ⊎ (i ≡ n)
-split i n le = order (ltb i n) refl
-  where
-    order : (test : Bool) → ltb i n ≡ test → (i < n) ⊎ (i ≡ n)
-    order true is = inl (ltb-true i n is)
-    order false is = inr (omega (arith, le, ltb-false i n is))
-
--- one legal entry more
-pub legal_more : (H : List Entry) (e : Entry) → Legal H → LegalAfter H e → Legal (H ++ e ∷ [])
-legal_more H e legal next = record {
-  each = λ k inside d. ⊎_elim
-      (λ within. rw (take-append-le k H (e ∷ []) (omega (arith, within)), get_or_append_left H (e ∷ []) d k within) (legal.each k within d))
-      (λ last. subst (λ (n : ℕ). LegalAfter (take n (H ++ e ∷ [])) (get_or (H ++ e ∷ []) n d)) (sym last) (rw (take-append_seam H (e ∷ []), get_or-append_seam H e [] d) next))
-      (below k inside);
-}
-  where
-    below : (k : ℕ) → k < length (H ++ e ∷ []) → (k < length H) ⊎ (k ≡ length H)
-    below k inside = split k (length H) (omega (arith, inside, length-append H (e ∷ [])))
+use Rattle.nb_vault.proofs.Joining.{all_more, few_items, joins_item, legal_more, no_both, short_entries, some_length}
 
 -- ---- what an image stands for
 
-module _ (head : List ℕ) (cap : ℕ) (items : List (List ℕ)) (entries : List Entry) (terms : AreTerms cap head) (joins : Joins items entries) (legal : Legal entries) where
-  pub stands_for : length entries ≤ cap → (image : List ℕ) → Stands (front_bytes cap head) items image → StandsFor head cap entries image
-  stands_for within image stands = record { items = items; terms = terms; stands = stands; joins = joins; legal = legal; within = within }
+-- a group that is an item
+pub spells : (cap : ℕ) (entries group : List Entry) → IsGroup cap entries group → (group ≡ [] → ⊥) → Spells (entries_bytes group) group
+spells cap entries group is some = record { bytes = refl; each = is.each; some = some_length group some; most = is.most }
 
-  -- with one entry more or without it
-  pub stands_either : (e : Entry) → IsEntry e → LegalAfter entries e → length entries < cap → (image : List ℕ) → BeforeOrAfter (front_bytes cap head) items (entry_bytes e) image
-      → StandsForEither head cap entries (e ∷ []) image
-  stands_either e fits next within image (inl before) = inl (stands_for (omega arith) image before)
-  stands_either e fits next within image (inr after) = inr (record {
-    items = items ++ entry_bytes e ∷ [];
-    terms = terms;
+module _ {D : Type 0} (r : Records D) (entries : List Entry) (items : List (List ℕ)) (carries : Carries r entries items) where
+  pub stands_for : (image : List ℕ) → Stands (front_bytes r.book.cap r.head) items image → StandsFor r.head r.book.cap entries image
+  stands_for image stands = record { items = items; terms = carries.terms; stands = stands; joins = carries.joins; legal = carries.legal; within = carries.count }
+
+  -- without the group or with it
+  pub stands_either : (group : List Entry) → IsGroup r.book.cap entries group → (group ≡ [] → ⊥) → (image : List ℕ) → BeforeOrAfter (front_bytes r.book.cap r.head) items (entries_bytes group) image
+      → StandsForEither r.head r.book.cap entries group image
+  stands_either group is some image (inl before) = inl (stands_for image before)
+  stands_either group is some image (inr after) = inr (record {
+    items = items ++ entries_bytes group ∷ [];
+    terms = carries.terms;
     stands = after;
-    joins = joins_more items entries e joins fits;
-    legal = legal_more entries e legal next;
-    within = omega (arith, length-append entries (e ∷ []));
+    joins = joins_item items (entries_bytes group) entries group carries.joins (spells r.book.cap entries group is some);
+    legal = is.legal;
+    within = is.within;
   })
 
 -- ---- through time
@@ -108,33 +67,41 @@ leaves_then tells old mid new P Q R first second p q = record {
 module _ {D : Type 0} (tells : DiskTells D) where
   -- what is left of records at rest
   pub rest_images : (r : Records D) → Rests tells r → (image : List ℕ) → tells.allowed (disk_under r) image → EitherOf r image
-  rest_images r rests image is = by_doubt r.doubt rests.journal rests.next rests.fits rests.within
+  rest_images r rests image is = by_stale r.journal.stale refl
     where
-      by_doubt : (doubt : Option Entry) → RestsIn tells (front_bytes r.book.cap r.head) rests.items doubt r.journal → IfSome doubt (LegalAfter r.book.entries) → IfSome doubt IsEntry
-          → IfSome doubt (λ (entry : Entry). length r.book.entries < r.book.cap) → WithOrWithout r (option_to_list doubt) image
-      by_doubt None at_rest next fits within = inl (stands_for r.head r.book.cap rests.items r.book.entries rests.terms rests.joins rests.legal rests.count image (stands_now tells _ rests.items r.journal at_rest image is))
-      by_doubt (Some e) doubtful next fits within = stands_either r.head r.book.cap rests.items r.book.entries rests.terms rests.joins rests.legal e fits next within image (doubtful.images image is)
+      by_stale : (b : Bool) → r.journal.stale ≡ b → WithOrWithout r r.book.entries (cond b r.group.items []) image
+      by_stale false fresh = inl (stands_for r r.book.entries rests.items rests.carries image (stands_now tells _ rests.items r.journal (rests.fresh fresh) image is))
+      by_stale true stale =
+          let d = rests.doubt stale in
+          stands_either r r.book.entries rests.items rests.carries r.group.items d.group d.some image (d.rest.images image is)
+
+  told : (o : Option (List ℕ)) (P Q : List ℕ → Type 0) → ((c : List ℕ) → P c → Q c) → IfSome o P → IfSome o Q
+  told None P Q step some = tt
+  told (Some c) P Q step some = step c some
 
   -- what the content stands for
   pub rest_content : (r : Records D) → Rests tells r → IfSome (tells.content (disk_under r)) (EitherOf r)
-  rest_content r rests = by_doubt r.doubt rests.journal rests.next rests.fits rests.within
+  rest_content r rests = by_stale r.journal.stale refl
     where
-      told : (o : Option (List ℕ)) (P Q : List ℕ → Type 0) → ((c : List ℕ) → P c → Q c) → IfSome o P → IfSome o Q
-      told None P Q step some = tt
-      told (Some c) P Q step some = step c some
+      by_stale : (b : Bool) → r.journal.stale ≡ b → IfSome (tells.content (disk_under r)) (WithOrWithout r r.book.entries (cond b r.group.items []))
+      by_stale false fresh = told (tells.content (disk_under r)) (Stands (front_bytes r.book.cap r.head) rests.items) (WithOrWithout r r.book.entries [])
+          (λ c stands. inl (stands_for r r.book.entries rests.items rests.carries c stands)) (rests.fresh fresh).bytes
+      by_stale true stale =
+          let d = rests.doubt stale in
+          told (tells.content (disk_under r)) (BeforeOrAfter (front_bytes r.book.cap r.head) rests.items (entries_bytes r.group.items)) (WithOrWithout r r.book.entries r.group.items)
+          (λ c stands. stands_either r r.book.entries rests.items rests.carries r.group.items d.group d.some c stands) d.rest.bytes
 
-      by_doubt : (doubt : Option Entry) → RestsIn tells (front_bytes r.book.cap r.head) rests.items doubt r.journal → IfSome doubt (LegalAfter r.book.entries) → IfSome doubt IsEntry
-          → IfSome doubt (λ (entry : Entry). length r.book.entries < r.book.cap) → IfSome (tells.content (disk_under r)) (WithOrWithout r (option_to_list doubt))
-      by_doubt None at_rest next fits within = told (tells.content (disk_under r)) (Stands (front_bytes r.book.cap r.head) rests.items) (WithOrWithout r [])
-          (λ c stands. inl (stands_for r.head r.book.cap rests.items r.book.entries rests.terms rests.joins rests.legal rests.count c stands)) at_rest.bytes
-      by_doubt (Some e) doubtful next fits within = told (tells.content (disk_under r)) (BeforeOrAfter (front_bytes r.book.cap r.head) rests.items (entry_bytes e)) (WithOrWithout r (e ∷ []))
-          (λ c stands. stands_either r.head r.book.cap rests.items r.book.entries rests.terms rests.joins rests.legal e fits next within c stands) doubtful.bytes
+  -- what the content of a journal at rest stands for
+  pub fresh_content : (r : Records D) → Rests tells r → r.journal.stale ≡ false → IfSome (tells.content (disk_under r)) (StandsFor r.head r.book.cap r.book.entries)
+  fresh_content r rests fresh =
+      told (tells.content (disk_under r)) (Stands (front_bytes r.book.cap r.head) rests.items) (StandsFor r.head r.book.cap r.book.entries)
+      (λ c stands. stands_for r r.book.entries rests.items rests.carries c stands) (rests.fresh fresh).bytes
 
-  -- nothing is in doubt, so the journal is at rest
-  pub at_rest : (r : Records D) (rests : Rests tells r) → r.doubt ≡ None → AtRest tells (front_bytes r.book.cap r.head) rests.items r.journal
-  at_rest r rests settled = subst (λ (doubt : Option Entry). RestsIn tells (front_bytes r.book.cap r.head) rests.items doubt r.journal) settled rests.journal
+  -- and what a stop leaves of it
+  pub fresh_images : (r : Records D) → Rests tells r → r.journal.stale ≡ false → (image : List ℕ) → tells.allowed (disk_under r) image → StandsFor r.head r.book.cap r.book.entries image
+  fresh_images r rests fresh image is = stands_for r r.book.entries rests.items rests.carries image (stands_now tells _ rests.items r.journal (rests.fresh fresh) image is)
 
-  -- all but the entries, the doubt and what the journal holds
+  -- all but the entries, the group and what the journal holds
   pub record SameFrame (old new : Records D) : Type 0 where
     pub head : new.head ≡ old.head
     pub cap : new.book.cap ≡ old.book.cap
@@ -145,108 +112,138 @@ module _ {D : Type 0} (tells : DiskTells D) where
   same_front : (old new : Records D) → SameFrame old new → front_bytes new.book.cap new.head ≡ front_bytes old.book.cap old.head
   same_front old new same = rw (same.cap, same.head) refl
 
-  -- an entry was recorded
-  pub added_rests : (old new : Records D) (e : Entry) (item : List ℕ) (rests : Rests tells old) → item ≡ entry_bytes e → IsEntry e → LegalAfter old.book.entries e → length old.book.entries < old.book.cap → SameFrame old new
-      → AtRest tells (front_bytes old.book.cap old.head) (rests.items ++ item ∷ []) new.journal → new.book.entries ≡ old.book.entries ++ e ∷ [] → new.doubt ≡ None → Rests tells new
-  added_rests old new e item rests spells fits next within same rest is settled = record {
-    items = rests.items ++ entry_bytes e ∷ [];
-    joins = subst (Joins (rests.items ++ entry_bytes e ∷ [])) (sym is) (joins_more rests.items old.book.entries e rests.joins fits);
-    terms = rw (same.cap, same.head) rests.terms;
-    journal = subst (λ (doubt : Option Entry). RestsIn tells (front_bytes new.book.cap new.head) (rests.items ++ entry_bytes e ∷ []) doubt new.journal) (sym settled)
-        (subst (λ (front : List ℕ). AtRest tells front (rests.items ++ entry_bytes e ∷ []) new.journal) (sym (same_front old new same))
-        (subst (λ (x : List ℕ). AtRest tells (front_bytes old.book.cap old.head) (rests.items ++ x ∷ []) new.journal) spells rest));
-    cap = same.most ∙ rests.cap ∙ sym same.cap;
-    room = same.room ∙ rests.room;
-    legal = subst Legal (sym is) (legal_more old.book.entries e rests.legal next);
-    count = omega (arith, ap length is, length-append old.book.entries (e ∷ []), same.cap, within);
-    next = subst (λ (doubt : Option Entry). IfSome doubt (LegalAfter new.book.entries)) (sym settled) tt;
-    fits = subst (λ (doubt : Option Entry). IfSome doubt IsEntry) (sym settled) tt;
-    within = subst (λ (doubt : Option Entry). IfSome doubt (λ (entry : Entry). length new.book.entries < new.book.cap)) (sym settled) tt;
+  carries_same : (old new : Records D) (entries : List Entry) (items : List (List ℕ)) → SameFrame old new → Carries old entries items → Carries new entries items
+  carries_same old new entries items same carries = record {
+    joins = carries.joins;
+    terms = rw (same.cap, same.head) carries.terms;
+    cap = same.most ∙ carries.cap ∙ sym same.cap;
+    room = same.room ∙ carries.room;
+    legal = carries.legal;
+    count = omega (arith, carries.count, same.cap);
   }
 
-  -- none was, and nothing is in doubt
-  pub settled_rests : (old new : Records D) (rests : Rests tells old) → SameFrame old new → AtRest tells (front_bytes old.book.cap old.head) rests.items new.journal
-      → new.book.entries ≡ old.book.entries → new.doubt ≡ None → Rests tells new
-  settled_rests old new rests same rest is settled = record {
-    items = rests.items;
-    joins = subst (Joins rests.items) (sym is) rests.joins;
-    terms = rw (same.cap, same.head) rests.terms;
-    journal = subst (λ (doubt : Option Entry). RestsIn tells (front_bytes new.book.cap new.head) rests.items doubt new.journal) (sym settled)
-        (subst (λ (front : List ℕ). AtRest tells front rests.items new.journal) (sym (same_front old new same)) rest);
-    cap = same.most ∙ rests.cap ∙ sym same.cap;
-    room = same.room ∙ rests.room;
-    legal = subst Legal (sym is) rests.legal;
-    count = omega (arith, ap length is, same.cap, rests.count);
-    next = subst (λ (doubt : Option Entry). IfSome doubt (LegalAfter new.book.entries)) (sym settled) tt;
-    fits = subst (λ (doubt : Option Entry). IfSome doubt IsEntry) (sym settled) tt;
-    within = subst (λ (doubt : Option Entry). IfSome doubt (λ (entry : Entry). length new.book.entries < new.book.cap)) (sym settled) tt;
+  -- nothing is in doubt
+  pub fresh_rests : (old new : Records D) (entries : List Entry) (items : List (List ℕ)) → Carries old entries items → SameFrame old new → HasRoom new
+      → AtRest tells (front_bytes old.book.cap old.head) items new.journal → new.book.entries ≡ entries → Rests tells new
+  fresh_rests old new entries items carries same has rest is = record {
+    items = items;
+    carries = subst (λ (es : List Entry). Carries new es items) (sym is) (carries_same old new entries items same carries);
+    has = has;
+    fresh = λ fresh. subst (λ (front : List ℕ). AtRest tells front items new.journal) (sym (same_front old new same)) rest;
+    doubt = λ stale. absurd (no_both new.journal.stale rest.fresh stale);
   }
 
-  -- one is in doubt
-  pub doubt_rests : (old new : Records D) (e : Entry) (item : List ℕ) (rests : Rests tells old) → item ≡ entry_bytes e → IsEntry e → LegalAfter old.book.entries e → length old.book.entries < old.book.cap → SameFrame old new
-      → InDoubt tells (front_bytes old.book.cap old.head) rests.items item new.journal → new.book.entries ≡ old.book.entries → new.doubt ≡ Some e → Rests tells new
-  doubt_rests old new e item rests spells fits next within same doubtful is doubt = record {
-    items = rests.items;
-    joins = subst (Joins rests.items) (sym is) rests.joins;
-    terms = rw (same.cap, same.head) rests.terms;
-    journal = subst (λ (doubt : Option Entry). RestsIn tells (front_bytes new.book.cap new.head) rests.items doubt new.journal) (sym doubt)
-        (subst (λ (front : List ℕ). InDoubt tells front rests.items (entry_bytes e) new.journal) (sym (same_front old new same))
-        (subst (λ (x : List ℕ). InDoubt tells (front_bytes old.book.cap old.head) rests.items x new.journal) spells doubtful));
-    cap = same.most ∙ rests.cap ∙ sym same.cap;
-    room = same.room ∙ rests.room;
-    legal = subst Legal (sym is) rests.legal;
-    count = omega (arith, ap length is, same.cap, rests.count);
-    next = subst (λ (doubt : Option Entry). IfSome doubt (LegalAfter new.book.entries)) (sym doubt) (subst (λ (H : List Entry). LegalAfter H e) (sym is) next);
-    fits = subst (λ (doubt : Option Entry). IfSome doubt IsEntry) (sym doubt) fits;
-    within = subst (λ (doubt : Option Entry). IfSome doubt (λ (entry : Entry). length new.book.entries < new.book.cap)) (sym doubt) (omega (arith, ap length is, same.cap, within));
+  -- the group is an item
+  pub grown_rests : (old new : Records D) (entries group : List Entry) (items : List (List ℕ)) → Carries old entries items → IsGroup old.book.cap entries group → (group ≡ [] → ⊥) → SameFrame old new → HasRoom new
+      → AtRest tells (front_bytes old.book.cap old.head) (items ++ entries_bytes group ∷ []) new.journal → new.book.entries ≡ entries ++ group → Rests tells new
+  grown_rests old new entries group items carries is some same has rest grown =
+      fresh_rests old new (entries ++ group) (items ++ entries_bytes group ∷ [])
+      (record {
+        joins = joins_item items (entries_bytes group) entries group carries.joins (spells old.book.cap entries group is some);
+        terms = carries.terms;
+        cap = carries.cap;
+        room = carries.room;
+        legal = is.legal;
+        count = is.within;
+      }) same has rest grown
+
+  -- the group is in doubt
+  pub doubt_rests : (old new : Records D) (entries : List Entry) (items : List (List ℕ)) → Carries old entries items → IsGroup old.book.cap entries new.group.items → (new.group.items ≡ [] → ⊥) → SameFrame old new → HasRoom new
+      → InDoubt tells (front_bytes old.book.cap old.head) items (entries_bytes new.group.items) new.journal → new.book.entries ≡ entries → Rests tells new
+  doubt_rests old new entries items carries group some same has rest is = record {
+    items = items;
+    carries = subst (λ (es : List Entry). Carries new es items) (sym is) (carries_same old new entries items same carries);
+    has = has;
+    fresh = λ fresh. absurd (no_both new.journal.stale fresh rest.stale);
+    doubt = λ stale. record {
+      some = some;
+      group = subst (λ (cap : ℕ). IsGroup cap new.book.entries new.group.items) (sym same.cap) (subst (λ (es : List Entry). IsGroup old.book.cap es new.group.items) (sym is) group);
+      rest = subst (λ (front : List ℕ). InDoubt tells front items (entries_bytes new.group.items) new.journal) (sym (same_front old new same)) rest;
+    };
   }
 
-  -- what is in doubt, where the journal says that something is
-  pub doubtful : (r : Records D) (rests : Rests tells r) (e : Entry) → r.doubt ≡ Some e → InDoubt tells (front_bytes r.book.cap r.head) rests.items (entry_bytes e) r.journal
-  doubtful r rests e is = subst (λ (doubt : Option Entry). RestsIn tells (front_bytes r.book.cap r.head) rests.items doubt r.journal) is rests.journal
+  -- one entry more of a turn
+  pub gathered : (old new : Records D) (e : Entry) (g : Gathers tells old) → SameFrame old new → HasRoom new → new.journal ≡ old.journal → new.base ≡ old.base → new.book.entries ≡ old.book.entries ++ e ∷ [] → new.group.items ≡ old.group.items ++ e ∷ []
+      → new.item.items ≡ old.item.items ++ entry_bytes e → IsEntry e → LegalAfter old.book.entries e → length old.book.entries < old.book.cap → length old.group.items < MAX_ITEM_ENTRIES → Gathers tells new
+  gathered old new e g same has journal base entries group item fits next within few = record {
+    items = g.items;
+    carries = subst (λ (es : List Entry). Carries new es g.items) (sym over) (carries_same old new (over_of old) g.items same g.carries);
+    has = has;
+    rest = subst (λ (j : Journal D). AtRest tells (front_bytes new.book.cap new.head) g.items j) (sym journal) (subst (λ (front : List ℕ). AtRest tells front g.items old.journal) (sym (same_front old new same)) g.rest);
+    base = omega (arith, g.base, base, ap length entries, length-append old.book.entries (e ∷ []));
+    whole = whole;
+    group = record {
+      legal = subst Legal whole (subst Legal (sym entries) (legal_more old.book.entries e (subst Legal (sym g.whole) g.group.legal) next));
+      within = omega (arith, ap length whole, ap length entries, length-append old.book.entries (e ∷ []), within, same.cap);
+      each = subst (AllByRecursion IsEntry) (sym group) (all_more IsEntry old.group.items e g.group.each fits);
+      most = omega (arith, ap length group, length-append old.group.items (e ∷ []), few);
+    };
+    bytes = item ∙ ap (λ (xs : List ℕ). xs ++ entry_bytes e) g.bytes ∙ ap (λ (xs : List ℕ). entries_bytes old.group.items ++ xs) (sym (append-nil (entry_bytes e)))
+        ∙ sym (flat_map-append entry_bytes old.group.items (e ∷ [])) ∙ ap entries_bytes (sym group);
+  }
+    where
+      over : over_of new ≡ over_of old
+      over = rw (base, entries) (take-append-le old.base old.book.entries (e ∷ []) g.base)
 
-  -- the entry in doubt is kept
-  pub kept_rests : (old new : Records D) (e : Entry) (rests : Rests tells old) → old.doubt ≡ Some e → SameFrame old new
-      → (InDoubt tells (front_bytes old.book.cap old.head) rests.items (entry_bytes e) old.journal → AtRest tells (front_bytes old.book.cap old.head) (rests.items ++ entry_bytes e ∷ []) new.journal)
-      → new.book.entries ≡ old.book.entries ++ e ∷ [] → new.doubt ≡ None → Rests tells new
-  kept_rests old new e rests is same kept more settled =
-      added_rests old new e (entry_bytes e) rests refl (subst (λ (doubt : Option Entry). IfSome doubt IsEntry) is rests.fits) (subst (λ (doubt : Option Entry). IfSome doubt (LegalAfter old.book.entries)) is rests.next)
-      (subst (λ (doubt : Option Entry). IfSome doubt (λ (entry : Entry). length old.book.entries < old.book.cap)) is rests.within) same (kept (doubtful old rests e is)) more settled
+      whole : new.book.entries ≡ over_of new ++ new.group.items
+      whole =
+          entries ∙ ap (λ (es : List Entry). es ++ e ∷ []) g.whole ∙ append_assoc (over_of old) old.group.items (e ∷ []) ∙ ap (λ (es : List Entry). over_of old ++ es) (sym group)
+          ∙ ap (λ (es : List Entry). es ++ new.group.items) (sym over)
+
+  -- its bytes leave room for one more
+  pub item_room : (r : Records D) (g : Gathers tells r) → length r.group.items < MAX_ITEM_ENTRIES → length r.item.items + MAX_ENTRY ≤ vec_capacity r.item
+  item_room r g few = omega (arith, g.has.item, short_entries r.group.items g.group.each, few, ap length g.bytes)
+
+  -- nothing was gathered
+  pub idle_rests : (r : Records D) (g : Gathers tells r) → r.group.items ≡ [] → Rests tells r
+  idle_rests r g none =
+      fresh_rests r r (over_of r) g.items g.carries (record { head = refl; cap = refl; most = refl; room = refl }) g.has g.rest
+      (g.whole ∙ ap (λ (es : List Entry). over_of r ++ es) none ∙ append-nil (over_of r))
+
+  -- the journal is not full, and an item has room
+  pub not_full : (r : Records D) (g : Gathers tells r) → (r.group.items ≡ [] → ⊥) → r.journal.cap ≤ r.journal.len → ⊥
+  not_full r g some full =
+      omega (arith, full, g.rest.count, g.carries.cap, few_items g.items (over_of r) g.carries.joins, g.group.within, length-append (over_of r) r.group.items, some_length r.group.items some)
+
+  pub not_big : (r : Records D) (item : List ℕ) (g : Gathers tells r) → item ≡ r.item.items → r.journal.room < length item → ⊥
+  not_big r item g is big = omega (arith, big, g.carries.room, ap length is, ap length g.bytes, short_entries r.group.items g.group.each, g.group.most)
 
   -- settling what is in doubt
   pub settle_leaves : (r : Records D) (new : D) → Rests tells r → r.journal.stale ≡ true
       → ((front : List ℕ) (items : List (List ℕ)) (item : List ℕ) → InDoubt tells front items item r.journal → LeavesOnly tells (disk_under r) new (BeforeOrAfter front items item))
       → LeavesOnly tells (disk_under r) new (EitherOf r)
-  settle_leaves r new rests stale each = by_doubt r.doubt rests.journal rests.next rests.fits rests.within
-    where
-      by_doubt : (doubt : Option Entry) → RestsIn tells (front_bytes r.book.cap r.head) rests.items doubt r.journal → IfSome doubt (LegalAfter r.book.entries) → IfSome doubt IsEntry
-          → IfSome doubt (λ (entry : Entry). length r.book.entries < r.book.cap) → LeavesOnly tells (disk_under r) new (WithOrWithout r (option_to_list doubt))
-      by_doubt None at_rest next fits within = absurd (let no : false ≡ true = sym at_rest.fresh ∙ stale in cc)
-      by_doubt (Some e) doubtful next fits within =
-          leaves_more tells (disk_under r) new (BeforeOrAfter (front_bytes r.book.cap r.head) rests.items (entry_bytes e)) (WithOrWithout r (e ∷ []))
-          (λ c stands. stands_either r.head r.book.cap rests.items r.book.entries rests.terms rests.joins rests.legal e fits next within c stands) (each _ rests.items (entry_bytes e) doubtful)
+  settle_leaves r new rests stale each =
+      let d = rests.doubt stale in
+      subst (λ (b : Bool). LeavesOnly tells (disk_under r) new (WithOrWithout r r.book.entries (cond b r.group.items []))) (sym stale)
+      (leaves_more tells (disk_under r) new (BeforeOrAfter (front_bytes r.book.cap r.head) rests.items (entries_bytes r.group.items)) (WithOrWithout r r.book.entries r.group.items)
+      (stands_either r r.book.entries rests.items rests.carries r.group.items d.group d.some)
+      (each _ rests.items (entries_bytes r.group.items) d.rest))
 
-  -- appending one entry
-  pub append_leaves : (r : Records D) (new : D) (e : Entry) (item : List ℕ) → Rests tells r → r.doubt ≡ None → item ≡ entry_bytes e → IsEntry e → LegalAfter r.book.entries e → length r.book.entries < r.book.cap
+  -- appending the group
+  pub record_leaves : (r : Records D) (new : D) (item : List ℕ) (g : Gathers tells r) → (r.group.items ≡ [] → ⊥) → item ≡ r.item.items
       → ((front : List ℕ) (items : List (List ℕ)) → AtRest tells front items r.journal → LeavesOnly tells (disk_under r) new (BeforeOrAfter front items item))
-      → LeavesOnly tells (disk_under r) new (WithOrWithout r (e ∷ []))
-  append_leaves r new e item rests settled spells fits next within each =
-      leaves_more tells (disk_under r) new (BeforeOrAfter (front_bytes r.book.cap r.head) rests.items item) (WithOrWithout r (e ∷ []))
-      (λ c stands. stands_either r.head r.book.cap rests.items r.book.entries rests.terms rests.joins rests.legal e fits next within c
-      (subst (λ (x : List ℕ). BeforeOrAfter (front_bytes r.book.cap r.head) rests.items x c) spells stands))
-      (each _ rests.items (subst (λ (doubt : Option Entry). RestsIn tells (front_bytes r.book.cap r.head) rests.items doubt r.journal) settled rests.journal))
+      → LeavesOnly tells (disk_under r) new (WithOrWithout r (over_of r) r.group.items)
+  record_leaves r new item g some is each =
+      leaves_more tells (disk_under r) new (BeforeOrAfter (front_bytes r.book.cap r.head) g.items item) (WithOrWithout r (over_of r) r.group.items)
+      (λ c stands. stands_either r (over_of r) g.items g.carries r.group.items g.group some c
+      (subst (λ (x : List ℕ). BeforeOrAfter (front_bytes r.book.cap r.head) g.items x c) (is ∙ g.bytes) stands))
+      (each _ g.items g.rest)
 
--- ---- what is written
+  -- ---- what is written
 
-module _ {D : Type 0} (tells : DiskTells D) (r : Records D) (rests : Rests tells r) (settled : r.doubt ≡ None) (e : Entry) (item : List ℕ) (new : Option (List ℕ)) (is : item ≡ entry_bytes e) where
   -- the journal's gate stands behind the items
-  gate_at : IsGate r.head r.book.cap r.book.entries (tells.content (disk_under r)) r.journal.gate
-  gate_at =
-      let rest = at_rest tells r rests settled in
-      record { items = rests.items; joins = rests.joins; stands = rest.bytes; place = rest.place }
+  gate_at : (r : Records D) → Gathers tells r → IsGate r.head r.book.cap (over_of r) (tells.content (disk_under r)) r.journal.gate
+  gate_at r g = record { items = g.items; joins = g.carries.joins; stands = g.rest.bytes; place = g.rest.place }
 
-  pub writes_at : new ≡ wrote_at (tells.content (disk_under r)) r.journal.gate (item_bytes item ++ 0 ∷ []) → WritesEntry r.head r.book.cap r.book.entries (Some e) (tells.content (disk_under r)) new
-  writes_at wrote = (r.journal.gate, gate_at, wrote ∙ ap (λ (bytes : List ℕ). wrote_at (tells.content (disk_under r)) r.journal.gate (item_bytes bytes ++ 0 ∷ [])) is)
+  pub writes_at : (r : Records D) (item : List ℕ) (new : Option (List ℕ)) → Gathers tells r → (r.group.items ≡ [] → ⊥) → item ≡ r.item.items
+      → new ≡ wrote_at (tells.content (disk_under r)) r.journal.gate (item_bytes item ++ 0 ∷ []) → WritesItem r.head r.book.cap (over_of r) r.group.items (tells.content (disk_under r)) new
+  writes_at r item new g some is wrote = of_group r.group.items some (is ∙ g.bytes)
+    where
+      of_group : (group : List Entry) → (group ≡ [] → ⊥) → item ≡ entries_bytes group → WritesItem r.head r.book.cap (over_of r) group (tells.content (disk_under r)) new
+      of_group [] some same = absurd (some refl)
+      of_group (e ∷ more) some same = (r.journal.gate, gate_at r g, wrote ∙ ap (λ (bytes : List ℕ). wrote_at (tells.content (disk_under r)) r.journal.gate (item_bytes bytes ++ 0 ∷ [])) same)
 
-  pub tears_at : MayTear (tells.content (disk_under r)) new r.journal.gate (length item + 6) → TearsEntry r.head r.book.cap r.book.entries e (tells.content (disk_under r)) new
-  tears_at torn = (r.journal.gate, gate_at, subst (λ (bytes : List ℕ). MayTear (tells.content (disk_under r)) new r.journal.gate (length bytes + 6)) is torn)
+  pub tears_at : (r : Records D) (item : List ℕ) (new : Option (List ℕ)) → Gathers tells r → item ≡ r.item.items
+      → MayTear (tells.content (disk_under r)) new r.journal.gate (length item + 6) → TearsItem r.head r.book.cap (over_of r) r.group.items (tells.content (disk_under r)) new
+  tears_at r item new g is torn =
+      (r.journal.gate, gate_at r g, subst (λ (bytes : List ℕ). MayTear (tells.content (disk_under r)) new r.journal.gate (length bytes + 6)) (is ∙ g.bytes) torn)

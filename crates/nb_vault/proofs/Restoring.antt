@@ -14,8 +14,7 @@ use Rattle.nb_book.specs.Legal.{Legal, LegalAfter}
 use Rattle.nb_book.specs.Spelling.{IsEntry, Spells, entry_bytes, entries_bytes, bytes_of_kind}
 use Rattle.nb_book.proofs.Layouts.{one_spelling, entry_long}
 use Rattle.nb_vault.specs.Restoring.{SpellsNothing}
-use Rattle.nb_vault.specs.Holdings.{Joins}
-use Rattle.nb_vault.proofs.Lines.{all_more}
+use Rattle.nb_vault.proofs.Joining.{all_more, joins_item, legal_at}
 
 -- an entry has bytes
 entry_some : (e : Entry) → IsEntry e → 1 ≤ length (entry_bytes e)
@@ -127,11 +126,6 @@ left_over item before now place n entries so_far spells = some (goes_on so_far.r
 
 -- ---- why an item spells no entries that may come next
 
-legal_at : (xs : List Entry) (e : Entry) (more : List Entry) → Legal (xs ++ e ∷ more) → LegalAfter xs e
-legal_at xs e more legal =
-    let at = legal.each (length xs) (omega (arith, length-append xs (e ∷ more))) e in
-    subst (λ (H : List Entry). LegalAfter H e) (take-append_seam xs (e ∷ more)) (subst (LegalAfter (take (length xs) (xs ++ e ∷ more))) (get_or-append_seam xs e more e) at)
-
 -- all entries, with those that are left over
 all_of : (before now read entries : List Entry) (next : Entry) (more : List Entry) → now ≡ before ++ read → entries ≡ read ++ next ∷ more → before ++ entries ≡ now ++ next ∷ more
 all_of before now read entries next more a b = ap (λ (es : List Entry). before ++ es) b ∙ sym (append_assoc before read (next ∷ more)) ∙ ap (λ (es : List Entry). es ++ next ∷ more) (sym a)
@@ -167,14 +161,3 @@ module _ (cap : ℕ) (item : List ℕ) (before now : List Entry) (place n : ℕ)
   bad_long many entries spells list =
       let left = left_over item before now place n entries so_far spells in
       omega (arith, many, spells.most, so_far.count, ap length left.is, length-append so_far.read (left.next ∷ left.more))
-
--- ---- all items
-
--- one item more
-pub joins_item : (items : List (List ℕ)) (item : List ℕ) (entries more : List Entry) → Joins items entries → Spells item more → Joins (items ++ item ∷ []) (entries ++ more)
-joins_item items item entries more joins spells = record {
-  groups = joins.groups ++ more ∷ [];
-  spelled = ap (λ (xs : List (List ℕ)). xs ++ item ∷ []) joins.spelled ∙ ap (λ (x : List ℕ). map entries_bytes joins.groups ++ x ∷ []) spells.bytes ∙ sym (map-append entries_bytes joins.groups (more ∷ []));
-  each = all_more (λ (group : List Entry). Spells (entries_bytes group) group) joins.groups more joins.each (subst (λ (x : List ℕ). Spells x more) spells.bytes spells);
-  joined = ap (λ (xs : List Entry). xs ++ more) joins.joined ∙ ap (λ (xs : List Entry). flat_map (λ (group : List Entry). group) joins.groups ++ xs) (sym (append-nil more)) ∙ sym (flat_map-append (λ (group : List Entry). group) joins.groups (more ∷ []));
-}

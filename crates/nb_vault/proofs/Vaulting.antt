@@ -1,96 +1,88 @@
--- A vault after a step of a turn.
-use Rattle.std.proofs.Common.{◌≡◌, ℕ, ◌+◌, ◌≤◌, ◌<◌, cond, List, [], ◌∷◌, ◌++◌, length, take, Option, None, Some, refl, sym, ap, subst, ◌∙◌, arith, length-append}
-use Rattle.std.proofs.lemmas.List.{take-append-le, append-nil}
+-- A vault behind a turn, by the lines that the turn adds.
+use Rattle.std.proofs.Common.{◌≡◌, ◌⊎◌, ⊎_elim, ℕ, ◌+◌, ◌≤◌, ◌<◌, List, [], ◌∷◌, ◌++◌, length, take, sym, ap, subst, ◌∙◌, arith, length-append}
+use Rattle.std.specs.Prelude.{reverse}
+use Rattle.std.specs.List.{AllByRecursion}
+use Rattle.std.specs.Option.{option_to_list}
+use Rattle.std.proofs.lemmas.List.{length-reverse, reverse-append, take-append-le}
+use Rattle.std.proofs.lemmas.Grind.{flat_map-append}
 use Rattle.nb_port.specs.Tells.{DiskTells}
-use Rattle.nb_port.specs.Faults.{Rose}
+use Rattle.nb_port.specs.Faults.{Backed, Failure}
+use Rattle.nb_port.proofs.Backing.{backed_append}
 use Rattle.nb_book.specs.declared.entry.Entry.{Entry}
 use Rattle.nb_escrow.specs.Head.{head_of}
+use Rattle.nb_turns.specs.declared.limits.TheConstants.{MAX_FAULTS}
+use Rattle.nb_turns.specs.declared.line.Line.{Line}
+use Rattle.nb_turns.specs.Turns.{Request, House, State, Outcome, Decides, Fails, Unsettled, Doubts, failure_of}
+use Rattle.nb_turns.specs.Lines.{AddsLines, AreOf, IsClosed, entries_of, failure_in, failures_in, faults_of, maker_of, next_turn, one_above, open_doubt, turn_of}
+use Rattle.nb_turns.proofs.Lining.{all_reverse, lines_are_of, lines_tell_turn}
+use Rattle.nb_turns.proofs.Numbering.{lines_tell_failure, turns_never_fall}
+use Rattle.nb_turns.proofs.Sounding.{lines_stay_sound}
 use Rattle.nb_vault.specs.declared.parts.Parts.{Parts}
-use Rattle.nb_vault.specs.declared.line.Line.{Line}
-use Rattle.nb_vault.specs.declared.line.Line.TheVariants.{Commit, Adopted, Doubt, Fault}
-use Rattle.nb_vault.specs.Lines.{faults_of, is_fault}
-use Rattle.nb_vault.specs.Parts.{IsVault, Tells, MayBeTurn, SameOrigin}
-use Rattle.nb_vault.specs.declared.records.Records.{Records}
-use Rattle.nb_vault.specs.Records.{Rests, SameTerms, disk_under}
-use Rattle.nb_vault.specs.declared.vault.TheConstants.{MAX_FAULTS}
-use Rattle.nb_vault.proofs.Lines.{faults_more, tells_commit, tells_adopt, tells_settled, tells_fault, tells_doubt}
+use Rattle.nb_vault.specs.Parts.{HasLines, IsVault, SameOrigin, Tells, opening_of}
+use Rattle.nb_vault.specs.Records.{Rests, disk_under, doubt_of}
+
+-- the next number is no greater than the number of lines
+pub numbers_behind : (by : ℕ) (lines added : List Line) → AreOf by (next_turn lines) added → next_turn lines ≤ length lines → next_turn (lines ++ added) ≤ length (lines ++ added)
+numbers_behind by lines added are small =
+    omega (arith, ap one_above (reverse-append lines added), newest (reverse added) (all_reverse (λ (l : Line). (maker_of l ≡ by) × (turn_of l ≡ next_turn lines)) added are), length-append lines added, length-reverse added)
+  where
+    newest : (ls : List Line) → AllByRecursion (λ (l : Line). (maker_of l ≡ by) × (turn_of l ≡ next_turn lines)) ls → one_above (ls ++ reverse lines) ≤ length lines + length ls
+    newest [] all = omega (arith, small)
+    newest (l ∷ ls) all = omega (arith, small, all.0.1)
+
+-- ---- how many of the lines are faults
+
+module _ (house : House) (opening : List Entry) (by turn : ℕ) (before : List Line) (requests : List Request) (added : List Line) (closed : IsClosed before) where
+  pub decided_faults : (over : List Entry) → AddsLines house opening by turn before requests (Decides over) added → faults_of (before ++ added) ≡ faults_of before
+  decided_faults over adds =
+      let t = lines_tell_turn house opening by turn before requests (Decides over) added closed adds in
+      sym t.over_behind.faults ∙ ap (λ (s : State). s.faults) t.turn.2 ∙ t.over_before.faults
+
+  pub failed_faults : (from to : ℕ) → AddsLines house opening by turn before requests (Fails from to) added → faults_of (before ++ added) ≡ faults_of before + 1
+  failed_faults from to adds =
+      let t = lines_tell_turn house opening by turn before requests (Fails from to) added closed adds in
+      sym t.over_behind.faults
+      ∙ ⊎_elim (λ (u : Unsettled t.old t.new). ap (λ (s : State). s.faults) u.1) (λ (d : Doubts house t.old requests t.new). ap (λ (s : State). s.faults) d.left) t.turn.1
+      ∙ ap (λ (n : ℕ). n + 1) t.over_before.faults
 
 module _ {D : Type 0} (tells : DiskTells D) where
   -- the entries at opening stay
-  pub same_opening : (old new : Parts D) (more : List Entry) → IsVault tells old → SameOrigin old new → new.records.book.entries ≡ old.records.book.entries ++ more
-      → take new.opening new.records.book.entries ≡ take old.opening old.records.book.entries
+  pub same_opening : (old new : Parts D) (more : List Entry) → IsVault tells old → SameOrigin old new → new.records.book.entries ≡ old.records.book.entries ++ more → opening_of new ≡ opening_of old
   same_opening old new more vault same is = rw (same.opening, is) (take-append-le old.opening old.records.book.entries more vault.opened)
 
-  pub vault_of : (old new : Parts D) (more : List Entry) → IsVault tells old → SameOrigin old new → Rests tells new.records → new.records.book.entries ≡ old.records.book.entries ++ more
-      → Tells (take old.opening old.records.book.entries) new.records.book.entries new.records.doubt old.count (tells.faults (disk_under new.records)) new.lines.items
-      → new.faults ≡ faults_of new.lines.items → new.faults ≤ MAX_FAULTS → IsVault tells new
-  vault_of old new more vault same rests is lines counted few = record {
+  -- a turn leads to a vault
+  pub vault_behind : (old new : Parts D) (more : List Entry) (house : House) (by : ℕ) (requests : List Request) (outcome : Outcome) (added : List Line)
+      → IsVault tells old → SameOrigin old new → Rests tells new.records → HasLines new new.records.book.entries → new.records.book.entries ≡ old.records.book.entries ++ more
+      → AddsLines house (opening_of old) by (next_turn old.lines.items) old.lines.items requests outcome added → new.lines.items ≡ old.lines.items ++ added
+      → new.records.book.entries ≡ entries_of (opening_of old) (old.lines.items ++ added)
+      → (doubt_of new.records ≡ []) ⊎ (doubt_of new.records ≡ open_doubt (old.lines.items ++ added))
+      → Backed (tells.faults (disk_under old.records)) (option_to_list (failure_of outcome)) (tells.faults (disk_under new.records))
+      → new.faults ≡ faults_of (old.lines.items ++ added) → new.faults ≤ MAX_FAULTS → IsVault tells new
+  vault_behind old new more house by requests outcome added vault same rests has grown adds lines listed doubt backed faults few = record {
     rests = rests;
-    opened = omega (arith, same.opening, vault.opened, ap length is, length-append old.records.book.entries more);
-    told = subst (λ (opening : List Entry). Tells opening new.records.book.entries new.records.doubt new.count (tells.faults (disk_under new.records)) new.lines.items) (sym (same_opening old new more vault same is))
-        (subst (λ (from : ℕ). Tells (take old.opening old.records.book.entries) new.records.book.entries new.records.doubt from (tells.faults (disk_under new.records)) new.lines.items) (sym same.count) lines);
-    faults_are = counted;
+    opened = omega (arith, same.opening, vault.opened, ap length grown, length-append old.records.book.entries more);
+    told = subst (λ (opening : List Entry). Tells opening new.records.book.entries (doubt_of new.records) new.count (tells.faults (disk_under new.records)) new.lines.items) (sym (same_opening old new more vault same grown))
+        (subst (λ (from : ℕ). Tells (opening_of old) new.records.book.entries (doubt_of new.records) from (tells.faults (disk_under new.records)) new.lines.items) (sym same.count)
+        (subst (λ (ls : List Line). Tells (opening_of old) new.records.book.entries (doubt_of new.records) old.count (tells.faults (disk_under new.records)) ls) (sym lines) told));
+    has = has;
+    faults_are = faults ∙ ap faults_of (sym lines);
     few = few;
     keys = same.head ∙ vault.keys ∙ ap head_of (sym same.terms.head);
   }
+    where
+      failures : failures_in (old.lines.items ++ added) ≡ failures_in old.lines.items ++ option_to_list (failure_of outcome)
+      failures =
+          flat_map-append (λ (l : Line). option_to_list (failure_in l)) old.lines.items added
+          ∙ ap (λ (fs : List Failure). failures_in old.lines.items ++ fs) (lines_tell_failure house (opening_of old) by (next_turn old.lines.items) old.lines.items requests outcome added adds)
 
-  -- the entries, the doubt and the lines are these
-  tells_as : (opening entries es : List Entry) (doubt d : Option Entry) (from to : ℕ) (lines ls : List Line) → entries ≡ es → doubt ≡ d → lines ≡ ls → Tells opening es d from to ls → Tells opening entries doubt from to lines
-  tells_as opening entries es doubt d from to lines ls a b e tells =
-      subst (λ (xs : List Entry). Tells opening xs doubt from to lines) (sym a) (subst (λ (o : Option Entry). Tells opening es o from to lines) (sym b) (subst (λ (xs : List Line). Tells opening es d from to xs) (sym e) tells))
-
-  -- how many lines are faults then
-  counted : (old new : Parts D) (line : Line) (n : ℕ) → IsVault tells old → new.lines.items ≡ old.lines.items ++ line ∷ [] → cond (is_fault line) 1 0 ≡ n → new.faults ≡ old.faults + n → new.faults ≡ faults_of new.lines.items
-  counted old new line n vault lines one is = omega (arith, is, vault.faults_are, ap faults_of lines, faults_more old.lines.items line, one)
-
-  module _ (old new : Parts D) (by turn : ℕ) (vault : IsVault tells old) (may : MayBeTurn turn old.lines.items) (same : SameOrigin old new) (rests : Rests tells new.records) where
-    -- an entry was recorded
-    pub commit_done : (entry : Entry) → tells.faults (disk_under old.records) ≤ tells.faults (disk_under new.records) → new.records.book.entries ≡ old.records.book.entries ++ entry ∷ [] → new.records.doubt ≡ None
-        → new.lines.items ≡ old.lines.items ++ Commit by turn entry ∷ [] → new.faults ≡ old.faults → IsVault tells new
-    commit_done entry count entries doubt lines few =
-        vault_of old new (entry ∷ []) vault same rests entries
-        (tells_as _ _ _ _ None _ _ _ _ entries doubt lines (tells_commit _ old.count old.records.book.entries old.records.doubt _ _ old.lines.items by turn entry vault.told may count))
-        (counted old new (Commit by turn entry) 0 vault lines refl (omega (arith, few))) (omega (arith, few, vault.few))
-
-    -- the entry in doubt was
-    pub adopt_done : (entry : Entry) → old.records.doubt ≡ Some entry → tells.faults (disk_under old.records) ≤ tells.faults (disk_under new.records) → new.records.book.entries ≡ old.records.book.entries ++ entry ∷ [] → new.records.doubt ≡ None
-        → new.lines.items ≡ old.lines.items ++ Adopted by turn entry ∷ [] → new.faults ≡ old.faults → IsVault tells new
-    adopt_done entry was count entries doubt lines few =
-        vault_of old new (entry ∷ []) vault same rests entries
-        (tells_as _ _ _ _ None _ _ _ _ entries doubt lines (tells_adopt _ old.count old.records.book.entries old.records.doubt _ _ old.lines.items by turn entry was vault.told may count))
-        (counted old new (Adopted by turn entry) 0 vault lines refl (omega (arith, few))) (omega (arith, few, vault.few))
-
-    -- nothing was recorded, and nothing is in doubt
-    pub settle_done : tells.faults (disk_under old.records) ≤ tells.faults (disk_under new.records) → new.records.book.entries ≡ old.records.book.entries → new.records.doubt ≡ None → new.lines.items ≡ old.lines.items → new.faults ≡ old.faults
-        → IsVault tells new
-    settle_done count entries doubt lines few =
-        vault_of old new [] vault same rests (entries ∙ sym (append-nil old.records.book.entries))
-        (tells_as _ _ _ _ None _ _ _ _ entries doubt lines (tells_settled _ old.count old.records.book.entries old.records.doubt _ _ old.lines.items vault.told count))
-        (omega (arith, few, vault.faults_are, ap faults_of lines)) (omega (arith, few, vault.few))
-
-    -- what was in doubt still is
-    pub fault_done : (before after : ℕ) → old.faults < MAX_FAULTS → tells.faults (disk_under old.records) ≤ before → Rose before after → after ≤ tells.faults (disk_under new.records) → new.records.book.entries ≡ old.records.book.entries
-        → new.records.doubt ≡ old.records.doubt → new.lines.items ≡ old.lines.items ++ Fault by turn before after ∷ [] → new.faults ≡ old.faults + 1 → IsVault tells new
-    fault_done before after room begins rose ends entries doubt lines one =
-        vault_of old new [] vault same rests (entries ∙ sym (append-nil old.records.book.entries))
-        (tells_as _ _ _ _ _ _ _ _ _ entries doubt lines (tells_fault _ old.count old.records.book.entries old.records.doubt _ _ old.lines.items by turn before after vault.told may begins rose ends))
-        (counted old new (Fault by turn before after) 1 vault lines refl one) (omega (arith, one, room))
-
-    -- a new entry is
-    pub doubt_done : (entry : Entry) (before after : ℕ) → old.faults < MAX_FAULTS → tells.faults (disk_under old.records) ≤ before → Rose before after → after ≤ tells.faults (disk_under new.records) → new.records.book.entries ≡ old.records.book.entries
-        → new.records.doubt ≡ Some entry → new.lines.items ≡ (old.lines.items ++ Doubt by turn entry ∷ []) ++ Fault by turn before after ∷ [] → new.faults ≡ old.faults + 1 → IsVault tells new
-    doubt_done entry before after room begins rose ends entries doubt lines one =
-        vault_of old new [] vault same rests (entries ∙ sym (append-nil old.records.book.entries))
-        (tells_as _ _ _ _ _ _ _ _ _ entries doubt lines (tells_doubt _ old.count old.records.book.entries old.records.doubt _ _ old.lines.items by turn before after entry vault.told may begins rose ends))
-        (omega (arith, one, vault.faults_are, ap faults_of lines, faults_more (old.lines.items ++ Doubt by turn entry ∷ []) (Fault by turn before after), faults_more old.lines.items (Doubt by turn entry))) (omega (arith, one, room))
-
--- behind a fault that was told
-module _ {D : Type 0} (tells : DiskTells D) (old new : Parts D) (r : Records D) (is : new.records ≡ r) where
-  pub fault_origin : SameTerms old.records r → new.opening ≡ old.opening → new.count ≡ old.count → new.head ≡ old.head → SameOrigin old new
-  fault_origin terms opening count head = record { terms = subst (SameTerms old.records) (sym is) terms; opening = opening; count = count; head = head }
-
-  pub fault_rests : Rests tells r → Rests tells new.records
-  fault_rests rests = subst (Rests tells) (sym is) rests
-
-  pub fault_disk : (n : ℕ) → n ≡ tells.faults (disk_under r) → n ≤ tells.faults (disk_under new.records)
-  fault_disk n end = omega (arith, end, ap (λ (x : Records D). tells.faults (disk_under x)) is)
+      told : Tells (opening_of old) new.records.book.entries (doubt_of new.records) old.count (tells.faults (disk_under new.records)) (old.lines.items ++ added)
+      told = record {
+        listed = listed;
+        doubt_is = doubt;
+        closed = (lines_tell_turn house (opening_of old) by (next_turn old.lines.items) old.lines.items requests outcome added vault.told.closed adds).closed;
+        sound = lines_stay_sound house (opening_of old) by (next_turn old.lines.items) old.lines.items requests outcome added vault.told.sound adds;
+        backed = subst (λ (fs : List Failure). Backed old.count fs (tells.faults (disk_under new.records))) (sym failures)
+            (backed_append (failures_in old.lines.items) (option_to_list (failure_of outcome)) old.count (tells.faults (disk_under old.records)) (tells.faults (disk_under new.records)) vault.told.backed backed);
+        turns = turns_never_fall house (opening_of old) by old.lines.items requests outcome added vault.told.turns adds;
+        numbers = numbers_behind by old.lines.items added (lines_are_of house (opening_of old) by (next_turn old.lines.items) old.lines.items requests outcome added adds) vault.told.numbers;
+      }

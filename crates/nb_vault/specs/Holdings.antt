@@ -3,7 +3,7 @@ use Rattle.std.specs.Prelude.{◌≡◌, ◌⊎◌, ℕ, ◌+◌, ◌≤◌, Lis
 use Rattle.std.specs.List.{flat_map, AllByRecursion}
 use Rattle.nb_book.specs.declared.entry.Entry.{Entry}
 use Rattle.nb_book.specs.Legal.{Legal}
-use Rattle.nb_book.specs.Spelling.{entry_bytes, entries_bytes, Spells}
+use Rattle.nb_book.specs.Spelling.{entries_bytes, Spells}
 use Rattle.nb_port.specs.Disk.{wrote_at, MayTear}
 use Rattle.nb_journal.specs.Layout.{front_bytes, item_bytes, up_to_gate, AreTerms}
 use Rattle.nb_journal.specs.Stands.{Stands}
@@ -28,22 +28,23 @@ pub record StandsFor (head : List ℕ) (cap : ℕ) (entries : List Entry) (image
 abbrev pub StandsForEither : List ℕ → ℕ → List Entry → List Entry → List ℕ → Type 0
 StandsForEither head cap entries doubt image = StandsFor head cap entries image ⊎ StandsFor head cap (entries ++ doubt) image
 
--- where one more entry is written: at the gate behind the items that the content stands for
+-- where one more item is written: at the gate behind the items that the content stands for
 pub record IsGate (head : List ℕ) (cap : ℕ) (entries : List Entry) (content : Option (List ℕ)) (gate : ℕ) : Type 0 where
   pub items : List (List ℕ)
   pub joins : Joins items entries
   pub stands : IfSome content (Stands (front_bytes cap head) items)
   pub place : gate ≡ length (up_to_gate (front_bytes cap head) items)
 
--- what is written to record an entry, for the content before and after: nothing where there is none, or its item behind an open
--- gate, and a closed gate
-abbrev pub WritesEntry : List ℕ → ℕ → List Entry → Option Entry → Option (List ℕ) → Option (List ℕ) → Type 0
-WritesEntry head cap entries None old new = new ≡ old
-WritesEntry head cap entries (Some entry) old new = (gate : ℕ) × IsGate head cap entries old gate × (new ≡ wrote_at old gate (item_bytes (entry_bytes entry) ++ 0 ∷ []))
+-- what is written to record these behind the entries, for the content before and after: nothing where there are none, or one item
+-- behind an open gate, and a closed gate
+abbrev pub WritesItem : List ℕ → ℕ → List Entry → List Entry → Option (List ℕ) → Option (List ℕ) → Type 0
+WritesItem head cap entries [] old new = new ≡ old
+WritesItem head cap entries (entry ∷ more) old new =
+    (gate : ℕ) × IsGate head cap entries old gate × (new ≡ wrote_at old gate (item_bytes (entries_bytes (entry ∷ more)) ++ 0 ∷ []))
 
 -- what was written where the disk failed: bytes of that range may have changed, and no others
-abbrev pub TearsEntry : List ℕ → ℕ → List Entry → Entry → Option (List ℕ) → Option (List ℕ) → Type 0
-TearsEntry head cap entries entry old new = (gate : ℕ) × IsGate head cap entries old gate × MayTear old new gate (length (entry_bytes entry) + 6)
+abbrev pub TearsItem : List ℕ → ℕ → List Entry → List Entry → Option (List ℕ) → Option (List ℕ) → Type 0
+TearsItem head cap entries group old new = (gate : ℕ) × IsGate head cap entries old gate × MayTear old new gate (length (entries_bytes group) + 6)
 
 -- an image stands for one list
 abbrev pub OneList : Type 0

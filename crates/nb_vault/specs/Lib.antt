@@ -1,12 +1,10 @@
-pub mod Turns
 pub mod Rules
-pub mod Lines
-pub mod Chronicle
 pub mod Holdings
+pub mod Asking
 pub mod Records
 pub mod Vaults
 pub mod Parts
 pub mod Restoring
 pub mod Opens
-pub mod Numbers
 pub mod Paying
+pub mod Gates

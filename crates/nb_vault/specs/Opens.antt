@@ -1,14 +1,18 @@
 -- What opening a vault gives.
-use Rattle.std.specs.Prelude.{◌≡◌, ◌≢◌, ℕ, ⊤, List, [], Option, Some, None, IfSome, Result, Ok, Err, length}
+use Rattle.std.specs.Prelude.{◌≡◌, ◌≢◌, ℕ, ◌+◌, ◌≤◌, ⊤, false, List, [], Option, Some, IfSome, Result, Ok, Err, length, vec_capacity}
 use Rattle.nb_port.specs.Tells.{DiskTells}
 use Rattle.nb_port.specs.Faults.{Rose}
 use Rattle.nb_book.specs.declared.entry.Entry.{Entry}
+use Rattle.nb_book.specs.declared.spelling.TheConstants.{MAX_ITEM_ENTRIES}
 use Rattle.nb_journal.specs.declared.opening.Opened.{Opened}
 use Rattle.nb_journal.specs.Layout.{magic, front_bytes, AreTerms}
 use Rattle.nb_journal.specs.Reading.{Holds, IsUnborn, IsDamaged}
 use Rattle.nb_journal.specs.States.{AtRest}
+use Rattle.nb_turns.specs.declared.limits.TheConstants.{MAX_REQUESTS}
 use Rattle.nb_vault.specs.declared.parts.Parts.{Parts}
+use Rattle.nb_vault.specs.declared.parts.TheConstants.{MOST_LINES}
 use Rattle.nb_vault.specs.declared.records.TheConstants.{ROOM}
+use Rattle.nb_vault.specs.declared.vault.opening.Room.{Room}
 use Rattle.nb_vault.specs.declared.vault.opening.VaultFault.{VaultFault}
 use Rattle.nb_vault.specs.declared.vault.opening.VaultFault.TheVariants as opens
 use Rattle.nb_vault.specs.Holdings.{Joins, StandsFor}
@@ -79,12 +83,22 @@ pub record IsOpened {D : Type 0} (tells : DiskTells D) (o : Opened D) : Type 0 w
   pub cap : o.journal.cap ≡ o.cap
   pub room : o.journal.room ≡ ROOM
 
+-- memory for so many entries and for the lines of all turns, and for a turn
+pub record IsRoomFor (cap : ℕ) (room : Room) : Type 0 where
+  pub entries : room.book.entries ≡ []
+  pub cap_is : room.book.cap ≡ cap
+  pub group : MAX_ITEM_ENTRIES ≤ vec_capacity room.group
+  pub item : ROOM ≤ vec_capacity room.item
+  pub places : MAX_REQUESTS ≤ vec_capacity room.places
+  pub told : room.lines.items ≡ []
+  pub lines : cap + MOST_LINES ≤ vec_capacity room.lines
+
 -- a vault over these items
 pub record IsRestored {D : Type 0} (tells : DiskTells D) (o : Opened D) (count : ℕ) (p : Parts D) : Type 0 where
   pub vault : IsVault tells p
   pub joins : Joins o.items.items p.records.book.entries
   pub opening : p.opening ≡ length p.records.book.entries
-  pub settled : p.records.doubt ≡ None
+  pub fresh : p.records.journal.stale ≡ false
   pub lines : p.lines.items ≡ []
   pub from : p.count ≡ count
   pub head : p.records.head ≡ o.head

@@ -1,5 +1,5 @@
 -- The entries that the items of a journal spell.
-use Rattle.std.specs.Prelude.{◌≡◌, ℕ, ◌<◌, ◌≤◌, ⊤, List, [], ◌++◌, length, take, slice_index_or}
+use Rattle.std.specs.Prelude.{◌≡◌, ℕ, ◌<◌, ◌≤◌, List, [], ◌++◌, length, take, slice_index_or}
 use Rattle.nb_book.specs.declared.entry.Entry.{Entry}
 use Rattle.nb_book.specs.Legal.{Legal}
 use Rattle.nb_book.specs.Spelling.{Spells}
@@ -30,10 +30,8 @@ pub record FirstBad (cap : ℕ) (items : List (List ℕ)) (item : ℕ) : Type 0 
 abbrev pub ItemGives : ℕ → List ℕ → List Entry → List Entry → ItemRead → Type 0
 ItemGives cap item before after reads.Whole = (entries : List Entry) × Spells item entries × (after ≡ before ++ entries)
 ItemGives cap item before after reads.Bad = SpellsNothing cap item before
-ItemGives cap item before after reads.NoMemory = ⊤
 
 -- all items
 abbrev pub ItemsRestore : ℕ → List (List ℕ) → List Entry → ItemsRead → Type 0
 ItemsRestore cap items entries scans.Whole = Joins items entries
 ItemsRestore cap items entries (scans.Bad item) = FirstBad cap items item
-ItemsRestore cap items entries scans.NoMemory = ⊤

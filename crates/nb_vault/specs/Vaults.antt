@@ -1,32 +1,25 @@
 -- What a vault is seen as, what every vault keeps, and how it answers.
-use Rattle.std.specs.Prelude.{◌≡◌, ◌≢◌, ◌⊎◌, ℕ, ◌≤◌, Bool, true, false, List, [], ◌∷◌, ◌++◌, length, Option, None, Some, IfSome, if◌then◌else◌}
-use Rattle.std.specs.List.{count_by, sum_by}
-use Rattle.std.specs.Option.{option_to_list}
+use Rattle.std.specs.Prelude.{◌≡◌, ◌≢◌, ◌⊎◌, ℕ, ◌≤◌, Bool, true, false, List, [], ◌∷◌, ◌++◌, length, Option, IfSome, if◌then◌else◌}
 use Rattle.nb_port.specs.Tells.{DiskTells}
 use Rattle.nb_port.specs.Faults.{Rose, Backed}
 use Rattle.nb_book.specs.declared.entry.Entry.{Entry}
-use Rattle.nb_units.specs.declared.epoid.Epoid.{Epoid}
-use Rattle.nb_units.specs.declared.ids.AcctId.{AcctId}
 use Rattle.nb_book.specs.Legal.{Legal}
-use Rattle.nb_book.specs.Money.{accounts, balance, credits, debits, total}
-use Rattle.nb_book.specs.Searches.{settles}
 use Rattle.nb_journal.specs.Layout.{AreTerms}
-use Rattle.nb_endorse.specs.declared.refusal.TheConstants.{DISK_FAULT, WORN, NO_MEMORY}
 use Rattle.nb_escrow.specs.Head.{head_of}
-use Rattle.nb_vault.specs.declared.line.Line.{Line}
-use Rattle.nb_vault.specs.declared.line.Line.TheVariants.{Commit, Adopted, Doubt, Fault}
+use Rattle.nb_turns.specs.declared.limits.TheConstants.{MAX_FAULTS}
+use Rattle.nb_turns.specs.declared.line.Line.{Line}
+use Rattle.nb_turns.specs.Turns.{Request, House, State, Outcome, Decides, Fails, Refuses, Turn, answered, decided, places, recorded, replies}
+use Rattle.nb_turns.specs.Lines.{AddsLines, NeverFall, Sound, entries_of, failures_in, faults_of, next_turn, open_doubt}
+use Rattle.nb_turns.specs.Laws.{IsBalanced}
+use Rattle.nb_vault.specs.declared.answer.Answer.{Answer}
+use Rattle.nb_vault.specs.declared.answer.Answer.TheVariants as one
+use Rattle.nb_vault.specs.declared.answer.AnswerAll.{AnswerAll}
+use Rattle.nb_vault.specs.declared.answer.AnswerAll.TheVariants as all
 use Rattle.nb_vault.specs.declared.origin.Origin.{Origin}
-use Rattle.nb_vault.specs.declared.vault.Answer.{Answer}
-use Rattle.nb_vault.specs.declared.vault.Answer.TheVariants as answers
-use Rattle.nb_vault.specs.Chronicle.{Sound, NeverFall}
-use Rattle.nb_vault.specs.Holdings.{StandsFor, StandsForEither, WritesEntry, TearsEntry}
-use Rattle.nb_vault.specs.Rules.{house_rules}
-use Rattle.nb_vault.specs.Lines.{entries_of, failures_in, faults_of, open_doubt, next_turn, AreOf}
-use Rattle.nb_vault.specs.Turns.{Request, Ruling, State, Mark, At, Turn, refused}
-use Rattle.nb_vault.specs.declared.vault.TheConstants.{MAX_FAULTS}
-use Rattle.nb_vault.specs.Turns as turns
+use Rattle.nb_vault.specs.Holdings.{StandsFor, StandsForEither, WritesItem, TearsItem}
+use Rattle.nb_vault.specs.Rules.{house_of}
 
--- what it was opened with, what was done since, whether an entry is in doubt, and the disk
+-- what it was opened with, what was done since, whether an item is in doubt, and the disk
 pub record Chronicled (D : Type 0) : Type 0 where
   pub origin : Origin
   pub lines : List Line
@@ -37,7 +30,7 @@ pub record Chronicled (D : Type 0) : Type 0 where
 abbrev pub entries_in : {D : Type 0} → Chronicled D → List Entry
 entries_in v = entries_of v.origin.entries v.lines
 
--- the entry in doubt, if one is
+-- the entries in doubt, if an item is
 abbrev pub doubt_in : {D : Type 0} → Chronicled D → List Entry
 doubt_in v = if v.stale then open_doubt v.lines else []
 
@@ -45,23 +38,17 @@ doubt_in v = if v.stale then open_doubt v.lines else []
 abbrev pub state_of : {D : Type 0} → Chronicled D → State
 state_of v = record { entries = entries_in v; doubt = doubt_in v; faults = faults_of v.lines }
 
--- the rules that it goes by
-abbrev pub rules_of : {D : Type 0} → Chronicled D → List Entry → Request → Ruling
-rules_of v = house_rules (head_of v.origin.head) v.origin.cap
+-- the house that it is
+abbrev pub house_in : {D : Type 0} → Chronicled D → House
+house_in v = house_of (head_of v.origin.head) v.origin.cap
 
 -- an image stands for the entries, without those in doubt or with them
 abbrev pub StandsForState : {D : Type 0} → Chronicled D → List ℕ → Type 0
 StandsForState v image = StandsForEither v.origin.head v.origin.cap (entries_in v) (doubt_in v) image
 
--- a list on which each order is settled once, and money is neither made nor lost
-pub record IsBalanced (entries : List Entry) : Type 0 where
-  pub once : (order : Epoid) → count_by (settles order) entries ≤ 1
-  pub sums : sum_by (balance entries) (accounts entries) ≡ total entries
-  pub none_overdrawn : (account : AcctId) → debits entries account ≤ credits entries account
-
 -- what every vault keeps
 pub record Keeps {D : Type 0} (tells : DiskTells D) (v : Chronicled D) : Type 0 where
-  -- its list is legal, also with an entry in doubt, and within the cap
+  -- its list is Legal, also with the entries in doubt, and within the cap
   pub legal : Legal (entries_in v ++ doubt_in v)
   pub within : length (entries_in v ++ doubt_in v) ≤ v.origin.cap
   pub money : IsBalanced (entries_in v)
@@ -69,7 +56,7 @@ pub record Keeps {D : Type 0} (tells : DiskTells D) (v : Chronicled D) : Type 0 
   -- it is what its content stands for, and what a stop leaves
   pub bytes : IfSome (tells.content v.disk) (StandsForState v)
   pub images : (image : List ℕ) → tells.allowed v.disk image → StandsForState v image
-  -- where it is stale an entry is in doubt
+  -- where it is stale entries are in doubt
   pub doubt : v.stale ≡ true → doubt_in v ≢ []
   -- its lines adopt what was in doubt, their faults are the disk's, their turns never fall, and few are faults
   pub sound : Sound v.lines
@@ -79,86 +66,74 @@ pub record Keeps {D : Type 0} (tells : DiskTells D) (v : Chronicled D) : Type 0 
 
 -- ---- answering
 
--- the request
-abbrev pub request_of : ℕ → List ℕ → ℕ → Request
-request_of kind body moment = record { kind = kind; body = body; moment = moment }
-
--- how a turn went, by the answer; a reply is handed out where it decided, and nowhere else
-abbrev pub TurnOf : {D : Type 0} → Chronicled D → Chronicled D → Request → List ℕ → List ℕ → Answer → Type 0
-TurnOf old new request out out' (answers.Answered at) =
-    (reply : List ℕ) × Turn (rules_of old) (state_of old) request (At at) reply (state_of new) × (out' ≡ out ++ reply)
-TurnOf old new request out out' (answers.DiskFault before after) =
-    Turn (rules_of old) (state_of old) request (turns.Fault before after) (refused DISK_FAULT before after) (state_of new) × (out' ≡ out)
-TurnOf old new request out out' (answers.Worn faults) =
-    (faults ≡ MAX_FAULTS) × Turn (rules_of old) (state_of old) request turns.Worn (refused WORN faults 0) (state_of new) × (out' ≡ out)
-TurnOf old new request out out' answers.NoMemory =
-    Turn (rules_of old) (state_of old) request turns.NoMemory (refused NO_MEMORY 0 0) (state_of new) × (out' ≡ out)
-
--- the line of an entry in doubt that is kept
-abbrev pub adopts : ℕ → ℕ → Option Entry → List Line
-adopts by turn (Some entry) = Adopted by turn entry ∷ []
-adopts by turn other = []
-
--- the line of the entry of a verdict that is recorded
-abbrev pub commits : ℕ → ℕ → Option Entry → List Line
-commits by turn (Some entry) = Commit by turn entry ∷ []
-commits by turn other = []
-
--- what is kept of a doubt: nothing, or, where one is in doubt, all of it
-abbrev pub KeptOf : {D : Type 0} → Chronicled D → Option Entry → Type 0
-KeptOf old None = Unit {0}
-KeptOf old (Some entry) = doubt_in old ≡ entry ∷ []
-
--- what was in doubt is settled as the disk had it: what its content stood for is what the verdict is taken over
-pub record SettledOver {D : Type 0} (tells : DiskTells D) (old : Chronicled D) (kept : Option Entry) (over : List Entry) : Type 0 where
-  pub of_doubt : KeptOf old kept
-  pub over_is : over ≡ entries_in old ++ option_to_list kept
+-- the disk in a turn that decided over these entries: its content stood for them, and what the verdicts record is written as one item
+pub record WritesTurn {D : Type 0} (tells : DiskTells D) (old new : Chronicled D) (requests : List Request) (over : List Entry) : Type 0 where
   pub told : IfSome (tells.content old.disk) (StandsFor old.origin.head old.origin.cap over)
+  pub written : WritesItem old.origin.head old.origin.cap over (recorded (house_in old) over requests) (tells.content old.disk) (tells.content new.disk)
 
--- a turn that decided over so many entries: at most one line that adopts, and then that of the verdict's entry, which alone is written
-pub record DecidedLines {D : Type 0} (tells : DiskTells D) (old new : Chronicled D) (by turn at : ℕ) (request : Request) (added : List Line) : Type 0 where
-  pub kept : Option Entry
+-- the disk in a turn whose item could not be made durable, over these entries: bytes of the item's range may have changed, and its
+-- entries are in doubt
+pub record TearsTurn {D : Type 0} (tells : DiskTells D) (old new : Chronicled D) (requests : List Request) : Type 0 where
   pub over : List Entry
-  pub settled : SettledOver tells old kept over
-  pub place : at ≡ length over
-  pub lines : added ≡ adopts by turn kept ++ commits by turn (rules_of old over request).entry
-  pub written : WritesEntry old.origin.head old.origin.cap over (rules_of old over request).entry (tells.content old.disk) (tells.content new.disk)
+  pub told : IfSome (tells.content old.disk) (StandsFor old.origin.head old.origin.cap over)
+  pub entries : entries_in new ≡ over
+  pub doubt : doubt_in new ≡ recorded (house_in old) over requests
+  pub written : TearsItem old.origin.head old.origin.cap over (recorded (house_in old) over requests) (tells.content old.disk) (tells.content new.disk)
 
--- a turn whose entry could not be made durable: at most one line that adopts, the doubt, and the fault; the entry is in doubt then
-pub record DoubtedLines {D : Type 0} (tells : DiskTells D) (old new : Chronicled D) (by turn before after : ℕ) (request : Request) (added : List Line) : Type 0 where
-  pub kept : Option Entry
-  pub over : List Entry
-  pub entry : Entry
-  pub settled : SettledOver tells old kept over
-  pub verdict : (rules_of old over request).entry ≡ Some entry
-  pub lines : added ≡ adopts by turn kept ++ Doubt by turn entry ∷ Fault by turn before after ∷ []
-  pub written : TearsEntry old.origin.head old.origin.cap over entry (tells.content old.disk) (tells.content new.disk)
-  pub doubt : doubt_in new ≡ entry ∷ []
-
--- a turn that could not settle what was in doubt: the fault alone, told with the count at the start, and nothing is written; the same
--- is in doubt then
-pub record UnsettledLines {D : Type 0} (tells : DiskTells D) (old new : Chronicled D) (by turn before after : ℕ) (added : List Line) : Type 0 where
-  pub some : doubt_in old ≢ []
+-- the disk in a turn that could not settle what was in doubt, told from this count on: nothing is written, and the same is in doubt
+pub record LeavesTurn {D : Type 0} (tells : DiskTells D) (old new : Chronicled D) (before : ℕ) : Type 0 where
   pub from : before ≡ tells.faults old.disk
-  pub lines : added ≡ Fault by turn before after ∷ []
-  pub written : tells.content new.disk ≡ tells.content old.disk
   pub entries : entries_in new ≡ entries_in old
+  pub some : doubt_in old ≢ []
   pub doubt : doubt_in new ≡ doubt_in old
+  pub written : tells.content new.disk ≡ tells.content old.disk
 
--- the lines of one answer
-abbrev pub LinesOf : {D : Type 0} → DiskTells D → Chronicled D → Chronicled D → ℕ → ℕ → Request → List Line → Answer → Type 0
-LinesOf tells old new by turn request added (answers.Answered at) = DecidedLines tells old new by turn at request added
-LinesOf tells old new by turn request added (answers.DiskFault before after) =
-    UnsettledLines tells old new by turn before after added ⊎ DoubtedLines tells old new by turn before after request added
-LinesOf tells old new by turn request added (answers.Worn faults) = added ≡ []
-LinesOf tells old new by turn request added answers.NoMemory = added ≡ []
+-- what a turn that went so did to the disk
+abbrev pub OnDisk : {D : Type 0} → DiskTells D → Chronicled D → Chronicled D → List Request → Outcome → Type 0
+OnDisk tells old new requests (Decides over) = WritesTurn tells old new requests over
+OnDisk tells old new requests (Fails before after) = LeavesTurn tells old new before ⊎ TearsTurn tells old new requests
+OnDisk tells old new requests Refuses = new ≡ old
 
--- what an answer adds to the lines
-pub record Adds {D : Type 0} (tells : DiskTells D) (old new : Chronicled D) (by : ℕ) (request : Request) (answer : Answer) : Type 0 where
+-- what is handed out of a turn that went so: the places and the replies of requests that were decided, and else nothing
+abbrev pub handed_places : House → List Request → Outcome → List ℕ
+handed_places house requests (Decides over) = places (decided house over requests)
+handed_places house requests other = []
+
+abbrev pub handed_replies : House → List Request → Outcome → List ℕ
+handed_replies house requests (Decides over) = replies (decided house over requests)
+handed_replies house requests other = []
+
+-- a turn went so: from the vault before to the one behind it, with these places and replies handed out. Its lines stand behind those
+-- before it, and are of who asked, under the next turn's number
+pub record Went {D : Type 0} (tells : DiskTells D) (old new : Chronicled D) (by : ℕ) (requests : List Request) (outcome : Outcome) (found : List ℕ) (out out' : List ℕ) : Type 0 where
+  pub turn : Turn (house_in old) (state_of old) requests outcome (state_of new)
+  pub found_is : found ≡ handed_places (house_in old) requests outcome
+  pub out_is : out' ≡ out ++ handed_replies (house_in old) requests outcome
   pub added : List Line
   pub behind : new.lines ≡ old.lines ++ added
-  pub made : AreOf by (next_turn old.lines) added
-  pub lines : LinesOf tells old new by (next_turn old.lines) request added answer
+  pub lines : AddsLines (house_in old) old.origin.entries by (next_turn old.lines) old.lines requests outcome added
+  pub disk : OnDisk tells old new requests outcome
+
+-- how a turn went, by the answer
+abbrev pub TurnOf : {D : Type 0} → DiskTells D → Chronicled D → Chronicled D → ℕ → List Request → List ℕ → List ℕ → List ℕ → AnswerAll → Type 0
+TurnOf tells old new by requests found out out' all.Answered = (over : List Entry) × Went tells old new by requests (Decides over) found out out'
+TurnOf tells old new by requests found out out' (all.DiskFault before after) = Went tells old new by requests (Fails before after) found out out'
+TurnOf tells old new by requests found out out' (all.Worn faults) = (faults ≡ MAX_FAULTS) × Went tells old new by requests Refuses found out out'
+
+-- the places stand behind those before, as the replies do
+abbrev pub TurnAll : {D : Type 0} → DiskTells D → Chronicled D → Chronicled D → ℕ → List Request → List ℕ → List ℕ → List ℕ → List ℕ → AnswerAll → Type 0
+TurnAll tells old new by requests ats ats' out out' answer = (found : List ℕ) × (ats' ≡ ats ++ found) × TurnOf tells old new by requests found out out' answer
+
+-- the answer to one request, as that to a turn
+abbrev pub all_of : Answer → AnswerAll
+all_of (one.Answered at) = all.Answered
+all_of (one.DiskFault before after) = all.DiskFault before after
+all_of (one.Worn faults) = all.Worn faults
+
+-- and the places that it tells
+abbrev pub place_in : Answer → List ℕ
+place_in (one.Answered at) = at ∷ []
+place_in other = []
 
 -- each image that a stop leaves stands for the entries alone, and nothing is in doubt
 pub record IsDurable {D : Type 0} (tells : DiskTells D) (v : Chronicled D) : Type 0 where
@@ -166,18 +141,17 @@ pub record IsDurable {D : Type 0} (tells : DiskTells D) (v : Chronicled D) : Typ
   pub images : (image : List ℕ) → tells.allowed v.disk image → StandsFor v.origin.head v.origin.cap (entries_in v) image
 
 -- where it answered
-abbrev pub DurableWhere : {D : Type 0} → DiskTells D → Chronicled D → Answer → Type 0
-DurableWhere tells new (answers.Answered at) = IsDurable tells new
+abbrev pub DurableWhere : {D : Type 0} → DiskTells D → Chronicled D → AnswerAll → Type 0
+DurableWhere tells new all.Answered = IsDurable tells new
 DurableWhere tells new other = Unit {0}
 
 -- where nothing was done the vault is as before, its disk too
-abbrev pub SameWhere : {D : Type 0} → Chronicled D → Chronicled D → Answer → Type 0
-SameWhere old new (answers.Worn faults) = new ≡ old
-SameWhere old new answers.NoMemory = new ≡ old
+abbrev pub SameWhere : {D : Type 0} → Chronicled D → Chronicled D → AnswerAll → Type 0
+SameWhere old new (all.Worn faults) = new ≡ old
 SameWhere old new other = Unit {0}
 
 -- a fault is told with the disk's count at the end of the call, and with that at its start where nothing was in doubt
-abbrev pub FaultWithin : {D : Type 0} → DiskTells D → Chronicled D → Chronicled D → Answer → Type 0
-FaultWithin tells old new (answers.DiskFault before after) =
+abbrev pub FaultWithin : {D : Type 0} → DiskTells D → Chronicled D → Chronicled D → AnswerAll → Type 0
+FaultWithin tells old new (all.DiskFault before after) =
     (tells.faults old.disk ≤ before) × (old.stale ≡ false → before ≡ tells.faults old.disk) × Rose before after × (after ≡ tells.faults new.disk)
 FaultWithin tells old new other = Unit {0}

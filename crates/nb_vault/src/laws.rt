@@ -1,8 +1,8 @@
-//! What holds of every image of a disk and of every turn, and the limit of a vault. Each function here does nothing: its contract is the law.
+//! What holds of every image of a disk and of every turn. Each function here does nothing: its contract is the law.
 
+ghost use Rattle.nb_vault.specs.Gates.{OneGate};
 ghost use Rattle.nb_vault.specs.Holdings.{OneList};
 ghost use Rattle.nb_vault.specs.Opens.{WholeIsGood};
-ghost use Rattle.nb_vault.specs.Numbers.{FaultLimitIs};
 ghost use Rattle.nb_vault.specs.Paying.{PayableIsPaid};
 
 use nb_port::Disk;
@@ -18,12 +18,13 @@ pub fn whole_is_good()
 {}
 
 /// An order that is payable is paid, and both its receipts say so, in each answer of a vault that is not worn and in which the count
-/// of the disk does not rise; or memory is wanting.
+/// of the disk does not rise.
 pub fn payable_is_paid<D: Disk>()
     ensures { PayableIsPaid D.tells }
 {}
 
-/// The limit of a vault in numbers.
-pub fn limit()
-    ensures { FaultLimitIs }
+/// One gate opens all entries of a turn, or none of them: each image that a stop leaves at any moment of it stands for the entries
+/// from before, without what was in doubt or with it, alone or with all that the turn records.
+pub fn one_gate<D: Disk>()
+    ensures { OneGate D.tells }
 {}

@@ -1,28 +1,32 @@
-//! The house: what it recorded, and how one request is answered over it.
+//! The house: what it recorded, and how requests are answered over it.
 //!
 //! A [`Vault`] is a book whose entries are durable on a disk, and the chronicle of what was done since it was opened. It is seen
-//! (`specs/Vaults.antt`) as what it was opened with, its [`Line`]s, whether an entry is in doubt, and the disk. [`Vault::open`]
-//! gives the entries that the content of the disk stands for (`specs/Holdings.antt`), or why there are none to give.
-//! [`Vault::answer`] settles what is in doubt, decides, makes the entry of the verdict durable, and then hands the reply out.
-//! What is promised: each answer is one turn of the house (`specs/Turns.antt`); a stop at any moment of it leaves the entries
-//! before it or after it, each time with or without the one in doubt; where a request is answered, every later stop leaves its
-//! entry; and of every vault what `Keeps` says: its list is Legal and is what the disk holds, its lines adopt what was last in
-//! doubt before them, its faults are the disk's, and its turns are numbered upwards (`specs/Chronicle.antt`).
+//! (`specs/Vaults.antt`) as what it was opened with, its [`Line`](nb_turns::Line)s, whether an item is in doubt, and the disk.
+//! [`Vault::open`] gives the entries that the content of the disk stands for (`specs/Holdings.antt`), or why there are none to give.
+//! [`Vault::answer`] settles what is in doubt, decides, makes the entry of the verdict durable, and then hands the reply out;
+//! [`Vault::answer_all`] does so for several requests at once, whose entries are one item.
+//! What is promised: each answer is one turn of the house (`Turn` of nb_turns), and its lines are those of such a turn; a stop at any
+//! moment of it leaves the entries before it or after it, each time with or without those in doubt; where a request is answered,
+//! every later stop leaves its entry; and of every vault what `Keeps` says: its list is Legal and is what the disk holds, its lines
+//! adopt what was last in doubt before them, its faults are the disk's, and its turns are numbered upwards. All memory is taken when
+//! it is opened.
 //!
 //! Left to others: the frames of the requests, sending the replies, and the clock.
 #![tactic(auto)]
 
+mod answer;
+mod deciding;
 pub mod laws;
-mod line;
 mod origin;
 mod parts;
 mod records;
 mod restore;
+mod telling;
 mod vault;
 
-pub use line::Line;
+pub use answer::{Answer, AnswerAll, AskAt};
 pub use origin::Origin;
-pub use vault::{Answer, MAX_FAULTS, Vault, VaultFault};
+pub use vault::{Vault, VaultFault};
 
 #[cfg(test)]
 mod tests;

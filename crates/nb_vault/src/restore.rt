@@ -12,7 +12,6 @@ use nb_units::{Blob, Cut};
 pub(crate) enum ItemRead {
     Whole,
     Bad,
-    NoMemory,
 }
 
 // How those of all items went. `item` is the number of the first that is bad, from 0.
@@ -20,7 +19,6 @@ pub(crate) enum ItemRead {
 pub(crate) enum ItemsRead {
     Whole,
     Bad { item: u32 },
-    NoMemory,
 }
 
 // Applies the entries of the items, up to the first item that does not spell entries which may come next.
@@ -34,7 +32,6 @@ pub(crate) fn restore(book: &mut Book, items: &[Blob]) -> ItemsRead
         match restore_item(book, item.as_slice()) {
             ItemRead::Whole => {}
             ItemRead::Bad => return ItemsRead::Bad { item: i as u32 },
-            ItemRead::NoMemory => return ItemsRead::NoMemory,
         }
     }
     ItemsRead::Whole
@@ -58,9 +55,6 @@ fn restore_item(book: &mut Book, item: &[u8]) -> ItemRead
         };
         if !book.legal(&entry) {
             return ItemRead::Bad;
-        }
-        if book.reserve(1).is_err() {
-            return ItemRead::NoMemory;
         }
         book.apply(&entry);
         if cut.rest().is_empty() {

@@ -1,38 +1,26 @@
-ghost use Rattle.std.specs.Prelude.{◌≡◌, ◌⊎◌, ◌≤◌, length, slice_get, vec_capacity};
+ghost use Rattle.std.specs.Prelude.{◌≡◌, ◌⊎◌, ◌≤◌, ◌+◌, ◌*◌, ◌++◌, ◌∷◌, [], length, slice_get, vec_capacity, vec_len};
+ghost use Rattle.std.specs.List.{All};
+ghost use Rattle.nb_turns.specs.declared.limits.TheConstants.{MAX_REQUESTS};
 ghost use Rattle.nb_journal.specs.Time.{LeavesOnly};
 ghost use Rattle.nb_msgs.specs.declared.reply.TheConstants.{REPLY_ROOM};
 ghost use Rattle.nb_units.specs.Room.{spare_of};
-ghost use Rattle.nb_vault.specs.Vaults.{Keeps, TurnOf, Adds, DurableWhere, SameWhere, FaultWithin, StandsForState, request_of, state_of, entries_in};
+ghost use Rattle.nb_vault.specs.Asking.{IsWithin, request_of, requests_of};
+ghost use Rattle.nb_vault.specs.Parts.{handed_in};
+ghost use Rattle.nb_vault.specs.Vaults.{Keeps, TurnAll, TurnOf, DurableWhere, SameWhere, FaultWithin, StandsForState, all_of, place_in, state_of, entries_in};
 
 mod opening;
 
-use crate::line::Line;
+use crate::answer::{Answer, AnswerAll, AskAt};
 use crate::parts::Parts;
 use nb_port::Disk;
+use nb_turns::Line;
 pub use opening::VaultFault;
 use std::marker::Model;
-
-/// After so many faults since it was opened a vault answers no more.
-pub const MAX_FAULTS: u32 = 1000;
 
 /// The entries of a house, durable on a disk, and what was done since they were read.
 #[derive(Drop)]
 pub struct Vault<D: Disk> {
     parts: Parts<D>,
-}
-
-/// How a request was answered.
-#[derive(Clone, Copy, PartialEq, Eq, Debug)]
-pub enum Answer {
-    /// It was decided over `at` entries, and its reply is handed out: every later stop leaves what it recorded.
-    Answered { at: u64 },
-    /// The disk failed between these two counts of its faults. An entry may be in doubt then, until a later answer settles it:
-    /// that of this request, or, where it could not be settled, one from before, and then this request was not decided.
-    DiskFault { before: u64, after: u64 },
-    /// The vault had [`MAX_FAULTS`] faults since it was opened, and nothing was done.
-    Worn { faults: u32 },
-    /// There was no memory, and nothing was done.
-    NoMemory,
 }
 
 impl<D: Disk> Model for Vault<D> {
@@ -48,8 +36,8 @@ impl<D: Disk> Model for Vault<D> {
 
 impl<D: Disk> Vault<D> {
     /// Answers one request, asked for by `by`, at a moment in seconds since 1970-01-01 00:00 UTC. What was in doubt is settled,
-    /// the request is decided, its entry is made durable, and then its reply is appended to `out`, which needs room for
-    /// [`REPLY_ROOM`](nb_msgs::REPLY_ROOM) bytes. Memory is taken before the disk is touched.
+    /// the request is decided, its entry is made durable, and then its reply stands behind `out`, which needs room for
+    /// [`REPLY_ROOM`](nb_msgs::REPLY_ROOM) bytes. It takes no memory.
     pub fn answer(
         &mut self,
         by: u64,
@@ -59,8 +47,46 @@ impl<D: Disk> Vault<D> {
         out: &mut Vec<u8>,
     ) -> Answer
         requires { REPLY_ROOM ≤ spare_of out.old }
-        ensures turn { TurnOf self.old self.new (request_of kind body.now moment) out.old.items out.new.items result }
-        ensures lines { Adds D.tells self.old self.new by (request_of kind body.now moment) result }
+        ensures turn { TurnOf D.tells self.old self.new by (request_of kind body.now moment ∷ []) (place_in result) out.old.items out.new.items (all_of result) }
+        ensures origin { self.new.origin ≡ self.old.origin }
+        ensures any_moment { LeavesOnly D.tells self.old.disk self.new.disk
+            (λ image. StandsForState self.old image ⊎ StandsForState self.new image) }
+        ensures durable { DurableWhere D.tells self.new (all_of result) }
+        ensures quiet { state_of self.new ≡ state_of self.old → D.tells.content self.new.disk ≡ D.tells.content self.old.disk }
+        ensures same { SameWhere self.old self.new (all_of result) }
+        ensures fault { FaultWithin D.tells self.old self.new (all_of result) }
+        ensures keeps { Keeps D.tells self.new }
+        ensures count { D.tells.faults self.old.disk ≤ D.tells.faults self.new.disk }
+        ensures room { vec_capacity out.new ≡ vec_capacity out.old }
+    {
+        let ask = AskAt {
+            kind,
+            start: 0,
+            len: body.len(),
+            moment,
+        };
+        let answer = self.parts.answer_all(by, body, &[ask], out);
+        answer.of_one(self.parts.first_place())
+    }
+
+    /// Answers from 1 to [`MAX_REQUESTS`](nb_turns::MAX_REQUESTS) requests in one turn, asked for by `by`, whose bodies stand within
+    /// `bytes`. What was in doubt is settled, the requests are decided one after another, each over the entries with those recorded
+    /// before it, and what they record is made durable as one item. Then their places stand behind `ats`, which needs room for one
+    /// each, and their replies behind `out`, which needs room for [`REPLY_ROOM`](nb_msgs::REPLY_ROOM) bytes each. It takes no memory.
+    pub fn answer_all(
+        &mut self,
+        by: u64,
+        bytes: &[u8],
+        asks: &[AskAt],
+        ats: &mut Vec<u64>,
+        out: &mut Vec<u8>,
+    ) -> AnswerAll
+        requires some { 1 ≤ length asks.now }
+        requires most { length asks.now ≤ MAX_REQUESTS }
+        requires within { All (IsWithin bytes.now) asks.now }
+        requires places { vec_len ats.old + length asks.now ≤ vec_capacity ats.old }
+        requires room { REPLY_ROOM * length asks.now ≤ spare_of out.old }
+        ensures turn { TurnAll D.tells self.old self.new by (requests_of bytes.now asks.now) ats.old.items ats.new.items out.old.items out.new.items result }
         ensures origin { self.new.origin ≡ self.old.origin }
         ensures any_moment { LeavesOnly D.tells self.old.disk self.new.disk
             (λ image. StandsForState self.old image ⊎ StandsForState self.new image) }
@@ -71,8 +97,11 @@ impl<D: Disk> Vault<D> {
         ensures keeps { Keeps D.tells self.new }
         ensures count { D.tells.faults self.old.disk ≤ D.tells.faults self.new.disk }
         ensures room { vec_capacity out.new ≡ vec_capacity out.old }
+        ensures places { vec_capacity ats.new ≡ vec_capacity ats.old }
     {
-        self.parts.answer(by, kind, body, moment, out)
+        let answer = self.parts.answer_all(by, bytes, asks, out);
+        hand_out(&answer, self.parts.records.places.as_slice(), ats);
+        answer
     }
 
     /// What every vault keeps, as a fact: it does nothing.
@@ -97,11 +126,36 @@ impl<D: Disk> Vault<D> {
         self.parts.lines.get(i as usize).copied()
     }
 
+    /// The disk and the lines, at the end.
+    pub fn into_parts(self) -> (D, Vec<Line>)
+        ensures disk { result.0 ≡ self.disk }
+        ensures lines { result.1.items ≡ self.lines }
+    {
+        let Vault { parts } = self;
+        parts.into_parts()
+    }
+
     /// The disk, at the end.
     pub fn into_disk(self) -> D
         ensures { result ≡ self.disk }
     {
-        let Vault { parts } = self;
-        parts.into_disk()
+        self.into_parts().0
+    }
+}
+
+// Appends the places of the requests of a turn, where it was answered.
+fn hand_out(answer: &AnswerAll, places: &[u64], ats: &mut Vec<u64>)
+    requires { vec_len ats.old + length (handed_in places.now answer.now) ≤ vec_capacity ats.old }
+    ensures items { ats.new.items ≡ ats.old.items ++ handed_in places.now answer.now }
+    ensures room { vec_capacity ats.new ≡ vec_capacity ats.old }
+{
+    match answer {
+        AnswerAll::Answered => {
+            for at in places {
+                ats.push_reserved(*at);
+            }
+        }
+        AnswerAll::DiskFault { .. } => {}
+        AnswerAll::Worn { .. } => {}
     }
 }

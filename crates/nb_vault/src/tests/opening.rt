@@ -1,6 +1,5 @@
 // What opening a vault says of a content.
 
-use super::vault::*;
 use super::*;
 use crate::VaultFault;
 use Content::*;
@@ -41,9 +40,9 @@ static CONTENTS: [(u32, &'static str, Content); 22] = [
     (1, "[CM].", Bad(0)),
     (2, "[C][MF].", Bad(1)),
     // a second payment, with the first one's identifier and with another
-    (6, "[CMFGP1p][P1p].", Bad(1)),
-    (6, "[CMFGP1p][P2p].", Opens(6)),
-    (6, "[CMFP1p][P2p].", Bad(1)),
+    (6, "[CMFGP][P].", Bad(1)),
+    (6, "[CMFGP][Q].", Opens(6)),
+    (6, "[CMFP][Q].", Bad(1)),
 ];
 
 // How many entries are opened, or why none.

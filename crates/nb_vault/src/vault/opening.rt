@@ -1,15 +1,18 @@
-ghost use Rattle.std.specs.Prelude.{◌≤◌};
+ghost use Rattle.std.specs.Prelude.{◌≤◌, IfOk};
+ghost use Rattle.nb_units.specs.declared.limits.TheConstants.{MAX_CAP};
 ghost use Rattle.nb_journal.specs.Time.{Unwritten};
-ghost use Rattle.nb_vault.specs.Opens.{VaultOpenGives, WholeOpens, disk_in, IsOpened, RestoreGives};
+ghost use Rattle.nb_vault.specs.Opens.{VaultOpenGives, WholeOpens, disk_in, IsOpened, IsRoomFor, RestoreGives};
 
-use crate::parts::Parts;
+use crate::parts::{MOST_LINES, Parts};
 use crate::records::{ROOM, Records};
 use crate::restore::{ItemsRead, restore};
 use crate::vault::Vault;
-use nb_book::Book;
+use nb_book::{Book, Entry, MAX_ITEM_ENTRIES};
 use nb_escrow::Head;
 use nb_journal::{Journal, MAGIC_BYTES, OpenFault, Opened};
 use nb_port::Disk;
+use nb_turns::{Line, MAX_REQUESTS};
+use nb_units::NoMemory;
 use std::alloc::Global;
 use std::fmt;
 
@@ -55,7 +58,8 @@ impl fmt::Display for VaultFault {
 }
 
 impl<D: Disk> Vault<D> {
-    /// Opens the vault on a disk: all that was written is made to stay, and its entries are read. Nothing is written.
+    /// Opens the vault on a disk: all that was written is made to stay, and its entries are read. Nothing is written. All memory of
+    /// the vault is taken here: for as many entries as its cap says, and for the lines of all turns that may come.
     pub fn open(alloc: Global, disk: D) -> Result<Vault<D>, (VaultFault, D)>
         ensures gives { VaultOpenGives D.tells disk result }
         ensures whole { WholeOpens (D.tells.content disk) result }
@@ -97,29 +101,58 @@ fn restored<D: Disk>(
         items,
     } = opened;
     let keys = Head::read(&head);
-    let mut book = match Book::new(alloc, cap, &keys.index) {
-        Ok(book) => book,
+    let mut room = match Room::new(alloc, cap, &keys.index) {
+        Ok(room) => room,
         Err(_) => return Err((VaultFault::NoMemory, journal.into_disk())),
     };
-    match restore(&mut book, items.as_slice()) {
+    match restore(&mut room.book, items.as_slice()) {
         ItemsRead::Whole => {}
         ItemsRead::Bad { item } => {
             return Err((VaultFault::BadEntry { item }, journal.into_disk()));
         }
-        ItemsRead::NoMemory => return Err((VaultFault::NoMemory, journal.into_disk())),
     }
-    let opening = book.len();
+    let opening = room.book.len();
     Ok(Parts {
         records: Records {
-            book,
+            book: room.book,
             journal,
             head,
-            doubt: None,
+            group: room.group,
+            item: room.item,
+            places: room.places,
+            base: 0,
         },
         head: keys,
         opening,
         count,
-        lines: Vec::new(alloc),
+        lines: room.lines,
         faults: 0,
     })
+}
+
+// All memory of a vault, taken at once.
+#[derive(Drop)]
+struct Room {
+    book: Book,
+    group: Vec<Entry>,
+    item: Vec<u8>,
+    places: Vec<u64>,
+    lines: Vec<Line>,
+}
+
+impl Room {
+    // Room for so many entries and for the lines of all turns that may fail, and for a turn.
+    fn new(alloc: Global, cap: u32, key: &[u8; 16]) -> Result<Room, NoMemory>
+        requires some { 1 ≤ cap }
+        requires most { cap ≤ MAX_CAP }
+        ensures { IfOk result (IsRoomFor cap) }
+    {
+        Ok(Room {
+            book: Book::new(alloc, cap, key)?,
+            group: Vec::with_capacity(alloc, MAX_ITEM_ENTRIES)?,
+            item: Vec::with_capacity(alloc, ROOM as usize)?,
+            places: Vec::with_capacity(alloc, MAX_REQUESTS)?,
+            lines: Vec::with_capacity(alloc, cap as usize + MOST_LINES)?,
+        })
+    }
 }

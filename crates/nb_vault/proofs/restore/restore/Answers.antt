@@ -1,7 +1,7 @@
 use Rattle.std.proofs.Common.{◌≡◌, ◌<◌, ◌+◌, ◌∷◌, [], ◌++◌, List, ℕ, length, take, sym, ap, subst, ◌∙◌, arith}
 use Rattle.std.proofs.lemmas.List.{take_more}
 use Rattle.nb_vault.specs.Holdings.{Joins}
-use Rattle.nb_vault.proofs.Restoring.{joins_item}
+use Rattle.nb_vault.proofs.Joining.{joins_item}
 use Rattle.nb_vault.proofs.restore.restore.Goals as goal
 
 pub loop-i-preserved : goal.loop-i-preserved

@@ -30,9 +30,9 @@ loop-n-preserved c =
     let left : c.read_entry.new.cut.place < length c.args.item.now = omega (arith, some, ap length c.rest.ensures.value, length-drop c.read_entry.new.cut.place c.read_entry.new.cut.bytes, ap length bytes) in
     record {
       so_far = read_more c.args.item.now c.args.book.now.entries c.loop-n.book.entries c.apply.new.self.entries c.loop-n.cut.place c.read_entry.new.cut.place c.loop-n.n c.in-Ok.entry c.loop-n.invariant.so_far c.in-Ok.ensures.spelled.0
-          (subst (λ bytes. StandsAt (entry_bytes c.in-Ok.entry) bytes c.loop-n.cut.place) c.loop-n.invariant.bytes c.in-Ok.ensures.spelled.1) (ap (λ (r : Reading). r.place) c.in-Ok.ensures.moved) left (c.apply.ensures.entries ∙ ap (λ es. es ++ c.in-Ok.entry ∷ []) c.reserve.ensures.entries);
+          (subst (λ bytes. StandsAt (entry_bytes c.in-Ok.entry) bytes c.loop-n.cut.place) c.loop-n.invariant.bytes c.in-Ok.ensures.spelled.1) (ap (λ (r : Reading). r.place) c.in-Ok.ensures.moved) left c.apply.ensures.entries;
       bytes = ap (λ (r : Reading). r.bytes) c.in-Ok.ensures.moved ∙ c.loop-n.invariant.bytes;
-      cap = c.apply.ensures.cap ∙ c.reserve.ensures.cap ∙ c.loop-n.invariant.cap;
+      cap = c.apply.ensures.cap ∙ c.loop-n.invariant.cap;
     }
 
 pub returns-clause-gives : goal.returns-clause-gives

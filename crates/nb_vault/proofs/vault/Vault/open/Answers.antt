@@ -2,10 +2,9 @@ use Rattle.std.proofs.Common.{subst, ◌∙◌}
 use Rattle.nb_journal.specs.Opening.{OpenFails}
 use Rattle.nb_journal.specs.Reading.{IsDamaged}
 use Rattle.nb_vault.specs.Parts.{seen_as}
-use Rattle.nb_vault.proofs.Answering.{durable}
 use Rattle.nb_vault.proofs.HoldingLaws.{no_damage}
 use Rattle.nb_vault.proofs.Founding.{told_of, opens_stands, opens_whole, fails_whole}
-use Rattle.nb_vault.proofs.Seeing.{keeps}
+use Rattle.nb_vault.proofs.Seeing.{durable, keeps}
 use Rattle.nb_vault.proofs.vault.Vault.open.Goals as goal
 
 pub returns-in-Ok-restored-clause-gives : goal.returns-in-Ok-restored-clause-gives
@@ -17,7 +16,7 @@ returns-in-Ok-restored-clause-gives g c =
       lines = r.lines;
       count = r.from ∙ c.fault_count-count.ensures;
       stands = opens_stands tells c.args.disk c.in-Ok.opened c.fault_count-count.result p r c.in-Ok.ensures.nothing.same;
-      durable = durable tells p r.vault r.settled;
+      durable = durable tells p r.vault r.fresh;
       keeps = keeps tells p r.vault;
     }
 

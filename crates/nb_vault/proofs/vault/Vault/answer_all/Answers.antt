@@ -1,0 +1,20 @@
+use Rattle.std.proofs.Common.{◌⊎◌, ℕ, List, length, ap, subst, arith}
+use Rattle.nb_journal.specs.Time.{LeavesOnly}
+use Rattle.nb_vault.specs.Parts.{handed_in, seen_as}
+use Rattle.nb_vault.specs.Vaults.{Chronicled, StandsForState}
+use Rattle.nb_vault.proofs.Seeing.{keeps}
+use Rattle.nb_vault.proofs.Verdicts.{places_fit}
+use Rattle.nb_vault.proofs.vault.Vault.answer_all.Goals as goal
+
+pub hand_out-requires : goal.hand_out-requires
+hand_out-requires g c =
+    let fit = places_fit g.D.Disk.tells _ _ c.args.by c.args.bytes.now c.args.asks.now c.answer_all-answer.new.self.records.places.items _ _ c.answer_all-answer.result c.answer_all-answer.ensures.turn in
+    omega (arith, c.requires.places, fit, ap (λ (xs : List ℕ). length (handed_in xs c.answer_all-answer.result)) c.as_slice.ensures.value)
+
+pub returns-clause-keeps : goal.returns-clause-keeps
+returns-clause-keeps g c = keeps g.D.Disk.tells c.answer_all-answer.new.self c.answer_all-answer.ensures.vault
+
+pub returns-clause-any_moment : goal.returns-clause-any_moment
+returns-clause-any_moment g c =
+    subst (λ (v : Chronicled _). LeavesOnly g.D.Disk.tells v.disk c.answer_all-answer.new.self.records.journal.disk (λ image. StandsForState v image ⊎ StandsForState (seen_as c.answer_all-answer.new.self) image)) c.self.view_is
+    c.answer_all-answer.ensures.any_moment
