@@ -14,8 +14,9 @@ ghost use Rattle.nb_vault.specs.Rules.{house_of, house_rules};
 
 use crate::answer::AskAt;
 use crate::records::Records;
-use nb_escrow::{Head, decide};
-use nb_msgs::write_reply;
+use nb_endorse::ReplyStates;
+use nb_escrow::{Head, decide_with};
+use nb_msgs::write_reply_with;
 use nb_port::Disk;
 
 impl<D: Disk> Records<D> {
@@ -66,9 +67,10 @@ impl<D: Disk> Records<D> {
         ensures room { vec_capacity out.new ≡ vec_capacity out.old }
     {
         let at = u64::from(self.book.len());
-        let decision = decide(&self.book, head, kind, body, moment);
+        let mut states = ReplyStates::none();
+        let decision = decide_with(&self.book, head, kind, body, moment, &mut states);
         self.places.push_reserved(at);
-        write_reply(&decision.reply, &decision.keys, out);
+        write_reply_with(&decision.reply, &states, out);
         if let Some(entry) = decision.entry {
             self.gather(&entry);
         }
