@@ -30,7 +30,7 @@ impl Model for Book {
 
     ghost Value = { Ledger };
 
-    ghost view = { λ b. record { entries = b.list.entries.items; cap = b.list.cap } };
+    ghost view = { λ b. record { entries = b.list.entries.items; cap = b.list.cap; places = vec_capacity b.list.entries } };
 
     ghost invariant = { λ b. record {
       within : vec_len b.list.entries ≤ b.list.cap;
@@ -149,6 +149,7 @@ impl Book {
         requires room { length self.old.entries < self.old.cap }
         ensures entries { self.new.entries ≡ self.old.entries ++ e.now ∷ [] }
         ensures cap { self.new.cap ≡ self.old.cap }
+        ensures places { self.new.places ≡ self.old.places }
     {
         self.list.push(e);
     }
@@ -159,6 +160,7 @@ impl Book {
         requires { 0 < length self.old.entries }
         ensures entries { self.new.entries ≡ take (length self.old.entries - 1) self.old.entries }
         ensures cap { self.new.cap ≡ self.old.cap }
+        ensures places { self.new.places ≡ self.old.places }
     {
         self.list.pop();
     }
