@@ -13,6 +13,9 @@ use Rattle.nb_endorse.specs.declared.refusal.Refusal.{Refusal}
 use Rattle.nb_endorse.specs.declared.reply.Reply.{Reply}
 use Rattle.nb_endorse.specs.declared.reply.Reply.TheVariants.{Result, Status, Grant, Done, Refused}
 use Rattle.nb_endorse.specs.declared.reply.ReplyKeys.{ReplyKeys}
+use Rattle.nb_ticket.specs.declared.granted.Granted.{Granted}
+use Rattle.nb_ticket.specs.declared.ticket.Ticket.{Ticket}
+use Rattle.nb_ticket.specs.Spelling.{ticket_bytes, granted_bytes}
 use Rattle.nb_endorse.specs.Spelling.{signed_bytes}
 use Rattle.nb_endorse.specs.Tags.{signed_receipt}
 
@@ -38,23 +41,25 @@ status_bytes house place epoid receipt = be8 place ++ epoid_bytes epoid ++ recei
 abbrev pub status_frame : ReplyKeys → ℕ → Epoid → Option Receipt → Frame
 status_frame keys place epoid receipt = record { kind = STATUS_REPLY; body = seal_of keys.first (codes "stat") (status_bytes keys.house place epoid receipt) }
 
--- a ticket before it is sealed: consumer 4 | merchant 4 | until 8 | session key 32
-unfoldable pub ticket_bytes : PartyId → PartyId → ℕ → List ℕ → List ℕ
-ticket_bytes consumer merchant until session = be4 consumer.0 ++ be4 merchant.0 ++ be8 until ++ session
-
 -- a ticket, sealed under the merchant's key and the label "tick"
-abbrev pub sealed_ticket : List ℕ → PartyId → PartyId → ℕ → List ℕ → List ℕ
-sealed_ticket key consumer merchant until session = seal_of key (codes "tick") (ticket_bytes consumer merchant until session)
+abbrev pub sealed_ticket : List ℕ → Ticket → List ℕ
+sealed_ticket key ticket = seal_of key (codes "tick") (ticket_bytes ticket)
 
--- a grant before it is sealed: merchant 4 | nonce 8 | until 8 | session key 32 | the sealed ticket 80, behind its length
-unfoldable pub grant_bytes : PartyId → ℕ → ℕ → List ℕ → List ℕ → List ℕ
-grant_bytes merchant nonce until session ticket = be4 merchant.0 ++ be8 nonce ++ be8 until ++ session ++ sized ticket
+-- a grant, sealed under the consumer's key and the label "gran"
+abbrev pub sealed_grant : List ℕ → Granted → List ℕ
+sealed_grant key granted = seal_of key (codes "gran") (granted_bytes granted)
 
--- the whole body is the seal of that under the consumer's key and the label "gran"
+-- the whole body is a grant, and in it the ticket that it names
 abbrev pub grant_frame : ReplyKeys → PartyId → PartyId → ℕ → ℕ → List ℕ → Frame
 grant_frame keys consumer merchant nonce until session = record {
   kind = GRANT_REPLY;
-  body = seal_of keys.first (codes "gran") (grant_bytes merchant nonce until session (sealed_ticket keys.second consumer merchant until session));
+  body = sealed_grant keys.first (record {
+    merchant = merchant;
+    nonce = nonce;
+    until = until;
+    session = session;
+    ticket = sealed_ticket keys.second (record { consumer = consumer; merchant = merchant; until = until; session = session });
+  });
 }
 
 -- account 4 | place 8 | balance 8

@@ -1,0 +1,5 @@
+pub mod Spelling
+pub mod Reading
+pub mod Keys
+pub mod Opening
+pub mod Laws

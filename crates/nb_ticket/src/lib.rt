@@ -1,0 +1,30 @@
+//! Tickets: by one a consumer and a merchant share a key for a while, which the house made.
+//!
+//! A consumer asks the house for a ticket to a merchant, a [`TicketAsk`]. The house makes a session key ([`session_key`]), seals a
+//! [`Ticket`] under the merchant's key ([`write_ticket`]), and that with the session key under the consumer's, a [`Granted`]
+//! ([`grant`]). The consumer opens the grant ([`open_grant`]) and shows the ticket to the merchant, who opens it ([`open_ticket`]): it
+//! holds for one merchant, and up to its last second.
+//!
+//! The layouts stand in `specs/Spelling.antt`, each as a function of the value, and in `specs/Reading.antt`, field by field
+//! with the place of each. That they are the two sides of one thing is proved by the functions of [`laws`]: what was
+//! spelled is read as that value, and what was read is spelled as those bytes. Each call over a key has one over its state beside it.
+//!
+//! Left to others: whose keys these are, whether the parties are enrolled, and the clock. No memory is taken.
+#![tactic(auto)]
+
+mod ask;
+mod granted;
+pub mod laws;
+mod session;
+mod ticket;
+
+pub use ask::{TicketAsk, request, request_ok};
+pub use granted::{GRANT_BYTES, GRANT_LABEL, GrantFault, Granted, grant, grant_with, open_grant};
+pub use nb_units::Malformed;
+pub use session::{TICKET_LIFE, session_key, session_key_with, until};
+pub use ticket::{
+    TICKET_BYTES, TICKET_LABEL, Ticket, TicketFault, open_ticket, write_ticket, write_ticket_with,
+};
+
+#[cfg(test)]
+mod tests;
