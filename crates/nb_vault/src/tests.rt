@@ -314,12 +314,7 @@ fn take(
 }
 
 // The vault has these lines from this number on, and no more.
-fn tell(
-    rt: &impl Abort,
-    vault: &Vault<MemDisk>,
-    from: u64,
-    lines: &[Line],
-) -> u64 {
+fn tell(rt: &impl Abort, vault: &Vault<MemDisk>, from: u64, lines: &[Line]) -> u64 {
     let mut told = from;
     for line in lines {
         assert_eq!(rt; vault.line(told), Some(*line), "line {told}");
