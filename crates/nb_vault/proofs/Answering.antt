@@ -1,7 +1,6 @@
 -- A turn, from its steps: settling, the verdicts, and making what they record durable.
-use Rattle.std.proofs.Common.{◌≡◌, ◌⊎◌, inl, inr, ⊎_elim, ℕ, ◌+◌, ◌≤◌, ◌<◌, Bool, false, true, cond, List, [], ◌∷◌, ◌++◌, length, Option, IfSome, refl, sym, ap, subst, ◌∙◌, append_assoc, arith}
+use Rattle.std.proofs.Common.{◌≡◌, ◌⊎◌, inl, inr, ⊎_elim, ℕ, ◌+◌, ◌≤◌, ◌<◌, Bool, cond, List, [], ◌∷◌, ◌++◌, length, Option, IfSome, refl, sym, ap, subst, ◌∙◌, append_assoc, arith}
 use Rattle.std.proofs.lemmas.List.{append-nil, length-append}
-use Rattle.nb_port.specs.Faults.{Rose}
 use Rattle.nb_port.specs.Tells.{DiskTells}
 use Rattle.nb_book.specs.declared.entry.Entry.{Entry}
 use Rattle.nb_journal.specs.declared.journal.Journal.{Journal}
@@ -11,14 +10,14 @@ use Rattle.nb_escrow.specs.Head.{head_of}
 use Rattle.nb_turns.specs.declared.limits.TheConstants.{MAX_FAULTS}
 use Rattle.nb_turns.specs.declared.line.Line.{Line}
 use Rattle.nb_turns.specs.declared.line.Line.TheVariants.{Fault}
-use Rattle.nb_turns.specs.Turns.{Request, House, State, Outcome, Decides, Fails, Refuses, SettlesInto, Turn, decided, recorded, replies}
+use Rattle.nb_turns.specs.Turns.{Request, House, State, Decides, Fails, Refuses, SettlesInto, decided, recorded, replies}
 use Rattle.nb_turns.specs.Lines.{AddsLines, Settled, DecidedLines, DoubtedLines, adopts, commits, doubts, entries_of, faults_of, next_turn, open_doubt}
 use Rattle.nb_turns.proofs.Lining.{decided_entries, doubt_faults, doubted_are, doubted_lines_entries, entries_append}
 use Rattle.nb_vault.specs.declared.parts.Parts.{Parts}
 use Rattle.nb_vault.specs.declared.records.Counts.{Counts}
-use Rattle.nb_vault.specs.Holdings.{StandsFor, StandsForEither, WritesItem, TearsItem}
+use Rattle.nb_vault.specs.Holdings.{StandsFor, WritesItem, TearsItem}
 use Rattle.nb_vault.specs.Parts.{HasLines, IsVault, SameOrigin, Readied, Unready, Committed, Doubted, opening_of, seen_as}
-use Rattle.nb_vault.specs.Records.{Rests, EitherOf, RecordWrites, WithOrWithout, disk_under, doubt_of, over_of}
+use Rattle.nb_vault.specs.Records.{Rests, EitherOf, WithOrWithout, disk_under, doubt_of, over_of}
 use Rattle.nb_vault.specs.Rules.{house_of}
 use Rattle.nb_vault.specs.Vaults.{Went, doubt_in, house_in, handed_places, state_of, StandsForState}
 use Rattle.nb_vault.proofs.Resting.{leaves_more, leaves_then, fresh_content, rest_images}

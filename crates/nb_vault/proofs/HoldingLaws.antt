@@ -1,14 +1,14 @@
 -- An image stands for one list, and what stands for a list is read as it.
-use Rattle.std.proofs.Common.{◌≡◌, ℕ, zero, suc, ◌*◌, ◌<◌, ◌≤◌, List, [], ◌∷◌, ◌++◌, length, take, get_or, refl, sym, ap, subst, ◌∙◌, append_assoc, arith, length-append}
+use Rattle.std.proofs.Common.{◌≡◌, ℕ, zero, suc, ◌<◌, List, [], ◌∷◌, ◌++◌, length, take, get_or, refl, sym, ap, subst, ◌∙◌, append_assoc, arith, length-append}
 use Rattle.std.specs.Prelude.{map}
 use Rattle.std.specs.List.{flat_map, AllByRecursion}
 use Rattle.std.proofs.lemmas.List.{map-append, length-map, take_at, get_or_at}
 use Rattle.std.proofs.lemmas.Grind.{flat_map-append}
 use Rattle.nb_book.specs.declared.entry.Entry.{Entry}
 use Rattle.nb_book.specs.Legal.{Legal}
-use Rattle.nb_book.specs.Spelling.{IsEntry, Spells, entry_bytes, entries_bytes}
+use Rattle.nb_book.specs.Spelling.{Spells, entries_bytes}
 use Rattle.nb_book.proofs.Growing.{front_legal}
-use Rattle.nb_book.proofs.Layouts.{one_spelling, entry_layout}
+use Rattle.nb_book.proofs.Layouts.{one_spelling}
 use Rattle.nb_journal.specs.Layout.{IsItem}
 use Rattle.nb_journal.specs.Reading.{Holds, IsUnborn, IsDamaged}
 use Rattle.nb_journal.proofs.ReadingLaws.{stands_read, one_journal, whole_not_damaged, unborn_is_neither}

@@ -1,5 +1,5 @@
 -- Records between two turns and within one: what images stand for, and what becomes of the group.
-use Rattle.std.proofs.Common.{◌≡◌, ◌⊎◌, inl, inr, ⊎_elim, ℕ, ◌+◌, ◌<◌, ◌≤◌, Bool, cond, false, true, List, [], ◌∷◌, ◌++◌, length, take, Option, None, Some, IfSome, refl, sym, ap, subst, ◌∙◌, append_assoc, arith}
+use Rattle.std.proofs.Common.{◌≡◌, inl, inr, ⊎_elim, ℕ, ◌+◌, ◌<◌, ◌≤◌, Bool, cond, false, true, List, [], ◌∷◌, ◌++◌, length, Option, None, Some, IfSome, refl, sym, ap, subst, ◌∙◌, append_assoc, arith}
 use Rattle.std.specs.List.{AllByRecursion}
 use Rattle.std.specs.Vec.{vec_capacity}
 use Rattle.std.proofs.lemmas.List.{append-nil, length-append, take-append-le}
@@ -9,15 +9,15 @@ use Rattle.nb_book.specs.Legal.{Legal, LegalAfter}
 use Rattle.nb_book.specs.Spelling.{entry_bytes, entries_bytes, IsEntry, Spells}
 use Rattle.nb_book.specs.declared.spelling.TheConstants.{MAX_ENTRY, MAX_ITEM_ENTRIES}
 use Rattle.nb_journal.specs.declared.journal.Journal.{Journal}
-use Rattle.nb_journal.specs.Layout.{front_bytes, item_bytes, AreTerms}
+use Rattle.nb_journal.specs.Layout.{front_bytes, item_bytes}
 use Rattle.nb_journal.specs.Stands.{Stands, BeforeOrAfter}
 use Rattle.nb_journal.specs.States.{AtRest, InDoubt}
 use Rattle.nb_journal.specs.Time.{LeavesOnly}
 use Rattle.nb_journal.proofs.Appending.{stands_now}
 use Rattle.nb_port.specs.Tells.{DiskTells}
 use Rattle.nb_port.specs.Disk.{wrote_at, MayTear}
-use Rattle.nb_vault.specs.Holdings.{Joins, StandsFor, StandsForEither, IsGate, WritesItem, TearsItem}
-use Rattle.nb_vault.specs.Records.{Carries, Gathers, HasRoom, IsDoubted, IsGroup, Rests, EitherOf, WithOrWithout, disk_under, over_of}
+use Rattle.nb_vault.specs.Holdings.{StandsFor, StandsForEither, IsGate, WritesItem, TearsItem}
+use Rattle.nb_vault.specs.Records.{Carries, Gathers, HasRoom, IsGroup, Rests, EitherOf, WithOrWithout, disk_under, over_of}
 use Rattle.nb_vault.specs.declared.records.Records.{Records}
 use Rattle.nb_vault.proofs.Joining.{all_more, few_items, joins_item, legal_more, no_both, short_entries, some_length}
 

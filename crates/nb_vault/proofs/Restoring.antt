@@ -1,10 +1,8 @@
 -- Entries read from an item, one after another.
 use Rattle.std.proofs.Common.{◌≡◌, ◌⊎◌, inl, inr, ⊎_elim, ℕ, ◌+◌, ◌<◌, ◌≤◌, List, [], ◌∷◌, ◌++◌, length, take, drop, Result, Ok, Err, refl, sym, ap, subst, ◌∙◌, append_assoc, arith, length-append}
-use Rattle.std.specs.Prelude.{map}
-use Rattle.std.specs.List.{flat_map, AllByRecursion}
-use Rattle.std.proofs.lemmas.List.{append-nil, take-append-drop, take_at, drop-drop, drop_all, length-drop, map-append}
+use Rattle.std.specs.List.{AllByRecursion}
+use Rattle.std.proofs.lemmas.List.{append-nil, take-append-drop, take_at, drop-drop, drop_all, length-drop}
 use Rattle.std.proofs.lemmas.Grind.{flat_map-append}
-use Rattle.std.proofs.Math.Seq.{take-append_seam, get_or-append_seam}
 use Rattle.nb_units.specs.Laws.{StandsAt}
 use Rattle.nb_book.specs.declared.entry.Entry.{Entry}
 use Rattle.nb_book.specs.declared.entry.Entry.TheVariants.{Enrol, Fund, Paid, Refused}
@@ -14,7 +12,7 @@ use Rattle.nb_book.specs.Legal.{Legal, LegalAfter}
 use Rattle.nb_book.specs.Spelling.{IsEntry, Spells, entry_bytes, entries_bytes, bytes_of_kind}
 use Rattle.nb_book.proofs.Layouts.{one_spelling, entry_long}
 use Rattle.nb_vault.specs.Restoring.{SpellsNothing}
-use Rattle.nb_vault.proofs.Joining.{all_more, joins_item, legal_at}
+use Rattle.nb_vault.proofs.Joining.{all_more, legal_at}
 
 -- an entry has bytes
 entry_some : (e : Entry) → IsEntry e → 1 ≤ length (entry_bytes e)

@@ -17,7 +17,7 @@ use Rattle.nb_vault.specs.declared.parts.TheConstants.{MOST_LINES, LINES_OF_FAUL
 use Rattle.nb_vault.specs.declared.records.Counts.{Counts}
 use Rattle.nb_vault.specs.declared.telling.Fate.{Fate}
 use Rattle.nb_vault.specs.declared.telling.Fate.TheVariants as fates
-use Rattle.nb_vault.specs.Records.{Rests, Gathers, RecordWrites, disk_under, doubt_of, over_of, SameTerms, Failed}
+use Rattle.nb_vault.specs.Records.{Rests, disk_under, doubt_of, over_of, SameTerms, Failed}
 use Rattle.nb_vault.specs.Vaults.{Chronicled}
 
 -- what contracts see of it

@@ -7,7 +7,6 @@ use Rattle.nb_book.specs.declared.entry.Entry.{Entry}
 use Rattle.nb_book.specs.declared.spelling.TheConstants.{MAX_ITEM_ENTRIES}
 use Rattle.nb_book.specs.Legal.{Legal}
 use Rattle.nb_book.specs.Spelling.{entries_bytes, IsEntry}
-use Rattle.nb_journal.specs.declared.journal.Journal.{Journal}
 use Rattle.nb_journal.specs.declared.journal.Settled.{Settled}
 use Rattle.nb_journal.specs.declared.journal.Settled.TheVariants as settles
 use Rattle.nb_journal.specs.Layout.{front_bytes, AreTerms}

@@ -1,5 +1,5 @@
 -- What a vault is seen as, what every vault keeps, and how it answers.
-use Rattle.std.specs.Prelude.{◌≡◌, ◌≢◌, ◌⊎◌, ℕ, ◌≤◌, Bool, true, false, List, [], ◌∷◌, ◌++◌, length, Option, IfSome, if◌then◌else◌}
+use Rattle.std.specs.Prelude.{◌≡◌, ◌≢◌, ◌⊎◌, ℕ, ◌≤◌, Bool, true, false, List, [], ◌∷◌, ◌++◌, length, IfSome, if◌then◌else◌}
 use Rattle.nb_port.specs.Tells.{DiskTells}
 use Rattle.nb_port.specs.Faults.{Rose, Backed}
 use Rattle.nb_book.specs.declared.entry.Entry.{Entry}
@@ -8,7 +8,7 @@ use Rattle.nb_journal.specs.Layout.{AreTerms}
 use Rattle.nb_escrow.specs.Head.{head_of}
 use Rattle.nb_turns.specs.declared.limits.TheConstants.{MAX_FAULTS}
 use Rattle.nb_turns.specs.declared.line.Line.{Line}
-use Rattle.nb_turns.specs.Turns.{Request, House, State, Outcome, Decides, Fails, Refuses, Turn, answered, decided, places, recorded, replies}
+use Rattle.nb_turns.specs.Turns.{Request, House, State, Outcome, Decides, Fails, Refuses, Turn, decided, places, recorded, replies}
 use Rattle.nb_turns.specs.Lines.{AddsLines, NeverFall, Sound, entries_of, failures_in, faults_of, next_turn, open_doubt}
 use Rattle.nb_turns.specs.Laws.{IsBalanced}
 use Rattle.nb_vault.specs.declared.answer.Answer.{Answer}

@@ -1,4 +1,4 @@
-use Rattle.std.proofs.Common.{◌<◌, ◌++◌, ◌∷◌, [], sym, ap, subst, ◌∙◌, length, arith, rules}
+use Rattle.std.proofs.Common.{◌<◌, sym, ap, subst, ◌∙◌, length, arith, rules}
 use Rattle.std.proofs.lemmas.Bool.{eqb-false}
 use Rattle.std.proofs.lemmas.List.{length-drop, length-append}
 use Rattle.nb_units.specs.Laws.{StandsAt}

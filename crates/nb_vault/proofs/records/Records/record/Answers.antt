@@ -1,10 +1,9 @@
-use Rattle.std.proofs.Common.{refl, ap, sym, subst, ◌∙◌, ◌∷◌, [], ◌++◌, List, ℕ, length, Err}
+use Rattle.std.proofs.Common.{refl, sym, subst, ◌∙◌, ◌∷◌, [], ◌++◌, List, ℕ, length}
 use Rattle.std.proofs.lemmas.Bool.{eqb-false}
 use Rattle.nb_journal.specs.Layout.{front_bytes}
-use Rattle.nb_journal.specs.States.{AppendFails, AppendWrites, AtRest, InDoubt}
-use Rattle.nb_journal.specs.declared.journal.AppendFault.{AppendFault}
+use Rattle.nb_journal.specs.States.{AppendFails, AtRest, InDoubt}
 use Rattle.nb_vault.proofs.Joining.{some_of}
-use Rattle.nb_vault.proofs.Resting.{doubt_rests, grown_rests, not_big, not_full, record_leaves, tears_at, writes_at}
+use Rattle.nb_vault.proofs.Resting.{doubt_rests, grown_rests, not_big, not_full, record_leaves}
 use Rattle.nb_vault.proofs.records.Records.record.Goals as goal
 
 pub unreachable-requires : goal.unreachable-requires

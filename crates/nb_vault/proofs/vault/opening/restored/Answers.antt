@@ -1,4 +1,4 @@
-use Rattle.std.proofs.Common.{refl, ◌∙◌, arith, rules}
+use Rattle.std.proofs.Common.{refl, arith, rules}
 use Rattle.nb_vault.proofs.Founding.{restored_as}
 use Rattle.nb_vault.proofs.vault.opening.restored.Goals as goal
 
