@@ -23,7 +23,8 @@ use std::process::ExitCode;
 use std::sync::Wait;
 use std::thread::Threads;
 
-const USAGE: &str = "usage: bench sha|hmac|seal|unseal|stream|frames1|frames100|frames65536|copy SIZE TIMES
+const USAGE: &str =
+    "usage: bench sha|hmac|seal|unseal|stream|frames1|frames100|frames65536|copy SIZE TIMES
        bench turn|lock THREADS TIMES";
 
 // The words are none of the program's.
