@@ -3,6 +3,7 @@ pub mod Layouts
 pub mod Images
 pub mod Moments
 pub mod Telling
+pub mod Windows
 pub mod Appending
 pub mod Tearing
 pub mod Settling

@@ -10,9 +10,11 @@ use Rattle.nb_port.specs.Disk.{ReadsContent}
 use Rattle.nb_units.specs.Fields.{be4}
 use Rattle.nb_journal.specs.Layout.{open_gate, item_bytes}
 use Rattle.nb_journal.specs.Reading.{Shut, Item, Broken, first_of, behind_gate, item_of}
-use Rattle.nb_journal.specs.Scanning.{ItemAt, LeadIs, LeadGives}
+use Rattle.nb_journal.specs.Scanning.{ItemAt, LeadIs, LeadGives, BodyFrom, BodyGives}
 use Rattle.nb_journal.specs.declared.opening.record.LeadRead.{LeadRead}
 use Rattle.nb_journal.specs.declared.opening.record.LeadRead.TheVariants as leads
+use Rattle.nb_journal.specs.declared.opening.record.BodyRead.{BodyRead}
+use Rattle.nb_journal.specs.declared.opening.record.BodyRead.TheVariants as bodies
 use Rattle.nb_journal.proofs.Tearing.{order}
 
 -- ---- a read
@@ -160,3 +162,14 @@ pub item_short : (told : Option (List ℕ)) (place n : ℕ) → n ≤ 2097152 �
     → IfSome told (λ image. length (drop (place + 5) image) < n) → IfSome told (λ image. first_of (drop place image) ≡ Broken)
 item_short None place n most lead short = tt
 item_short (Some image) place n most lead short = lead_seen image place n lead most ∙ short_reads n (drop (place + 5) image) most short
+
+-- what the bytes of an item are, where they are its own or all there are
+pub body_gives : (before after : ℕ) (told : Option (List ℕ)) (place n : ℕ) (bytes : List ℕ) (body : BodyRead) → BodyFrom bytes n body → IfSome told (λ image. bytes ≡ take n (drop place image)) → BodyGives before after told place n body
+body_gives before after None place n bytes (bodies.Got item) says reads = (ap length says.1 ∙ says.0, tt)
+body_gives before after None place n bytes bodies.Short says reads = tt
+body_gives before after None place n bytes bodies.Failed says reads = absurd says
+body_gives before after None place n bytes bodies.NoMemory says reads = tt
+body_gives before after (Some image) place n bytes (bodies.Got item) says reads = (ap length says.1 ∙ says.0, sym (says.1 ∙ reads))
+body_gives before after (Some image) place n bytes bodies.Short says reads = omega (arith, says, ap length reads, length-take n (drop place image))
+body_gives before after (Some image) place n bytes bodies.Failed says reads = absurd says
+body_gives before after (Some image) place n bytes bodies.NoMemory says reads = tt

@@ -4,6 +4,8 @@ pub mod Time
 pub mod States
 pub mod Reading
 pub mod Scanning
+pub mod Held
+pub mod Window
 pub mod Opening
 pub mod Making
 pub mod Laws

@@ -35,6 +35,13 @@ LeadGives before after content place leads.Broken = IfSome content (λ image. fi
 LeadGives before after content place (leads.Sized n) = (n ≤ MAX_ITEM) × IfSome content (λ image. take LEAD (drop place image) ≡ open_gate ∷ be4 n)
 LeadGives before after content place leads.Failed = Rose before after
 
+-- the bytes of an item, where these are its own or all there are
+abbrev pub BodyFrom : List ℕ → ℕ → BodyRead → Type 0
+BodyFrom bytes n (bodies.Got item) = (length bytes ≡ n) × (item ≡ bytes)
+BodyFrom bytes n bodies.Short = length bytes < n
+BodyFrom bytes n bodies.Failed = ⊥
+BodyFrom bytes n bodies.NoMemory = ⊤
+
 -- the bytes of an item, whose length was read before
 abbrev pub BodyGives : ℕ → ℕ → Option (List ℕ) → ℕ → ℕ → BodyRead → Type 0
 BodyGives before after content place n (bodies.Got item) = (length item ≡ n) × IfSome content (λ image. take n (drop place image) ≡ item)

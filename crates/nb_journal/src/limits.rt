@@ -25,6 +25,9 @@ pub const AROUND: u64 = LEAD as u64;
 /// The most bytes of an item.
 pub const MAX_ITEM: u32 = 2_097_152;
 
+/// The bytes that one read of a disk asks for while a journal is opened, where an item is not longer.
+pub const WINDOW: usize = 65_536;
+
 /// A gate that is open.
 pub const OPEN: u8 = 0xA5;
 

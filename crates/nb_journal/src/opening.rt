@@ -7,6 +7,7 @@ mod contents;
 pub(crate) mod front;
 mod items;
 mod record;
+mod window;
 
 use crate::journal::Journal;
 use crate::limits::{HEAD, MAGIC_BYTES};

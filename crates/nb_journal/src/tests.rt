@@ -3,6 +3,7 @@
 mod damage;
 mod faults;
 mod making;
+mod windows;
 
 use super::*;
 use nb_port::MemDisk;

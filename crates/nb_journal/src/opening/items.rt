@@ -7,6 +7,7 @@ ghost use Rattle.nb_journal.specs.Time.{Untouched};
 
 use crate::limits::{AROUND, FRONT};
 use crate::opening::record::{LeadRead, RecordRead, lead_at, record_at};
+use crate::opening::window::Window;
 use nb_port::Disk;
 use nb_units::Blob;
 use std::alloc::Global;
@@ -30,10 +31,13 @@ pub(crate) fn read_items<D: Disk>(alloc: Global, disk: &mut D, cap: u32) -> Item
     ensures nothing { Untouched D.tells disk.old disk.new }
     ensures count { D.tells.faults disk.old ≤ D.tells.faults disk.new }
 {
+    let Ok(mut window) = Window::new(alloc) else {
+        return ItemsRead::NoMemory;
+    };
     let mut items = Vec::new(alloc);
     let mut place = FRONT;
     for item in 0..cap {
-        match record_at(alloc, disk, place) {
+        match record_at(alloc, &mut window, disk, place) {
             RecordRead::Shut => return ItemsRead::Whole { items, place },
             RecordRead::Broken => return ItemsRead::Damaged { item, place },
             RecordRead::Failed => return ItemsRead::Failed,
@@ -47,7 +51,7 @@ pub(crate) fn read_items<D: Disk>(alloc: Global, disk: &mut D, cap: u32) -> Item
             }
         }
     }
-    match lead_at(disk, place) {
+    match lead_at(&mut window, disk, place) {
         LeadRead::Shut => ItemsRead::Whole { items, place },
         LeadRead::Broken => ItemsRead::Damaged { item: cap, place },
         LeadRead::Sized(_) => ItemsRead::Damaged { item: cap, place },

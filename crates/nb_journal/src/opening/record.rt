@@ -2,10 +2,13 @@
 
 ghost use Rattle.std.specs.Prelude.{◌≡◌, ◌≤◌, ◌<◌, ◌+◌, ◌^◌, length};
 ghost use Rattle.nb_journal.specs.declared.limits.TheConstants.{LEAD, MAX_ITEM};
-ghost use Rattle.nb_journal.specs.Scanning.{LeadIs, LeadGives, RecordGives, BodyGives};
+ghost use Rattle.nb_journal.specs.Scanning.{LeadIs, LeadGives, RecordGives, BodyFrom, BodyGives};
 ghost use Rattle.nb_journal.specs.Time.{Untouched};
+ghost use Rattle.nb_journal.specs.Window.{Sees};
+ghost use Rattle.nb_journal.specs.declared.limits.TheConstants.{WINDOW};
 
-use crate::limits::{AROUND, LEAD, LENGTH, MAX_ITEM, OPEN};
+use crate::limits::{AROUND, LEAD, LENGTH, MAX_ITEM, OPEN, WINDOW};
+use crate::opening::window::{Reached, Window};
 use crate::reading::number;
 use nb_port::{Disk, DiskRead};
 use nb_units::Blob;
@@ -49,15 +52,17 @@ enum BodyRead {
 }
 
 // What the gate at the place and the length behind it say.
-pub(crate) fn lead_at<D: Disk>(disk: &mut D, place: u64) -> LeadRead
+pub(crate) fn lead_at<D: Disk>(window: &mut Window, disk: &mut D, place: u64) -> LeadRead
+    requires near { place < 2 ^ 63 }
+    requires sees { Sees (D.tells.content disk.old) window.old }
     ensures gives { LeadGives (D.tells.faults disk.old) (D.tells.faults disk.new) (D.tells.content disk.old) place result }
+    ensures sees { Sees (D.tells.content disk.new) window.new }
     ensures nothing { Untouched D.tells disk.old disk.new }
     ensures count { D.tells.faults disk.old ≤ D.tells.faults disk.new }
 {
-    let mut bytes = [0u8; LEAD];
-    match disk.read(place, &mut bytes) {
-        DiskRead::Failed => LeadRead::Failed,
-        DiskRead::Got(n) => lead_of(bytes.as_slice().split_at(n).0),
+    match window.reach(disk, place, LEAD) {
+        Reached::Failed => LeadRead::Failed,
+        Reached::There => lead_of(window.part(place, LEAD)),
     }
 }
 
@@ -84,27 +89,74 @@ fn lead_of(bytes: &[u8]) -> LeadRead
 }
 
 // The record whose gate stands at the place.
-pub(crate) fn record_at<D: Disk>(alloc: Global, disk: &mut D, place: u64) -> RecordRead
-    requires { place < 2 ^ 63 }
+pub(crate) fn record_at<D: Disk>(
+    alloc: Global,
+    window: &mut Window,
+    disk: &mut D,
+    place: u64,
+) -> RecordRead
+    requires near { place < 2 ^ 62 }
+    requires sees { Sees (D.tells.content disk.old) window.old }
     ensures gives { RecordGives (D.tells.faults disk.old) (D.tells.faults disk.new) (D.tells.content disk.old) place result }
+    ensures sees { Sees (D.tells.content disk.new) window.new }
     ensures nothing { Untouched D.tells disk.old disk.new }
     ensures count { D.tells.faults disk.old ≤ D.tells.faults disk.new }
 {
-    match lead_at(disk, place) {
+    match lead_at(window, disk, place) {
         LeadRead::Shut => RecordRead::Shut,
         LeadRead::Broken => RecordRead::Broken,
         LeadRead::Failed => RecordRead::Failed,
-        LeadRead::Sized(len) => match body_at(alloc, disk, place + AROUND, len as usize) {
-            BodyRead::Got(item) => RecordRead::Item(item),
-            BodyRead::Short => RecordRead::Broken,
-            BodyRead::Failed => RecordRead::Failed,
-            BodyRead::NoMemory => RecordRead::NoMemory,
-        },
+        LeadRead::Sized(len) => {
+            match body_at(alloc, window, disk, place + AROUND, len as usize) {
+                BodyRead::Got(item) => RecordRead::Item(item),
+                BodyRead::Short => RecordRead::Broken,
+                BodyRead::Failed => RecordRead::Failed,
+                BodyRead::NoMemory => RecordRead::NoMemory,
+            }
+        }
     }
 }
 
 // The item of so many bytes at the place.
-fn body_at<D: Disk>(alloc: Global, disk: &mut D, place: u64, len: usize) -> BodyRead
+fn body_at<D: Disk>(
+    alloc: Global,
+    window: &mut Window,
+    disk: &mut D,
+    place: u64,
+    len: usize,
+) -> BodyRead
+    requires near { place < 2 ^ 63 }
+    requires sees { Sees (D.tells.content disk.old) window.old }
+    ensures gives { BodyGives (D.tells.faults disk.old) (D.tells.faults disk.new) (D.tells.content disk.old) place len result }
+    ensures sees { Sees (D.tells.content disk.new) window.new }
+    ensures nothing { Untouched D.tells disk.old disk.new }
+    ensures count { D.tells.faults disk.old ≤ D.tells.faults disk.new }
+{
+    if len > WINDOW {
+        return long_body_at(alloc, disk, place, len);
+    }
+    match window.reach(disk, place, len) {
+        Reached::Failed => BodyRead::Failed,
+        Reached::There => body_of(alloc, window.part(place, len), len),
+    }
+}
+
+// The item of so many bytes, where these are all the bytes from its place on, or the first so many of them.
+fn body_of(alloc: Global, bytes: &[u8], len: usize) -> BodyRead
+    requires { length bytes.now ≤ len }
+    ensures { BodyFrom bytes.now len result }
+{
+    if bytes.len() < len {
+        return BodyRead::Short;
+    }
+    match Blob::of(alloc, bytes) {
+        Ok(blob) => BodyRead::Got(blob),
+        Err(_) => BodyRead::NoMemory,
+    }
+}
+
+// The item of so many bytes at the place, by a read of its own.
+fn long_body_at<D: Disk>(alloc: Global, disk: &mut D, place: u64, len: usize) -> BodyRead
     ensures gives { BodyGives (D.tells.faults disk.old) (D.tells.faults disk.new) (D.tells.content disk.old) place len result }
     ensures nothing { Untouched D.tells disk.old disk.new }
     ensures count { D.tells.faults disk.old ≤ D.tells.faults disk.new }
@@ -115,14 +167,6 @@ fn body_at<D: Disk>(alloc: Global, disk: &mut D, place: u64, len: usize) -> Body
     };
     match disk.read(place, &mut piece) {
         DiskRead::Failed => BodyRead::Failed,
-        DiskRead::Got(n) => {
-            if n < len {
-                return BodyRead::Short;
-            }
-            match Blob::of(alloc, &piece) {
-                Ok(blob) => BodyRead::Got(blob),
-                Err(_) => BodyRead::NoMemory,
-            }
-        }
+        DiskRead::Got(n) => body_of(alloc, piece.as_slice().split_at(n).0, len),
     }
 }

@@ -1,7 +1,10 @@
-// An append to a journal that holds one item, where calls of the disk fail. Opening makes five calls, the append calls 6 to 9:
-// the body's write, a sync, the gate's write, a sync. Settling makes two, a sync and a read.
+// An append to a journal that holds one item, where calls of the disk fail. The append makes four calls: the body's write, a sync,
+// the gate's write, a sync. Settling makes two, a sync and a read.
 
 use super::*;
+
+// The calls of opening: a sync, and the reads of the front and of what stands behind it.
+const OPENING: u64 = 3;
 
 struct Case<'a> {
     fails: &'a [u64],
@@ -30,36 +33,36 @@ const REST: &[u8] = b"-nine bytes, the second\0";
 
 static CASES: [Case<'static>; 6] = [
     Case {
-        fails: &[6],
-        calls: 6,
-        settles: &[(DROPPED, 8)],
+        fails: &[OPENING + 1],
+        calls: OPENING + 1,
+        settles: &[(DROPPED, OPENING + 3)],
         content: &[GATED, b"\0"],
         items: &[FIRST],
         later: &[GATED, b"\xA5", THIRD_BODY],
         later_items: &[FIRST, THIRD],
     },
     Case {
-        fails: &[7],
-        calls: 7,
-        settles: &[(DROPPED, 9)],
+        fails: &[OPENING + 2],
+        calls: OPENING + 2,
+        settles: &[(DROPPED, OPENING + 4)],
         content: &[GATED, b"\0", SECOND_BODY],
         items: &[FIRST],
         later: &[GATED, b"\xA5", THIRD_BODY, REST],
         later_items: &[FIRST, THIRD],
     },
     Case {
-        fails: &[8],
-        calls: 8,
-        settles: &[(DROPPED, 10)],
+        fails: &[OPENING + 3],
+        calls: OPENING + 3,
+        settles: &[(DROPPED, OPENING + 5)],
         content: &[GATED, b"\0", SECOND_BODY],
         items: &[FIRST],
         later: &[GATED, b"\xA5", THIRD_BODY, REST],
         later_items: &[FIRST, THIRD],
     },
     Case {
-        fails: &[9],
-        calls: 9,
-        settles: &[(KEPT, 11)],
+        fails: &[OPENING + 4],
+        calls: OPENING + 4,
+        settles: &[(KEPT, OPENING + 6)],
         content: &[GATED, b"\xA5", SECOND_BODY],
         items: &[FIRST, SECOND],
         later: &[GATED, b"\xA5\0\0\0\x1D", SECOND, b"\xA5", THIRD_BODY],
@@ -67,18 +70,18 @@ static CASES: [Case<'static>; 6] = [
     },
     // The sync of settling fails too, and then its read.
     Case {
-        fails: &[9, 10],
-        calls: 9,
-        settles: &[(FAILED, 10), (KEPT, 12)],
+        fails: &[OPENING + 4, OPENING + 5],
+        calls: OPENING + 4,
+        settles: &[(FAILED, OPENING + 5), (KEPT, OPENING + 7)],
         content: &[GATED, b"\xA5", SECOND_BODY],
         items: &[FIRST, SECOND],
         later: &[GATED, b"\xA5\0\0\0\x1D", SECOND, b"\xA5", THIRD_BODY],
         later_items: &[FIRST, SECOND, THIRD],
     },
     Case {
-        fails: &[8, 10],
-        calls: 8,
-        settles: &[(FAILED, 10), (DROPPED, 12)],
+        fails: &[OPENING + 3, OPENING + 5],
+        calls: OPENING + 3,
+        settles: &[(FAILED, OPENING + 5), (DROPPED, OPENING + 7)],
         content: &[GATED, b"\0", SECOND_BODY],
         items: &[FIRST],
         later: &[GATED, b"\xA5", THIRD_BODY, REST],
@@ -92,7 +95,7 @@ fn settles_after_a_fault(rt: HostRuntime) -> Result<(), Fail> {
     let one = journal_of(alloc, &[GATED, b"\0"])?;
     for case in &CASES {
         let mut journal = open(alloc, one.as_slice(), case.fails)?;
-        assert_eq!(rt; journal.disk().calls(), 5);
+        assert_eq!(rt; journal.disk().calls(), OPENING);
         assert_eq!(rt;
             append(&mut journal, SECOND)?,
             Err(AppendFault::DiskFault {

@@ -34,7 +34,7 @@ loop-item-preserved g c =
     let place = c.loop-item.place in
     let item = c.in-Item.blob in
     let below : length items < c.args.cap = omega (arith, c.loop-item.invariant.count, c.loop-item-test.true) in
-    let pushed : c.push.new.self.items ≡ items ++ item ∷ [] = c.in-Ok.ensures.items in
+    let pushed : c.push.new.self.items ≡ items ++ item ∷ [] = c.in-Ok-push.ensures.items in
     let next : c.as_slice.result.now ≡ item = c.as_slice.ensures in
     let there = some_same told (g.D.Disk.tells.content c.loop-item.disk) (λ image. ItemAt image place item) c.loop-item.invariant.nothing.same c.in-Item.ensures.gives.1 in
     let reads = some_both told (λ image. ReadSoFar image c.args.cap items place) (λ image. ItemAt image place item) (λ image. ReadSoFar image c.args.cap (items ++ item ∷ []) (place + (length item + 5)))
@@ -45,6 +45,7 @@ loop-item-preserved g c =
       items = rw (pushed, next) are;
       reads = rw (pushed, next) reads;
       nothing = untouched_then g.D.Disk.tells _ c.loop-item.disk _ c.loop-item.invariant.nothing c.in-Item.ensures.nothing;
+      sees = c.in-Item.ensures.sees;
       faults = omega (arith, c.loop-item.invariant.faults, c.in-Item.ensures.count);
     }
 

@@ -1,10 +1,12 @@
-use Rattle.std.proofs.Common.{take, ap, ◌∙◌}
-use Rattle.nb_journal.proofs.Records.{read_is, lead_gives}
+use Rattle.std.proofs.Common.{◌≡◌, ℕ, List, Option, IfSome, take, drop, subst, ap, ◌∙◌}
+use Rattle.nb_journal.specs.Window.{Sees}
+use Rattle.nb_journal.proofs.Records.{lead_gives}
+use Rattle.nb_journal.proofs.Windows.{part_is, part_stands}
 use Rattle.nb_journal.proofs.opening.record.lead_at.Goals as goal
 
-pub returns-in-Got-clause-gives : goal.returns-in-Got-clause-gives
-returns-in-Got-clause-gives g c =
-    let bytes = c.split_at.result.0.now in
-    lead_gives _ _ (g.D.Disk.tells.content c.args.disk.now) c.args.place bytes c.lead_of.result c.lead_of.ensures
-    (read_is (g.D.Disk.tells.content c.args.disk.now) c.args.place 5 c.in-Got.n c.read.new.buf bytes c.in-Got.ensures.gives.1
-    (c.split_at.ensures.front ∙ ap (take c.in-Got.n) c.as_slice.ensures))
+pub returns-in-There-clause-gives : goal.returns-in-There-clause-gives
+returns-in-There-clause-gives g c =
+    let told = g.D.Disk.tells.content c.args.disk.now in
+    let sees = subst (λ (t : Option (List ℕ)). Sees t c.reach.new.self) c.in-There.ensures.nothing.same c.in-There.ensures.sees in
+    lead_gives _ _ told c.args.place c.part.result.now c.lead_of.result c.lead_of.ensures
+    (part_stands told c.reach.new.self c.args.place 5 c.part.result.now sees c.in-There.ensures.gives c.part.ensures)
