@@ -1,13 +1,15 @@
 //! A program that does a named piece of work over bytes a number of times, so that its speed can be measured:
 //! `bench ROW SIZE TIMES`. It prints the SHA-256 digest of what the work made, in hexadecimal.
 //!
-//! The work begins with SIZE bytes of a pattern; a turn and a lock have no bytes, and SIZE is the number of threads. Each round works on what the last one made, so that none can be left out. A file
+//! The work begins with SIZE bytes of a pattern; a turn and a lock have no bytes, and SIZE is the number of threads; of look-ups it is
+//! how many keys there are. Each round works on what the last one made, so that none can be left out. A file
 //! has one subject and its rows: a new row touches that file alone. How long a round takes is no claim of the proofs, and no clause
 //! says more than its safety needs: bench/run measures from outside, and the tests compare what is made with other programs.
 #![tactic(auto)]
 
 mod framing;
 mod hashing;
+mod indexing;
 mod keystream;
 mod pattern;
 mod sealing;
@@ -24,7 +26,7 @@ use std::sync::Wait;
 use std::thread::Threads;
 
 const USAGE: &str =
-    "usage: bench sha|hmac|seal|unseal|stream|frames1|frames100|frames65536|copy SIZE TIMES
+    "usage: bench sha|hmac|seal|unseal|stream|frames1|frames100|frames65536|copy|lookup SIZE TIMES
        bench turn|lock THREADS TIMES";
 
 // The words are none of the program's.
@@ -85,6 +87,10 @@ fn run<R: Threads + Wait + Sync>(
         Made::Unknown => {}
     }
     match framing::run(alloc, row, size, times)? {
+        Made::Bytes(bytes) => return Ok(Made::Bytes(bytes)),
+        Made::Unknown => {}
+    }
+    match indexing::run(alloc, row, size, times)? {
         Made::Bytes(bytes) => return Ok(Made::Bytes(bytes)),
         Made::Unknown => {}
     }

@@ -1,5 +1,5 @@
-//! The program's words and lines. Digests are from a Python program over hashlib, hmac and another ChaCha20, and sums of frames from
-//! one that reads no frames.
+//! The program's words and lines. Digests are from a Python program over hashlib, hmac and another ChaCha20, and sums of frames and of
+//! look-ups from ones that read no frames and have no index.
 
 use crate::line_of;
 use std::alloc::{AllocError, Global};
@@ -82,6 +82,14 @@ fn lines(rt: HostRuntime) -> Result<(), Fail> {
         (
             "copy 10 3",
             "283fee256eef3e784fd703dea49e4fb85ec5454f91489388020a05a4eb662e99",
+        ),
+        (
+            "lookup 5 12",
+            "dd0a14a0323ff6f5f6b50a1c8929e9128a9ef605218db1bed816d4e0358ddcad",
+        ),
+        (
+            "lookup 1000 20000",
+            "be4979ba8d2ecc83689d64e35a2bb395bbb685af2c34062d4e7855451987485b",
         ),
         (
             "turn 1 100",

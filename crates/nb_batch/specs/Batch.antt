@@ -8,6 +8,7 @@ use Rattle.nb_port.specs.Faults.{Rose, Failure, Backed}
 use Rattle.nb_port.specs.Clock.{Gives}
 use Rattle.nb_units.specs.Frames.{Frame, frame, IsFrame, Splits}
 use Rattle.nb_frame.specs.State.{Collected, waiting}
+use Rattle.nb_frame.specs.declared.stream.TheConstants.{MAX_HELD}
 use Rattle.nb_journal.specs.Time.{LeavesOnly}
 use Rattle.nb_book.specs.declared.entry.Entry.{Entry}
 use Rattle.nb_endorse.specs.declared.refusal.TheConstants.{DISK_FAULT, WORN}
@@ -175,7 +176,7 @@ CountsAs other count = count < MOST_FRAMES
 -- What a batch did over a house, by how it ended
 pub record Served {D : Type 0} (tells : DiskTells D) (old new : Chronicled D) (before after : Outside) (end : BatchEnd) : Type 0 where
   -- the requests that were answered, the states that the house came to and the disks then; frames that were read and not answered,
-  -- and what follows them; all bytes that were read
+  -- and what follows them, which the reader held; all bytes that were read
   pub answered : List Answered
   pub states : List State
   pub disks : List D
@@ -185,6 +186,7 @@ pub record Served {D : Type 0} (tells : DiskTells D) (old new : Chronicled D) (b
   pub took : Consumes before.left after.left read
   pub frames : Splits read (map frame_of answered ++ unanswered) rest
   pub all : AnswersAll end → unanswered ≡ []
+  pub ahead : length (flat_map frame unanswered ++ rest) ≤ MAX_HELD
   pub ends : EndsAs end (length (flat_map frame (map frame_of answered))) rest after.left
   pub counted : CountsAs end (length answered)
   pub asked : Gave before.moments after.moments (map moment_of answered)

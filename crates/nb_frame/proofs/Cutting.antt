@@ -6,7 +6,7 @@ use Rattle.nb_units.proofs.FrameLaws.{bad_stays, one_reading}
 use Rattle.nb_frame.specs.State.{Collected, waiting, unfed, fed}
 use Rattle.nb_frame.specs.Faults.{placed}
 use Rattle.nb_frame.specs.Collected.{frame_at, TakesFrame, NextIs}
-use Rattle.nb_frame.specs.Cuts.{Call, Feeds, Tells, Calls, stream_of, given, EndsIn, IsEnd, InAnyCut, SameInAnyCut, FaultStays}
+use Rattle.nb_frame.specs.Cuts.{Call, Feeds, Tells, Calls, stream_of, given, EndsIn, IsEnd, ReadsAs, InAnyCut, SameInAnyCut, FaultInAnyCut, FaultStays}
 use Rattle.nb_frame.specs.declared.stream.Next.{Next}
 use Rattle.nb_frame.specs.declared.stream.Next.TheVariants as next
 use Rattle.nb_frame.specs.declared.stream.FrameAt.{FrameAt}
@@ -84,17 +84,21 @@ one_end before rest (next.Bad fault) next.More first second = absurd (bad_not_sh
 one_end before rest (next.Bad fault) (next.Bad other) first second =
     ap next.Bad (first.2 ∙ ap (placed before) (same_fault first.0 second.0 (front_of rest) first.1 second.1) ∙ sym second.2)
 
-pub same_in_any_cut : SameInAnyCut
-same_in_any_cut calls others last behind latter beyond answer other is told end are tells ends same =
-    let a = (in_any_cut calls last behind answer is told end).0 in
-    let b = (in_any_cut others latter beyond other are tells ends).0 in
-    let both = one_reading (stream_of others) (waiting last) (waiting latter) (given calls) (given others) (subst (λ (xs : List ℕ). Splits xs (given calls) (waiting last)) same a.splits) b.splits in
-    let E : List Frame → List ℕ → Type 0 = λ frames rest. EndsIn (length (flat_map frame frames)) rest answer in (
+-- a stream is read in one way, and ends in one
+one_way : (stream rest last : List ℕ) (frames others : List Frame) (answer other : Next) → ReadsAs stream frames rest answer → ReadsAs stream others last other → (frames ≡ others) × (rest ≡ last) × (answer ≡ other)
+one_way stream rest last frames others answer other first second =
+    let both = one_reading stream rest last frames others first.splits second.splits in
+    let E : List Frame → List ℕ → Type 0 = λ fs xs. EndsIn (length (flat_map frame fs)) xs answer in (
       both.0,
       both.1,
-      one_end (length (flat_map frame (given others))) (waiting latter) answer other
-          (subst (λ (frames : List Frame). E frames (waiting latter)) both.0 (subst (λ (rest : List ℕ). E (given calls) rest) both.1 a.ends)) b.ends,
+      one_end (length (flat_map frame others)) last answer other (subst (λ (fs : List Frame). E fs last) both.0 (subst (λ (xs : List ℕ). E frames xs) both.1 first.ends)) second.ends,
     )
+
+pub same_in_any_cut : SameInAnyCut
+same_in_any_cut calls others last behind latter beyond answer other is told end are tells ends same =
+    one_way (stream_of others) (waiting last) (waiting latter) (given calls) (given others) answer other
+    (subst (λ (xs : List ℕ). ReadsAs xs (given calls) (waiting last) answer) same (in_any_cut calls last behind answer is told end).0)
+    (in_any_cut others latter beyond other are tells ends).0
 
 pub fault_stays : FaultStays
 fault_stays stream rest more frames fault is =
@@ -107,3 +111,10 @@ fault_stays stream rest more frames fault is =
       };
       ends = (is.ends.0, front, is.ends.2);
     }
+
+pub fault_in_any_cut : FaultInAnyCut
+fault_in_any_cut calls others last behind latter beyond fault other more is told are tells ends same =
+    one_way (stream_of others) (waiting last ++ more) (waiting latter) (given calls) (given others) (next.Bad fault) other
+    (subst (λ (xs : List ℕ). ReadsAs xs (given calls) (waiting last ++ more) (next.Bad fault)) (sym same)
+    (fault_stays (stream_of calls) (waiting last) more (given calls) fault (in_any_cut calls last behind (next.Bad fault) is told tt).0))
+    (in_any_cut others latter beyond other are tells ends).0

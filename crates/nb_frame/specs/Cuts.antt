@@ -79,6 +79,14 @@ SameInAnyCut = (calls others : List Call) (last behind latter beyond : Collected
     → Calls unfed others latter → NextIs latter beyond other → IsEnd other
     → stream_of calls ≡ stream_of others → (given calls ≡ given others) × (waiting last ≡ waiting latter) × (answer ≡ other)
 
+-- a stream that was fed up to a fault in one cut, and further in another, gives the same frames before the fault and ends in the same
+-- fault, and what was fed further waits behind it
+abbrev pub FaultInAnyCut : Type 0
+FaultInAnyCut = (calls others : List Call) (last behind latter beyond : Collected) (fault : FrameFault) (other : Next) (more : List ℕ)
+    → Calls unfed calls last → NextIs last behind (next.Bad fault)
+    → Calls unfed others latter → NextIs latter beyond other → IsEnd other
+    → stream_of others ≡ stream_of calls ++ more → (given calls ≡ given others) × (waiting last ++ more ≡ waiting latter) × (next.Bad fault ≡ other)
+
 -- a fault is that of the whole stream, whatever bytes follow the pieces that were fed
 abbrev pub FaultStays : Type 0
 FaultStays = (stream rest more : List ℕ) (frames : List Frame) (fault : FrameFault) → ReadsAs stream frames rest (next.Bad fault) → ReadsAs (stream ++ more) frames (rest ++ more) (next.Bad fault)

@@ -14,6 +14,12 @@ pub fn same_in_any_cut()
     ensures { law.SameInAnyCut }
 {}
 
+/// A law: where one stream in two cuts was fed up to a fault in one, and further in the other, both give the same frames before it and
+/// tell the same fault, and what follows waits in the other.
+pub fn fault_in_any_cut()
+    ensures { law.FaultInAnyCut }
+{}
+
 /// A law: a fault is that of the whole stream, whatever follows the pieces that were fed.
 pub fn fault_stays()
     ensures { law.FaultStays }

@@ -3,7 +3,7 @@ ghost use Rattle.nb_units.specs.Frames.{AreBytes, front_of};
 ghost use Rattle.nb_frame.specs.Looks.{IsShort};
 ghost use Rattle.nb_frame.specs.State.{Collected, waiting, unfed, fed};
 ghost use Rattle.nb_frame.specs.Collected.{NextIs};
-ghost use Rattle.nb_frame.specs.declared.stream.TheConstants.{MAX_PIECE};
+ghost use Rattle.nb_frame.specs.declared.stream.TheConstants.{MAX_PIECE, MAX_HELD};
 
 use crate::fault::FrameFault;
 use crate::look::{Seen, look};
@@ -57,7 +57,7 @@ impl Model for Frames {
 
     ghost view = { λ f. record { held = f.held.items; at = f.at; taken = f.taken } };
 
-    ghost invariant = { λ f. (f.at ≤ length f.held.items) × (MAX_HELD ≤ vec_capacity f.held) × (f.taken + length (drop f.at f.held.items) < 2 ^ 63) };
+    ghost invariant = { λ f. (f.at ≤ length f.held.items) × (MAX_HELD ≤ vec_capacity f.held) × (f.taken + length (drop f.at f.held.items) < 2 ^ 63) × (length f.held.items ≤ MAX_HELD) };
 }
 
 impl Frames {
@@ -124,11 +124,12 @@ impl Frames {
         (self.held.len() - self.at) as u64
     }
 
-    /// The bytes since the last feed: those that waited then, and the piece.
+    /// The bytes since the last feed: those that waited then, and the piece. They are at most [`MAX_HELD`].
     pub fn bytes(&self) -> &[u8]
         ensures held { result.now ≡ self.now.held }
         ensures bytes { AreBytes self.now.held }
         ensures near { self.now.taken + length (waiting self.now) < 2 ^ 63 }
+        ensures most { length self.now.held ≤ MAX_HELD }
     {
         as_bytes(self.held.as_slice())
     }

@@ -251,6 +251,7 @@ module _ {D : Type 0} (tells : DiskTells D) where
         disks = s.disks;
         read = s.read;
         unanswered = s.unanswered;
+        ahead = s.ahead;
         rest = s.rest;
         stands = opens.stands;
         took = s.took;
