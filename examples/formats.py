@@ -6,12 +6,15 @@ import hmac
 import struct
 import typing
 
-ENDORSED, RESULT, STATUS, TOLD, ENROL, FUND, DONE, REFUSAL = 0x06, 0x07, 0x09, 0x0A, 0x0D, 0x0E, 0x0F, 0x10
+ENDORSED, RESULT, STATUS, TOLD, TICKET, GRANT, ENROL, FUND, DONE, REFUSAL = 0x06, 0x07, 0x09, 0x0A, 0x0B, 0x0C, 0x0D, 0x0E, 0x0F, 0x10
 CONSUMER, MERCHANT = 1, 2
 ENROLLED, FUNDED, PAID, REFUSED = 1, 2, 3, 4
 
 OPEN, CLOSED = b"\xa5", b"\x00"
 WORD = 0xFFFFFFFF
+
+# How long a ticket holds, in seconds, and the last moment that there is.
+TICKET_LIFE, LAST_MOMENT = 3600, 0xFFFFFFFFFFFFFFFF
 
 # The words of a block that are mixed with each other: columns, then diagonals.
 QUARTERS = (
@@ -169,6 +172,11 @@ def status(asker, key, epoid, least):
     return signed(STATUS, b"stat", key, struct.pack(">I", asker) + epoid + struct.pack(">Q", least))
 
 
+def ticket(consumer, key, merchant, nonce):
+    """The frame by which a consumer asks for a ticket to a merchant."""
+    return signed(TICKET, b"tick", key, struct.pack(">IIQ", consumer, merchant, nonce))
+
+
 def head(house, operator, index):
     """A house's head."""
     return house + operator + index
@@ -235,6 +243,16 @@ def told(house, entries, asker, epoid):
             break
     text = struct.pack(">Q", len(entries)) + epoid + found
     return frame(TOLD, seal(key_of(entries, asker), b"stat", text))
+
+
+def grant(house, consumer, merchant, nonce, moment):
+    """The reply of a house that grants a consumer a ticket to a merchant, at a moment. The two are parties."""
+    until = min(moment + TICKET_LIFE, LAST_MOMENT)
+    parties = struct.pack(">II", consumer.id, merchant.id)
+    session = code(house, b"session" + parties + struct.pack(">QQ", nonce, moment))
+    shown = seal(merchant.key, b"tick", parties + struct.pack(">Q", until) + session)
+    text = struct.pack(">IQQ", merchant.id, nonce, until) + session + sized(shown)
+    return frame(GRANT, seal(consumer.key, b"gran", text))
 
 
 def refusal(why, a, b, x):

@@ -15,6 +15,7 @@ use std::alloc::Global;
 use std::test::Fail;
 
 mod decision;
+mod ticket;
 
 const ZEROS: [u8; 32] = [0; 32];
 
@@ -42,6 +43,8 @@ enum Ask {
     Fund(u32, u64, u8),
     // who asks, its key, the merchant and the serial number of the identifier, and of how many entries at least
     Status(u32, u8, u32, u32, u64),
+    // who asks for a ticket, its key, the merchant and the nonce
+    Ticket(u32, u8, u32, u64),
     // consumer 1 pays 500 for product 7 to merchant 2, under an identifier of moment 1000 and serial number 1; the
     // merchant hands that in at this moment, with its account and the goods' key, 32 times 77
     Pay,
@@ -118,6 +121,8 @@ enum Comes {
     // the status, with the receipt of the order in that row, or without one
     Sees(usize),
     SeesNone,
+    // the ticket, up to this moment
+    Granted(u64),
 }
 
 type Row = (Ask, &'static [Change], Comes);
@@ -218,6 +223,15 @@ fn tagged(alloc: Global, request: &mut Request, ask: &Ask) -> Result<Vec<u8>, Fa
             text.raw(&request.order.epoid.write());
             text.u64(least);
             (0x09, [key; 32], b"stat")
+        }
+        Ticket(consumer, key, merchant, nonce) => {
+            request.sender = (consumer, key);
+            request.order.merchant = PartyId(merchant);
+            request.nonce = nonce;
+            text.u32(consumer);
+            text.u32(merchant);
+            text.u64(nonce);
+            (0x0B, [key; 32], b"tick")
         }
         Pay => return Err("the order's tag is in its seal".into()),
     };
@@ -439,6 +453,30 @@ fn status(request: &Request, place: u64, told: Reply) -> Decision {
             receipt,
         },
         keys: keys_of(0x11, request.sender.1, 0),
+        entry: None,
+    }
+}
+
+// The ticket that is granted up to this moment.
+fn granted(request: &Request, until: u64) -> Decision {
+    let (consumer, key) = request.sender;
+    let merchant = request.order.merchant;
+    let mut named = Buffer::new();
+    named.u32(consumer);
+    named.u32(merchant.0);
+    named.u64(request.nonce);
+    named.u64(request.moment);
+    let reply = Reply::Grant {
+        consumer: PartyId(consumer),
+        merchant,
+        nonce: request.nonce,
+        until,
+        session: hmac(&HOUSE.house, b"session", named.as_slice()),
+    };
+    let merchant_key = if merchant.0 == 2 { 0x55 } else { 0x99 };
+    Decision {
+        reply,
+        keys: keys_of(0x11, key, merchant_key),
         entry: None,
     }
 }

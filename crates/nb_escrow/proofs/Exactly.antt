@@ -28,7 +28,7 @@ use Rattle.nb_endorse.specs.declared.receipt.Receipt.{Receipt}
 use Rattle.nb_endorse.specs.declared.refusal.Refusal.{Refusal}
 use Rattle.nb_endorse.specs.declared.refusal.TheConstants.{IN_BODY, IN_ENDORSEMENT, IN_ORDER, IN_HIDDEN}
 use Rattle.nb_endorse.specs.declared.reply.Reply.{Reply}
-use Rattle.nb_endorse.specs.declared.reply.Reply.TheVariants.{Result as Receipts, Done, Status, Refused as Told}
+use Rattle.nb_endorse.specs.declared.reply.Reply.TheVariants.{Result as Receipts, Grant, Done, Status, Refused as Told}
 use Rattle.nb_endorse.specs.Reading.{endorsement_of}
 use Rattle.nb_seal.specs.Seal.{OpensAs}
 use Rattle.nb_escrow.specs.declared.decision.Decision.{Decision}
@@ -70,6 +70,9 @@ receipts_tell_not merchant consumer why is = cc
 status_tells_not : (place : ℕ) (epoid : Epoid) (receipt : Option Receipt) (why : Refusal) → (let r : Reply = Status place epoid receipt in r) ≡ Told why → ⊥
 status_tells_not place epoid receipt why is = cc
 
+grant_tells_not : (consumer merchant : PartyId) (nonce until : ℕ) (session : List ℕ) (why : Refusal) → (let r : Reply = Grant consumer merchant nonce until session in r) ≡ Told why → ⊥
+grant_tells_not consumer merchant nonce until session why is = cc
+
 done_tells_not : (acct : AcctId) (at amount : ℕ) (why : Refusal) → (let r : Reply = Done acct at amount in r) ≡ Told why → ⊥
 done_tells_not acct at amount why is = cc
 
@@ -107,12 +110,13 @@ module _ (H : List Entry) (head : Head) (cap kind : ℕ) (body : List ℕ) (mome
   recorded_for d e (inl (is, (p, authentic, inr (new, room, d_is)))) some =
       inl (is, (p, record { authentic = authentic; new = new; room = room }, d_is, entry_is d _ _ e d_is refl some))
   recorded_for d e (inr (inl (is, (asked, authentic, least, d_is)))) some = absurd (silent d _ e d_is refl some)
-  recorded_for d e (inr (inr (inl (is, (asked, spelled, right, inl (at, place, d_is)))))) some = absurd (silent d _ e d_is refl some)
-  recorded_for d e (inr (inr (inl (is, (asked, spelled, right, inr (legal, room, d_is)))))) some =
+  recorded_for d e (inr (inr (inl (is, (asked, buyer, seller, may, d_is))))) some = absurd (silent d _ e d_is refl some)
+  recorded_for d e (inr (inr (inr (inl (is, (asked, spelled, right, inl (at, place, d_is))))))) some = absurd (silent d _ e d_is refl some)
+  recorded_for d e (inr (inr (inr (inl (is, (asked, spelled, right, inr (legal, room, d_is))))))) some =
       let same : enrol_entry asked ≡ e = entry_is d _ _ e d_is refl some in
       inr (inl (is, (asked, spelled, right, sym same, subst (LegalAfter H) same legal, room)))
-  recorded_for d e (inr (inr (inr (is, (asked, spelled, right, inl (at, place, d_is)))))) some = absurd (silent d _ e d_is refl some)
-  recorded_for d e (inr (inr (inr (is, (asked, spelled, right, inr (legal, room, d_is)))))) some =
+  recorded_for d e (inr (inr (inr (inr (is, (asked, spelled, right, inl (at, place, d_is))))))) some = absurd (silent d _ e d_is refl some)
+  recorded_for d e (inr (inr (inr (inr (is, (asked, spelled, right, inr (legal, room, d_is))))))) some =
       let same : fund_entry asked ≡ e = entry_is d _ _ e d_is refl some in
       inr (inr (is, (asked, spelled, right, sym same, subst (LegalAfter H) same legal, room)))
 
@@ -259,10 +263,11 @@ refusals_are_true H legal head cap kind body moment why = part (steps H head cap
     not_told d (inl (is, (p, authentic, inl (kept, held, same, d_is)))) told_so = receipts_tell_not _ _ why (replies d _ d_is told_so)
     not_told d (inl (is, (p, authentic, inr (new, room, d_is)))) told_so = receipts_tell_not _ _ why (replies d _ d_is told_so)
     not_told d (inr (inl (is, (asked, authentic, least, d_is)))) told_so = status_tells_not _ _ _ why (replies d _ d_is told_so)
-    not_told d (inr (inr (inl (is, (asked, spelled, right, inl (at, place, d_is)))))) told_so = done_tells_not _ _ _ why (replies d _ d_is told_so)
-    not_told d (inr (inr (inl (is, (asked, spelled, right, inr (next, room, d_is)))))) told_so = done_tells_not _ _ _ why (replies d _ d_is told_so)
-    not_told d (inr (inr (inr (is, (asked, spelled, right, inl (at, place, d_is)))))) told_so = done_tells_not _ _ _ why (replies d _ d_is told_so)
-    not_told d (inr (inr (inr (is, (asked, spelled, right, inr (next, room, d_is)))))) told_so = done_tells_not _ _ _ why (replies d _ d_is told_so)
+    not_told d (inr (inr (inl (is, (asked, buyer, seller, may, d_is))))) told_so = grant_tells_not _ _ _ _ _ why (replies d _ d_is told_so)
+    not_told d (inr (inr (inr (inl (is, (asked, spelled, right, inl (at, place, d_is))))))) told_so = done_tells_not _ _ _ why (replies d _ d_is told_so)
+    not_told d (inr (inr (inr (inl (is, (asked, spelled, right, inr (next, room, d_is))))))) told_so = done_tells_not _ _ _ why (replies d _ d_is told_so)
+    not_told d (inr (inr (inr (inr (is, (asked, spelled, right, inl (at, place, d_is))))))) told_so = done_tells_not _ _ _ why (replies d _ d_is told_so)
+    not_told d (inr (inr (inr (inr (is, (asked, spelled, right, inr (next, room, d_is))))))) told_so = done_tells_not _ _ _ why (replies d _ d_is told_so)
 
     part : (r : Answer) → Comes H head cap kind body moment r → (told r).reply ≡ Told why → IsTrueRefusal H head cap kind body why
     part (Ok d) it is = absurd (not_told d it is)
@@ -346,10 +351,11 @@ told_exactly_where H head cap kind body moment = (λ both. forth (steps H head c
         (is, (p, kept.0, authentic, kept.1, kept.2 ∙ ap (λ (x : List ℕ). let o : Option (List ℕ) = Some x in o) same))
     told_so d (inl (is, (p, authentic, inr (new, room, d_is)))) told_it none = absurd (none-some _ (sym none ∙ ap (λ (x : Decision). x.entry) d_is))
     told_so d (inr (inl (is, (asked, authentic, least, d_is)))) told_it none = absurd (replies d _ d_is told_it)
-    told_so d (inr (inr (inl (is, (asked, spelled, right, inl (at, place, d_is)))))) told_it none = absurd (replies d _ d_is told_it)
-    told_so d (inr (inr (inl (is, (asked, spelled, right, inr (next, room, d_is)))))) told_it none = absurd (replies d _ d_is told_it)
-    told_so d (inr (inr (inr (is, (asked, spelled, right, inl (at, place, d_is)))))) told_it none = absurd (replies d _ d_is told_it)
-    told_so d (inr (inr (inr (is, (asked, spelled, right, inr (next, room, d_is)))))) told_it none = absurd (replies d _ d_is told_it)
+    told_so d (inr (inr (inl (is, (asked, buyer, seller, may, d_is))))) told_it none = absurd (replies d _ d_is told_it)
+    told_so d (inr (inr (inr (inl (is, (asked, spelled, right, inl (at, place, d_is))))))) told_it none = absurd (replies d _ d_is told_it)
+    told_so d (inr (inr (inr (inl (is, (asked, spelled, right, inr (next, room, d_is))))))) told_it none = absurd (replies d _ d_is told_it)
+    told_so d (inr (inr (inr (inr (is, (asked, spelled, right, inl (at, place, d_is))))))) told_it none = absurd (replies d _ d_is told_it)
+    told_so d (inr (inr (inr (inr (is, (asked, spelled, right, inr (next, room, d_is))))))) told_it none = absurd (replies d _ d_is told_it)
 
     forth : (r : Answer) → Comes H head cap kind body moment r → AreReceipts (told r).reply → (told r).entry ≡ None
         → (kind ≡ ORDER_REQUEST) × ((p : Presented) × (kept : Kept) × IsAuthenticOrder H body p × (order_in H p.order.epoid ≡ Some kept) × (digest_held kept.entry ≡ Some p.digest))
@@ -377,10 +383,11 @@ answered_exactly_where H head cap kind body moment = (forth (steps H head cap ki
     answered d (inl (is, (p, authentic, inl (s, held, same, d_is)))) it = absurd (replies d _ d_is it)
     answered d (inl (is, (p, authentic, inr (new, room, d_is)))) it = absurd (replies d _ d_is it)
     answered d (inr (inl (is, (asked, authentic, least, d_is)))) it = (is, (asked, authentic, least))
-    answered d (inr (inr (inl (is, (asked, spelled, right, inl (at, place, d_is)))))) it = absurd (replies d _ d_is it)
-    answered d (inr (inr (inl (is, (asked, spelled, right, inr (next, room, d_is)))))) it = absurd (replies d _ d_is it)
-    answered d (inr (inr (inr (is, (asked, spelled, right, inl (at, place, d_is)))))) it = absurd (replies d _ d_is it)
-    answered d (inr (inr (inr (is, (asked, spelled, right, inr (next, room, d_is)))))) it = absurd (replies d _ d_is it)
+    answered d (inr (inr (inl (is, (asked, buyer, seller, may, d_is))))) it = absurd (replies d _ d_is it)
+    answered d (inr (inr (inr (inl (is, (asked, spelled, right, inl (at, place, d_is))))))) it = absurd (replies d _ d_is it)
+    answered d (inr (inr (inr (inl (is, (asked, spelled, right, inr (next, room, d_is))))))) it = absurd (replies d _ d_is it)
+    answered d (inr (inr (inr (inr (is, (asked, spelled, right, inl (at, place, d_is))))))) it = absurd (replies d _ d_is it)
+    answered d (inr (inr (inr (inr (is, (asked, spelled, right, inr (next, room, d_is))))))) it = absurd (replies d _ d_is it)
 
     forth : (r : Answer) → Comes H head cap kind body moment r → IsStatusReply (told r).reply → (kind ≡ STATUS_REQUEST) × ((asked : StatusQuery) × IsAuthentic H body asked × (asked.least ≤ length H))
     forth (Ok d) it is = answered d it is

@@ -5,7 +5,7 @@ use Rattle.std.proofs.lemmas.Bool.Decides.{leb_tells}
 use Rattle.std.proofs.lemmas.Option.{same_Some, none-some}
 use Rattle.std.specs.Prelude.{◌==◌, if◌then◌else◌}
 use Rattle.std.specs.Option.{option_and_then}
-use Rattle.nb_units.specs.declared.frames.TheConstants.{ORDER_REQUEST, STATUS_REQUEST, ENROL_REQUEST, FUND_REQUEST}
+use Rattle.nb_units.specs.declared.frames.TheConstants.{ORDER_REQUEST, STATUS_REQUEST, TICKET_REQUEST, ENROL_REQUEST, FUND_REQUEST}
 use Rattle.nb_units.specs.declared.epoid.Epoid.{Epoid}
 use Rattle.nb_units.specs.declared.ids.AcctId.{AcctId}
 use Rattle.nb_units.specs.declared.ids.PartyId.{PartyId}
@@ -29,6 +29,9 @@ use Rattle.nb_endorse.specs.declared.refusal.Refusal.{Refusal}
 use Rattle.nb_endorse.specs.Reading.{endorsement_of}
 use Rattle.nb_seal.specs.Seal.{OpensAs}
 use Rattle.nb_endorse.specs.Tags.{endorsement_digest}
+use Rattle.nb_ticket.specs.declared.ask.TicketAsk.{TicketAsk}
+use Rattle.nb_ticket.specs.Keys.{ask_tag}
+use Rattle.nb_ticket.specs.Reading.{ask_of}
 use Rattle.nb_escrow.specs.declared.decision.Decision.{Decision}
 use Rattle.nb_escrow.specs.declared.enrolment.Enrolment.{Enrolment}
 use Rattle.nb_escrow.specs.declared.funding.Funding.{Funding}
@@ -46,8 +49,10 @@ use Rattle.nb_escrow.specs.Orders.{endorsement_in, hidden_in, same_merchant, sam
 use Rattle.nb_escrow.specs.Payments.{payment_steps}
 use Rattle.nb_escrow.specs.Settlements.{settlement_at, settlement_of, settlement_in, settlement_entry}
 use Rattle.nb_escrow.specs.Statuses.{enough_entries, status_told, status_steps}
+use Rattle.nb_escrow.specs.Tickets.{ticket_granted, ticket_steps}
+use Rattle.nb_escrow.specs.Grants.{IsAuthenticAsk, MayGrant}
 use Rattle.nb_escrow.specs.Payable.{IsAsked, IsEndorsed, IsOrdered, IsSignedOrder, IsAuthenticOrder, IsTrueReason, digest_held}
-use Rattle.nb_escrow.specs.Claims.{IsNotSealed, IsSealedBadly, IsHeld, IsFundedOtherwise, HasNoHolder, IsTooMuch, AreTooFew, IsTrueOfRequest, IsTrueOfOrder, IsTrueOfHidden, IsTrueOfPresented, IsTrueOfQuery, IsTrueOfEnrolment, IsTrueOfFunding, IsTrueRefusal}
+use Rattle.nb_escrow.specs.Claims.{IsNotSealed, IsSealedBadly, IsHeld, IsFundedOtherwise, HasNoHolder, IsTooMuch, AreTooFew, IsTrueOfRequest, IsTrueOfOrder, IsTrueOfHidden, IsTrueOfPresented, IsTrueOfQuery, IsTrueOfTicketAsk, IsTrueOfEnrolment, IsTrueOfFunding, IsTrueRefusal}
 use Rattle.nb_escrow.specs.Laws.{IsAuthentic}
 use Rattle.nb_escrow.specs.Verdict.{steps}
 use Rattle.nb_escrow.proofs.Holding.{fund_place}
@@ -223,6 +228,27 @@ query_comes H head body =
     (λ why is. inr (inr (asked, asker, spelled, found, inr (too_few H asked why is)))) (λ v is.
     (asked, record { asker = asker; read = spelled; enrolled = found; signed = right }, enough_so H asked.least v is, refl)))))
 
+-- ---- a request for a ticket
+
+abbrev pub TicketComes : List Entry → Head → List ℕ → ℕ → Answer → Type 0
+TicketComes H head body moment (Ok d) = (asked : TicketAsk) × (buyer : Party) × (seller : Party) × MayGrant H body asked buyer seller × (d ≡ ticket_granted head buyer seller asked moment)
+TicketComes H head body moment (Err why) = IsTrueOfTicketAsk H body why
+
+pub ticket_comes : (H : List Entry) (head : Head) (body : List ℕ) (moment : ℕ) → TicketComes H head body moment (ticket_steps H head body moment)
+unfolding ticket_steps
+ticket_comes H head body moment =
+    let C : Answer → Type 0 = TicketComes H head body moment in
+    behind C (well_formed IN_BODY (ask_of body)) _ (λ why is. inl (malformed IN_BODY (ask_of body) why is)) (λ asked is.
+    let spelled : ask_of body ≡ Ok asked = formed IN_BODY (ask_of body) asked is in
+    behind C (enrolled_as H CONSUMER asked.consumer) _ (λ why is. inr (inl (asked, spelled, not_in_role H CONSUMER asked.consumer why is))) (λ buyer is.
+    let buys = role_found H CONSUMER asked.consumer buyer is in
+    behind C (right_tag asked.tag (ask_tag buyer.key asked.consumer asked.merchant asked.nonce)) _
+    (λ why is. inr (inr (inl (asked, buyer, spelled, buys.0, buys.1, other_tag asked.tag _ why is)))) (λ u is.
+    let authentic : IsAuthenticAsk H body asked buyer = record { spelled = spelled; enrolled = buys.0; buys = buys.1; signed = right_so asked.tag _ u is } in
+    behind C (enrolled_as H MERCHANT asked.merchant) _ (λ why is. inr (inr (inr (asked, buyer, authentic, not_in_role H MERCHANT asked.merchant why is)))) (λ seller is.
+    let sells = role_found H MERCHANT asked.merchant seller is in
+    (asked, buyer, seller, record { authentic = authentic; enrolled = sells.0; sells = sells.1 }, refl)))))
+
 -- ---- an enrolment
 
 abbrev pub EnrolmentComes : List Entry → Head → ℕ → List ℕ → Answer → Type 0
@@ -344,6 +370,7 @@ abbrev pub Comes : List Entry → Head → ℕ → ℕ → List ℕ → ℕ → 
 Comes H head cap kind body moment (Ok d) =
     ((kind ≡ ORDER_REQUEST) × OrderComes H head cap body moment (Ok d))
     ⊎ ((kind ≡ STATUS_REQUEST) × QueryComes H head body (Ok d))
+    ⊎ ((kind ≡ TICKET_REQUEST) × TicketComes H head body moment (Ok d))
     ⊎ ((kind ≡ ENROL_REQUEST) × EnrolmentComes H head cap body (Ok d))
     ⊎ ((kind ≡ FUND_REQUEST) × FundingComes H head cap body (Ok d))
 Comes H head cap kind body moment (Err why) = Legal H → IsTrueRefusal H head cap kind body why
@@ -360,9 +387,10 @@ comes H head cap kind body moment =
     let C : Answer → Type 0 = Comes H head cap kind body moment in
     of_kind C kind ORDER_REQUEST _ _ (λ is. order is (order_steps H head cap body moment) (order_comes H head cap body moment)) (λ one.
     of_kind C kind STATUS_REQUEST _ _ (λ is. query is (status_steps H head body) (query_comes H head body)) (λ two.
-    of_kind C kind ENROL_REQUEST _ _ (λ is. enrolment is (enrol_steps H head cap body) (enrolment_comes H head cap body)) (λ three.
-    of_kind C kind FUND_REQUEST _ _ (λ is. funding is (fund_steps H head cap body) (funding_comes H head cap body)) (λ four.
-    λ legal. inr (inr (inr (inr (one, two, three, four, refl))))))))
+    of_kind C kind TICKET_REQUEST _ _ (λ is. ticket is (ticket_steps H head body moment) (ticket_comes H head body moment)) (λ three.
+    of_kind C kind ENROL_REQUEST _ _ (λ is. enrolment is (enrol_steps H head cap body) (enrolment_comes H head cap body)) (λ four.
+    of_kind C kind FUND_REQUEST _ _ (λ is. funding is (fund_steps H head cap body) (funding_comes H head cap body)) (λ five.
+    λ legal. inr (inr (inr (inr (inr (one, two, three, four, five, refl))))))))))
   where
     order : kind ≡ ORDER_REQUEST → (r : Answer) → OrderComes H head cap body moment r → Comes H head cap kind body moment r
     order is (Ok d) it = inl (is, it)
@@ -372,10 +400,14 @@ comes H head cap kind body moment =
     query is (Ok d) it = inr (inl (is, it))
     query is (Err why) it = λ legal. inr (inl (is, it))
 
+    ticket : kind ≡ TICKET_REQUEST → (r : Answer) → TicketComes H head body moment r → Comes H head cap kind body moment r
+    ticket is (Ok d) it = inr (inr (inl (is, it)))
+    ticket is (Err why) it = λ legal. inr (inr (inl (is, it)))
+
     enrolment : kind ≡ ENROL_REQUEST → (r : Answer) → EnrolmentComes H head cap body r → Comes H head cap kind body moment r
-    enrolment is (Ok d) it = inr (inr (inl (is, it)))
-    enrolment is (Err why) it = λ legal. inr (inr (inl (is, it)))
+    enrolment is (Ok d) it = inr (inr (inr (inl (is, it))))
+    enrolment is (Err why) it = λ legal. inr (inr (inr (inl (is, it))))
 
     funding : kind ≡ FUND_REQUEST → (r : Answer) → FundingComes H head cap body r → Comes H head cap kind body moment r
-    funding is (Ok d) it = inr (inr (inr (is, it)))
-    funding is (Err why) it = λ legal. inr (inr (inr (inl (is, it legal))))
+    funding is (Ok d) it = inr (inr (inr (inr (is, it))))
+    funding is (Err why) it = λ legal. inr (inr (inr (inr (inl (is, it legal)))))

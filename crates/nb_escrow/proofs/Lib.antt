@@ -9,3 +9,4 @@ pub mod Tests
 pub mod Judging
 pub mod Exactly
 pub mod Replying
+pub mod Granting

@@ -3,7 +3,7 @@ use Rattle.std.proofs.Common.{◌≡◌, ◌≢◌, ◌⊎◌, inl, inr, ℕ, �
 use Rattle.std.proofs.lemmas.Bool.{eqb-true, ltb-true, leb-true}
 use Rattle.std.proofs.lemmas.Option.{none-some}
 use Rattle.std.specs.Prelude.{◌==◌, if◌then◌else◌}
-use Rattle.nb_units.specs.declared.frames.TheConstants.{ORDER_REQUEST, STATUS_REQUEST, ENROL_REQUEST, FUND_REQUEST}
+use Rattle.nb_units.specs.declared.frames.TheConstants.{ORDER_REQUEST, STATUS_REQUEST, TICKET_REQUEST, ENROL_REQUEST, FUND_REQUEST}
 use Rattle.nb_units.specs.declared.ids.AcctId.{AcctId}
 use Rattle.nb_units.specs.declared.ids.PartyId.{PartyId}
 use Rattle.nb_units.specs.declared.epoid.Epoid.{Epoid}
@@ -40,7 +40,7 @@ use Rattle.nb_escrow.specs.Payments.{payment_steps, outcome_of}
 use Rattle.nb_escrow.specs.Laws.{RecordsLegal}
 use Rattle.nb_escrow.specs.Verdict.{steps, told}
 use Rattle.nb_escrow.proofs.Paying.{settled_legal}
-use Rattle.nb_escrow.proofs.Telling.{none_settled, status_records_none}
+use Rattle.nb_escrow.proofs.Telling.{none_settled, status_records_none, ticket_records_none}
 
 -- ---- a test that goes before
 
@@ -272,8 +272,9 @@ steps_recorded : (H : List Entry) (head : Head) (cap kind : ℕ) (body : List �
 steps_recorded H head cap kind body moment =
     chosen H cap (kind == ORDER_REQUEST) _ _ (order_steps_recorded H head cap body moment)
     (chosen H cap (kind == STATUS_REQUEST) _ _ (λ d is. rw (status_records_none H head body d is) tt)
+    (chosen H cap (kind == TICKET_REQUEST) _ _ (λ d is. rw (ticket_records_none H head body moment d is) tt)
     (chosen H cap (kind == ENROL_REQUEST) _ _ (enrol_steps_recorded H head cap body)
-    (chosen H cap (kind == FUND_REQUEST) _ _ (fund_steps_recorded H head cap body) (λ d is. absurd cc))))
+    (chosen H cap (kind == FUND_REQUEST) _ _ (fund_steps_recorded H head cap body) (λ d is. absurd cc)))))
 
 pub records_legal : RecordsLegal
 records_legal H head cap kind body moment entry is = part (steps H head cap kind body moment) (steps_recorded H head cap kind body moment) is

@@ -6,7 +6,7 @@ use Rattle.std.proofs.lemmas.List.{append-nil}
 use Rattle.std.proofs.lemmas.Slice.Eq.{bytes_eq-Decides}
 use Rattle.std.specs.Option.{option_or, option_and_then}
 use Rattle.std.specs.Prelude.{◌==◌, if◌then◌else◌}
-use Rattle.nb_units.specs.declared.frames.TheConstants.{ORDER_REQUEST, STATUS_REQUEST, ENROL_REQUEST, FUND_REQUEST}
+use Rattle.nb_units.specs.declared.frames.TheConstants.{ORDER_REQUEST, STATUS_REQUEST, TICKET_REQUEST, ENROL_REQUEST, FUND_REQUEST}
 use Rattle.nb_units.specs.declared.epoid.Epoid.{Epoid}
 use Rattle.nb_units.specs.declared.ids.AcctId.{AcctId}
 use Rattle.nb_units.specs.declared.ids.PartyId.{PartyId}
@@ -48,10 +48,11 @@ keys_are_the_parties H head cap kind body moment = part (steps H head cap kind b
     fits d (inl (is, (p, authentic, inl (kept, held, same, d_is)))) = subst Fits (sym d_is) (p, authentic, refl)
     fits d (inl (is, (p, authentic, inr (new, room, d_is)))) = subst Fits (sym d_is) (p, authentic, refl)
     fits d (inr (inl (is, (asked, authentic, least, d_is)))) = subst Fits (sym d_is) (asked, authentic, refl)
-    fits d (inr (inr (inl (is, (asked, spelled, right, inl (at, place, d_is)))))) = subst Fits (sym d_is) refl
-    fits d (inr (inr (inl (is, (asked, spelled, right, inr (next, room, d_is)))))) = subst Fits (sym d_is) refl
-    fits d (inr (inr (inr (is, (asked, spelled, right, inl (at, place, d_is)))))) = subst Fits (sym d_is) refl
-    fits d (inr (inr (inr (is, (asked, spelled, right, inr (next, room, d_is)))))) = subst Fits (sym d_is) refl
+    fits d (inr (inr (inl (is, (asked, buyer, seller, may, d_is))))) = subst Fits (sym d_is) (asked, buyer, seller, may, refl)
+    fits d (inr (inr (inr (inl (is, (asked, spelled, right, inl (at, place, d_is))))))) = subst Fits (sym d_is) refl
+    fits d (inr (inr (inr (inl (is, (asked, spelled, right, inr (next, room, d_is))))))) = subst Fits (sym d_is) refl
+    fits d (inr (inr (inr (inr (is, (asked, spelled, right, inl (at, place, d_is))))))) = subst Fits (sym d_is) refl
+    fits d (inr (inr (inr (inr (is, (asked, spelled, right, inr (next, room, d_is))))))) = subst Fits (sym d_is) refl
 
     part : (r : Answer) → Comes H head cap kind body moment r → Fits (told r)
     part (Ok d) it = fits d it
@@ -127,10 +128,11 @@ receipts_name_the_order H head cap kind body moment = part (steps H head cap kin
     tells d (inl (is, (p, authentic, inl (s, held, same, d_is)))) = subst Tells (sym d_is) (before p s authentic held same)
     tells d (inl (is, (p, authentic, inr (new, room, d_is)))) = subst Tells (sym d_is) (now p authentic new)
     tells d (inr (inl (is, (asked, authentic, least, d_is)))) = subst Tells (sym d_is) tt
-    tells d (inr (inr (inl (is, (asked, spelled, right, inl (at, place, d_is)))))) = subst Tells (sym d_is) tt
-    tells d (inr (inr (inl (is, (asked, spelled, right, inr (next, room, d_is)))))) = subst Tells (sym d_is) tt
-    tells d (inr (inr (inr (is, (asked, spelled, right, inl (at, place, d_is)))))) = subst Tells (sym d_is) tt
-    tells d (inr (inr (inr (is, (asked, spelled, right, inr (next, room, d_is)))))) = subst Tells (sym d_is) tt
+    tells d (inr (inr (inl (is, (asked, buyer, seller, may, d_is))))) = subst Tells (sym d_is) tt
+    tells d (inr (inr (inr (inl (is, (asked, spelled, right, inl (at, place, d_is))))))) = subst Tells (sym d_is) tt
+    tells d (inr (inr (inr (inl (is, (asked, spelled, right, inr (next, room, d_is))))))) = subst Tells (sym d_is) tt
+    tells d (inr (inr (inr (inr (is, (asked, spelled, right, inl (at, place, d_is))))))) = subst Tells (sym d_is) tt
+    tells d (inr (inr (inr (inr (is, (asked, spelled, right, inr (next, room, d_is))))))) = subst Tells (sym d_is) tt
 
     part : (r : Answer) → Comes H head cap kind body moment r → Tells (told r)
     part (Ok d) it = tells d it
@@ -209,13 +211,14 @@ done_tells_the_entry H head most kind body moment = part (steps H head most kind
     tells d (inl (is, (p, authentic, inl (s, kept, same, d_is)))) = subst Tells (sym d_is) tt
     tells d (inl (is, (p, authentic, inr (new, room, d_is)))) = subst Tells (sym d_is) tt
     tells d (inr (inl (is, (asked, authentic, least, d_is)))) = subst Tells (sym d_is) tt
-    tells d (inr (inr (inl (is, (asked, spelled, right, inl (at, place, d_is)))))) =
+    tells d (inr (inr (inl (is, (asked, buyer, seller, may, d_is))))) = subst Tells (sym d_is) tt
+    tells d (inr (inr (inr (inl (is, (asked, spelled, right, inl (at, place, d_is))))))) =
         subst Tells (sym d_is) (held asked.acct (enrol_entry asked) at (inl (is, (asked, spelled, right, refl, refl))) (λ x. same_enrol x asked) place)
-    tells d (inr (inr (inl (is, (asked, spelled, right, inr (next, room, d_is)))))) =
+    tells d (inr (inr (inr (inl (is, (asked, spelled, right, inr (next, room, d_is))))))) =
         subst Tells (sym d_is) (now asked.acct (enrol_entry asked) (inl (is, (asked, spelled, right, refl, refl))))
-    tells d (inr (inr (inr (is, (asked, spelled, right, inl (at, place, d_is)))))) =
+    tells d (inr (inr (inr (inr (is, (asked, spelled, right, inl (at, place, d_is))))))) =
         subst Tells (sym d_is) (held asked.acct (fund_entry asked) at (inr (is, (asked, spelled, right, refl, refl))) (λ x. same_fund x asked) place)
-    tells d (inr (inr (inr (is, (asked, spelled, right, inr (next, room, d_is)))))) =
+    tells d (inr (inr (inr (inr (is, (asked, spelled, right, inr (next, room, d_is))))))) =
         subst Tells (sym d_is) (now asked.acct (fund_entry asked) (inr (is, (asked, spelled, right, refl, refl))))
 
     part : (r : Answer) → Comes H head most kind body moment r → Tells (told r)
@@ -312,10 +315,11 @@ status_tells_the_order H head most kind body moment = part (steps H head most ki
     tells d (inl (is, (p, authentic, inl (s, held, same, d_is)))) = subst Tells (sym d_is) tt
     tells d (inl (is, (p, authentic, inr (new, room, d_is)))) = subst Tells (sym d_is) tt
     tells d (inr (inl (is, (asked, authentic, least, d_is)))) = subst Tells (sym d_is) (asked, authentic, refl, refl, receipt_in H asked.asker asked.epoid)
-    tells d (inr (inr (inl (is, (asked, spelled, right, inl (at, place, d_is)))))) = subst Tells (sym d_is) tt
-    tells d (inr (inr (inl (is, (asked, spelled, right, inr (next, room, d_is)))))) = subst Tells (sym d_is) tt
-    tells d (inr (inr (inr (is, (asked, spelled, right, inl (at, place, d_is)))))) = subst Tells (sym d_is) tt
-    tells d (inr (inr (inr (is, (asked, spelled, right, inr (next, room, d_is)))))) = subst Tells (sym d_is) tt
+    tells d (inr (inr (inl (is, (asked, buyer, seller, may, d_is))))) = subst Tells (sym d_is) tt
+    tells d (inr (inr (inr (inl (is, (asked, spelled, right, inl (at, place, d_is))))))) = subst Tells (sym d_is) tt
+    tells d (inr (inr (inr (inl (is, (asked, spelled, right, inr (next, room, d_is))))))) = subst Tells (sym d_is) tt
+    tells d (inr (inr (inr (inr (is, (asked, spelled, right, inl (at, place, d_is))))))) = subst Tells (sym d_is) tt
+    tells d (inr (inr (inr (inr (is, (asked, spelled, right, inr (next, room, d_is))))))) = subst Tells (sym d_is) tt
 
     part : (r : Answer) → Comes H head most kind body moment r → Tells (told r)
     part (Ok d) it = tells d it
@@ -331,5 +335,6 @@ otherwise a b x y apart = part (a == b) refl
     part false is = refl
 
 pub other_kinds_are_refused : OtherKindsAreRefused
-other_kinds_are_refused H head cap kind body moment one two three four =
-    ap told (otherwise kind ORDER_REQUEST _ _ one ∙ otherwise kind STATUS_REQUEST _ _ two ∙ otherwise kind ENROL_REQUEST _ _ three ∙ otherwise kind FUND_REQUEST _ _ four)
+other_kinds_are_refused H head cap kind body moment one two three four five =
+    ap told (otherwise kind ORDER_REQUEST _ _ one ∙ otherwise kind STATUS_REQUEST _ _ two ∙ otherwise kind TICKET_REQUEST _ _ three ∙ otherwise kind ENROL_REQUEST _ _ four
+    ∙ otherwise kind FUND_REQUEST _ _ five)

@@ -6,7 +6,7 @@ use Rattle.std.proofs.lemmas.Slice.Eq.{bytes_eq-Decides}
 use Rattle.std.specs.Prelude.{◌==◌, if◌then◌else◌}
 use Rattle.std.specs.Option.{option_or, option_and_then}
 use Rattle.std.specs.Str.{bytes_eq}
-use Rattle.nb_units.specs.declared.frames.TheConstants.{ORDER_REQUEST, STATUS_REQUEST, ENROL_REQUEST, FUND_REQUEST}
+use Rattle.nb_units.specs.declared.frames.TheConstants.{ORDER_REQUEST, STATUS_REQUEST, TICKET_REQUEST, ENROL_REQUEST, FUND_REQUEST}
 use Rattle.nb_units.specs.declared.ids.AcctId.{AcctId}
 use Rattle.nb_units.specs.declared.ids.PartyId.{PartyId}
 use Rattle.nb_units.specs.declared.epoid.Epoid.{Epoid}
@@ -43,6 +43,9 @@ use Rattle.nb_escrow.specs.Fundings.{fund_entry, reference_new, account_held, to
 use Rattle.nb_escrow.specs.Settlements.{settlement_at, settlement_of, settlement_in, entry_with, settlement_entry}
 use Rattle.nb_escrow.specs.Orders.{endorsement_in, hidden_in, same_merchant, same_digest, settled, result, again_or_settle, order_steps}
 use Rattle.nb_escrow.specs.Statuses.{enough_entries, status_told, status_steps}
+use Rattle.nb_ticket.specs.Keys.{ask_tag}
+use Rattle.nb_ticket.specs.Reading.{ask_of}
+use Rattle.nb_escrow.specs.Tickets.{ticket_granted, ticket_steps}
 use Rattle.nb_escrow.specs.Laws.{given_again, ToldAgain, ResultStays}
 use Rattle.nb_endorse.specs.declared.reply.Reply.TheVariants.{Result as Receipts, Refused as Refusal_told}
 use Rattle.nb_escrow.specs.Verdict.{steps, told, verdict}
@@ -267,6 +270,20 @@ status_records_none H head body =
 status_steps_again : (H more : List Entry) (head : Head) (body : List ℕ) → Again (λ e. H ++ e ∷ more) (status_steps H head body) (λ e. status_steps (H ++ e ∷ more) head body)
 status_steps_again H more head body e reply keys is = absurd (none-some e (sym (status_records_none H head body (decided reply keys (Some e)) is)))
 
+-- ---- requests for tickets
+
+pub ticket_records_none : (H : List Entry) (head : Head) (body : List ℕ) (moment : ℕ) (d : Decision) → ticket_steps H head body moment ≡ Ok d → d.entry ≡ None
+unfolding ticket_steps
+ticket_records_none H head body moment =
+    each_behind (well_formed IN_BODY (ask_of body)) _ (λ asked.
+    each_behind (enrolled_as H CONSUMER asked.consumer) _ (λ buyer.
+    each_behind (right_tag asked.tag (ask_tag buyer.key asked.consumer asked.merchant asked.nonce)) _ (λ u.
+    each_behind (enrolled_as H MERCHANT asked.merchant) _ (λ seller d is. ap (λ (x : Decision). x.entry) (sym (same_decision (ticket_granted head buyer seller asked moment) d is))))))
+
+ticket_steps_again : (H more : List Entry) (head : Head) (body : List ℕ) (moment later : ℕ)
+    → Again (λ e. H ++ e ∷ more) (ticket_steps H head body moment) (λ e. ticket_steps (H ++ e ∷ more) head body later)
+ticket_steps_again H more head body moment later e reply keys is = absurd (none-some e (sym (ticket_records_none H head body moment (decided reply keys (Some e)) is)))
+
 -- ---- the kinds
 
 chosen : (b : Bool) (held : Entry → List Entry) (f g : Answer) (f' g' : Entry → Answer) → Again held f f' → Again held g g' → Again held (if b then f else g) (λ e. if b then f' e else g' e)
@@ -278,8 +295,9 @@ steps_again H more head cap kind body moment later =
     let held : Entry → List Entry = λ e. H ++ e ∷ more in
     chosen (kind == ORDER_REQUEST) held _ _ _ _ (order_steps_again H more head cap body moment later)
     (chosen (kind == STATUS_REQUEST) held _ _ _ _ (status_steps_again H more head body)
+    (chosen (kind == TICKET_REQUEST) held _ _ _ _ (ticket_steps_again H more head body moment later)
     (chosen (kind == ENROL_REQUEST) held _ _ _ _ (enrol_steps_again H more head cap body)
-    (chosen (kind == FUND_REQUEST) held _ _ _ _ (fund_steps_again H more head cap body) (λ e reply keys is. absurd (refused_not (refusal NOT_SERVED kind 0) (decided reply keys (Some e)) is)))))
+    (chosen (kind == FUND_REQUEST) held _ _ _ _ (fund_steps_again H more head cap body) (λ e reply keys is. absurd (refused_not (refusal NOT_SERVED kind 0) (decided reply keys (Some e)) is))))))
   where
     refused_not : (r : Refusal) (d : Decision) → (let first : Answer = Err r in first) ≡ Ok d → ⊥
     refused_not r d is = cc

@@ -1,6 +1,6 @@
 -- What each refusal claims of the entries and of the request, and what it shows, code by code. What a code does not show is zeros.
 use Rattle.std.specs.Prelude.{◌≡◌, ◌≢◌, ◌⊎◌, ℕ, ◌+◌, ◌<◌, ◌≤◌, ◌++◌, List, length, codes, Some, Result, Ok, Err, IsNone}
-use Rattle.nb_units.specs.declared.frames.TheConstants.{ORDER_REQUEST, STATUS_REQUEST, ENROL_REQUEST, FUND_REQUEST}
+use Rattle.nb_units.specs.declared.frames.TheConstants.{ORDER_REQUEST, STATUS_REQUEST, TICKET_REQUEST, ENROL_REQUEST, FUND_REQUEST}
 use Rattle.nb_units.specs.declared.ids.PartyId.{PartyId}
 use Rattle.nb_seal.specs.Hmac.{hmac_of}
 use Rattle.nb_seal.specs.Seal.{OpensAs, IsNoSeal, iv_shown}
@@ -20,6 +20,9 @@ use Rattle.nb_endorse.specs.declared.refusal.Refusal.{Refusal}
 use Rattle.nb_endorse.specs.declared.refusal.TheConstants.{MALFORMED, IN_BODY, IN_ENDORSEMENT, IN_ORDER, IN_HIDDEN, NOT_ENROLLED, NOT_SEALED, OTHER_MERCHANT, WRONG_TAG, IDENTIFIER_USED, PARTY_HELD, REFERENCE_HELD, ACCOUNT_NOT_HELD, TOTAL_TOO_HIGH, JOURNAL_FULL, TOO_FEW_ENTRIES, NOT_SERVED}
 use Rattle.nb_endorse.specs.Reading.{endorsement_of}
 use Rattle.nb_endorse.specs.Refusals.{refusal, refusal_with}
+use Rattle.nb_ticket.specs.declared.ask.TicketAsk.{TicketAsk}
+use Rattle.nb_ticket.specs.Keys.{ask_tag}
+use Rattle.nb_ticket.specs.Reading.{ask_of}
 use Rattle.nb_escrow.specs.declared.enrolment.Enrolment.{Enrolment}
 use Rattle.nb_escrow.specs.declared.funding.Funding.{Funding}
 use Rattle.nb_escrow.specs.declared.head.Head.{Head}
@@ -28,6 +31,7 @@ use Rattle.nb_escrow.specs.declared.order.Presented.{Presented}
 use Rattle.nb_escrow.specs.declared.status.StatusQuery.{StatusQuery}
 use Rattle.nb_escrow.specs.Requests.{endorsed_of, query_of, enrolment_of, funding_of}
 use Rattle.nb_escrow.specs.Checks.{signed_part}
+use Rattle.nb_escrow.specs.Grants.{IsAuthenticAsk}
 use Rattle.nb_escrow.specs.Payable.{IsAsked, IsEndorsed, IsOrdered, IsSignedOrder, IsAuthenticOrder, digest_held}
 
 -- ---- what several kinds claim
@@ -109,6 +113,15 @@ IsTrueOfQuery H body r =
     ⊎ ((asked : StatusQuery) × (asker : Party) × (query_of body ≡ Ok asked) × (party_in H asked.asker ≡ Some asker)
     × (IsOtherTag asked.tag (hmac_of asker.key (codes "stat" ++ signed_part body)) r ⊎ AreTooFew H asked r))
 
+-- a request for a ticket: its body fails; a consumer asks that is none; the tag is another; it is authentic, and the merchant is none
+abbrev pub IsTrueOfTicketAsk : List Entry → List ℕ → Refusal → Type 0
+IsTrueOfTicketAsk H body r =
+    IsMalformed IN_BODY (ask_of body) r
+    ⊎ ((asked : TicketAsk) × (ask_of body ≡ Ok asked) × IsNotInRole H CONSUMER asked.consumer r)
+    ⊎ ((asked : TicketAsk) × (consumer : Party) × (ask_of body ≡ Ok asked) × (party_in H asked.consumer ≡ Some consumer) × (consumer.role ≡ CONSUMER)
+    × IsOtherTag asked.tag (ask_tag consumer.key asked.consumer asked.merchant asked.nonce) r)
+    ⊎ ((asked : TicketAsk) × (consumer : Party) × IsAuthenticAsk H body asked consumer × IsNotInRole H MERCHANT asked.merchant r)
+
 -- 16: the party of the number is shown with its account, or else the holder of the account with that; or nobody holds either, and
 -- one of the two is 0
 abbrev pub IsHeld : List Entry → Enrolment → Refusal → Type 0
@@ -145,15 +158,16 @@ IsTrueOfFunding H head cap body r =
     × (IsOtherTag asked.tag (hmac_of head.operator (codes "fund" ++ signed_part body)) r
     ⊎ IsFundedOtherwise H asked r ⊎ HasNoHolder H asked r ⊎ IsTooMuch H asked r ⊎ IsFull H cap r))
 
--- 53: the kind, which is shown, is none of the four
+-- 53: the kind, which is shown, is none of the five
 abbrev pub IsNotServed : ℕ → Refusal → Type 0
-IsNotServed kind r = (kind ≢ ORDER_REQUEST) × (kind ≢ STATUS_REQUEST) × (kind ≢ ENROL_REQUEST) × (kind ≢ FUND_REQUEST) × (r ≡ refusal NOT_SERVED kind 0)
+IsNotServed kind r = (kind ≢ ORDER_REQUEST) × (kind ≢ STATUS_REQUEST) × (kind ≢ TICKET_REQUEST) × (kind ≢ ENROL_REQUEST) × (kind ≢ FUND_REQUEST) × (r ≡ refusal NOT_SERVED kind 0)
 
 -- what a refusal of a request of this kind claims is true of the entries and of the body, and what it shows is that of which it speaks
 abbrev pub IsTrueRefusal : List Entry → Head → ℕ → ℕ → List ℕ → Refusal → Type 0
 IsTrueRefusal H head cap kind body r =
     ((kind ≡ ORDER_REQUEST) × (IsTrueOfRequest H body r ⊎ IsTrueOfOrder H body r ⊎ IsTrueOfHidden H body r ⊎ IsTrueOfPresented H cap body r))
     ⊎ ((kind ≡ STATUS_REQUEST) × IsTrueOfQuery H body r)
+    ⊎ ((kind ≡ TICKET_REQUEST) × IsTrueOfTicketAsk H body r)
     ⊎ ((kind ≡ ENROL_REQUEST) × IsTrueOfEnrolment H head cap body r)
     ⊎ ((kind ≡ FUND_REQUEST) × IsTrueOfFunding H head cap body r)
     ⊎ IsNotServed kind r

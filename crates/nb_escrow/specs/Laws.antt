@@ -3,7 +3,7 @@ use Rattle.std.specs.Prelude.{◌≡◌, ◌↔◌, ◌⊎◌, ℕ, ◌<◌, ◌
 use Rattle.std.specs.List.{Any}
 use Rattle.std.specs.Option.{option_to_list}
 use Rattle.nb_units.specs.declared.epoid.Epoid.{Epoid}
-use Rattle.nb_units.specs.declared.frames.TheConstants.{ORDER_REQUEST, STATUS_REQUEST, ENROL_REQUEST, FUND_REQUEST}
+use Rattle.nb_units.specs.declared.frames.TheConstants.{ORDER_REQUEST, STATUS_REQUEST, TICKET_REQUEST, ENROL_REQUEST, FUND_REQUEST}
 use Rattle.nb_units.specs.declared.ids.PartyId.{PartyId}
 use Rattle.nb_seal.specs.Hmac.{hmac_of}
 use Rattle.nb_book.specs.declared.entry.Entry.{Entry}
@@ -16,8 +16,9 @@ use Rattle.nb_book.specs.Searches.{party_in, order_in}
 use Rattle.nb_endorse.specs.declared.receipt.Receipt.{Receipt}
 use Rattle.nb_endorse.specs.declared.reply.Reply.{Reply}
 use Rattle.nb_endorse.specs.declared.refusal.Refusal.{Refusal}
-use Rattle.nb_endorse.specs.declared.reply.Reply.TheVariants.{Result as Receipts, Done, Status, Refused as Told}
+use Rattle.nb_endorse.specs.declared.reply.Reply.TheVariants.{Result as Receipts, Grant, Done, Status, Refused as Told}
 use Rattle.nb_endorse.specs.declared.reply.ReplyKeys.{ReplyKeys}
+use Rattle.nb_ticket.specs.declared.ask.TicketAsk.{TicketAsk}
 use Rattle.nb_escrow.specs.declared.enrolment.Enrolment.{Enrolment}
 use Rattle.nb_escrow.specs.declared.funding.Funding.{Funding}
 use Rattle.nb_escrow.specs.declared.head.Head.{Head}
@@ -29,6 +30,7 @@ use Rattle.nb_escrow.specs.Checks.{signed_part}
 use Rattle.nb_escrow.specs.Enrolments.{enrol_entry}
 use Rattle.nb_escrow.specs.Fundings.{fund_entry}
 use Rattle.nb_escrow.specs.Payable.{IsAuthenticOrder, MaySettle, IsPayable, payment_of, TellsPayment, IsTrueReason, refusal_of, TellsReason, digest_held}
+use Rattle.nb_escrow.specs.Grants.{MayGrant}
 use Rattle.nb_escrow.specs.Claims.{IsTrueRefusal}
 use Rattle.nb_escrow.specs.Verdict.{verdict}
 
@@ -104,7 +106,7 @@ abbrev pub IsRefusedOrder : Entry → Type 0
 IsRefusedOrder (Refused digest epoid consumer merchant product price code a b moment) = Unit {0}
 IsRefusedOrder other = ⊥
 
--- the reply is the receipts of an order, the reply is a status
+-- the reply is the receipts of an order, the reply is a status, the reply is a grant
 abbrev pub AreReceipts : Reply → Type 0
 AreReceipts (Receipts merchant consumer) = Unit {0}
 AreReceipts other = ⊥
@@ -112,6 +114,10 @@ AreReceipts other = ⊥
 abbrev pub IsStatusReply : Reply → Type 0
 IsStatusReply (Status place epoid receipt) = Unit {0}
 IsStatusReply other = ⊥
+
+abbrev pub IsGrant : Reply → Type 0
+IsGrant (Grant consumer merchant nonce until session) = Unit {0}
+IsGrant other = ⊥
 
 -- an entry that is recorded for a request, if any, is a payment exactly where the request is an endorsed order that is payable, and it is
 -- the payment of that order
@@ -168,6 +174,12 @@ abbrev pub AnsweredExactlyWhere : Type 0
 AnsweredExactlyWhere = (H : List Entry) (head : Head) (cap kind : ℕ) (body : List ℕ) (moment : ℕ)
     → IsStatusReply (verdict H head cap kind body moment).reply
     ↔ ((kind ≡ STATUS_REQUEST) × ((asked : StatusQuery) × IsAuthentic H body asked × (asked.least ≤ length H)))
+
+-- A ticket is granted exactly where the request for it is authentic, and the party that it is for is enrolled as a merchant.
+abbrev pub GrantedExactlyWhere : Type 0
+GrantedExactlyWhere = (H : List Entry) (head : Head) (cap kind : ℕ) (body : List ℕ) (moment : ℕ)
+    → IsGrant (verdict H head cap kind body moment).reply
+    ↔ ((kind ≡ TICKET_REQUEST) × ((asked : TicketAsk) × (consumer : Party) × (merchant : Party) × MayGrant H body asked consumer merchant))
 
 -- Over a Legal list each refusal is true: what its code claims holds of the entries and of the request, and so do its numbers.
 abbrev pub RefusalsAreTrue : Type 0

@@ -8,6 +8,8 @@ pub mod Settlements
 pub mod Payments
 pub mod Orders
 pub mod Statuses
+pub mod Grants
+pub mod Tickets
 pub mod Verdict
 pub mod Payable
 pub mod Claims

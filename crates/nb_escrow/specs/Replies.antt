@@ -2,24 +2,29 @@
 -- verdict is cited here.
 use Rattle.std.specs.Prelude.{◌≡◌, ◌≢◌, ◌↔◌, ◌⊎◌, ℕ, ◌∷◌, ◌++◌, List, length, codes, Option, Some, None, Ok, IsSome}
 use Rattle.std.specs.Option.{option_to_list}
-use Rattle.nb_units.specs.declared.frames.TheConstants.{ORDER_REQUEST, STATUS_REQUEST, ENROL_REQUEST, FUND_REQUEST}
+use Rattle.nb_units.specs.declared.frames.TheConstants.{ORDER_REQUEST, STATUS_REQUEST, TICKET_REQUEST, ENROL_REQUEST, FUND_REQUEST}
+use Rattle.nb_units.specs.Frames.{AreBytes}
 use Rattle.nb_units.specs.declared.ids.AcctId.{AcctId}
 use Rattle.nb_units.specs.declared.ids.PartyId.{PartyId}
 use Rattle.nb_seal.specs.Hmac.{hmac_of}
 use Rattle.nb_book.specs.declared.entry.Entry.{Entry}
 use Rattle.nb_book.specs.declared.entry.Entry.TheVariants as entries
 use Rattle.nb_book.specs.declared.kept.Kept.{Kept}
+use Rattle.nb_book.specs.declared.party.Party.{Party}
 use Rattle.nb_book.specs.Money.{balance}
-use Rattle.nb_book.specs.Searches.{order_in}
+use Rattle.nb_book.specs.Searches.{party_in, order_in}
 use Rattle.nb_epo.specs.declared.order.Order.{Order}
 use Rattle.nb_endorse.specs.declared.receipt.Receipt.{Receipt}
 use Rattle.nb_endorse.specs.declared.receipt.TheConstants.{PAID_CODE, NO_KEY}
 use Rattle.nb_endorse.specs.declared.refusal.TheConstants.{NOT_SERVED}
 use Rattle.nb_endorse.specs.declared.reply.Reply.{Reply}
-use Rattle.nb_endorse.specs.declared.reply.Reply.TheVariants.{Result as Receipts, Done, Status, Refused as Told}
+use Rattle.nb_endorse.specs.declared.reply.Reply.TheVariants.{Result as Receipts, Grant, Done, Status, Refused as Told}
 use Rattle.nb_endorse.specs.declared.reply.ReplyKeys.{ReplyKeys}
 use Rattle.nb_endorse.specs.Keys.{no_keys}
 use Rattle.nb_endorse.specs.Refusals.{refusal}
+use Rattle.nb_ticket.specs.declared.ask.TicketAsk.{TicketAsk}
+use Rattle.nb_ticket.specs.Laws.{Carries}
+use Rattle.nb_ticket.specs.Sealed.{sealed_grant, grant_with_ticket}
 use Rattle.nb_escrow.specs.declared.enrolment.Enrolment.{Enrolment}
 use Rattle.nb_escrow.specs.declared.funding.Funding.{Funding}
 use Rattle.nb_escrow.specs.declared.head.Head.{Head}
@@ -31,21 +36,23 @@ use Rattle.nb_escrow.specs.Checks.{signed_part}
 use Rattle.nb_escrow.specs.Enrolments.{enrol_entry}
 use Rattle.nb_escrow.specs.Fundings.{fund_entry}
 use Rattle.nb_escrow.specs.Payable.{IsAuthenticOrder, digest_held, shown_to_consumer, shown_to_merchant}
-use Rattle.nb_escrow.specs.Laws.{IsAuthentic}
+use Rattle.nb_escrow.specs.Grants.{MayGrant, grant_of}
+use Rattle.nb_escrow.specs.Laws.{IsAuthentic, IsGrant}
 use Rattle.nb_escrow.specs.Verdict.{verdict}
 
 -- ---- keys
 
 -- the keys are the house's own, and then the merchant's and the consumer's of the order that the body is, or who asks's of the query that
--- it is; any other reply has none. No grant is given yet
+-- it is, or the consumer's and the merchant's of the request for a ticket; any other reply has none
 abbrev pub HasKeysOfParties : List Entry → Head → List ℕ → Reply → ReplyKeys → Type 0
 HasKeysOfParties H head body (Receipts merchant consumer) keys =
     (p : Presented) × IsAuthenticOrder H body p × (keys ≡ record { house = head.house; first = p.merchant.key; second = p.consumer.key })
 HasKeysOfParties H head body (Status place epoid receipt) keys =
     (asked : StatusQuery) × (is : IsAuthentic H body asked) × (keys ≡ record { house = head.house; first = is.asker.key; second = NO_KEY })
+HasKeysOfParties H head body (Grant consumer merchant nonce until session) keys =
+    (asked : TicketAsk) × (buyer : Party) × (seller : Party) × MayGrant H body asked buyer seller × (keys ≡ record { house = head.house; first = buyer.key; second = seller.key })
 HasKeysOfParties H head body (Done acct at amount) keys = keys ≡ no_keys
 HasKeysOfParties H head body (Told why) keys = keys ≡ no_keys
-HasKeysOfParties H head body other keys = ⊥
 
 -- The keys of every verdict's reply are so.
 abbrev pub KeysAreTheParties : Type 0
@@ -159,10 +166,36 @@ abbrev pub StatusTellsTheOrder : Type 0
 StatusTellsTheOrder = (H : List Entry) (head : Head) (cap kind : ℕ) (body : List ℕ) (moment : ℕ)
     → TellsStatus H body (verdict H head cap kind body moment).reply
 
+-- ---- a ticket
+
+-- a grant is that of the request that the body is, at this moment, and nothing is recorded
+abbrev pub TellsGrant : List Entry → Head → List ℕ → ℕ → Option Entry → Reply → Type 0
+TellsGrant H head body moment recorded reply = IsGrant reply
+    → (asked : TicketAsk) × (consumer : Party) × (merchant : Party) × MayGrant H body asked consumer merchant × (reply ≡ grant_of head.house asked moment) × (recorded ≡ None)
+
+-- The grant that any verdict tells is so.
+abbrev pub GrantTellsTheRequest : Type 0
+GrantTellsTheRequest = (H : List Entry) (head : Head) (cap kind : ℕ) (body : List ℕ) (moment : ℕ)
+    → TellsGrant H head body moment (verdict H head cap kind body moment).entry (verdict H head cap kind body moment).reply
+
+-- the parties that a grant names are enrolled; and what it is sealed as is opened under the consumer's key, and the ticket in it under the
+-- merchant's, to this nonce, last second and session key: for the merchant, up to the last second, and for nobody else and no later
+abbrev pub OpensForBoth : List Entry → ReplyKeys → Reply → Type 0
+OpensForBoth H keys (Grant consumer merchant nonce until session) =
+    (buyer : Party) × (seller : Party) × (party_in H consumer ≡ Some buyer) × (party_in H merchant ≡ Some seller)
+    × Carries buyer.key seller.key consumer merchant nonce until session
+    (sealed_grant keys.first (grant_with_ticket keys.second (record { consumer = consumer; merchant = merchant; until = until; session = session }) nonce))
+OpensForBoth H keys other = Unit {0}
+
+-- The grant of every verdict is so.
+abbrev pub GrantOpensForBoth : Type 0
+GrantOpensForBoth = (H : List Entry) (head : Head) (cap kind : ℕ) (body : List ℕ) (moment : ℕ) → AreBytes body
+    → OpensForBoth H (verdict H head cap kind body moment).keys (verdict H head cap kind body moment).reply
+
 -- ---- a kind that is not served
 
--- A kind that is none of the four is refused, shown, and records nothing.
+-- A kind that is none of the five is refused, shown, and records nothing.
 abbrev pub OtherKindsAreRefused : Type 0
 OtherKindsAreRefused = (H : List Entry) (head : Head) (cap kind : ℕ) (body : List ℕ) (moment : ℕ)
-    → kind ≢ ORDER_REQUEST → kind ≢ STATUS_REQUEST → kind ≢ ENROL_REQUEST → kind ≢ FUND_REQUEST
+    → kind ≢ ORDER_REQUEST → kind ≢ STATUS_REQUEST → kind ≢ TICKET_REQUEST → kind ≢ ENROL_REQUEST → kind ≢ FUND_REQUEST
     → verdict H head cap kind body moment ≡ record { reply = Told (refusal NOT_SERVED kind 0); keys = no_keys; entry = None }

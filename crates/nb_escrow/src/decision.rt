@@ -12,11 +12,14 @@ use crate::funding::decide_funding;
 use crate::head::Head;
 use crate::order::decide_order;
 use crate::status::decide_status;
+use crate::ticket::decide_ticket;
 use nb_book::{Book, Entry};
 use nb_endorse::refusal::NOT_SERVED;
 use nb_endorse::{Refusal, Reply, ReplyKeys, ReplyStates};
 use nb_units::AcctId;
-use nb_units::frames::{ENROL_REQUEST, FUND_REQUEST, ORDER_REQUEST, STATUS_REQUEST};
+use nb_units::frames::{
+    ENROL_REQUEST, FUND_REQUEST, ORDER_REQUEST, STATUS_REQUEST, TICKET_REQUEST,
+};
 
 /// The house's answer to one request, and the entry that it records for it, if any.
 #[derive(Clone, Copy, PartialEq, Eq, Debug)]
@@ -28,8 +31,8 @@ pub struct Decision {
 }
 
 /// Decides on one request, a frame's kind and body, over the entries that are held, at a moment in seconds since 1970-01-01
-/// 00:00 UTC. It has no condition, and takes no memory. Four kinds are served: [`ORDER_REQUEST`], [`STATUS_REQUEST`], [`ENROL_REQUEST`]
-/// and [`FUND_REQUEST`].
+/// 00:00 UTC. It has no condition, and takes no memory. Five kinds are served: [`ORDER_REQUEST`], [`STATUS_REQUEST`],
+/// [`TICKET_REQUEST`], [`ENROL_REQUEST`] and [`FUND_REQUEST`].
 pub fn decide(book: &Book, head: &Head, kind: u8, body: &[u8], moment: u64) -> Decision
     ensures verdict { result ≡ verdict book.now.entries head.now book.now.cap kind body.now moment }
     ensures legal { IfSome result.entry (LegalAfter book.now.entries) }
@@ -103,6 +106,7 @@ fn test(
     match kind {
         ORDER_REQUEST => decide_order(book, head, body, moment, states),
         STATUS_REQUEST => decide_status(book, head, body, states),
+        TICKET_REQUEST => decide_ticket(book, head, body, moment, states),
         ENROL_REQUEST => decide_enrolment(book, head, body),
         FUND_REQUEST => decide_funding(book, head, body),
         _ => Err(Refusal::of(NOT_SERVED, u64::from(kind), 0)),

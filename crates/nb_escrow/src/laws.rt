@@ -69,13 +69,19 @@ pub fn answered_exactly_where()
     ensures { law.AnsweredExactlyWhere }
 {}
 
+/// A ticket is granted exactly where the request is authentic and the party that it is for is enrolled as a merchant.
+pub fn granted_exactly_where()
+    ensures { law.GrantedExactlyWhere }
+{}
+
 /// What each refusal claims is true of the entries and of the request, and so are the numbers and the bytes that it shows.
 pub fn refusals_are_true()
     ensures { law.RefusalsAreTrue }
 {}
 
 /// The keys of a reply are those of its parties. The receipts of an order have the house's own key, and then the merchant's and
-/// the consumer's, as enrolled; a status has the house's, and then that of who asks; any other reply has none.
+/// the consumer's, as enrolled; a status has the house's, and then that of who asks; a grant has the house's, which made the session key,
+/// and then the consumer's and the merchant's; any other reply has none.
 pub fn keys_are_the_parties()
     ensures { replies.KeysAreTheParties }
 {}
@@ -100,7 +106,20 @@ pub fn status_tells_the_order()
     ensures { replies.StatusTellsTheOrder }
 {}
 
-/// A kind that is none of the four that are served is refused, shown, and records nothing.
+/// A grant names the two parties and the number of the request. Its last second is 3600 behind the moment, or the last that there is, and its
+/// session key is made of the house's key, the two parties, that number and the moment. Nothing is recorded.
+pub fn grant_tells_the_request()
+    ensures { replies.GrantTellsTheRequest }
+{}
+
+/// What a grant is sealed as is opened under the key of the consumer that it names, and the ticket in it under that of the merchant, to the
+/// same parties, last second and session key. The ticket is opened for its merchant at every moment up to its last second, and for nobody
+/// else and at no later one.
+pub fn grant_opens_for_both()
+    ensures { replies.GrantOpensForBoth }
+{}
+
+/// A kind that is none of the five that are served is refused, shown, and records nothing.
 pub fn other_kinds_are_refused()
     ensures { replies.OtherKindsAreRefused }
 {}

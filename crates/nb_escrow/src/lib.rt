@@ -3,20 +3,21 @@
 //! [`decide`] takes the book, the journal's head and a request, and gives the one reply and at most one entry: the
 //! `verdict` of `specs/Verdict.antt`, over the list of the entries that are held. The tests of each kind stand in a module of
 //! their own, in their order, a line each: an endorsed order in `Orders.antt` and, from its payment on, in `Payments.antt`; a status
-//! query in `Statuses.antt`; an enrolment in `Enrolments.antt`; a fund in `Fundings.antt`. What they share stands in
-//! `Checks.antt` and `Held.antt`, the layout of what may be asked for in `Requests.antt`, and what the parties of an order
-//! are told in `Settlements.antt`. In `src/` each of these has its file: `order.rt`, `payment.rt`, `status.rt`,
-//! `enrolment.rt`, `funding.rt`, `checks.rt`, `settlement.rt`.
+//! query in `Statuses.antt`; a request for a ticket in `Tickets.antt`; an enrolment in `Enrolments.antt`; a fund in
+//! `Fundings.antt`. What they share stands in `Checks.antt` and `Held.antt`, the layout of what may be asked for in
+//! `Requests.antt`, but for that of a request for a ticket, which is `nb_ticket`'s, and what the parties of an order are told in
+//! `Settlements.antt`. In `src/` each of these has its file: `order.rt`, `payment.rt`, `status.rt`, `ticket.rt`, `enrolment.rt`,
+//! `funding.rt`, `checks.rt`, `settlement.rt`.
 //!
 //! [`decide_with`] is the same, and leaves the states of the reply's keys, which were made once for all codes of the request.
 //!
 //! A decision's entry is legal after those held, and within the journal's cap. No memory is taken. What holds of every
 //! verdict stands in `specs/Laws.antt` and `Replies.antt`, and is proved by the functions of [`laws`]. Among it stands, in words
-//! that cite no test, where exactly an order is paid (`Payable.antt`), what each refusal claims of the entries and the request
-//! (`Claims.antt`), and what any other reply tells, and under which keys (`Replies.antt`).
+//! that cite no test, where exactly an order is paid (`Payable.antt`) and a ticket is granted (`Grants.antt`), what each refusal
+//! claims of the entries and the request (`Claims.antt`), and what any other reply tells, and under which keys (`Replies.antt`).
 //!
 //! Left to others: recording the entry, the bytes of the reply, and the moment's clock. Worked cases of every refusal stand in
-//! the tests of `nb_vault`, the lowest crate above this one.
+//! the tests of `nb_cases`, the lowest crate above this one.
 #![tactic(auto)]
 
 mod checks;
@@ -29,6 +30,7 @@ mod order;
 mod payment;
 mod settlement;
 mod status;
+mod ticket;
 
 pub use decision::{Decision, decide, decide_with};
 pub use enrolment::Enrolment;

@@ -13,9 +13,7 @@ use Rattle.nb_endorse.specs.declared.refusal.Refusal.{Refusal}
 use Rattle.nb_endorse.specs.declared.reply.Reply.{Reply}
 use Rattle.nb_endorse.specs.declared.reply.Reply.TheVariants.{Result, Status, Grant, Done, Refused}
 use Rattle.nb_endorse.specs.declared.reply.ReplyKeys.{ReplyKeys}
-use Rattle.nb_ticket.specs.declared.granted.Granted.{Granted}
-use Rattle.nb_ticket.specs.declared.ticket.Ticket.{Ticket}
-use Rattle.nb_ticket.specs.Spelling.{ticket_bytes, granted_bytes}
+use Rattle.nb_ticket.specs.Sealed.{sealed_grant, grant_with_ticket}
 use Rattle.nb_endorse.specs.Spelling.{signed_bytes}
 use Rattle.nb_endorse.specs.Tags.{signed_receipt}
 
@@ -41,25 +39,11 @@ status_bytes house place epoid receipt = be8 place ++ epoid_bytes epoid ++ recei
 abbrev pub status_frame : ReplyKeys → ℕ → Epoid → Option Receipt → Frame
 status_frame keys place epoid receipt = record { kind = STATUS_REPLY; body = seal_of keys.first (codes "stat") (status_bytes keys.house place epoid receipt) }
 
--- a ticket, sealed under the merchant's key and the label "tick"
-abbrev pub sealed_ticket : List ℕ → Ticket → List ℕ
-sealed_ticket key ticket = seal_of key (codes "tick") (ticket_bytes ticket)
-
--- a grant, sealed under the consumer's key and the label "gran"
-abbrev pub sealed_grant : List ℕ → Granted → List ℕ
-sealed_grant key granted = seal_of key (codes "gran") (granted_bytes granted)
-
--- the whole body is a grant, and in it the ticket that it names
+-- the whole body is a grant, sealed for the consumer, and in it the ticket, sealed for the merchant
 abbrev pub grant_frame : ReplyKeys → PartyId → PartyId → ℕ → ℕ → List ℕ → Frame
 grant_frame keys consumer merchant nonce until session = record {
   kind = GRANT_REPLY;
-  body = sealed_grant keys.first (record {
-    merchant = merchant;
-    nonce = nonce;
-    until = until;
-    session = session;
-    ticket = sealed_ticket keys.second (record { consumer = consumer; merchant = merchant; until = until; session = session });
-  });
+  body = sealed_grant keys.first (grant_with_ticket keys.second (record { consumer = consumer; merchant = merchant; until = until; session = session }) nonce);
 }
 
 -- account 4 | place 8 | balance 8

@@ -1,7 +1,8 @@
 ghost use Rattle.std.specs.Prelude.{◌≡◌, length};
 ghost use Rattle.nb_ticket.specs.declared.granted.TheConstants.{GRANT_BYTES};
 ghost use Rattle.nb_ticket.specs.declared.ticket.TheConstants.{TICKET_BYTES};
-ghost use Rattle.nb_msgs.specs.ReplyBytes.{sealed_ticket, grant_frame};
+ghost use Rattle.nb_ticket.specs.Sealed.{sealed_ticket};
+ghost use Rattle.nb_msgs.specs.ReplyBytes.{grant_frame};
 
 use nb_endorse::ReplyStates;
 use nb_ticket::{GRANT_BYTES, GRANT_LABEL, Granted, TICKET_BYTES, TICKET_LABEL, Ticket};

@@ -192,6 +192,10 @@ pub const STATUS_3: &str =
 pub const LEAST_6: &str =
     "4e4201090000003c000000010000000200000000000003e80000000100000000000000063de90d866d567ebe59ec08204b5dcab609c65d0898414f0b092e99e5f6c92954";
 
+// A ticket to merchant 2, asked for by consumer 1 under number 9.
+pub const TICKET_2: &str =
+    "4e42010b000000300000000100000002000000000000000958f650d511f7c38f3deaebed0f8cd7150deebe3f4340fb81f30aaf881fff8850";
+
 // What is no request.
 
 // A frame of kind 01 without a body.
@@ -294,6 +298,10 @@ pub const SEEN_2: &str =
 
 pub const SEEN_3: &str =
     "4e42010a00000039c3c5e3c24c670bf9259afdde2948f1bd4cb7ad97c6f48c8d240b2b14b47962555cfc832a0c922de68e7d50c9e6c0c38b8e67b0f7b7caed39f6";
+
+// The ticket to merchant 2, granted at moment 1000.
+pub const GRANT_2: &str =
+    "4e42010c000000a86b466073bd2414a7dadcfd0596715106035d1b89f8baebb62ca08193d822cdc1956b30ae87b8c421d2f3ae246994bd2fb95307b44bdc3b97884a1c6beb006a49c76420f7f7918fb94d79943b3a638868867b15840bbada1a3bf459363aebe7cfa630685df83805ec97c2331d1180bb0890957938a5dfc3a6dae8688164d957ff2aec7e7a2386ab3a7daf474c4597f5d83b895f5105f3ff7be6beabcb40b5bb3df5919e0cd6e82c56";
 
 // Refusals: a code, two numbers, and 32 bytes.
 

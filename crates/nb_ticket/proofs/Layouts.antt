@@ -1,10 +1,12 @@
 -- Requests, tickets and grants as rows of fields.
-use Rattle.std.proofs.Common.{◌≡◌, ◌↔◌, ℕ, ◌≤◌, Bool, true, false, cond, nat_lt, List, Ok, Err, Result, refl, sym, ap, subst, ◌∙◌, arith, eq-eqb}
+use Rattle.std.proofs.Common.{◌≡◌, ◌↔◌, ℕ, ◌+◌, ◌≤◌, Bool, true, false, cond, nat_lt, List, length, Ok, Err, Result, refl, sym, ap, subst, ◌∙◌, arith, eq-eqb, length-append}
 use Rattle.std.proofs.lemmas.Bool.{eqb-true, ltb-false, le-ltb, true≢false}
-use Rattle.std.specs.Prelude.{◌==◌, codes}
+use Rattle.std.specs.Prelude.{◌==◌, codes, IfOk}
 use Rattle.nb_units.proofs.Rows.{Row, IsRow, ◌&◌, and_row, number4, number4_row, number8, number8_row, raw, raw_row, text, text_row, whole, whole_found, whole_reads, ok_is}
 use Rattle.nb_seal.specs.Seal.{Opens}
-use Rattle.nb_seal.proofs.Opening.{opens_once}
+use Rattle.nb_seal.proofs.Opening.{opens_once, length-seal_of}
+use Rattle.nb_units.specs.declared.ids.PartyId.{PartyId}
+use Rattle.nb_units.specs.Fields.{sized}
 use Rattle.nb_ticket.specs.declared.ask.TicketAsk.{TicketAsk}
 use Rattle.nb_ticket.specs.declared.ticket.Ticket.{Ticket}
 use Rattle.nb_ticket.specs.declared.ticket.TheConstants.{TICKET_BYTES}
@@ -15,8 +17,9 @@ use Rattle.nb_ticket.specs.declared.granted.GrantFault.{GrantFault}
 use Rattle.nb_ticket.specs.declared.granted.GrantFault.TheVariants as grant
 use Rattle.nb_ticket.specs.Spelling.{IsAsk, unsigned_bytes, ask_bytes, IsTicket, ticket_bytes, IsGranted, granted_bytes}
 use Rattle.nb_ticket.specs.Reading.{ask_of, ticket_of, granted_of}
-use Rattle.nb_ticket.specs.Opening.{ReadsTicket, OpensGrant}
-use Rattle.nb_ticket.specs.Laws.{AskReadsBack, AskSpellsBack, OneAsk, TicketReadsBack, TicketSpellsBack, OneTicket, GrantedReadsBack, GrantedSpellsBack, OneGranted, HoldsUntil}
+use Rattle.nb_ticket.specs.Opening.{admitted, ReadsTicket, Admits, OpensTicket, OpensGrant}
+use Rattle.nb_ticket.specs.Sealed.{sealed_grant, grant_with_ticket}
+use Rattle.nb_ticket.specs.Laws.{AskReadsBack, AskSpellsBack, OneAsk, TicketReadsBack, TicketSpellsBack, OneTicket, GrantedReadsBack, GrantedSpellsBack, OneGranted, HoldsUntil, GrantCarriesTicket}
 
 -- two numbers of 4 bytes, one of 8, and 32 bytes: so are a request and a ticket laid out
 abbrev Parts : Type 0
@@ -142,6 +145,32 @@ ticket_read key bytes t (Err (ticket.Malformed place)) is opens (plain, o, e) =
 ticket_read key bytes t (Err (ticket.WrongParty named asked)) is opens r = absurd r
 ticket_read key bytes t (Err (ticket.Expired until now)) is opens r = absurd r
 
+-- what comes of the ticket that is sealed there comes of this one
+through : (key bytes : List ℕ) (t : Ticket) (asked : PartyId) (now : ℕ) (r : Result Ticket TicketFault) → IsTicket t → Opens key (codes "tick") bytes (ticket_bytes t)
+    → Admits key bytes asked now r → r ≡ admitted t asked now
+through key bytes t asked now r is opens it =
+    it.is ∙ ap (λ (x : Ticket). admitted x asked now) (one it.ticket (ticket_read key bytes t (Ok it.ticket) is opens it.opens))
+  where
+    one : (a : Ticket) → (let x : Result Ticket TicketFault = Ok a in x) ≡ Ok t → a ≡ t
+    one a e = cc
+
+-- and, where it is for who asks at this moment, opened as that ticket
+pub ticket_opened : (key bytes : List ℕ) (t : Ticket) (asked : PartyId) (now : ℕ) (r : Result Ticket TicketFault) → IsTicket t → Opens key (codes "tick") bytes (ticket_bytes t)
+    → OpensTicket key bytes asked now r → r ≡ admitted t asked now
+ticket_opened key bytes t asked now (Ok x) is opens it = through key bytes t asked now (Ok x) is opens it
+ticket_opened key bytes t asked now (Err (ticket.BadSeal iv)) is opens it = absurd (it.0 (ticket_bytes t) opens)
+ticket_opened key bytes t asked now (Err (ticket.Malformed place)) is opens it = absurd (never (ticket_read key bytes t (Err (ticket.Malformed place)) is opens it))
+  where
+    never : Err (ticket.Malformed place) ≡ Ok t → ⊥
+    never e = cc
+ticket_opened key bytes t asked now (Err (ticket.WrongParty named other)) is opens it = through key bytes t asked now (Err (ticket.WrongParty named other)) is opens it
+ticket_opened key bytes t asked now (Err (ticket.Expired until then)) is opens it = through key bytes t asked now (Err (ticket.Expired until then)) is opens it
+
+-- what comes of a ticket comes of each one that is the same
+pub if_same : (P : Ticket → Type 0) (t : Ticket) → P t → (r : Result Ticket TicketFault) → IfOk r (λ x. x ≡ t) → IfOk r P
+if_same P t holds (Ok x) same = subst P (sym same) holds
+if_same P t holds (Err fault) same = tt
+
 pub holds_until : HoldsUntil
 holds_until t asked now = part (t.merchant.0 == asked.0) refl (nat_lt t.until now) refl
   where
@@ -159,3 +188,36 @@ holds_until t asked now = part (t.merchant.0 == asked.0) refl (nat_lt t.until no
       where
         never : Err (ticket.WrongParty t.merchant asked) ≡ Ok t → ⊥
         never e = cc
+
+-- ---- what the house grants
+
+length_ticket : (t : Ticket) → IsTicket t → length (ticket_bytes t) ≡ 48
+unfolding ticket_bytes
+length_ticket t is = omega (arith, is.session)
+
+length_granted : (g : Granted) → IsGranted g → length (granted_bytes g) ≡ 56 + length g.ticket
+unfolding granted_bytes
+length_granted g is = omega (arith, is.session, length-append g.session (sized g.ticket))
+
+pub grant_carries_ticket : GrantCarriesTicket
+grant_carries_ticket consumer_key merchant_key t nonce is small =
+    let g : Granted = grant_with_ticket merchant_key t nonce in
+    let ticket_long : length g.ticket ≡ 80 = omega (arith, length-seal_of merchant_key (codes "tick") (ticket_bytes t), length_ticket t is) in
+    let granted : IsGranted g = record { merchant = is.merchant; nonce = small; until = is.until; session = is.session; ticket = omega (arith, ticket_long) } in
+    record {
+      granted = g;
+      long = omega (arith, length-seal_of consumer_key (codes "gran") (granted_bytes g), length_granted g granted, ticket_long);
+      opens = λ r it. grant_opened consumer_key (sealed_grant consumer_key g) g r granted refl it;
+      tells = (refl, refl, refl, refl);
+      ticket = t;
+      ticket_long = ticket_long;
+      ticket_tells = (refl, refl, refl, refl);
+      ticket_opens = λ asked now r it. holds asked now r (ticket_opened merchant_key g.ticket t asked now r is refl it);
+    }
+  where
+    holds : (asked : PartyId) (now : ℕ) (r : Result Ticket TicketFault) → r ≡ admitted t asked now → (r ≡ Ok t) ↔ ((asked.0 ≡ t.merchant.0) × (now ≤ t.until))
+    holds asked now r same =
+        let until = holds_until t asked now in (
+          λ e. let both = until.0 (sym same ∙ e) in (sym both.0, both.1),
+          λ both. same ∙ until.1 (sym both.0, both.1),
+        )

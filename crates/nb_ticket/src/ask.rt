@@ -4,7 +4,7 @@ ghost use Rattle.nb_ticket.specs.Spelling.{IsAsk, unsigned_bytes, ask_bytes};
 ghost use Rattle.nb_ticket.specs.Reading.{ask_of};
 ghost use Rattle.nb_ticket.specs.Keys.{ask_tag};
 
-use nb_seal::{hmac, same};
+use nb_seal::{KeyState, same};
 use nb_units::{Buffer, Cut, Malformed, PartyId, Secret, Tag};
 
 // What the tag of a request is over begins with this.
@@ -60,7 +60,7 @@ pub fn request(key: &Secret, consumer: PartyId, merchant: PartyId, nonce: u64) -
         consumer,
         merchant,
         nonce,
-        tag: tag_of(key, consumer, merchant, nonce),
+        tag: tag_of(&KeyState::new(key), consumer, merchant, nonce),
     }
 }
 
@@ -68,15 +68,21 @@ pub fn request(key: &Secret, consumer: PartyId, merchant: PartyId, nonce: u64) -
 pub fn request_ok(t: &TicketAsk, key: &Secret) -> bool
     ensures { IsTrue result ↔ (t.now.tag ≡ ask_tag key.now t.now.consumer t.now.merchant t.now.nonce) }
 {
+    request_ok_with(t, &KeyState::new(key))
+}
+
+/// Whether the tag is the right one, as [`request_ok`] tells, under the key of this state.
+pub fn request_ok_with(t: &TicketAsk, key: &KeyState) -> bool
+    ensures { IsTrue result ↔ (t.now.tag ≡ ask_tag key.now t.now.consumer t.now.merchant t.now.nonce) }
+{
     same(&t.tag, &tag_of(key, t.consumer, t.merchant, t.nonce))
 }
 
-// The tag of a request under a key.
-fn tag_of(key: &Secret, consumer: PartyId, merchant: PartyId, nonce: u64) -> Tag
+// The tag of a request under the key of a state.
+fn tag_of(key: &KeyState, consumer: PartyId, merchant: PartyId, nonce: u64) -> Tag
     ensures { result ≡ ask_tag key.now consumer merchant nonce }
 {
-    hmac(
-        key,
+    key.code(
         &ASK_LABEL,
         unsigned(consumer, merchant, nonce).as_slice(),
     )

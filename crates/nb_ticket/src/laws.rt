@@ -44,6 +44,12 @@ pub fn holds_until()
     ensures { law.HoldsUntil }
 {}
 
+/// A law: what the house grants is opened under the consumer's key, and the ticket in it under the merchant's, to the same merchant, last
+/// second and session key; and the ticket holds up to its last second, for its merchant alone.
+pub fn grant_carries_ticket()
+    ensures { law.GrantCarriesTicket }
+{}
+
 /// A law: the limits in numbers, and the labels in texts.
 pub fn limits()
     ensures limits { law.TicketLimitsAre }

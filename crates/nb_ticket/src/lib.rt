@@ -18,7 +18,7 @@ pub mod laws;
 mod session;
 mod ticket;
 
-pub use ask::{TicketAsk, request, request_ok};
+pub use ask::{TicketAsk, request, request_ok, request_ok_with};
 pub use granted::{GRANT_BYTES, GRANT_LABEL, GrantFault, Granted, grant, grant_with, open_grant};
 pub use nb_units::Malformed;
 pub use session::{TICKET_LIFE, session_key, session_key_with, until};

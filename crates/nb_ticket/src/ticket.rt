@@ -124,7 +124,8 @@ pub fn open_ticket(
     // What the seal hides, field by field, and the first that fails; or that the bytes are the seal of nothing; then whether it holds.
     ensures opens { OpensTicket key.now bytes.now asked now result }
 
-    // Of the bytes that a ticket was sealed as, that ticket is opened, where it holds.
+    // A ticket that is opened was sealed so; and of the bytes that a ticket was sealed as, that ticket is opened, where it holds.
+    ensures spelled { IfOk result (λ t. IsTicket t × Opens key.now (codes "tick") bytes.now (ticket_bytes t)) }
     ensures found { (t : Ticket) → IsTicket t → Opens key.now (codes "tick") bytes.now (ticket_bytes t) → result ≡ admitted t asked now }
 {
     match opened(bytes, key) {
@@ -135,7 +136,8 @@ pub fn open_ticket(
 
 // The ticket, where it is for the merchant who asks and holds at this moment.
 fn admit(ticket: Ticket, asked: PartyId, now: u64) -> Result<Ticket, TicketFault>
-    ensures { result ≡ admitted ticket asked now }
+    ensures admits { result ≡ admitted ticket asked now }
+    ensures same { IfOk result (λ t. t ≡ ticket) }
 {
     if ticket.merchant != asked {
         return Err(TicketFault::WrongParty {
@@ -155,11 +157,12 @@ fn admit(ticket: Ticket, asked: PartyId, now: u64) -> Result<Ticket, TicketFault
 // The ticket that the bytes are the seal of.
 fn opened(bytes: &[u8], key: &Secret) -> Result<Ticket, TicketFault>
     requires { length bytes.now ≤ TICKET_BYTES }
-    ensures { ReadsTicket key.now bytes.now result }
+    ensures opens { ReadsTicket key.now bytes.now result }
+    ensures spelled { IfOk result (λ t. IsTicket t × Opens key.now (codes "tick") bytes.now (ticket_bytes t)) }
 {
     let mut plain = [0u8; TICKET_BYTES];
     let n = KeyState::new(key).unseal_to(&TICKET_LABEL, bytes, &mut plain)?;
-    let ticket = read_fields(plain.split_at(n).0)?;
+    let ticket = read_ticket(plain.split_at(n).0)?;
     Ok(ticket)
 }
 
@@ -181,6 +184,13 @@ impl Ticket {
 }
 
 // The ticket that the bytes spell, or the place of the first field that fails.
+fn read_ticket(bytes: &[u8]) -> Result<Ticket, Malformed>
+    ensures reads { Reads result (ticket_of bytes.now) }
+    ensures spelled { IfOk result (λ t. IsTicket t × (bytes.now ≡ ticket_bytes t)) }
+{
+    read_fields(bytes)
+}
+
 #[tactic(auto, unfolding(crate::specs::Reading::ticket_of))]
 fn read_fields(bytes: &[u8]) -> Result<Ticket, Malformed>
     ensures { Reads result (ticket_of bytes.now) }

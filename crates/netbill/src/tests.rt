@@ -51,7 +51,7 @@ const BATCH: Case<'static> = Case {
 
 // No table has many more than 10,000 digits: with 28,000 the check of its test ended at its limit of steps.
 
-static REQUESTS: [Case<'static>; 14] = [
+static REQUESTS: [Case<'static>; 15] = [
     Case {
         name: "two enrolments and a fund",
         input: &[ENROL_1, ENROL_2, FUND_500],
@@ -62,6 +62,12 @@ static REQUESTS: [Case<'static>; 14] = [
         name: "a kind that is not served",
         input: &[UNKNOWN],
         output: &[UNSERVED_1],
+        ..BATCH
+    },
+    Case {
+        name: "a ticket is granted",
+        input: &[ENROL_1, ENROL_2, FUND_500, TICKET_2],
+        output: &[DONE_1, DONE_2, DONE_500, GRANT_2],
         ..BATCH
     },
     Case {

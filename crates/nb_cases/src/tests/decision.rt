@@ -29,6 +29,7 @@ fn ask_all(rt: &impl Abort, alloc: Global, rows: &[Row], keep: bool) -> Result<(
             BadTag => refusal(14, 0, 0, last(request.body.as_slice())),
             UsedUp(_) => refusal(15, 0, 0, digest),
             Sees(_) | SeesNone => status(&request, held, first.reply),
+            Granted(until) => granted(&request, until),
             comes => decided(&request, held, comes),
         };
         let body = request.body.as_slice();
@@ -43,7 +44,7 @@ fn ask_all(rt: &impl Abort, alloc: Global, rows: &[Row], keep: bool) -> Result<(
 }
 
 // Requests that are each the next one after what is held.
-static ALONE: [Row; 67] = [
+static ALONE: [Row; 85] = [
     (Pay, &[], Paid),
     (Pay, &[Cut(Seal, 421)], Told(10, 4, 0)),
     (Pay, &[Endorser(9, 0x55)], Told(11, 9, 0)),
@@ -114,10 +115,30 @@ static ALONE: [Row; 67] = [
     (Status(1, 0x44, 2, 1, 6), &[], SeesNone),
     (Status(1, 0x44, 2, 1, 7), &[], Told(40, 6, 7)),
     (Status(1, 0x44, 2, 1, LAST), &[], Told(40, 6, LAST)),
+    (Ticket(1, 0x44, 2, 9), &[], Granted(4600)),
+    (Ticket(3, 0x88, 4, LAST), &[At(0)], Granted(3600)),
+    // the last second is 3600 behind the moment, or the last that there is
+    (Ticket(1, 0x44, 2, 9), &[At(LAST - 3601)], Granted(LAST - 1)),
+    (Ticket(1, 0x44, 2, 9), &[At(LAST - 3600)], Granted(LAST)),
+    (Ticket(1, 0x44, 2, 9), &[At(LAST - 3599)], Granted(LAST)),
+    (Ticket(1, 0x44, 2, 0), &[At(LAST)], Granted(LAST)),
+    // who asks is told before the tag, and who is asked for behind it
+    (Ticket(9, 0x44, 2, 9), &[], Told(11, 9, 0)),
+    (Ticket(0, 0x44, 2, 9), &[], Told(11, 0, 0)),
+    (Ticket(2, 0x55, 4, 9), &[], Told(11, 2, 0)),
+    (Ticket(4, 0x44, 9, 9), &[], Told(11, 4, 0)),
+    (Ticket(1, 0x88, 2, 9), &[], BadTag),
+    (Ticket(1, 0x44, 2, 9), &[Turn(Body, 15)], BadTag),
+    (Ticket(1, 0x44, 2, 9), &[Turn(Body, 16)], BadTag),
+    (Ticket(1, 0x55, 9, 9), &[], BadTag),
+    (Ticket(1, 0x44, 3, 9), &[Turn(Body, 47)], BadTag),
+    (Ticket(1, 0x44, 9, 9), &[], Told(11, 9, 0)),
+    (Ticket(1, 0x44, 3, 9), &[], Told(11, 3, 0)),
+    (Ticket(1, 0x44, 1, 9), &[], Told(11, 1, 0)),
 ];
 
 // Requests that come one behind the other.
-static TOGETHER: [Row; 24] = [
+static TOGETHER: [Row; 26] = [
     // an order that is refused uses up its identifier
     (Pay, &[Costs(501)], ToConsumer(36, 500, 501)),
     (Pay, &[], UsedUp(0)),
@@ -145,6 +166,9 @@ static TOGETHER: [Row; 24] = [
     (Status(1, 0x44, 2, 3, 0), &[], SeesNone),
     (Status(1, 0x44, 4, 2, 0), &[], SeesNone),
     (Status(1, 0x44, 2, 2, 9), &[], Told(40, 8, 9)),
+    // a ticket needs no room, and is made anew each time
+    (Ticket(1, 0x44, 2, 9), &[], Granted(4600)),
+    (Ticket(1, 0x44, 2, 9), &[At(1001)], Granted(4601)),
 ];
 
 #[test]
@@ -158,10 +182,11 @@ fn requests_are_answered_after_others(rt: HostRuntime) -> Result<(), Fail> {
 }
 
 // A part of a request, the number that a refusal shows for it, where its fields behind the first begin, and its end.
-static FIELDS: [(Ask, Part, u64, &'static [usize]); 7] = [
+static FIELDS: [(Ask, Part, u64, &'static [usize]); 8] = [
     (Enrol(5, 1, 15, 0, 6), Body, 0, &[4, 5, 9, 17, 49, 81]),
     (Fund(11, 7, 2), Body, 0, &[4, 12, 28, 60]),
     (Status(1, 0x44, 2, 1, 0), Body, 0, &[4, 20, 28, 60]),
+    (Ticket(1, 0x44, 2, 9), Body, 0, &[4, 8, 16, 48]),
     (Pay, Body, 0, &[4, 300]),
     (Pay, Endorsement, 1, &[220, 224, 228, 260]),
     (Pay, Signed, 2, &[4, 8, 12, 20, 36, 68, 100, 132, 184, 216]),
@@ -187,7 +212,7 @@ fn what_is_no_request_is_told(rt: HostRuntime) -> Result<(), Fail> {
             );
         }
     }
-    for kind in [0, 1, 0x0B, 255] {
+    for kind in [0, 1, 0x0C, 255] {
         let said = decide(&book, &HOUSE, kind, &[], 1000);
         assert_eq!(rt; said, refusal(53, u64::from(kind), 0, ZEROS));
     }
