@@ -1,14 +1,11 @@
 -- A ticket is granted exactly where it may be, and what is granted is opened by both parties.
-use Rattle.std.proofs.Common.{◌≡◌, ◌↔◌, inl, inr, ℕ, ◌+◌, ◌<◌, ◌^◌, List, length, Option, None, Some, Ok, Err, arith, refl, sym, ap, subst, ◌∙◌}
-use Rattle.nb_units.specs.Frames.{AreBytes}
+use Rattle.std.proofs.Common.{◌≡◌, inl, inr, ℕ, List, Ok, Err, arith, sym, ap, subst, ◌∙◌}
 use Rattle.nb_units.specs.declared.frames.TheConstants.{TICKET_REQUEST}
-use Rattle.nb_units.specs.declared.ids.PartyId.{PartyId}
 use Rattle.nb_seal.proofs.Opening.{length-hmac_of}
 use Rattle.nb_book.specs.declared.entry.Entry.{Entry}
 use Rattle.nb_book.specs.declared.entry.TheConstants.{CONSUMER, MERCHANT}
 use Rattle.nb_book.specs.declared.party.Party.{Party}
 use Rattle.nb_endorse.specs.declared.refusal.TheConstants.{IN_BODY}
-use Rattle.nb_endorse.specs.declared.reply.Reply.{Reply}
 use Rattle.nb_ticket.specs.declared.ask.TicketAsk.{TicketAsk}
 use Rattle.nb_ticket.specs.declared.ticket.Ticket.{Ticket}
 use Rattle.nb_ticket.specs.Keys.{ask_tag, session_key_of, last_second}
@@ -18,9 +15,9 @@ use Rattle.nb_ticket.proofs.Layouts.{ask_spells_back, grant_carries_ticket}
 use Rattle.nb_escrow.specs.declared.decision.Decision.{Decision}
 use Rattle.nb_escrow.specs.declared.head.Head.{Head}
 use Rattle.nb_escrow.specs.Checks.{well_formed, enrolled_as, right_tag}
-use Rattle.nb_escrow.specs.Grants.{MayGrant, grant_of}
+use Rattle.nb_escrow.specs.Grants.{MayGrant}
 use Rattle.nb_escrow.specs.Laws.{IsGrant, GrantedExactlyWhere}
-use Rattle.nb_escrow.specs.Replies.{TellsGrant, GrantTellsTheRequest, OpensForBoth, GrantOpensForBoth}
+use Rattle.nb_escrow.specs.Replies.{GrantTellsTheRequest, OpensForBoth, GrantOpensForBoth}
 use Rattle.nb_escrow.specs.Tickets.{ticket_granted, ticket_steps}
 use Rattle.nb_escrow.specs.Verdict.{steps, told, verdict}
 use Rattle.nb_escrow.proofs.Judging.{Answer, Comes, comes}
@@ -80,9 +77,9 @@ grant_tells_the_request H head cap kind body moment is =
     (so.1.0, so.1.1, so.1.2, so.1.3, ap (λ (d : Decision). d.reply) so.1.4, ap (λ (d : Decision). d.entry) so.1.4)
 
 -- the ticket of a request that is spelled in bytes is within its limits
-ticket_fits : (house : List ℕ) (body : List ℕ) (asked : TicketAsk) (moment : ℕ) → IsAsk asked
+ticket_fits : (house : List ℕ) (asked : TicketAsk) (moment : ℕ) → IsAsk asked
     → IsTicket (record { consumer = asked.consumer; merchant = asked.merchant; until = last_second moment; session = session_key_of house asked.consumer asked.merchant asked.nonce moment })
-ticket_fits house body asked moment is =
+ticket_fits house asked moment is =
     record { consumer = is.consumer; merchant = is.merchant; until = omega arith; session = length-hmac_of house _ }
 
 pub grant_opens_for_both : GrantOpensForBoth
@@ -104,7 +101,7 @@ grant_opens_for_both H head cap kind body moment are = part (steps H head cap ki
           session = session_key_of head.house asked.consumer asked.merchant asked.nonce moment;
         } in
         subst Opens (sym d_is)
-        (buyer, seller, may.authentic.enrolled, may.enrolled, grant_carries_ticket buyer.key seller.key ticket asked.nonce (ticket_fits head.house body asked moment small) small.nonce)
+        (buyer, seller, may.authentic.enrolled, may.enrolled, grant_carries_ticket buyer.key seller.key ticket asked.nonce (ticket_fits head.house asked moment small) small.nonce)
     opens d (inr (inr (inr (inl (is, (asked, spelled, right, inl (at, place, d_is))))))) = subst Opens (sym d_is) tt
     opens d (inr (inr (inr (inl (is, (asked, spelled, right, inr (next, room, d_is))))))) = subst Opens (sym d_is) tt
     opens d (inr (inr (inr (inr (is, (asked, spelled, right, inl (at, place, d_is))))))) = subst Opens (sym d_is) tt

@@ -82,10 +82,7 @@ pub fn request_ok_with(t: &TicketAsk, key: &KeyState) -> bool
 fn tag_of(key: &KeyState, consumer: PartyId, merchant: PartyId, nonce: u64) -> Tag
     ensures { result ≡ ask_tag key.now consumer merchant nonce }
 {
-    key.code(
-        &ASK_LABEL,
-        unsigned(consumer, merchant, nonce).as_slice(),
-    )
+    key.code(&ASK_LABEL, unsigned(consumer, merchant, nonce).as_slice())
 }
 
 // The bytes of a request before its tag.

@@ -7,7 +7,11 @@
 //!
 //! The layouts stand in `specs/Spelling.antt`, each as a function of the value, and in `specs/Reading.antt`, field by field
 //! with the place of each. That they are the two sides of one thing is proved by the functions of [`laws`]: what was
-//! spelled is read as that value, and what was read is spelled as those bytes. Each call over a key has one over its state beside it.
+//! spelled is read as that value, and what was read is spelled as those bytes. What is sealed stands in `specs/Sealed.antt`,
+//! and what opening gives in `specs/Opening.antt`.
+//!
+//! The house's calls over a key have one over its state beside them: [`request_ok_with`], [`session_key_with`], [`write_ticket_with`],
+//! [`grant_with`].
 //!
 //! Left to others: whose keys these are, whether the parties are enrolled, and the clock. No memory is taken.
 #![tactic(auto)]

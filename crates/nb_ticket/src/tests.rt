@@ -1,7 +1,7 @@
 //! The bytes are from another program. The house's key is 32 times 11, the consumer's 32 times 44, the merchant's 32 times 55.
 
 use super::*;
-use nb_seal::seal_to;
+use nb_seal::{KeyState, seal_to};
 use nb_units::{PartyId, Secret, Small};
 use std::test::Fail;
 
@@ -51,6 +51,12 @@ fn a_request_is_made_and_read(rt: HostRuntime) -> Result<(), Fail> {
     assert_eq!(rt; TicketAsk::read(&want), Ok(asked));
     assert!(rt; request_ok(&asked, &CONSUMER));
     assert!(rt; !request_ok(&asked, &MERCHANT));
+    assert!(rt; request_ok_with(&asked, &KeyState::new(&CONSUMER)));
+    for turned in [0, 31] {
+        let mut tag = asked.tag;
+        tag[turned] ^= 1;
+        assert!(rt; !request_ok_with(&TicketAsk { tag, ..asked }, &KeyState::new(&CONSUMER)));
+    }
     Ok(())
 }
 

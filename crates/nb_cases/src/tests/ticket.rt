@@ -27,14 +27,23 @@ fn a_ticket_is_granted_and_opened(rt: HostRuntime) -> Result<(), Fail> {
     hex::decode_to_slice(GRANTED, &mut frame)?;
     let mut session = ZEROS;
     hex::decode_to_slice(SESSION, &mut session)?;
-    let said = decide(&house(rt.alloc())?, &HOUSE, asked[3], asked.split_at(8).1, 1000);
+    let said = decide(
+        &house(rt.alloc())?,
+        &HOUSE,
+        asked[3],
+        asked.split_at(8).1,
+        1000,
+    );
     let mut out = Vec::with_capacity(rt.alloc(), REPLY_ROOM)?;
     write_reply(&said.reply, &said.keys, &mut out);
     assert_eq!(rt; out.as_slice(), frame.as_slice());
     let Ok(grant) = open_grant(frame.split_at(8).1, &[0x44; 32]) else {
         return Err("the grant is the consumer's".into());
     };
-    assert_eq!(rt; (grant.merchant, grant.nonce, grant.until), (PartyId(2), 9, 4600));
+    assert_eq!(rt;
+        (grant.merchant, grant.nonce, grant.until),
+        (PartyId(2), 9, 4600)
+    );
     assert_eq!(rt; grant.session, session);
     let ticket = Opened {
         consumer: PartyId(1),
@@ -49,8 +58,22 @@ fn a_ticket_is_granted_and_opened(rt: HostRuntime) -> Result<(), Fail> {
         (2, 0, Ok(ticket)),
         (2, 4601, Err(TicketFault::Expired { until, now: 4601 })),
         (2, LAST, Err(TicketFault::Expired { until, now: LAST })),
-        (3, 4600, Err(TicketFault::WrongParty { named, asked: PartyId(3) })),
-        (1, 4601, Err(TicketFault::WrongParty { named, asked: PartyId(1) })),
+        (
+            3,
+            4600,
+            Err(TicketFault::WrongParty {
+                named,
+                asked: PartyId(3),
+            }),
+        ),
+        (
+            1,
+            4601,
+            Err(TicketFault::WrongParty {
+                named,
+                asked: PartyId(1),
+            }),
+        ),
     ];
     for (id, now, want) in cases {
         let opened = open_ticket(grant.ticket.as_slice(), &[0x55; 32], PartyId(id), now);

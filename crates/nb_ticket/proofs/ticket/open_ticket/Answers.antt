@@ -1,6 +1,6 @@
-use Rattle.std.proofs.Common.{◌≡◌, Result, Ok, Err, ap, sym, subst, ◌∙◌}
+use Rattle.std.proofs.Common.{◌≡◌, Result, Ok, Err, ap, ◌∙◌}
 use Rattle.nb_seal.specs.Seal.{Opens}
-use Rattle.std.specs.Prelude.{codes, IfOk}
+use Rattle.std.specs.Prelude.{codes}
 use Rattle.nb_ticket.specs.declared.ticket.Ticket.{Ticket}
 use Rattle.nb_ticket.specs.declared.ticket.TicketFault.{TicketFault}
 use Rattle.nb_ticket.specs.Spelling.{IsTicket, ticket_bytes}
