@@ -20,9 +20,10 @@ use Rattle.nb_vault.specs.Parts.{HasLines, IsVault, SameOrigin, Readied, Unready
 use Rattle.nb_vault.specs.Records.{Rests, EitherOf, WithOrWithout, disk_under, doubt_of, over_of}
 use Rattle.nb_vault.specs.Rules.{house_of}
 use Rattle.nb_vault.specs.Vaults.{Went, doubt_in, house_in, handed_places, state_of, StandsForState}
+use Rattle.nb_vault.proofs.Doubting.{few_faulted, few_recorded}
 use Rattle.nb_vault.proofs.Resting.{leaves_more, leaves_then, fresh_content, rest_images}
-use Rattle.nb_vault.proofs.Seeing.{doubt_seen, either_seen, entries_seen, state_at, state_seen}
-use Rattle.nb_vault.proofs.Vaulting.{decided_faults, failed_faults, same_opening, vault_behind}
+use Rattle.nb_vault.proofs.Seeing.{doubt_seen, either_seen, state_at, state_seen}
+use Rattle.nb_vault.proofs.Vaulting.{house_lawful, decided_faults, failed_faults, same_opening, vault_behind}
 
 -- the steps of a turn before what it records is made durable: from the vault, what was in doubt is settled, and the requests are decided
 pub record Steps {D : Type 0} (tells : DiskTells D) (old mid p : Parts D) (by : ℕ) (requests : List Request) : Type 0 where
@@ -151,7 +152,8 @@ module _ {D : Type 0} (tells : DiskTells D) (old mid p : Parts D) (by : ℕ) (re
         (decided_list ∙ sym (decided_entries (house_in (seen_as old)) (opening_of old) by (next_turn old.lines.items) old.lines.items requests (over_of p.records) _ decided_adds))
         (inl decided_fresh) count
         (decided_count ∙ s.vault.faults_are ∙ sym (decided_faults (house_in (seen_as old)) (opening_of old) by (next_turn old.lines.items) old.lines.items requests _ s.vault.told.closed (over_of p.records) decided_adds))
-        (omega (arith, decided_count, s.vault.few))
+        (omega (arith, decided_count, s.vault.few)) (house_lawful (head_of old.records.head) old.records.book.cap)
+        (few_recorded old.lines.items by (next_turn old.lines.items) s.vault.open_most s.ready.kept (recorded (house_in (seen_as old)) (over_of p.records) requests))
 
     pub decided_origin : SameOrigin p new → (seen_as new).origin ≡ (seen_as old).origin
     decided_origin last = origin_is tells old new (s.ready.kept ++ p.records.group.items) s.vault (then_same old p new same last)
@@ -211,7 +213,8 @@ module _ {D : Type 0} (tells : DiskTells D) (old mid p : Parts D) (by : ℕ) (re
         (omega (arith, count, d.failed.before, ap (λ (j : Journal D). tells.faults j.disk) s.journal), d.failed.rose, omega (arith, d.failed.after))
         (doubted_count ∙ ap (λ (n : ℕ). n + 1) s.vault.faults_are
         ∙ sym (failed_faults (house_in (seen_as old)) (opening_of old) by (next_turn old.lines.items) old.lines.items requests (adopts by (next_turn old.lines.items) s.ready.kept ++ (doubts by (next_turn old.lines.items) (recorded (house_in (seen_as old)) (over_of p.records) requests) ++ Fault by (next_turn old.lines.items) counts.before counts.after ∷ [])) s.vault.told.closed counts.before counts.after (few_told, inr doubted_lines)))
-        (omega (arith, doubted_count, s.few))
+        (omega (arith, doubted_count, s.few)) (house_lawful (head_of old.records.head) old.records.book.cap)
+        (omega (arith, (rests.doubt d.stale).group.most, ap length (d.group ∙ group_is), ap length (doubted_are old.lines.items by (next_turn old.lines.items) counts.before counts.after s.ready.kept (recorded (house_in (seen_as old)) (over_of p.records) requests) some_recorded s.vault.told.closed)))
 
     pub doubted_origin : SameOrigin p new → (seen_as new).origin ≡ (seen_as old).origin
     doubted_origin last = origin_is tells old new s.ready.kept s.vault (then_same old p new same last) (d.entries ∙ over_is)
@@ -233,11 +236,8 @@ module _ {D : Type 0} (tells : DiskTells D) (old mid p : Parts D) (by : ℕ) (re
       added = adopts by (next_turn old.lines.items) s.ready.kept ++ (doubts by (next_turn old.lines.items) (recorded (house_in (seen_as old)) (over_of p.records) requests) ++ Fault by (next_turn old.lines.items) counts.before counts.after ∷ []);
       behind = doubted_behind;
       lines = (few_told, inr doubted_lines);
-      disk = inr (record {
-        over = over_of p.records;
+      disk = (refl, record {
         told = told_over;
-        entries = entries_seen tells new vault ∙ d.entries;
-        doubt = doubt_seen tells new vault ∙ doubted_stale;
         written = subst (λ (es : List Entry). TearsItem old.records.head old.records.book.cap (over_of p.records) es (tells.content (disk_under old.records)) (tells.content (disk_under new.records))) group_is
             (subst (λ (t : Option (List ℕ)). TearsItem old.records.head old.records.book.cap (over_of p.records) p.records.group.items t (tells.content (disk_under new.records))) content_is
             (subst (λ (cap : ℕ). TearsItem old.records.head cap (over_of p.records) p.records.group.items (tells.content (disk_under p.records)) (tells.content (disk_under new.records))) same.terms.cap
@@ -292,7 +292,7 @@ module _ {D : Type 0} (tells : DiskTells D) (old new : Parts D) (by : ℕ) (requ
   unready_few : faults_of old.lines.items < MAX_FAULTS
   unready_few = omega (arith, few, vault.faults_are)
 
-  unready_adds : AddsLines (house_in (seen_as old)) (opening_of old) by (next_turn old.lines.items) old.lines.items requests (Fails counts.before counts.after) (Fault by (next_turn old.lines.items) counts.before counts.after ∷ [])
+  abbrev unready_adds : AddsLines (house_in (seen_as old)) (opening_of old) by (next_turn old.lines.items) old.lines.items requests (Fails counts.before counts.after) (Fault by (next_turn old.lines.items) counts.before counts.after ∷ [])
   unready_adds = (unready_few, inl (record { some = open_told; lines = refl }))
 
   unready_doubt : doubt_of new.records ≡ doubt_of old.records
@@ -308,7 +308,7 @@ module _ {D : Type 0} (tells : DiskTells D) (old new : Parts D) (by : ℕ) (requ
       (omega (arith, u.failed.before), u.failed.rose, omega (arith, u.failed.after))
       (u.faults ∙ ap (λ (n : ℕ). n + 1) vault.faults_are
       ∙ sym (failed_faults (house_in (seen_as old)) (opening_of old) by (next_turn old.lines.items) old.lines.items requests _ vault.told.closed counts.before counts.after unready_adds))
-      (omega (arith, u.faults, few))
+      (omega (arith, u.faults, few)) (house_lawful (head_of old.records.head) old.records.book.cap) (few_faulted old.lines.items by (next_turn old.lines.items) vault.open_most counts.before counts.after)
 
   pub unready_origin : SameOrigin old new → (seen_as new).origin ≡ (seen_as old).origin
   unready_origin same = origin_is tells old new [] vault same (u.entries ∙ sym (append-nil old.records.book.entries))
@@ -328,13 +328,7 @@ module _ {D : Type 0} (tells : DiskTells D) (old new : Parts D) (by : ℕ) (requ
     added = Fault by (next_turn old.lines.items) counts.before counts.after ∷ [];
     behind = u.lines;
     lines = unready_adds;
-    disk = inl (record {
-      from = u.failed.before;
-      entries = entries_seen tells new done ∙ u.entries ∙ sym (entries_seen tells old vault);
-      some = was_some;
-      doubt = doubt_seen tells new done ∙ unready_doubt ∙ sym (doubt_seen tells old vault);
-      written = unwritten;
-    });
+    disk = record { from = u.failed.before; written = unwritten };
   }
     where
       was_some : doubt_in (seen_as old) ≡ [] → ⊥

@@ -10,17 +10,17 @@ use Rattle.nb_journal.specs.declared.opening.Opened.{Opened}
 use Rattle.nb_journal.specs.Layout.{front_bytes}
 use Rattle.nb_journal.specs.States.{AtRest}
 use Rattle.nb_turns.specs.declared.line.Line.{Line}
-use Rattle.nb_turns.specs.Lines.{faults_of}
+use Rattle.nb_turns.specs.Lines.{entries_of, faults_of, open_doubt}
+use Rattle.nb_turns.specs.Laws.{AreLegal}
 use Rattle.nb_journal.specs.Reading.{Holds}
 use Rattle.nb_vault.specs.declared.parts.Parts.{Parts}
-use Rattle.nb_vault.specs.declared.parts.TheConstants.{MOST_LINES}
 use Rattle.nb_vault.specs.declared.vault.opening.VaultFault.{VaultFault}
 use Rattle.nb_vault.specs.declared.vault.opening.VaultFault.TheVariants as opens
 use Rattle.nb_vault.specs.Holdings.{Joins, StandsFor}
 use Rattle.nb_vault.specs.Opens.{IsOpened, IsRestored, RestoreFails, OpensWhole}
 use Rattle.nb_vault.specs.Parts.{Tells, opening_of, seen_as}
 use Rattle.nb_vault.specs.Records.{HasRoom, disk_under, doubt_of}
-use Rattle.nb_vault.specs.Vaults.{Chronicled}
+use Rattle.nb_vault.specs.Vaults.{Chronicled, most_lines}
 use Rattle.nb_vault.proofs.Joining.{no_both}
 use Rattle.nb_vault.proofs.Resting.{fresh_content}
 use Rattle.nb_vault.proofs.HoldingLaws.{no_bad, one_list}
@@ -50,10 +50,17 @@ tells_nothing opening entries doubt from to lines none at settled le =
       numbers = omega arith;
     })
 
+-- what is told is Legal, as what was opened
+legal_nothing : (cap : ℕ) (opening entries : List Entry) (lines : List Line) → lines ≡ [] → opening ≡ entries → Legal entries → length entries ≤ cap → AreLegal cap opening lines
+legal_nothing cap opening entries lines none at legal within =
+    let is : entries_of opening lines ++ open_doubt lines ≡ entries =
+    ap (λ (ls : List Line). entries_of opening ls ++ open_doubt ls) none ∙ append-nil (opening ++ []) ∙ append-nil opening ∙ at in
+    record { legal = subst Legal (sym is) legal; within = omega (arith, within, ap length is) }
+
 -- a vault over the items of a journal that was opened
 pub restored_as : {D : Type 0} (tells : DiskTells D) (o : Opened D) (count : ℕ) (p : Parts D) → IsOpened tells o → count ≤ tells.faults o.journal.disk → HasRoom p.records
     → p.records.journal ≡ o.journal → p.records.head ≡ o.head → p.records.book.cap ≡ o.cap → Joins o.items.items p.records.book.entries → Legal p.records.book.entries → length p.records.book.entries ≤ p.records.book.cap
-    → p.opening ≡ length p.records.book.entries → p.count ≡ count → p.lines.items ≡ [] → p.faults ≡ 0 → p.records.book.cap + MOST_LINES ≤ vec_capacity p.lines → p.head ≡ head_of p.records.head → IsRestored tells o count p
+    → p.opening ≡ length p.records.book.entries → p.count ≡ count → p.lines.items ≡ [] → p.faults ≡ 0 → most_lines p.records.book.cap ≤ vec_capacity p.lines → p.head ≡ head_of p.records.head → IsRestored tells o count p
 restored_as tells o count p opened le has journal head cap joins legal within opening from lines none room keys =
     let rest : AtRest tells (front_bytes p.records.book.cap p.records.head) o.items.items p.records.journal = rw (journal, cap, head) opened.rest in
     let all : take p.opening p.records.book.entries ≡ p.records.book.entries = take_all p.opening p.records.book.entries (omega (arith, opening)) in
@@ -80,6 +87,8 @@ restored_as tells o count p opened le has journal head cap joins legal within op
         faults_are = none ∙ ap faults_of (sym lines);
         few = omega (arith, none);
         keys = keys;
+        lawful = legal_nothing p.records.book.cap (opening_of p) p.records.book.entries p.lines.items lines all legal within;
+        open_most = omega (arith, ap (λ (ls : List Line). length (open_doubt ls)) lines);
       };
       joins = joins;
       opening = opening;

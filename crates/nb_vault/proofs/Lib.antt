@@ -2,6 +2,7 @@ pub mod Joining
 pub mod Resting
 pub mod Seeing
 pub mod Verdicts
+pub mod Doubting
 pub mod Vaulting
 pub mod Answering
 pub mod Restoring

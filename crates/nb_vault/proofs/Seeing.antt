@@ -1,12 +1,12 @@
 -- What contracts see of a vault.
 use Rattle.std.proofs.Common.{◌≡◌, ⊎_elim, ℕ, ◌≤◌, Bool, true, false, cond, List, [], ◌++◌, length, Option, None, Some, IfSome, refl, sym, ap, subst, ◌∙◌, arith}
-use Rattle.std.proofs.lemmas.List.{append-nil}
+use Rattle.std.proofs.lemmas.List.{append-nil, length-append, length-take}
 use Rattle.nb_port.specs.Tells.{DiskTells}
 use Rattle.nb_book.specs.declared.entry.Entry.{Entry}
 use Rattle.nb_book.specs.Legal.{Legal}
 use Rattle.nb_book.proofs.Counting.{settled_once}
 use Rattle.nb_book.proofs.Summing.{balances_make_total, none_overdrawn}
-use Rattle.nb_turns.specs.declared.limits.TheConstants.{MAX_FAULTS}
+use Rattle.nb_turns.specs.declared.limits.TheConstants.{MAX_FAULTS, MAX_REQUESTS}
 use Rattle.nb_turns.specs.Turns.{State}
 use Rattle.nb_turns.specs.Lines.{open_doubt}
 use Rattle.nb_turns.specs.Laws.{IsBalanced}
@@ -14,7 +14,7 @@ use Rattle.nb_vault.specs.declared.parts.Parts.{Parts}
 use Rattle.nb_vault.specs.Holdings.{StandsFor, StandsForEither}
 use Rattle.nb_vault.specs.Parts.{IsVault, seen_as}
 use Rattle.nb_vault.specs.Records.{EitherOf, disk_under, doubt_of}
-use Rattle.nb_vault.specs.Vaults.{Keeps, IsDurable, entries_in, doubt_in, state_of, StandsForState}
+use Rattle.nb_vault.specs.Vaults.{Keeps, LinesFit, IsDurable, entries_in, doubt_in, state_of, StandsForState}
 use Rattle.nb_vault.proofs.Resting.{rest_images, rest_content, fresh_images}
 
 -- the state, by the fields
@@ -54,6 +54,10 @@ module _ {D : Type 0} (tells : DiskTells D) (p : Parts D) (vault : IsVault tells
   count_with false fresh = omega (arith, vault.rests.carries.count, ap length (append-nil p.records.book.entries))
   count_with true stale = (vault.rests.doubt stale).group.within
 
+  most_with : (b : Bool) → p.records.journal.stale ≡ b → length (cond b p.records.group.items []) ≤ MAX_REQUESTS
+  most_with false fresh = omega arith
+  most_with true stale = omega (arith, (vault.rests.doubt stale).group.most)
+
   told : (o : Option (List ℕ)) → IfSome o (EitherOf p.records) → IfSome o (StandsForState (seen_as p))
   told None is = tt
   told (Some c) is = either_seen c is
@@ -72,10 +76,15 @@ module _ {D : Type 0} (tells : DiskTells D) (p : Parts D) (vault : IsVault tells
     bytes = told (tells.content (disk_under p.records)) (rest_content tells p.records vault.rests);
     images = λ image is. either_seen image (rest_images tells p.records vault.rests image is);
     doubt = some_doubt;
+    most = subst (λ (es : List Entry). length es ≤ MAX_REQUESTS) (sym doubt_seen) (most_with p.records.journal.stale refl);
     sound = vault.told.sound;
     backed = vault.told.backed;
     turns = vault.told.turns;
     few = subst (λ (n : ℕ). n ≤ MAX_FAULTS) vault.faults_are vault.few;
+    closed = vault.told.closed;
+    lawful = vault.lawful;
+    open_most = vault.open_most;
+    told = omega (arith, vault.has.told, vault.faults_are, ap length entries_seen, length-take p.opening p.records.book.entries);
   }
 
   -- what is answered is durable
@@ -84,3 +93,10 @@ module _ {D : Type 0} (tells : DiskTells D) (p : Parts D) (vault : IsVault tells
     fresh = fresh;
     images = λ image is. subst (λ (es : List Entry). StandsFor p.records.head p.records.book.cap es image) (sym entries_seen) (fresh_images tells p.records vault.rests fresh image is);
   }
+
+-- so many lines are enough
+pub lines_fit : {D : Type 0} (tells : DiskTells D) → LinesFit tells
+lines_fit tells = (
+  λ v keeps. omega (arith, keeps.told, keeps.within, keeps.few, length-append (entries_in v) (doubt_in v)),
+  λ (cap : ℕ). refl,
+)

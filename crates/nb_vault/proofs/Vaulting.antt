@@ -9,16 +9,22 @@ use Rattle.nb_port.specs.Tells.{DiskTells}
 use Rattle.nb_port.specs.Faults.{Backed, Failure}
 use Rattle.nb_port.proofs.Backing.{backed_append}
 use Rattle.nb_book.specs.declared.entry.Entry.{Entry}
+use Rattle.nb_escrow.specs.declared.head.Head.{Head}
 use Rattle.nb_escrow.specs.Head.{head_of}
-use Rattle.nb_turns.specs.declared.limits.TheConstants.{MAX_FAULTS}
+use Rattle.nb_escrow.proofs.Recording.{records_legal}
+use Rattle.nb_turns.specs.declared.limits.TheConstants.{MAX_FAULTS, MAX_REQUESTS}
 use Rattle.nb_turns.specs.declared.line.Line.{Line}
 use Rattle.nb_turns.specs.Turns.{Request, House, State, Outcome, Decides, Fails, Unsettled, Doubts, failure_of}
 use Rattle.nb_turns.specs.Lines.{AddsLines, AreOf, IsClosed, entries_of, failure_in, failures_in, faults_of, maker_of, next_turn, one_above, open_doubt, turn_of}
+use Rattle.nb_turns.specs.Laws.{AreLegal, IsLawful}
+use Rattle.nb_turns.proofs.Adding.{lines_keep_legal}
 use Rattle.nb_turns.proofs.Lining.{all_reverse, lines_are_of, lines_tell_turn}
 use Rattle.nb_turns.proofs.Numbering.{lines_tell_failure, turns_never_fall}
 use Rattle.nb_turns.proofs.Sounding.{lines_stay_sound}
 use Rattle.nb_vault.specs.declared.parts.Parts.{Parts}
 use Rattle.nb_vault.specs.Parts.{HasLines, IsVault, SameOrigin, Tells, opening_of}
+use Rattle.nb_vault.specs.Rules.{house_of}
+use Rattle.nb_vault.proofs.Joining.{legal_more}
 use Rattle.nb_vault.specs.Records.{Rests, disk_under, doubt_of}
 
 -- the next number is no greater than the number of lines
@@ -29,6 +35,10 @@ numbers_behind by lines added are small =
     newest : (ls : List Line) → AllByRecursion (λ (l : Line). (maker_of l ≡ by) × (turn_of l ≡ next_turn lines)) ls → one_above (ls ++ reverse lines) ≤ length lines + length ls
     newest [] all = omega (arith, small)
     newest (l ∷ ls) all = omega (arith, small, all.0.1)
+
+-- what a house records is Legal next, and there is room for it
+pub house_lawful : (head : Head) (cap : ℕ) → IsLawful (house_of head cap) cap
+house_lawful head cap entries request entry legal is = records_legal entries head cap request.kind request.body request.moment entry is
 
 -- ---- how many of the lines are faults
 
@@ -57,8 +67,9 @@ module _ {D : Type 0} (tells : DiskTells D) where
       → new.records.book.entries ≡ entries_of (opening_of old) (old.lines.items ++ added)
       → (doubt_of new.records ≡ []) ⊎ (doubt_of new.records ≡ open_doubt (old.lines.items ++ added))
       → Backed (tells.faults (disk_under old.records)) (option_to_list (failure_of outcome)) (tells.faults (disk_under new.records))
-      → new.faults ≡ faults_of (old.lines.items ++ added) → new.faults ≤ MAX_FAULTS → IsVault tells new
-  vault_behind old new more house by requests outcome added vault same rests has grown adds lines listed doubt backed faults few = record {
+      → new.faults ≡ faults_of (old.lines.items ++ added) → new.faults ≤ MAX_FAULTS
+      → IsLawful house old.records.book.cap → length (open_doubt (old.lines.items ++ added)) ≤ MAX_REQUESTS → IsVault tells new
+  vault_behind old new more house by requests outcome added vault same rests has grown adds lines listed doubt backed faults few lawful open_most = record {
     rests = rests;
     opened = omega (arith, same.opening, vault.opened, ap length grown, length-append old.records.book.entries more);
     told = subst (λ (opening : List Entry). Tells opening new.records.book.entries (doubt_of new.records) new.count (tells.faults (disk_under new.records)) new.lines.items) (sym (same_opening old new more vault same grown))
@@ -68,6 +79,11 @@ module _ {D : Type 0} (tells : DiskTells D) where
     faults_are = faults ∙ ap faults_of (sym lines);
     few = few;
     keys = same.head ∙ vault.keys ∙ ap head_of (sym same.terms.head);
+    lawful = subst (λ (ls : List Line). AreLegal new.records.book.cap (opening_of new) ls) (sym lines)
+        (subst (λ (opening : List Entry). AreLegal new.records.book.cap opening (old.lines.items ++ added)) (sym (same_opening old new more vault same grown))
+        (subst (λ (cap : ℕ). AreLegal cap (opening_of old) (old.lines.items ++ added)) (sym same.terms.cap)
+        (lines_keep_legal legal_more house old.records.book.cap (opening_of old) by (next_turn old.lines.items) old.lines.items requests outcome added lawful vault.told.closed vault.lawful adds)));
+    open_most = subst (λ (ls : List Line). length (open_doubt ls) ≤ MAX_REQUESTS) (sym lines) open_most;
   }
     where
       failures : failures_in (old.lines.items ++ added) ≡ failures_in old.lines.items ++ option_to_list (failure_of outcome)

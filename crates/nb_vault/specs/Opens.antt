@@ -10,7 +10,6 @@ use Rattle.nb_journal.specs.Reading.{Holds, IsUnborn, IsDamaged}
 use Rattle.nb_journal.specs.States.{AtRest}
 use Rattle.nb_turns.specs.declared.limits.TheConstants.{MAX_REQUESTS}
 use Rattle.nb_vault.specs.declared.parts.Parts.{Parts}
-use Rattle.nb_vault.specs.declared.parts.TheConstants.{MOST_LINES}
 use Rattle.nb_vault.specs.declared.records.TheConstants.{ROOM}
 use Rattle.nb_vault.specs.declared.vault.opening.Room.{Room}
 use Rattle.nb_vault.specs.declared.vault.opening.VaultFault.{VaultFault}
@@ -19,7 +18,7 @@ use Rattle.nb_vault.specs.Holdings.{Joins, StandsFor}
 use Rattle.nb_vault.specs.Parts.{IsVault}
 use Rattle.nb_vault.specs.Records.{disk_under}
 use Rattle.nb_vault.specs.Restoring.{FirstBad}
-use Rattle.nb_vault.specs.Vaults.{Chronicled, IsDurable, Keeps}
+use Rattle.nb_vault.specs.Vaults.{Chronicled, IsDurable, Keeps, most_lines}
 
 -- the image is a journal, and this is its first item that does not spell entries which may come next
 pub record IsBadEntry (image : List ℕ) (item : ℕ) : Type 0 where
@@ -91,7 +90,7 @@ pub record IsRoomFor (cap : ℕ) (room : Room) : Type 0 where
   pub item : ROOM ≤ vec_capacity room.item
   pub places : MAX_REQUESTS ≤ vec_capacity room.places
   pub told : room.lines.items ≡ []
-  pub lines : cap + MOST_LINES ≤ vec_capacity room.lines
+  pub lines : most_lines cap ≤ vec_capacity room.lines
 
 -- a vault over these items
 pub record IsRestored {D : Type 0} (tells : DiskTells D) (o : Opened D) (count : ℕ) (p : Parts D) : Type 0 where

@@ -8,17 +8,17 @@ use Rattle.nb_turns.specs.declared.limits.TheConstants.{MAX_FAULTS, MAX_REQUESTS
 use Rattle.nb_turns.specs.declared.line.Line.{Line}
 use Rattle.nb_turns.specs.declared.line.Line.TheVariants.{Commit, Adopted, Doubt, Fault}
 use Rattle.nb_turns.specs.Lines.{IsClosed, NeverFall, Sound, adopts, commits, doubts, entries_of, failures_in, faults_of, next_turn, open_doubt}
+use Rattle.nb_turns.specs.Laws.{AreLegal}
 use Rattle.nb_vault.specs.declared.answer.Answer.{Answer}
 use Rattle.nb_vault.specs.declared.answer.Answer.TheVariants as one
 use Rattle.nb_vault.specs.declared.answer.AnswerAll.{AnswerAll}
 use Rattle.nb_vault.specs.declared.answer.AnswerAll.TheVariants as all
 use Rattle.nb_vault.specs.declared.parts.Parts.{Parts}
-use Rattle.nb_vault.specs.declared.parts.TheConstants.{MOST_LINES, LINES_OF_FAULT}
 use Rattle.nb_vault.specs.declared.records.Counts.{Counts}
 use Rattle.nb_vault.specs.declared.telling.Fate.{Fate}
 use Rattle.nb_vault.specs.declared.telling.Fate.TheVariants as fates
 use Rattle.nb_vault.specs.Records.{Rests, disk_under, doubt_of, over_of, SameTerms, Failed}
-use Rattle.nb_vault.specs.Vaults.{Chronicled}
+use Rattle.nb_vault.specs.Vaults.{Chronicled, most_lines}
 
 -- what contracts see of it
 abbrev pub seen_as : {D : Type 0} → Parts D → Chronicled D
@@ -35,8 +35,8 @@ opening_of p = take p.opening p.records.book.entries
 
 -- there is room for the lines of all that may come: one for each entry, and for each turn that may fail those of a doubt and a fault
 pub record HasLines {D : Type 0} (p : Parts D) (entries : List Entry) : Type 0 where
-  pub told : length p.lines.items + p.opening ≤ length entries + LINES_OF_FAULT * p.faults
-  pub room : p.records.book.cap + MOST_LINES ≤ vec_capacity p.lines
+  pub told : length p.lines.items + p.opening ≤ length entries + (MAX_REQUESTS + 1) * p.faults
+  pub room : most_lines p.records.book.cap ≤ vec_capacity p.lines
 
 -- how the entries came to be, and those in doubt, as the lines tell it; the disk's counts at opening and now
 pub record Tells (opening entries doubt : List Entry) (from to : ℕ) (lines : List Line) : Type 0 where
@@ -57,6 +57,8 @@ pub record IsVault {D : Type 0} (tells : DiskTells D) (p : Parts D) : Type 0 whe
   pub faults_are : p.faults ≡ faults_of p.lines.items
   pub few : p.faults ≤ MAX_FAULTS
   pub keys : p.head ≡ head_of p.records.head
+  pub lawful : AreLegal p.records.book.cap (opening_of p) p.lines.items
+  pub open_most : length (open_doubt p.lines.items) ≤ MAX_REQUESTS
 
 -- what does not change
 pub record SameOrigin {D : Type 0} (old new : Parts D) : Type 0 where

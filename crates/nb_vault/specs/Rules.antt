@@ -10,6 +10,7 @@ use Rattle.nb_escrow.specs.Verdict.{verdict}
 use Rattle.nb_msgs.specs.ReplyBytes.{reply_bytes}
 use Rattle.nb_turns.specs.declared.limits.TheConstants.{MAX_FAULTS}
 use Rattle.nb_turns.specs.Turns.{Request, Ruling, House}
+use Rattle.nb_turns.specs.Laws.{IsLawful}
 
 -- the verdict, as a house with this head and cap rules
 abbrev pub house_rules : Head → ℕ → List Entry → Request → Ruling
@@ -26,3 +27,7 @@ refused code a b = reply_bytes no_keys (Refused (refusal code a b))
 -- the house with this head and cap
 abbrev pub house_of : Head → ℕ → House
 house_of head cap = record { rules = house_rules head cap; fault = λ (before after : ℕ). refused DISK_FAULT before after; worn = refused WORN MAX_FAULTS 0 }
+
+-- what a house records is Legal next, and there is room for it
+abbrev pub HousesAreLawful : Type 0
+HousesAreLawful = (head : Head) (cap : ℕ) → IsLawful (house_of head cap) cap

@@ -1,16 +1,17 @@
 -- What a vault is seen as, what every vault keeps, and how it answers.
-use Rattle.std.specs.Prelude.{◌≡◌, ◌≢◌, ◌⊎◌, ℕ, ◌≤◌, Bool, true, false, List, [], ◌∷◌, ◌++◌, length, IfSome, if◌then◌else◌}
+use Rattle.std.specs.Prelude.{◌≡◌, ◌≢◌, ◌⊎◌, ℕ, ◌+◌, ◌*◌, ◌≤◌, Bool, true, false, List, [], ◌∷◌, ◌++◌, length, IfSome, if◌then◌else◌}
+use Rattle.std.proofs.Common.{inl, inr}
 use Rattle.nb_port.specs.Tells.{DiskTells}
 use Rattle.nb_port.specs.Faults.{Rose, Backed}
 use Rattle.nb_book.specs.declared.entry.Entry.{Entry}
 use Rattle.nb_book.specs.Legal.{Legal}
 use Rattle.nb_journal.specs.Layout.{AreTerms}
 use Rattle.nb_escrow.specs.Head.{head_of}
-use Rattle.nb_turns.specs.declared.limits.TheConstants.{MAX_FAULTS}
+use Rattle.nb_turns.specs.declared.limits.TheConstants.{MAX_FAULTS, MAX_REQUESTS}
 use Rattle.nb_turns.specs.declared.line.Line.{Line}
-use Rattle.nb_turns.specs.Turns.{Request, House, State, Outcome, Decides, Fails, Refuses, Turn, decided, places, recorded, replies}
-use Rattle.nb_turns.specs.Lines.{AddsLines, NeverFall, Sound, entries_of, failures_in, faults_of, next_turn, open_doubt}
-use Rattle.nb_turns.specs.Laws.{IsBalanced}
+use Rattle.nb_turns.specs.Turns.{Request, House, State, Outcome, Decides, Fails, Refuses, Unsettled, Doubts, Turn, decided, places, recorded, replies}
+use Rattle.nb_turns.specs.Lines.{AddsLines, DoubtedLines, UnsettledLines, IsClosed, NeverFall, Sound, entries_of, failures_in, faults_of, next_turn, open_doubt}
+use Rattle.nb_turns.specs.Laws.{AreLegal, IsBalanced}
 use Rattle.nb_vault.specs.declared.answer.Answer.{Answer}
 use Rattle.nb_vault.specs.declared.answer.Answer.TheVariants as one
 use Rattle.nb_vault.specs.declared.answer.AnswerAll.{AnswerAll}
@@ -46,6 +47,11 @@ house_in v = house_of (head_of v.origin.head) v.origin.cap
 abbrev pub StandsForState : {D : Type 0} → Chronicled D → List ℕ → Type 0
 StandsForState v image = StandsForEither v.origin.head v.origin.cap (entries_in v) (doubt_in v) image
 
+-- the most lines that a vault with this cap ever has: one for each entry, and for each turn that fails one for each entry in doubt and
+-- one for the fault
+abbrev pub most_lines : ℕ → ℕ
+most_lines cap = cap + (MAX_REQUESTS + 1) * MAX_FAULTS
+
 -- what every vault keeps
 pub record Keeps {D : Type 0} (tells : DiskTells D) (v : Chronicled D) : Type 0 where
   -- its list is Legal, also with the entries in doubt, and within the cap
@@ -56,13 +62,24 @@ pub record Keeps {D : Type 0} (tells : DiskTells D) (v : Chronicled D) : Type 0 
   -- it is what its content stands for, and what a stop leaves
   pub bytes : IfSome (tells.content v.disk) (StandsForState v)
   pub images : (image : List ℕ) → tells.allowed v.disk image → StandsForState v image
-  -- where it is stale entries are in doubt
+  -- where it is stale entries are in doubt, as many as a turn may record
   pub doubt : v.stale ≡ true → doubt_in v ≢ []
+  pub most : length (doubt_in v) ≤ MAX_REQUESTS
   -- its lines adopt what was in doubt, their faults are the disk's, their turns never fall, and few are faults
   pub sound : Sound v.lines
   pub backed : Backed v.origin.faults (failures_in v.lines) (tells.faults v.disk)
   pub turns : NeverFall v.lines
   pub few : faults_of v.lines ≤ MAX_FAULTS
+  -- the newest is none of a doubt, and what they tell is Legal, also with what was last in doubt, which is as many at most
+  pub closed : IsClosed v.lines
+  pub lawful : AreLegal v.origin.cap v.origin.entries v.lines
+  pub open_most : length (open_doubt v.lines) ≤ MAX_REQUESTS
+  -- there is one for each entry recorded since the vault was opened, and for each fault at most those of a doubt and its own
+  pub told : length v.lines + length v.origin.entries ≤ length (entries_in v) + (MAX_REQUESTS + 1) * faults_of v.lines
+
+-- so many lines are enough, and in numbers these are
+abbrev pub LinesFit : {D : Type 0} → DiskTells D → Type 0
+LinesFit {D} tells = ((v : Chronicled D) → Keeps tells v → length v.lines ≤ most_lines v.origin.cap) × ((cap : ℕ) → most_lines cap ≡ cap + 33000)
 
 -- ---- answering
 
@@ -71,28 +88,35 @@ pub record WritesTurn {D : Type 0} (tells : DiskTells D) (old new : Chronicled D
   pub told : IfSome (tells.content old.disk) (StandsFor old.origin.head old.origin.cap over)
   pub written : WritesItem old.origin.head old.origin.cap over (recorded (house_in old) over requests) (tells.content old.disk) (tells.content new.disk)
 
--- the disk in a turn whose item could not be made durable, over these entries: bytes of the item's range may have changed, and its
--- entries are in doubt
-pub record TearsTurn {D : Type 0} (tells : DiskTells D) (old new : Chronicled D) (requests : List Request) : Type 0 where
-  pub over : List Entry
+-- the disk in a turn whose item could not be made durable: its content stood for the entries that the turn was decided over, and bytes
+-- of the item's range may have changed
+pub record TearsTurn {D : Type 0} (tells : DiskTells D) (old new : Chronicled D) (requests : List Request) (over : List Entry) : Type 0 where
   pub told : IfSome (tells.content old.disk) (StandsFor old.origin.head old.origin.cap over)
-  pub entries : entries_in new ≡ over
-  pub doubt : doubt_in new ≡ recorded (house_in old) over requests
   pub written : TearsItem old.origin.head old.origin.cap over (recorded (house_in old) over requests) (tells.content old.disk) (tells.content new.disk)
 
--- the disk in a turn that could not settle what was in doubt, told from this count on: nothing is written, and the same is in doubt
+-- the disk in a turn that could not settle what was in doubt, told from this count on: nothing is written
 pub record LeavesTurn {D : Type 0} (tells : DiskTells D) (old new : Chronicled D) (before : ℕ) : Type 0 where
   pub from : before ≡ tells.faults old.disk
-  pub entries : entries_in new ≡ entries_in old
-  pub some : doubt_in old ≢ []
-  pub doubt : doubt_in new ≡ doubt_in old
   pub written : tells.content new.disk ≡ tells.content old.disk
 
--- what a turn that went so did to the disk
-abbrev pub OnDisk : {D : Type 0} → DiskTells D → Chronicled D → Chronicled D → List Request → Outcome → Type 0
-OnDisk tells old new requests (Decides over) = WritesTurn tells old new requests over
-OnDisk tells old new requests (Fails before after) = LeavesTurn tells old new before ⊎ TearsTurn tells old new requests
-OnDisk tells old new requests Refuses = new ≡ old
+-- how a turn failed: its state, its lines and the disk tell one and the same. What was in doubt could not be settled, and then there is
+-- the line of the fault alone; or what the verdicts over these entries record could not be made durable, and then there is a line of a
+-- doubt for each of it
+abbrev pub FailsOnDisk : {D : Type 0} → (tells : DiskTells D) (old new : Chronicled D) (by : ℕ) (requests : List Request) (before after : ℕ) (added : List Line)
+    → Unsettled (state_of old) (state_of new) ⊎ Doubts (house_in old) (state_of old) requests (state_of new)
+    → UnsettledLines by (next_turn old.lines) old.lines before after added ⊎ DoubtedLines (house_in old) old.origin.entries by (next_turn old.lines) old.lines requests before after added
+    → Type 0
+FailsOnDisk tells old new by requests before after added (inl unsettled) (inl lines) = LeavesTurn tells old new before
+FailsOnDisk tells old new by requests before after added (inr doubts) (inr lines) = (lines.over ≡ doubts.over) × TearsTurn tells old new requests doubts.over
+FailsOnDisk tells old new by requests before after added (inl unsettled) (inr lines) = ⊥
+FailsOnDisk tells old new by requests before after added (inr doubts) (inl lines) = ⊥
+
+-- what a turn that went so did to the disk, by what its state and its lines tell of it
+abbrev pub OnDisk : {D : Type 0} → (tells : DiskTells D) (old new : Chronicled D) (by : ℕ) (requests : List Request) (added : List Line) (outcome : Outcome)
+    → Turn (house_in old) (state_of old) requests outcome (state_of new) → AddsLines (house_in old) old.origin.entries by (next_turn old.lines) old.lines requests outcome added → Type 0
+OnDisk tells old new by requests added (Decides over) turn lines = WritesTurn tells old new requests over
+OnDisk tells old new by requests added (Fails before after) turn lines = FailsOnDisk tells old new by requests before after added turn.1 lines.1
+OnDisk tells old new by requests added Refuses turn lines = new ≡ old
 
 -- what is handed out of a turn that went so: the places and the replies of requests that were decided, and else nothing
 abbrev pub handed_places : House → List Request → Outcome → List ℕ
@@ -104,7 +128,7 @@ handed_replies house requests (Decides over) = replies (decided house over reque
 handed_replies house requests other = []
 
 -- a turn went so: from the vault before to the one behind it, with these places and replies handed out. Its lines stand behind those
--- before it, and are of who asked, under the next turn's number
+-- before it, and are of who asked, under the next turn's number; state, lines and disk tell the same of it
 pub record Went {D : Type 0} (tells : DiskTells D) (old new : Chronicled D) (by : ℕ) (requests : List Request) (outcome : Outcome) (found : List ℕ) (out out' : List ℕ) : Type 0 where
   pub turn : Turn (house_in old) (state_of old) requests outcome (state_of new)
   pub found_is : found ≡ handed_places (house_in old) requests outcome
@@ -112,7 +136,7 @@ pub record Went {D : Type 0} (tells : DiskTells D) (old new : Chronicled D) (by 
   pub added : List Line
   pub behind : new.lines ≡ old.lines ++ added
   pub lines : AddsLines (house_in old) old.origin.entries by (next_turn old.lines) old.lines requests outcome added
-  pub disk : OnDisk tells old new requests outcome
+  pub disk : OnDisk tells old new by requests added outcome turn lines
 
 -- how a turn went, by the answer
 abbrev pub TurnOf : {D : Type 0} → DiskTells D → Chronicled D → Chronicled D → ℕ → List Request → List ℕ → List ℕ → List ℕ → AnswerAll → Type 0

@@ -4,6 +4,8 @@ ghost use Rattle.nb_vault.specs.Gates.{OneGate};
 ghost use Rattle.nb_vault.specs.Holdings.{OneList};
 ghost use Rattle.nb_vault.specs.Opens.{WholeIsGood};
 ghost use Rattle.nb_vault.specs.Paying.{PayableIsPaid};
+ghost use Rattle.nb_vault.specs.Rules.{HousesAreLawful};
+ghost use Rattle.nb_vault.specs.Vaults.{LinesFit};
 
 use nb_port::Disk;
 
@@ -23,8 +25,19 @@ pub fn payable_is_paid<D: Disk>()
     ensures { PayableIsPaid D.tells }
 {}
 
+/// What a house records may come next in its list, and there is room for it.
+pub fn houses_are_lawful()
+    ensures { HousesAreLawful }
+{}
+
+/// A vault has at most one line for each entry of its cap and 33,000 more: 1,000 turns may fail, with a line for each of the 32 entries
+/// that are in doubt then and one for the fault.
+pub fn lines_fit<D: Disk>()
+    ensures { LinesFit D.tells }
+{}
+
 /// One gate opens all entries of a turn, or none of them: each image that a stop leaves at any moment of it stands for the entries
-/// from before, without what was in doubt or with it, alone or with all that the turn records.
+/// from before, without what was in doubt or with it, or for those that the turn was decided over with all that it records.
 pub fn one_gate<D: Disk>()
     ensures { OneGate D.tells }
 {}

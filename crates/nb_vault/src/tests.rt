@@ -22,19 +22,63 @@ mod stopping;
 // The moment of all requests.
 const MOMENT: u64 = 1000;
 
-// Entries, by their letters: consumer 1 with account 1, merchant 2 with account 2, twice 500 for account 1, and a payment of 500, as
-// items: a gate and a length of 4 bytes stand before each. Q is the payment under serial number 2, whose last byte is 48.
+// The number of the party that a small letter stands for, from 101 on. Its account has the same number.
+fn party(letter: u8) -> u8 {
+    letter.saturating_sub(b'a').min(25) + 101
+}
+
+// The tags of the frames that enrol these parties, by the operator's key, from Python's hmac.
+static TAGS: [&'static str; 26] = [
+    "f5628ccc26068f75d219fecb7843b3921d3344f17fd5f4c6a7d3fbcb059f6738",
+    "6b4497010f2c44a386afd5acdf477f90220219b0ee72115ac282e843abdb0ea0",
+    "4f64957930b52b727aca21b16357598debb9f39762d776287ff4ccdfa05a5f70",
+    "3f0a08aa80d65ba0e822ef4315653bf30b893b20765eb6923d29fc1ea9c37b48",
+    "4f01d550bf9f377d1bbd7a34af123dfb1d813cfa7605002dca358983dd9fdd09",
+    "dae79946d7ad2bc5ac8bd66a7056fba25c6a40e3febbcb19e3024c6e8c7a5a52",
+    "fa6f4bf80b671104397a79b188c2ab16d054a38eb9537b5a7c7bada5f04a4ada",
+    "0a693e118f7ee53c85983b91810b317f2e686be5ea9b467d62d00feb410a2420",
+    "461422b4590de13fe765c5c49208b0b8ae09cc283308442c8444f79f6301ed28",
+    "3602790cde7a48d92b1693bc0edf59fb151c630a88f5821a0307ccc7014eaf9f",
+    "9f6857aff47a8d5d29fea3fc4e7da71451cda7d021500b4a239df94cc7efd91d",
+    "b7de6af796450f372ae7cf59b5ba1f14f72367b51d251ce5dc4499bb04b51232",
+    "be8eee326ce543ef85e1f3961c46d2d74d15e5f972b0a8dcfe6222d348757705",
+    "75bf42755cd03abc161250e2501e144c118e57e6c6f5bc6ae9f1c8b3e69e3f29",
+    "ba63b1b6f180057607268b2a5ff5897773fb99b5c7f307821c5b28195e578a09",
+    "3d2be133e98b0042619d9bdcdc219d9d57eea9c2a2a18c3f039f3f5c28a57d40",
+    "88b4f142017c749abacba92be5597ce0e16f55d5b379504e03ce829bcb7531cf",
+    "4511142f4e2a1d87d9704fec386a4bc0a021c560dd340e5ecac474ef2906b909",
+    "640a18340d87f742b2d180ac577b4a3cc685340441e8c5161c8f412c9c4d9117",
+    "fa632517551a32c376155317239656a1657ebcd9ca3387b9bdb4f905de6146fb",
+    "ed9714494d8ed3794f74121750366c325000d6f83021757fa1919450e7a676b3",
+    "b01ccf4185009bab53582ec166cfb11747fac556cbe0e91533bf047ea3e379f5",
+    "1ab751b5784b24543c491f0bd7f157f14641c9eba5916c4d1fe97951cbe7aed1",
+    "de7a5bae679c849eccf3dd6f6c847da0e53007c84b3ae6d73794984340ca6c5b",
+    "b19f4799fe999840054ebbe647b8dc48db45f0f55b899d8c48b103990b61d407",
+    "b391484b8659060414553c06a1cfeaaae56b1d0fb70e4be7108bcf3378f0b7bc",
+];
+
+// Entries, by their letters: consumer 1 with account 1, merchant 2 with account 2, consumer 3 with account 3, twice 500 for account 1,
+// a payment of 500 and an order of 501 that is refused, as items: a gate and a length of 4 bytes stand before each. Q is the payment
+// under serial number 2, whose last byte is 48.
 fn item_of(letter: u8) -> &'static str {
     match letter {
         b'C' => ITEM_1,
         b'M' => ITEM_2,
+        b'E' => ITEM_3,
         b'F' => ITEM_500,
         b'G' => ITEM_MORE,
+        b'S' => ITEM_SHORT,
         _ => ITEM_PAID,
     }
 }
 
 fn spelled(alloc: Global, letter: u8) -> Result<Vec<u8>, Fail> {
+    if letter.is_ascii_lowercase() {
+        let id = party(letter);
+        let mut entry = Vec::from_slice(alloc, &[1, 0, 0, 0, id, 1, 0, 0, 0, id])?;
+        entry.extend_from_slice(&[0x44; 40])?;
+        return Ok(entry);
+    }
     let item = hex::decode(alloc, item_of(letter))?;
     let at = item.len().min(5);
     let mut entry = Vec::from_slice(alloc, item.as_slice().split_at(at).1)?;
@@ -86,17 +130,19 @@ fn opened(alloc: Global, content: &[u8], fails: &[u64]) -> Result<Vault<MemDisk>
     }
 }
 
-// A turn: the frames that are asked for, by their letters; the lines, each by a letter for what became of an entry and one for the
-// entry, and F! for a fault; the places; and the replies, by their letters.
+// A turn: the requests, by their letters; what was in doubt and is kept, and what is recorded, or in doubt where the disk fails; the
+// places; and the replies, by their letters.
 #[derive(Clone, Copy)]
-struct Turn {
-    asks: &'static str,
-    lines: &'static str,
-    places: &'static [u64],
-    replies: &'static str,
+struct Turn<'a> {
+    asks: &'a str,
+    kept: &'a str,
+    made: &'a str,
+    fails: bool,
+    places: &'a [u64],
+    replies: &'a str,
 }
 
-fn frame_of(letter: u8) -> &'static str {
+fn known_frame(letter: u8) -> &'static str {
     match letter {
         b'C' => ENROL_1,
         b'M' => ENROL_2,
@@ -106,33 +152,67 @@ fn frame_of(letter: u8) -> &'static str {
         // another fund under the reference of G
         b'H' => FUND_1,
         b'P' => ORDER_500,
+        b'S' => ORDER_501,
+        // an enrolment that breaks the layout at byte 4
+        b'Z' => ROLE_3,
         _ => UNKNOWN,
     }
 }
 
-// What C, M, F, G, H, E and P are told first; what C and M are told once the fund and the order are there; what M is told behind a
-// fund; and what is no request.
-fn reply_of(letter: u8) -> &'static str {
+// The frame of a request.
+fn frame_of(alloc: Global, letter: u8) -> Result<Vec<u8>, Fail> {
+    if letter.is_ascii_lowercase() {
+        let id = party(letter);
+        let mut frame = Vec::from_slice(alloc, &[0x4E, 0x42, 1, 0x0D, 0, 0, 0, 81, 0, 0, 0, id, 1, 0, 0, 0, id])?;
+        frame.extend_from_slice(&[0x44; 40])?;
+        frame.extend_from_slice(hex::decode(alloc, TAGS[usize::from(id) - 101])?.as_slice())?;
+        Ok(frame)
+    } else {
+        Ok(hex::decode(alloc, known_frame(letter))?)
+    }
+}
+
+// What they are told first; what 1, 2 and E are told again, behind the fund and the order; what M is told behind a fund; what E is told
+// in a turn of 32; and the refusals.
+fn known_reply(letter: u8) -> &'static str {
     match letter {
         b'C' => DONE_1,
         b'M' => DONE_2,
         b'F' => DONE_500,
         // place 4, balance 500
         b'G' => "4e42010f0000001400000001000000000000000400000000000001f4",
+        // place 4, balance 1000
+        b'T' => DONE_1000,
+        b'P' => PAID_500,
+        b'S' => SHORT_501,
+        b'1' => DONE_1_500,
+        b'2' => DONE_2_500,
+        // place 2, balance 0
+        b'3' => "4e42010f000000140000000200000000000000020000000000000000",
+        // account 3, place 5, balance 0
+        b'E' => "4e42010f000000140000000300000000000000050000000000000000",
         // code 17, account 1, amount 500
         b'H' => {
             "4e4201100000003111000000000000000100000000000001f40000000000000000000000000000000000000000000000000000000000000000"
         }
         // code 20, cap 5
-        b'E' => {
+        b'X' => {
             "4e4201100000003114000000000000000500000000000000000000000000000000000000000000000000000000000000000000000000000000"
         }
-        b'P' => PAID_500,
-        b'c' => DONE_1_500,
-        b'm' => DONE_2_500,
-        // place 2, balance 0
-        b'n' => "4e42010f000000140000000200000000000000020000000000000000",
+        b'Z' => BAD_AT_4,
         _ => UNSERVED_1,
+    }
+}
+
+// A reply. In a turn of 32 the parties of small letters have the places from 6 on, and nothing in their accounts.
+fn reply_of(alloc: Global, letter: u8) -> Result<Vec<u8>, Fail> {
+    if letter.is_ascii_lowercase() {
+        let id = party(letter);
+        let mut reply = Vec::from_slice(alloc, &[0x4E, 0x42, 1, 0x0F, 0, 0, 0, 20, 0, 0, 0, id, 0, 0, 0, 0, 0, 0, 0, id - 95])?;
+        reply.extend_from_slice(&[0; 8])?;
+        Ok(reply)
+    } else {
+        Ok(hex::decode(alloc, known_reply(letter))?)
     }
 }
 
@@ -141,39 +221,32 @@ fn maker(turn: u64) -> u64 {
     3 + turn % 2 * 2
 }
 
-// The bytes of these frames.
-fn frames(alloc: Global, letters: &str) -> Result<Vec<u8>, Fail> {
-    let mut bytes = Vec::new(alloc);
-    for letter in letters.as_bytes() {
-        bytes.extend_from_slice(hex::decode(alloc, frame_of(*letter))?.as_slice())?;
-    }
-    Ok(bytes)
-}
-
 // The bytes of these replies.
 fn replies(alloc: Global, letters: &str) -> Result<Vec<u8>, Fail> {
     let mut bytes = Vec::new(alloc);
     for letter in letters.as_bytes() {
-        bytes.extend_from_slice(hex::decode(alloc, reply_of(*letter))?.as_slice())?;
+        bytes.extend_from_slice(reply_of(alloc, *letter)?.as_slice())?;
     }
     Ok(bytes)
 }
 
-// The requests in these frames, as they stand one behind the other: a frame's header has 8 bytes, with its kind in the fourth.
-fn asked(alloc: Global, letters: &str) -> Result<Vec<AskAt>, Fail> {
+// The requests in these frames, and the bytes of their bodies: that of the last request stands at the front, and that of the first at
+// the end. A frame's header has 8 bytes, with its kind in the fourth.
+fn asked(alloc: Global, letters: &str, bytes: &mut Vec<u8>) -> Result<Vec<AskAt>, Fail> {
     let mut asks = Vec::new(alloc);
-    let mut at = 0usize;
-    for letter in letters.as_bytes() {
-        let frame = hex::decode(alloc, frame_of(*letter))?;
-        let kind = *frame.get(3).ok_or("a frame has a header")?;
+    for letter in letters.as_bytes().iter().rev() {
+        let frame = frame_of(alloc, *letter)?;
+        let (header, body) = frame.as_slice().split_at(frame.len().min(8));
+        let kind = *header.get(3).ok_or("a frame has a header")?;
         asks.push(AskAt {
             kind,
-            start: at.saturating_add(8),
-            len: frame.len().saturating_sub(8),
+            start: bytes.len(),
+            len: body.len(),
             moment: MOMENT,
         })?;
-        at = at.saturating_add(frame.len());
+        bytes.extend_from_slice(body)?;
     }
+    asks.as_mut_slice().reverse();
     Ok(asks)
 }
 
@@ -198,8 +271,8 @@ fn answer_all(
     ats: &mut Vec<u64>,
     out: &mut Vec<u8>,
 ) -> Result<AnswerAll, Fail> {
-    let bytes = frames(alloc, letters)?;
-    let asks = asked(alloc, letters)?;
+    let mut bytes = Vec::new(alloc);
+    let asks = asked(alloc, letters, &mut bytes)?;
     let (bytes, asks) = (bytes.as_slice(), asks.as_slice());
     if asks.is_empty() || asks.len() > MAX_REQUESTS || !are_within(bytes, asks) {
         return Err("a turn has from 1 to 32 requests".into());
@@ -214,11 +287,11 @@ fn answer_one(
     alloc: Global,
     vault: &mut Vault<MemDisk>,
     by: u64,
-    letters: &str,
+    letter: u8,
     ats: &mut Vec<u64>,
     out: &mut Vec<u8>,
 ) -> Result<AnswerAll, Fail> {
-    let frame = frames(alloc, letters)?;
+    let frame = frame_of(alloc, letter)?;
     let kind = *frame.get(3).ok_or("a frame has a header")?;
     let body = frame.as_slice().split_at(frame.len().min(8)).1;
     out.reserve(REPLY_ROOM)?;
@@ -232,44 +305,37 @@ fn answer_one(
     })
 }
 
-// The line of an entry, by the letter for what became of it.
-fn line_of(fate: u8, by: u64, turn: u64, entry: Entry) -> Line {
-    match fate {
-        b'C' => Line::Commit { by, turn, entry },
-        b'A' => Line::Adopted { by, turn, entry },
-        _ => Line::Doubt { by, turn, entry },
-    }
-}
-
-// The lines that the letters tell of.
-fn lines_of(alloc: Global, letters: &str, turn: u64, before: u64) -> Result<Vec<Line>, Fail> {
+// The lines that a turn with this number adds, behind so many faults.
+fn lines_of(alloc: Global, told: &Turn<'_>, turn: u64, before: u64) -> Result<Vec<Line>, Fail> {
     let by = maker(turn);
     let after = before.saturating_add(1);
     let mut lines = Vec::new(alloc);
-    let mut fate = b' ';
-    for letter in letters.as_bytes() {
-        if fate == b' ' {
-            fate = *letter;
-        } else {
-            lines.push(match *letter {
-                b'!' => Line::Fault {
-                    by,
-                    turn,
-                    before,
-                    after,
-                },
-                of => line_of(fate, by, turn, entry_of(alloc, of)?),
-            })?;
-            fate = b' ';
-        }
+    for letter in told.kept.as_bytes() {
+        let entry = entry_of(alloc, *letter)?;
+        lines.push(Line::Adopted { by, turn, entry })?;
+    }
+    for letter in told.made.as_bytes() {
+        let entry = entry_of(alloc, *letter)?;
+        lines.push(match told.fails {
+            true => Line::Doubt { by, turn, entry },
+            false => Line::Commit { by, turn, entry },
+        })?;
+    }
+    if told.fails {
+        lines.push(Line::Fault {
+            by,
+            turn,
+            before,
+            after,
+        })?;
     }
     Ok(lines)
 }
 
 // What a turn comes to over a vault that had so many faults.
-fn answer_of(turn: &Turn, faults: u64) -> AnswerAll {
+fn answer_of(turn: &Turn<'_>, faults: u64) -> AnswerAll {
     let (before, after) = (faults, faults.saturating_add(1));
-    if turn.lines.ends_with("F!") {
+    if turn.fails {
         AnswerAll::DiskFault { before, after }
     } else if faults >= 1000 {
         AnswerAll::Worn { faults: 1000 }
@@ -287,10 +353,9 @@ fn ask(
     ats: &mut Vec<u64>,
     out: &mut Vec<u8>,
 ) -> Result<AnswerAll, Fail> {
-    if letters.len() == 1 {
-        answer_one(alloc, vault, by, letters, ats, out)
-    } else {
-        answer_all(alloc, vault, by, letters, ats, out)
+    match letters.as_bytes() {
+        [letter] => answer_one(alloc, vault, by, *letter, ats, out),
+        _ => answer_all(alloc, vault, by, letters, ats, out),
     }
 }
 
@@ -299,7 +364,7 @@ fn take(
     rt: &impl Abort,
     alloc: Global,
     vault: &mut Vault<MemDisk>,
-    turn: &Turn,
+    turn: &Turn<'_>,
     number: u64,
     faults: u64,
 ) -> Result<(), Fail> {
@@ -329,17 +394,17 @@ fn run(
     rt: &impl Abort,
     alloc: Global,
     mut vault: Vault<MemDisk>,
-    turns: &[Turn],
+    turns: &[Turn<'_>],
 ) -> Result<MemDisk, Fail> {
     let mut told = 0u64;
     let mut faults = 0u64;
     let mut number = 0u64;
     for turn in turns {
         take(rt, alloc, &mut vault, turn, number, faults)?;
-        let lines = lines_of(alloc, turn.lines, number, faults)?;
+        let lines = lines_of(alloc, turn, number, faults)?;
         told = tell(rt, &vault, told, lines.as_slice());
         number = number.saturating_add(u64::from(!lines.is_empty()));
-        faults = faults.saturating_add(u64::from(turn.lines.ends_with("F!")));
+        faults = faults.saturating_add(u64::from(turn.fails));
     }
     let (disk, lines) = vault.into_parts();
     assert_eq!(rt; lines.len() as u64, told);

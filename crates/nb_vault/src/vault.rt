@@ -6,7 +6,7 @@ ghost use Rattle.nb_msgs.specs.declared.reply.TheConstants.{REPLY_ROOM};
 ghost use Rattle.nb_units.specs.Room.{spare_of};
 ghost use Rattle.nb_vault.specs.Asking.{IsWithin, request_of, requests_of};
 ghost use Rattle.nb_vault.specs.Parts.{handed_in};
-ghost use Rattle.nb_vault.specs.Vaults.{Keeps, TurnAll, TurnOf, DurableWhere, SameWhere, FaultWithin, StandsForState, all_of, place_in, state_of, entries_in};
+ghost use Rattle.nb_vault.specs.Vaults.{Keeps, TurnAll, TurnOf, DurableWhere, SameWhere, FaultWithin, StandsForState, all_of, place_in, state_of, entries_in, most_lines};
 
 mod opening;
 
@@ -126,10 +126,11 @@ impl<D: Disk> Vault<D> {
         self.parts.lines.get(i as usize).copied()
     }
 
-    /// The disk and the lines, at the end.
+    /// The disk and the lines, at the end. The lines have the room that was taken for all that might come.
     pub fn into_parts(self) -> (D, Vec<Line>)
         ensures disk { result.0 ≡ self.disk }
         ensures lines { result.1.items ≡ self.lines }
+        ensures room { most_lines self.origin.cap ≤ vec_capacity result.1 }
     {
         let Vault { parts } = self;
         parts.into_parts()

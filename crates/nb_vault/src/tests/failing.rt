@@ -2,206 +2,268 @@
 
 use super::*;
 
-const PAYS: Turn = Turn {
-    asks: "P",
-    lines: "CP",
-    places: &[3],
-    replies: "P",
-};
+// Requests of one turn, all of which are recorded, what they are told first and again, and their places. The journal before has a cap, and
+// opening it makes so many calls.
+#[derive(Clone, Copy)]
+pub(super) struct Group {
+    pub(super) cap: u32,
+    pub(super) before: &'static str,
+    pub(super) opening: u64,
+    pub(super) asks: &'static str,
+    pub(super) replies: &'static str,
+    pub(super) places: &'static [u64],
+    again: &'static str,
+    kept: &'static [u64],
+    after: &'static str,
+}
 
-const FAILS: Turn = Turn {
-    lines: "DPF!",
-    places: &[],
-    replies: "",
-    ..PAYS
-};
-
-const FAILS_ON: Turn = Turn {
-    lines: "F!",
-    ..FAILS
-};
-
-const KEPT: Turn = Turn {
-    lines: "AP",
-    places: &[4],
-    ..PAYS
-};
-
-// What is asked again, once the order is paid.
-const AGAIN: [Turn; 3] = [
-    Turn {
-        lines: "",
-        places: &[4],
-        ..PAYS
+// An order alone; enrolments; these and a fund; and as many requests as a turn has.
+pub(super) static GROUPS: [Group; 4] = [
+    Group {
+        cap: 4,
+        before: "[C][M][F].",
+        opening: 9,
+        asks: "P",
+        replies: "P",
+        places: &[3],
+        again: "P",
+        kept: &[4],
+        after: "[C][M][F][P].",
     },
-    Turn {
-        asks: "C",
-        lines: "",
-        places: &[4],
-        replies: "C",
+    Group {
+        cap: 8,
+        before: ".",
+        opening: 3,
+        asks: "CM",
+        replies: "CM",
+        places: &[0, 1],
+        again: "CM",
+        kept: &[2; 2],
+        after: "[CM].",
     },
-    Turn {
-        asks: "M",
-        lines: "",
-        places: &[4],
-        replies: "m",
+    Group {
+        cap: 8,
+        before: ".",
+        opening: 3,
+        asks: "CMF",
+        replies: "CMF",
+        places: &[0, 1, 2],
+        again: "1MF",
+        kept: &[3; 3],
+        after: "[CMF].",
+    },
+    Group {
+        cap: 32,
+        before: ".",
+        opening: 3,
+        asks: "CMFPGEabcdefghijklmnopqrstuvwxyz",
+        replies: "CMFPGEabcdefghijklmnopqrstuvwxyz",
+        places: &[
+            0, 1, 2, 3, 4, 5, 6, 7, 8, 9, 10, 11, 12, 13, 14, 15, 16, 17, 18, 19, 20, 21, 22, 23,
+            24, 25, 26, 27, 28, 29, 30, 31,
+        ],
+        again: "12FPGEabcdefghijklmnopqrstuvwxyz",
+        kept: &[32; 32],
+        after: "[CMFPGEabcdefghijklmnopqrstuvwxyz].",
     },
 ];
 
-// Calls that fail, and what is asked for. Opening makes calls 1 to 9, the append 10 to 13, and settling a sync and a read.
-static RUNS: [(&'static [u64], &'static [Turn]); 9] = [
-    (&[], &[PAYS]),
-    (&[10], &[FAILS, PAYS]),
-    (&[11], &[FAILS, PAYS]),
-    (&[12], &[FAILS, PAYS]),
-    (&[13], &[FAILS, KEPT]),
-    (&[12, 13], &[FAILS, FAILS_ON, PAYS]),
-    (&[12, 14], &[FAILS, FAILS_ON, PAYS]),
-    (&[13, 14], &[FAILS, FAILS_ON, KEPT]),
-    (&[13, 15], &[FAILS, FAILS_ON, KEPT]),
+// Calls that fail, from the first one of the turn on, and what comes of the turns: D, the entries are in doubt; F, what is in doubt cannot
+// be settled; W, they are recorded; K, they are kept. An append makes four calls, the last two of which open the gate, and settling a
+// sync and a read.
+static FAILS: [(&'static [u64], &'static str); 12] = [
+    (&[], "W"),
+    (&[1], "DW"),
+    (&[2], "DW"),
+    (&[3], "DW"),
+    (&[4], "DK"),
+    (&[3, 4], "DFW"),
+    (&[3, 5], "DFW"),
+    (&[4, 5], "DFK"),
+    (&[4, 6], "DFK"),
+    // what was in doubt is not there, and the same is in doubt again: each time its lines are told
+    (&[3, 6], "DDW"),
+    (&[3, 8], "DDW"),
+    (&[3, 9], "DDK"),
 ];
+
+impl Group {
+    // A turn of it.
+    pub(super) fn turn(&self, sign: u8) -> Turn<'static> {
+        let recorded = Turn {
+            asks: self.asks,
+            kept: "",
+            made: self.asks,
+            fails: false,
+            places: self.places,
+            replies: self.replies,
+        };
+        let again = Turn {
+            made: "",
+            places: self.kept,
+            replies: self.again,
+            ..recorded
+        };
+        let in_doubt = Turn {
+            fails: true,
+            places: &[],
+            replies: "",
+            ..recorded
+        };
+        match sign {
+            b'D' => in_doubt,
+            b'F' => Turn {
+                made: "",
+                ..in_doubt
+            },
+            b'K' => Turn {
+                kept: self.asks,
+                ..again
+            },
+            b'A' => again,
+            _ => recorded,
+        }
+    }
+
+    // Its turns, with these calls failing, and then the same once more over the journal opened again.
+    fn run(&self, rt: &impl Abort, alloc: Global, fails: &[u64], signs: &str) -> Result<(), Fail> {
+        let mut calls = Vec::new(alloc);
+        for call in fails {
+            calls.push(call.saturating_add(self.opening))?;
+        }
+        let mut turns = Vec::new(alloc);
+        for sign in signs.as_bytes() {
+            turns.push(self.turn(*sign))?;
+        }
+        let before = journal(alloc, self.cap, self.before)?;
+        let after = journal(alloc, self.cap, self.after)?;
+        let vault = opened(alloc, before.as_slice(), calls.as_slice())?;
+        let disk = run(rt, alloc, vault, turns.as_slice())?;
+        assert_eq!(rt; disk.content(), after.as_slice(), "{fails:?}");
+        let vault = opened(alloc, disk.content(), &[])?;
+        let disk = run(rt, alloc, vault, &[self.turn(b'A')])?;
+        assert_eq!(rt; disk.content(), after.as_slice(), "{fails:?}");
+        Ok(())
+    }
+}
 
 #[test]
-fn an_order_is_paid_once(rt: HostRuntime) -> Result<(), Fail> {
-    let alloc = rt.alloc();
-    let before = journal(alloc, 4, "[C][M][F].")?;
-    let paid = journal(alloc, 4, "[C][M][F][P].")?;
-    for (fails, turns) in &RUNS {
-        let vault = opened(alloc, before.as_slice(), *fails)?;
-        let disk = run(&rt, alloc, vault, *turns)?;
-        assert_eq!(rt; disk.content(), paid.as_slice(), "{fails:?}");
-        let vault = opened(alloc, disk.content(), &[])?;
-        let again = run(&rt, alloc, vault, &AGAIN)?;
-        assert_eq!(rt; again.content(), paid.as_slice());
+fn one_gate_opens_all_entries_of_a_turn(rt: HostRuntime) -> Result<(), Fail> {
+    for group in &GROUPS {
+        for (fails, signs) in &FAILS {
+            group.run(&rt, rt.alloc(), *fails, *signs)?;
+        }
     }
     Ok(())
 }
 
-// Turns of several requests over a journal with cap 5: what they record is one item. Opening makes three calls, the append of the
-// first turn calls 4 to 7, and settling a sync and a read.
-const THREE: Turn = Turn {
-    asks: "CMF",
-    lines: "CCCMCF",
-    places: &[0, 1, 2],
-    replies: "CMF",
-};
-
-const THREE_FAIL: Turn = Turn {
-    lines: "DCDMDFF!",
-    places: &[],
-    replies: "",
-    ..THREE
-};
-
-const THREE_FAIL_ON: Turn = Turn {
-    lines: "F!",
-    ..THREE_FAIL
-};
-
-const THREE_KEPT: Turn = Turn {
-    lines: "ACAMAF",
-    places: &[3, 3, 3],
-    replies: "cMF",
-    ..THREE
-};
-
-// An order, the same again, one that is no request, a fund, another one under its reference, the fund again, and, where the cap is
-// reached, an enrolment.
-const MIXED: Turn = Turn {
-    asks: "PPUGHGE",
-    lines: "CPCG",
-    places: &[3, 4, 4, 4, 5, 5, 5],
-    replies: "PPUGHGE",
-};
-
-// An enrolment, and the order that needs it.
-const PARTY_FIRST: Turn = Turn {
-    asks: "MP",
-    lines: "CMCP",
-    places: &[2, 3],
-    replies: "nP",
-};
-
-// As many requests as a turn has: the first is recorded, and all have its reply.
-const MOST: Turn = Turn {
-    asks: "CCCCCCCCCCCCCCCCCCCCCCCCCCCCCCCC",
-    lines: "CC",
-    places: &[
-        0, 1, 1, 1, 1, 1, 1, 1, 1, 1, 1, 1, 1, 1, 1, 1, 1, 1, 1, 1, 1, 1, 1, 1, 1, 1, 1, 1, 1, 1,
-        1, 1,
-    ],
-    replies: "CCCCCCCCCCCCCCCCCCCCCCCCCCCCCCCC",
-};
-
-const MOST_AGAIN: Turn = Turn {
-    lines: "",
-    places: &[1; 32],
-    ..MOST
-};
-
-// A journal with cap 5 before and behind these turns, of which these calls fail. Opening an empty one makes calls 1 to 3.
-static GROUPS: [(&'static str, &'static [u64], &'static [Turn], &'static str); 11] = [
-    (".", &[], &[THREE], "[CMF]."),
-    (".", &[4], &[THREE_FAIL, THREE], "[CMF]."),
-    (".", &[5], &[THREE_FAIL, THREE], "[CMF]."),
-    (".", &[6], &[THREE_FAIL, THREE], "[CMF]."),
-    (".", &[7], &[THREE_FAIL, THREE_KEPT], "[CMF]."),
-    (".", &[6, 8], &[THREE_FAIL, THREE_FAIL_ON, THREE], "[CMF]."),
+// Turns over a journal with cap 5, and what is behind them.
+static TURNS: [(&'static str, Turn<'static>, &'static str); 4] = [
+    // an order, the same again, an unknown kind, a broken enrolment, a fund, another one under its reference, the fund again, and, where the
+    // cap is reached, an enrolment
+    (
+        "[C][M][F].",
+        Turn {
+            asks: "PPUZGHGE",
+            kept: "",
+            made: "PG",
+            fails: false,
+            places: &[3, 4, 4, 4, 4, 5, 5, 5],
+            replies: "PPUZGHGX",
+        },
+        "[C][M][F][PG].",
+    ),
+    // an order that is refused, the same again, the fund again, and another fund
+    (
+        "[C][M][F].",
+        Turn {
+            asks: "SSFG",
+            kept: "",
+            made: "SG",
+            fails: false,
+            places: &[3, 4, 4, 4],
+            replies: "SSFT",
+        },
+        "[C][M][F][SG].",
+    ),
+    // an enrolment, and the order that needs it
+    (
+        "[C][F].",
+        Turn {
+            asks: "MP",
+            kept: "",
+            made: "MP",
+            fails: false,
+            places: &[2, 3],
+            replies: "3P",
+        },
+        "[C][F][MP].",
+    ),
+    // one request 32 times
     (
         ".",
-        &[7, 8],
-        &[THREE_FAIL, THREE_FAIL_ON, THREE_KEPT],
-        "[CMF].",
+        Turn {
+            asks: "CCCCCCCCCCCCCCCCCCCCCCCCCCCCCCCC",
+            kept: "",
+            made: "C",
+            fails: false,
+            places: &[
+                0, 1, 1, 1, 1, 1, 1, 1, 1, 1, 1, 1, 1, 1, 1, 1, 1, 1, 1, 1, 1, 1, 1, 1, 1, 1, 1, 1,
+                1, 1, 1, 1,
+            ],
+            replies: "CCCCCCCCCCCCCCCCCCCCCCCCCCCCCCCC",
+        },
+        "[C].",
     ),
-    (
-        ".",
-        &[7, 9],
-        &[THREE_FAIL, THREE_FAIL_ON, THREE_KEPT],
-        "[CMF].",
-    ),
-    (".", &[], &[MOST, MOST_AGAIN], "[C]."),
-    ("[C][M][F].", &[], &[MIXED], "[C][M][F][PG]."),
-    ("[C][F].", &[], &[PARTY_FIRST], "[C][F][MP]."),
 ];
 
 #[test]
-fn one_gate_opens_all_entries_of_a_turn(rt: HostRuntime) -> Result<(), Fail> {
+fn requests_are_decided_one_after_another(rt: HostRuntime) -> Result<(), Fail> {
     let alloc = rt.alloc();
-    for (before, fails, turns, after) in &GROUPS {
-        let vault = opened(alloc, journal(alloc, 5, *before)?.as_slice(), *fails)?;
-        let disk = run(&rt, alloc, vault, *turns)?;
+    for (before, turn, after) in &TURNS {
+        let vault = opened(alloc, journal(alloc, 5, *before)?.as_slice(), &[])?;
+        let disk = run(&rt, alloc, vault, &[*turn])?;
         let after = journal(alloc, 5, *after)?;
-        assert_eq!(rt; disk.content(), after.as_slice(), "{fails:?}");
+        assert_eq!(rt; disk.content(), after.as_slice());
     }
     Ok(())
 }
 
 // The sync behind the fund's gate fails, call 11. Settling makes calls 12 and 13, and the sync behind the order's gate fails, call 17.
+static ADOPTS: [Turn<'static>; 3] = [
+    Turn {
+        asks: "F",
+        kept: "",
+        made: "F",
+        fails: true,
+        places: &[],
+        replies: "",
+    },
+    Turn {
+        asks: "P",
+        kept: "F",
+        made: "P",
+        fails: true,
+        places: &[],
+        replies: "",
+    },
+    Turn {
+        asks: "G",
+        kept: "P",
+        made: "G",
+        fails: false,
+        places: &[4],
+        replies: "G",
+    },
+];
+
 #[test]
 fn a_turn_adopts_and_goes_on(rt: HostRuntime) -> Result<(), Fail> {
     let alloc = rt.alloc();
-    let turns = [
-        Turn {
-            asks: "F",
-            lines: "DFF!",
-            places: &[],
-            replies: "",
-        },
-        Turn {
-            lines: "AFDPF!",
-            ..FAILS
-        },
-        Turn {
-            asks: "G",
-            lines: "APCG",
-            places: &[4],
-            replies: "G",
-        },
-    ];
     let before = journal(alloc, 5, "[C][M].")?;
     let after = journal(alloc, 5, "[C][M][F][P][G].")?;
     let vault = opened(alloc, before.as_slice(), &[11, 17])?;
-    let disk = run(&rt, alloc, vault, &turns)?;
+    let disk = run(&rt, alloc, vault, &ADOPTS)?;
     assert_eq!(rt; disk.content(), after.as_slice());
     Ok(())
 }
@@ -217,11 +279,9 @@ fn a_vault_wears_out(rt: HostRuntime) -> Result<(), Fail> {
         fails.push(turn + 6)?;
         turns.push(Turn {
             asks: "F",
-            lines: match turn {
-                0 => "DFF!",
-                1..1000 => "F!",
-                _ => "",
-            },
+            kept: "",
+            made: if turn == 0 { "F" } else { "" },
+            fails: turn < 1000,
             places: &[],
             replies: "",
         })?;

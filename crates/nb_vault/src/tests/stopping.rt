@@ -1,7 +1,17 @@
 // What stops leave of a disk.
 
+use super::failing::{GROUPS, Group};
 use super::*;
 use nb_port::Fill;
+
+// How bytes that a stop may lose are filled, and whether a gate that may be lost counts as open then.
+static FILLS: [(Fill, bool); 5] = [
+    (Fill::Old, false),
+    (Fill::New, true),
+    (Fill::Byte(0), false),
+    (Fill::Byte(0xA5), true),
+    (Fill::Byte(0xFF), false),
+];
 
 // How many entries the image at a moment has.
 fn entries_at(alloc: Global, disk: &MemDisk, moment: u64, fill: Fill) -> Result<u32, Fail> {
@@ -12,50 +22,29 @@ fn entries_at(alloc: Global, disk: &MemDisk, moment: u64, fill: Fill) -> Result<
     Ok(opened(alloc, image.as_slice(), &[])?.entries())
 }
 
-// How bytes that a stop may lose are filled, and whether a gate that may be lost counts as open then.
-static FILLS: [(Fill, u32); 5] = [
-    (Fill::Old, 0),
-    (Fill::New, 1),
-    (Fill::Byte(0), 0),
-    (Fill::Byte(0xA5), 1),
-    (Fill::Byte(0xFF), 0),
-];
+// The turn of a group writes its item by its first call, and its gate by the third one, of which a stop leaves nothing, or what was
+// written, until the fourth one has synced it. A moment is twice the number of the calls made by then, and one less within a call.
+fn stop_anywhere(rt: &impl Abort, alloc: Global, group: &Group) -> Result<(), Fail> {
+    let before = journal(alloc, group.cap, group.before)?;
+    let vault = opened(alloc, before.as_slice(), &[])?;
+    let none = vault.entries();
+    let all = none.saturating_add(u32::try_from(group.asks.len())?);
+    let disk = run(rt, alloc, vault, &[group.turn(b'W')])?;
+    for (fill, pending) in &FILLS {
+        for step in 0..9u64 {
+            let open = step == 8 || (step >= 5 && *pending);
+            let moment = group.opening.saturating_mul(2).saturating_add(step);
+            let entries = entries_at(alloc, &disk, moment, *fill)?;
+            assert_eq!(rt; entries, if open { all } else { none }, "{moment} {fill:?}");
+        }
+    }
+    Ok(())
+}
 
-// Opening makes calls 1 to 3. The first turn writes its item by call 4, and its gate by call 6, from moment 11 on, which is synced by
-// call 7, up to moment 14: none of its three entries is there, or all of them. The gate of the second one's is written by calls 10
-// and 11, from moment 19 to 22.
 #[test]
 fn a_stop_leaves_all_entries_of_a_turn_or_none(rt: HostRuntime) -> Result<(), Fail> {
-    let alloc = rt.alloc();
-    let before = journal(alloc, 8, ".")?;
-    let turns = [
-        Turn {
-            asks: "CMF",
-            lines: "CCCMCF",
-            places: &[0, 1, 2],
-            replies: "CMF",
-        },
-        Turn {
-            asks: "P",
-            lines: "CP",
-            places: &[3],
-            replies: "P",
-        },
-    ];
-    let disk = run(&rt, alloc, opened(alloc, before.as_slice(), &[])?, &turns)?;
-    assert_eq!(rt; disk.calls(), 11);
-    for (fill, pending) in &FILLS {
-        for moment in 6..23u64 {
-            let wanted = match moment {
-                6..11 => 0,
-                11..14 => 3 * *pending,
-                14..19 => 3,
-                19..22 => 3 + *pending,
-                _ => 4,
-            };
-            let entries = entries_at(alloc, &disk, moment, *fill)?;
-            assert_eq!(rt; entries, wanted, "{moment} {fill:?}");
-        }
+    for group in &GROUPS {
+        stop_anywhere(&rt, rt.alloc(), group)?;
     }
     Ok(())
 }
