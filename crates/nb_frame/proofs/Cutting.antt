@@ -1,7 +1,7 @@
 -- Any calls of a reader of frames: what was fed is what was given out, and what waits.
 use Rattle.std.proofs.Common.{◌≡◌, ℕ, ◌+◌, ◌<◌, List, [], ◌∷◌, ◌++◌, length, refl, sym, ap, subst, ◌∙◌, append_assoc, append-nil, arith, length-append}
 use Rattle.std.specs.List.{flat_map, AllByRecursion}
-use Rattle.nb_units.specs.Frames.{Frame, frame, IsFrame, HeaderFault, Front, Bad, front_of, IsWhole, Splits}
+use Rattle.nb_units.specs.Frames.{Frame, frame, IsFrame, HeaderFault, Front, Bad, front_of, IsWhole}
 use Rattle.nb_units.proofs.FrameLaws.{bad_stays, one_reading}
 use Rattle.nb_frame.specs.State.{Collected, waiting, unfed, fed}
 use Rattle.nb_frame.specs.Faults.{placed}
