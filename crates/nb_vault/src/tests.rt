@@ -58,17 +58,27 @@ static TAGS: [&'static str; 26] = [
 ];
 
 // Entries, by their letters: consumer 1 with account 1, merchant 2 with account 2, consumer 3 with account 3, twice 500 for account 1,
-// a payment of 500 and an order of 501 that is refused, as items: a gate and a length of 4 bytes stand before each. Q is the payment
-// under serial number 2, whose last byte is 48.
+// a payment of 500 and an order of 501 that is refused, as items: a gate and a length of 4 bytes stand before each.
 fn item_of(letter: u8) -> &'static str {
     match letter {
-        b'C' => ITEM_1,
+        b'C' | b'N' | b'A' => ITEM_1,
         b'M' => ITEM_2,
         b'E' => ITEM_3,
         b'F' => ITEM_500,
         b'G' => ITEM_MORE,
         b'S' => ITEM_SHORT,
         _ => ITEM_PAID,
+    }
+}
+
+// Entries that differ from these in one byte, at its place: Q is the payment under serial number 2, N is consumer 1 with account 9, and
+// A is consumer 9 with account 1.
+fn turned(letter: u8) -> Option<(usize, u8)> {
+    match letter {
+        b'Q' => Some((48, 2)),
+        b'N' => Some((9, 9)),
+        b'A' => Some((4, 9)),
+        _ => None,
     }
 }
 
@@ -82,8 +92,10 @@ fn spelled(alloc: Global, letter: u8) -> Result<Vec<u8>, Fail> {
     let item = hex::decode(alloc, item_of(letter))?;
     let at = item.len().min(5);
     let mut entry = Vec::from_slice(alloc, item.as_slice().split_at(at).1)?;
-    if letter == b'Q' && entry.len() > 48 {
-        entry[48] = 2;
+    if let Some((place, byte)) = turned(letter) {
+        if place < entry.len() {
+            entry[place] = byte;
+        }
     }
     Ok(entry)
 }
@@ -122,7 +134,10 @@ fn journal(alloc: Global, cap: u32, shown: &str) -> Result<Vec<u8>, Fail> {
     Ok(bytes)
 }
 
-// Opens a content over a disk whose calls with these numbers fail. Opening makes three calls, and two for each item.
+// The calls of the disk that opening makes: a sync, and reads of the front and of what stands behind it.
+const OPENING: u64 = 3;
+
+// Opens a content over a disk whose calls with these numbers fail.
 fn opened(alloc: Global, content: &[u8], fails: &[u64]) -> Result<Vault<MemDisk>, VaultFault> {
     match MemDisk::new(alloc, content, fails) {
         Ok(disk) => Vault::open(alloc, disk).map_err(|(fault, _)| fault),
@@ -163,7 +178,12 @@ fn known_frame(letter: u8) -> &'static str {
 fn frame_of(alloc: Global, letter: u8) -> Result<Vec<u8>, Fail> {
     if letter.is_ascii_lowercase() {
         let id = party(letter);
-        let mut frame = Vec::from_slice(alloc, &[0x4E, 0x42, 1, 0x0D, 0, 0, 0, 81, 0, 0, 0, id, 1, 0, 0, 0, id])?;
+        let mut frame = Vec::from_slice(
+            alloc,
+            &[
+                0x4E, 0x42, 1, 0x0D, 0, 0, 0, 81, 0, 0, 0, id, 1, 0, 0, 0, id,
+            ],
+        )?;
         frame.extend_from_slice(&[0x44; 40])?;
         frame.extend_from_slice(hex::decode(alloc, TAGS[usize::from(id) - 101])?.as_slice())?;
         Ok(frame)
@@ -208,7 +228,31 @@ fn known_reply(letter: u8) -> &'static str {
 fn reply_of(alloc: Global, letter: u8) -> Result<Vec<u8>, Fail> {
     if letter.is_ascii_lowercase() {
         let id = party(letter);
-        let mut reply = Vec::from_slice(alloc, &[0x4E, 0x42, 1, 0x0F, 0, 0, 0, 20, 0, 0, 0, id, 0, 0, 0, 0, 0, 0, 0, id - 95])?;
+        let mut reply = Vec::from_slice(
+            alloc,
+            &[
+                0x4E,
+                0x42,
+                1,
+                0x0F,
+                0,
+                0,
+                0,
+                20,
+                0,
+                0,
+                0,
+                id,
+                0,
+                0,
+                0,
+                0,
+                0,
+                0,
+                0,
+                id - 95,
+            ],
+        )?;
         reply.extend_from_slice(&[0; 8])?;
         Ok(reply)
     } else {

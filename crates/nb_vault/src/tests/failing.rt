@@ -2,13 +2,11 @@
 
 use super::*;
 
-// Requests of one turn, all of which are recorded, what they are told first and again, and their places. The journal before has a cap, and
-// opening it makes so many calls.
+// Requests of one turn, all of which are recorded, what they are told first and again, and their places. The journal before has a cap.
 #[derive(Clone, Copy)]
 pub(super) struct Group {
     pub(super) cap: u32,
     pub(super) before: &'static str,
-    pub(super) opening: u64,
     pub(super) asks: &'static str,
     pub(super) replies: &'static str,
     pub(super) places: &'static [u64],
@@ -22,7 +20,6 @@ pub(super) static GROUPS: [Group; 4] = [
     Group {
         cap: 4,
         before: "[C][M][F].",
-        opening: 9,
         asks: "P",
         replies: "P",
         places: &[3],
@@ -33,7 +30,6 @@ pub(super) static GROUPS: [Group; 4] = [
     Group {
         cap: 8,
         before: ".",
-        opening: 3,
         asks: "CM",
         replies: "CM",
         places: &[0, 1],
@@ -44,7 +40,6 @@ pub(super) static GROUPS: [Group; 4] = [
     Group {
         cap: 8,
         before: ".",
-        opening: 3,
         asks: "CMF",
         replies: "CMF",
         places: &[0, 1, 2],
@@ -55,7 +50,6 @@ pub(super) static GROUPS: [Group; 4] = [
     Group {
         cap: 32,
         before: ".",
-        opening: 3,
         asks: "CMFPGEabcdefghijklmnopqrstuvwxyz",
         replies: "CMFPGEabcdefghijklmnopqrstuvwxyz",
         places: &[
@@ -129,7 +123,7 @@ impl Group {
     fn run(&self, rt: &impl Abort, alloc: Global, fails: &[u64], signs: &str) -> Result<(), Fail> {
         let mut calls = Vec::new(alloc);
         for call in fails {
-            calls.push(call.saturating_add(self.opening))?;
+            calls.push(call.saturating_add(OPENING))?;
         }
         let mut turns = Vec::new(alloc);
         for sign in signs.as_bytes() {
@@ -229,7 +223,8 @@ fn requests_are_decided_one_after_another(rt: HostRuntime) -> Result<(), Fail> {
     Ok(())
 }
 
-// The sync behind the fund's gate fails, call 11. Settling makes calls 12 and 13, and the sync behind the order's gate fails, call 17.
+// Behind opening, the sync behind the fund's gate fails, call 4. Settling makes calls 5 and 6, and the sync behind the order's gate fails,
+// call 10.
 static ADOPTS: [Turn<'static>; 3] = [
     Turn {
         asks: "F",
@@ -262,13 +257,13 @@ fn a_turn_adopts_and_goes_on(rt: HostRuntime) -> Result<(), Fail> {
     let alloc = rt.alloc();
     let before = journal(alloc, 5, "[C][M].")?;
     let after = journal(alloc, 5, "[C][M][F][P][G].")?;
-    let vault = opened(alloc, before.as_slice(), &[11, 17])?;
+    let vault = opened(alloc, before.as_slice(), &[OPENING + 4, OPENING + 10])?;
     let disk = run(&rt, alloc, vault, &ADOPTS)?;
     assert_eq!(rt; disk.content(), after.as_slice());
     Ok(())
 }
 
-// Opening makes calls 1 to 5, and all behind them fail: 1000 of them, one in each turn. Then nothing is done any more.
+// All calls behind opening fail: 1000 of them, one in each turn. Then nothing is done any more.
 #[test]
 fn a_vault_wears_out(rt: HostRuntime) -> Result<(), Fail> {
     let alloc = rt.alloc();
@@ -276,7 +271,7 @@ fn a_vault_wears_out(rt: HostRuntime) -> Result<(), Fail> {
     let mut fails = Vec::new(alloc);
     let mut turns = Vec::new(alloc);
     for turn in 0..1002u64 {
-        fails.push(turn + 6)?;
+        fails.push(turn + OPENING + 1)?;
         turns.push(Turn {
             asks: "F",
             kept: "",
@@ -289,6 +284,6 @@ fn a_vault_wears_out(rt: HostRuntime) -> Result<(), Fail> {
     let vault = opened(alloc, before.as_slice(), fails.as_slice())?;
     let disk = run(&rt, alloc, vault, turns.as_slice())?;
     assert_eq!(rt; disk.content(), before.as_slice());
-    assert_eq!(rt; disk.calls(), 1005);
+    assert_eq!(rt; disk.calls(), OPENING + 1000);
     Ok(())
 }

@@ -13,7 +13,7 @@ enum Content {
 }
 
 // A cap, and what stands behind the front of 96 bytes.
-static CONTENTS: [(u32, &'static str, Content); 22] = [
+static CONTENTS: [(u32, &'static str, Content); 26] = [
     (4, "[C][M][F].", Opens(3)),
     // a gate that is shut hides what is behind it
     (4, "[C](M)[F].", Opens(1)),
@@ -36,6 +36,11 @@ static CONTENTS: [(u32, &'static str, Content); 22] = [
     (4, "[F].", Bad(0)),
     (4, "[FC].", Bad(0)),
     (4, "[C][M][F][F].", Bad(3)),
+    // a party's number is used again, or its account
+    (4, "[M][N].", Opens(2)),
+    (4, "[C][M][N].", Bad(2)),
+    (4, "[M][A].", Opens(2)),
+    (4, "[C][M][A].", Bad(2)),
     // there are more entries than the cap
     (1, "[CM].", Bad(0)),
     (2, "[C][MF].", Bad(1)),
@@ -104,16 +109,16 @@ fn an_item_has_at_most_32_entries(rt: HostRuntime) -> Result<(), Fail> {
     Ok(())
 }
 
-// Opening makes five calls: a sync, and reads of the front, of a gate, of an item and of the last gate.
+// Each call of opening fails.
 #[test]
 fn a_fault_is_told(rt: HostRuntime) -> Result<(), Fail> {
     let alloc = rt.alloc();
     let one = journal(alloc, 4, "[C].")?;
     let (before, after) = (0, 1);
-    for call in 1..6u64 {
+    for call in 1..OPENING + 1 {
         let wanted = Err(VaultFault::DiskFault { before, after });
         assert_eq!(rt; opens(alloc, one.as_slice(), &[call]), wanted, "{call}");
     }
-    assert_eq!(rt; opens(alloc, one.as_slice(), &[6]), Ok(1));
+    assert_eq!(rt; opens(alloc, one.as_slice(), &[OPENING + 1]), Ok(1));
     Ok(())
 }

@@ -33,7 +33,7 @@ fn stop_anywhere(rt: &impl Abort, alloc: Global, group: &Group) -> Result<(), Fa
     for (fill, pending) in &FILLS {
         for step in 0..9u64 {
             let open = step == 8 || (step >= 5 && *pending);
-            let moment = group.opening.saturating_mul(2).saturating_add(step);
+            let moment = 2 * OPENING + step;
             let entries = entries_at(alloc, &disk, moment, *fill)?;
             assert_eq!(rt; entries, if open { all } else { none }, "{moment} {fill:?}");
         }
