@@ -1,5 +1,5 @@
 -- How calls of a disk go on, one behind the other.
-use Rattle.std.proofs.Common.{◌∙◌, inl, inr, ⊎_elim, ℕ, List, Option, arith}
+use Rattle.std.proofs.Common.{◌∙◌, inl, inr, ⊎_elim, ℕ, List, arith}
 use Rattle.nb_journal.specs.Time.{Since, LeavesOnly, Untouched}
 use Rattle.nb_port.specs.Tells.{DiskTells}
 

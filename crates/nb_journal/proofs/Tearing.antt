@@ -1,6 +1,6 @@
 -- A write that is done is a torn one.
-use Rattle.std.proofs.Common.{◌≡◌, ◌⊎◌, inl, inr, ℕ, zero, suc, ◌+◌, ◌-◌, ◌<◌, ◌≤◌, max, List, ◌++◌, length, take, drop, Option, Some, None, IfSome, arith, sym, ap, subst, ◌∙◌, length-append, length-drop}
-use Rattle.std.proofs.lemmas.List.{append_assoc, take-take, take_at, drop_at, take_all, drop_all, length-take, length-take-le}
+use Rattle.std.proofs.Common.{◌≡◌, ◌⊎◌, inl, inr, ℕ, zero, suc, ◌+◌, ◌-◌, ◌<◌, ◌≤◌, max, List, ◌++◌, length, take, drop, Option, Some, None, IfSome, arith, sym, subst, ◌∙◌, length-append, length-drop}
+use Rattle.std.proofs.lemmas.List.{length-take-le}
 use Rattle.nb_port.specs.Disk.{Torn, MayTear, put_at, wrote_at}
 use Rattle.nb_port.specs.DiskLaws.{torn_put, torn_same}
 use Rattle.nb_port.proofs.Tears.{torn_from, torn_at}

@@ -1,5 +1,5 @@
 -- What is held of a content: a part of it is what stands in the content at its place.
-use Rattle.std.proofs.Common.{◌≡◌, ◌⊎◌, ⊎_elim, ℕ, zero, suc, ◌+◌, ◌-◌, ◌<◌, ◌≤◌, min, List, [], ◌∷◌, length, take, drop, Option, Some, None, IfSome, arith, refl, sym, ap, ◌∙◌}
+use Rattle.std.proofs.Common.{◌≡◌, ⊎_elim, ℕ, zero, suc, ◌+◌, ◌-◌, ◌<◌, ◌≤◌, min, List, [], ◌∷◌, length, take, drop, Option, Some, None, IfSome, arith, refl, sym, ap, ◌∙◌}
 use Rattle.std.proofs.lemmas.List.{take_all, take_min, drop-take, drop-drop, length-take}
 use Rattle.nb_journal.specs.Held.{Held}
 use Rattle.nb_journal.specs.Window.{Sees, Reaches, part_of}

@@ -1,4 +1,4 @@
-use Rattle.std.proofs.Common.{◌≡◌, ℕ, List, Option, IfSome, take, drop, subst, ap, ◌∙◌}
+use Rattle.std.proofs.Common.{ℕ, List, Option, subst}
 use Rattle.nb_journal.specs.Window.{Sees}
 use Rattle.nb_journal.proofs.Records.{body_gives}
 use Rattle.nb_journal.proofs.Windows.{part_stands}

@@ -1,7 +1,7 @@
-use Rattle.std.proofs.Common.{◌≡◌, ℕ, List, Option, IfSome, take, drop, subst, ap, ◌∙◌}
+use Rattle.std.proofs.Common.{ℕ, List, Option, subst}
 use Rattle.nb_journal.specs.Window.{Sees}
 use Rattle.nb_journal.proofs.Records.{lead_gives}
-use Rattle.nb_journal.proofs.Windows.{part_is, part_stands}
+use Rattle.nb_journal.proofs.Windows.{part_stands}
 use Rattle.nb_journal.proofs.opening.record.lead_at.Goals as goal
 
 pub returns-in-There-clause-gives : goal.returns-in-There-clause-gives
