@@ -236,13 +236,16 @@ module _ {D : Type 0} (tells : DiskTells D) (old mid p : Parts D) (by : ℕ) (re
       added = adopts by (next_turn old.lines.items) s.ready.kept ++ (doubts by (next_turn old.lines.items) (recorded (house_in (seen_as old)) (over_of p.records) requests) ++ Fault by (next_turn old.lines.items) counts.before counts.after ∷ []);
       behind = doubted_behind;
       lines = (few_told, inr doubted_lines);
-      disk = (refl, record {
-        told = told_over;
-        written = subst (λ (es : List Entry). TearsItem old.records.head old.records.book.cap (over_of p.records) es (tells.content (disk_under old.records)) (tells.content (disk_under new.records))) group_is
-            (subst (λ (t : Option (List ℕ)). TearsItem old.records.head old.records.book.cap (over_of p.records) p.records.group.items t (tells.content (disk_under new.records))) content_is
-            (subst (λ (cap : ℕ). TearsItem old.records.head cap (over_of p.records) p.records.group.items (tells.content (disk_under p.records)) (tells.content (disk_under new.records))) same.terms.cap
-            (subst (λ (head : List ℕ). TearsItem head p.records.book.cap (over_of p.records) p.records.group.items (tells.content (disk_under p.records)) (tells.content (disk_under new.records))) same.terms.head torn)));
-      });
+      disk = (
+        refl,
+        record {
+          told = told_over;
+          written = subst (λ (es : List Entry). TearsItem old.records.head old.records.book.cap (over_of p.records) es (tells.content (disk_under old.records)) (tells.content (disk_under new.records))) group_is
+              (subst (λ (t : Option (List ℕ)). TearsItem old.records.head old.records.book.cap (over_of p.records) p.records.group.items t (tells.content (disk_under new.records))) content_is
+              (subst (λ (cap : ℕ). TearsItem old.records.head cap (over_of p.records) p.records.group.items (tells.content (disk_under p.records)) (tells.content (disk_under new.records))) same.terms.cap
+              (subst (λ (head : List ℕ). TearsItem head p.records.book.cap (over_of p.records) p.records.group.items (tells.content (disk_under p.records)) (tells.content (disk_under new.records))) same.terms.head torn)));
+        },
+      );
     }
 
   -- ---- images
