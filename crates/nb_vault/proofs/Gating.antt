@@ -7,7 +7,7 @@ use Rattle.nb_turns.specs.Turns.{Request, State, Outcome, Decides, Fails, Refuse
 use Rattle.nb_vault.specs.declared.origin.Origin.{Origin}
 use Rattle.nb_vault.specs.Gates.{HasAll, HasNoneOrAll, OneGate}
 use Rattle.nb_vault.specs.Holdings.{StandsFor}
-use Rattle.nb_vault.specs.Vaults.{Chronicled, StandsForState, Went, doubt_in, entries_in, house_in, state_of}
+use Rattle.nb_vault.specs.Vaults.{Chronicled, StandsForState, doubt_in, entries_in, house_in, state_of}
 use Rattle.nb_vault.proofs.Resting.{leaves_more}
 
 module _ {D : Type 0} (old new : Chronicled D) (requests : List Request) (same : new.origin ≡ old.origin) (image : List ℕ) where

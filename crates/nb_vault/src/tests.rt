@@ -176,20 +176,15 @@ fn known_frame(letter: u8) -> &'static str {
 
 // The frame of a request.
 fn frame_of(alloc: Global, letter: u8) -> Result<Vec<u8>, Fail> {
-    if letter.is_ascii_lowercase() {
-        let id = party(letter);
-        let mut frame = Vec::from_slice(
-            alloc,
-            &[
-                0x4E, 0x42, 1, 0x0D, 0, 0, 0, 81, 0, 0, 0, id, 1, 0, 0, 0, id,
-            ],
-        )?;
-        frame.extend_from_slice(&[0x44; 40])?;
-        frame.extend_from_slice(hex::decode(alloc, TAGS[usize::from(id) - 101])?.as_slice())?;
-        Ok(frame)
-    } else {
-        Ok(hex::decode(alloc, known_frame(letter))?)
+    if !letter.is_ascii_lowercase() {
+        return Ok(hex::decode(alloc, known_frame(letter))?);
     }
+    let id = party(letter);
+    let mut frame = hex::decode(alloc, "4e42010d00000051")?;
+    frame.extend_from_slice(&[0, 0, 0, id, 1, 0, 0, 0, id])?;
+    frame.extend_from_slice(&[0x44; 40])?;
+    frame.extend_from_slice(hex::decode(alloc, TAGS[usize::from(id) - 101])?.as_slice())?;
+    Ok(frame)
 }
 
 // What they are told first; what 1, 2 and E are told again, behind the fund and the order; what M is told behind a fund; what E is told
@@ -226,38 +221,15 @@ fn known_reply(letter: u8) -> &'static str {
 
 // A reply. In a turn of 32 the parties of small letters have the places from 6 on, and nothing in their accounts.
 fn reply_of(alloc: Global, letter: u8) -> Result<Vec<u8>, Fail> {
-    if letter.is_ascii_lowercase() {
-        let id = party(letter);
-        let mut reply = Vec::from_slice(
-            alloc,
-            &[
-                0x4E,
-                0x42,
-                1,
-                0x0F,
-                0,
-                0,
-                0,
-                20,
-                0,
-                0,
-                0,
-                id,
-                0,
-                0,
-                0,
-                0,
-                0,
-                0,
-                0,
-                id - 95,
-            ],
-        )?;
-        reply.extend_from_slice(&[0; 8])?;
-        Ok(reply)
-    } else {
-        Ok(hex::decode(alloc, known_reply(letter))?)
+    if !letter.is_ascii_lowercase() {
+        return Ok(hex::decode(alloc, known_reply(letter))?);
     }
+    let id = party(letter);
+    let mut reply = hex::decode(alloc, "4e42010f00000014")?;
+    reply.extend_from_slice(&[0, 0, 0, id])?;
+    reply.extend_from_slice(&u64::from(id - 95).to_be_bytes())?;
+    reply.extend_from_slice(&[0; 8])?;
+    Ok(reply)
 }
 
 // 3 and 5 ask in turn.
