@@ -38,11 +38,24 @@ fn open_in_place(alloc: Global, key: &Secret, bytes: &mut [u8]) -> Result<Blob, 
     Ok(goods)
 }
 
+// How many bytes the parts have together.
+fn length_of(parts: &[Blob]) -> usize
+    requires { length (joined parts.now) ≤ MAX_SEALED }
+    ensures { result ≡ length (joined parts.now) }
+{
+    let mut total = 0;
+    for part in parts {
+        total += part.as_slice().len();
+    }
+    total
+}
+
 // The parts joined.
 fn join(alloc: Global, parts: &[Blob]) -> Result<Vec<u8>, NoMemory>
+    requires { length (joined parts.now) ≤ MAX_SEALED }
     ensures { IfOk result (λ bytes. bytes.items ≡ joined parts.now) }
 {
-    let mut bytes = Vec::new(alloc);
+    let mut bytes = Vec::with_capacity(alloc, length_of(parts))?;
     for part in parts {
         bytes.extend_from_slice(part.as_slice())?;
     }
