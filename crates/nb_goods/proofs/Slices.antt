@@ -1,13 +1,12 @@
 -- Slices of lists, and of what was xored with a keystream.
-use Rattle.std.proofs.Common.{◌≡◌, ℕ, ◌+◌, ◌-◌, ◌*◌, ◌/◌, ◌<◌, ◌≤◌, min, List, [], ◌∷◌, ◌++◌, length, take, drop, replicate, bit_xor, refl, sym, ap, ◌∙◌, zero, suc, arith, add-zero, append-nil, append_assoc, length-append, length-drop, take-append-drop}
-use Rattle.std.specs.List.{flat_map}
+use Rattle.std.proofs.Common.{◌≡◌, ℕ, ◌+◌, ◌-◌, ◌*◌, ◌≤◌, min, List, [], ◌∷◌, ◌++◌, length, take, drop, replicate, bit_xor, refl, sym, ap, ◌∙◌, zero, suc, arith, add-zero, append-nil, append_assoc, length-drop, take-append-drop}
 use Rattle.std.proofs.lemmas.Grind.{common_steps, flat_map-append}
 use Rattle.std.proofs.lemmas.List.{length-take, length-take-le, take_all, take-append-le, drop-append-le}
 use Rattle.std.proofs.Math.Nat.{suc-mul}
 use Rattle.std.proofs.Math.Seq.{take-add, take-append-add, drop-append-add}
 use Rattle.nb_seal.specs.Keystream.{stream_byte, xored}
 use Rattle.nb_seal.specs.Seal.{iv_shown}
-use Rattle.nb_seal.proofs.Xoring.{xored-append, xored-split}
+use Rattle.nb_seal.proofs.Xoring.{xored-append}
 use Rattle.nb_goods.specs.Goods.{piece_at, first_pieces, part_at, joined, first_parts, count_of}
 
 -- what is left of a list that was xored is what is left of the list, xored from there on
@@ -59,10 +58,10 @@ slice_of key front text lead left piece size place cut from n cut_is lead_is fro
     ∙ take-xored_front key from (size - length lead) (drop from text)
     ∙ ap (xored key from) (ap (take (size - length lead)) (sym left_is) ∙ sym (take-least (size - length lead) n left n_is) ∙ sym piece_is) in
     sym (
-      ap (take size) behind
-      ∙ ap (λ (m : ℕ). take m (lead ++ drop from (xored key 0 text))) size_is
-      ∙ take-append-add lead (drop from (xored key 0 text)) (size - length lead)
-      ∙ ap (λ (bytes : List ℕ). lead ++ bytes) rest
+    ap (take size) behind
+    ∙ ap (λ (m : ℕ). take m (lead ++ drop from (xored key 0 text))) size_is
+    ∙ take-append-add lead (drop from (xored key 0 text)) (size - length lead)
+    ∙ ap (λ (bytes : List ℕ). lead ++ bytes) rest
     )
 
 -- one piece more of a text, xored behind the pieces before it
@@ -83,7 +82,6 @@ rest_xored_behind key front text rest at h rest_is =
     let both : take at text ++ rest ≡ text = ap (λ (bytes : List ℕ). take at text ++ bytes) rest_is ∙ take-append-drop at text in
     append_assoc front (xored key 0 (take at text)) (xored key at rest)
     ∙ ap (λ (bytes : List ℕ). front ++ bytes) (sym (xored_first-append key (take at text) rest at (sym long)) ∙ ap (xored key 0) both)
-
 
 -- the first pieces joined are the front of the list
 pub first_pieces_join : (size : ℕ) (bytes : List ℕ) (n : ℕ) → joined (first_pieces size bytes n) ≡ take (n * size) bytes

@@ -4,7 +4,6 @@ use Rattle.std.specs.List.{flat_map}
 use Rattle.nb_units.specs.Fields.{be4}
 use Rattle.nb_units.specs.declared.ids.PartyId.{PartyId}
 use Rattle.nb_seal.specs.Hmac.{hmac_of}
-use Rattle.nb_seal.specs.Keystream.{xored}
 use Rattle.nb_seal.specs.Seal.{seal_of}
 use Rattle.nb_goods.specs.declared.limits.TheConstants.{PART_BYTES}
 

@@ -1,5 +1,5 @@
 -- What holds of all sealed goods and their parts.
-use Rattle.std.specs.Prelude.{◌≡◌, ◌≢◌, ◌↔◌, ◌⊎◌, ℕ, ◌+◌, ◌-◌, ◌*◌, min, List, ◌++◌, codes, length, take, Result, Ok, Err}
+use Rattle.std.specs.Prelude.{◌≡◌, ◌≢◌, ◌↔◌, ◌⊎◌, ℕ, ◌+◌, ◌-◌, ◌*◌, min, List, ◌++◌, codes, length, take, Result, Err}
 use Rattle.sha2.specs.Sha256.{sha256}
 use Rattle.nb_seal.specs.Hmac.{hmac_of}
 use Rattle.nb_seal.specs.Keystream.{xored}

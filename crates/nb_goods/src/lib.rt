@@ -24,6 +24,5 @@ pub use joined::open_parts;
 pub use limits::{GOODS_LABEL, MAX_GOODS, MAX_SEALED, PART_BYTES};
 pub use nb_units::NoMemory;
 
-
 #[cfg(test)]
 mod tests;

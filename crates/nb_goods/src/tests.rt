@@ -175,75 +175,59 @@ fn longest_goods(rt: HostRuntime) -> Result<(), Fail> {
     Ok(())
 }
 
-// What became of the parts of sealed goods on their way.
+// What came of the parts of sealed goods: of the sale's or of those under another key, which part, how many bytes of it, and the place of
+// a byte whose lowest bit was turned.
 #[derive(Clone, Copy, PartialEq, Eq, Debug)]
-enum Bad {
-    // the lowest bit of a byte of a part was turned
-    Turned { part: usize, byte: usize },
-    Swapped,
-    FirstMissing,
-    LastMissing,
-    LastTwice,
-    OneByteMore,
-    OnlyAFront { len: usize },
-    OfAnotherKey,
-    OnePartOfAnotherKey,
+struct Piece {
+    foreign: bool,
+    part: usize,
+    len: usize,
+    turned: usize,
 }
 
-// The two parts of goods, after that. The others are those under another key.
-fn spoiled(alloc: Global, parts: &[Blob], others: &[Blob], bad: Bad) -> Result<Vec<Blob>, Fail>
-    requires parts { length parts.now ≡ 2 }
-    requires others { length others.now ≡ 2 }
-{
-    let mut was = Vec::new(alloc);
-    was.push(Blob::of(alloc, parts[0].as_slice())?)?;
-    was.push(Blob::of(alloc, parts[1].as_slice())?)?;
-    match bad {
-        Bad::Turned { part, byte } => {
-            if part < 2 {
-                let mut bytes = Vec::from_slice(alloc, was[part].as_slice())?;
-                if byte < bytes.len() {
-                    bytes[byte] ^= 1;
-                }
-                was[part] = Blob::of(alloc, &bytes)?;
+// All of a part, and nothing turned.
+const FIRST: Piece = Piece {
+    foreign: false,
+    part: 0,
+    len: PART_BYTES,
+    turned: PART_BYTES,
+};
+
+const LAST: Piece = Piece { part: 1, ..FIRST };
+
+// The first part with its last bit turned.
+const TURNED: Piece = Piece {
+    turned: PART_BYTES - 1,
+    ..FIRST
+};
+
+// The pieces that came, one behind the other.
+fn came(
+    alloc: Global,
+    parts: &[Blob],
+    others: &[Blob],
+    pieces: &[Piece],
+) -> Result<Vec<Blob>, Fail> {
+    let mut came = Vec::new(alloc);
+    for piece in pieces {
+        let from = if piece.foreign { others } else { parts };
+        if piece.part < from.len() {
+            let mut bytes = Vec::from_slice(alloc, from[piece.part].as_slice())?;
+            bytes.truncate(piece.len);
+            if piece.turned < bytes.len() {
+                bytes[piece.turned] ^= 1;
             }
+            came.push(Blob::of(alloc, &bytes)?)?;
         }
-        Bad::Swapped => was.swap(0, 1),
-        Bad::FirstMissing => was[0] = Blob::of(alloc, &[])?,
-        Bad::LastMissing => was[1] = Blob::of(alloc, &[])?,
-        Bad::LastTwice => {
-            let last = Blob::of(alloc, was[1].as_slice())?;
-            was.push(last)?;
-        }
-        Bad::OneByteMore => was.push(Blob::of(alloc, &[0])?)?,
-        Bad::OnlyAFront { len } => {
-            was[1] = Blob::of(alloc, &[])?;
-            let first = Vec::from_slice(alloc, was[0].as_slice())?;
-            if len <= first.len() {
-                was[0] = Blob::of(alloc, &first[..len])?;
-            }
-        }
-        Bad::OfAnotherKey => {
-            was[0] = Blob::of(alloc, others[0].as_slice())?;
-            was[1] = Blob::of(alloc, others[1].as_slice())?;
-        }
-        Bad::OnePartOfAnotherKey => was[1] = Blob::of(alloc, others[1].as_slice())?,
     }
-    Ok(was)
+    Ok(came)
 }
 
-// The first 32 bytes of parts, with zeros where there are fewer.
-fn front_of(parts: &[Blob]) -> [u8; 32] {
+// The first 32 bytes, with zeros where there are fewer.
+fn front_of(bytes: &[u8]) -> [u8; 32] {
     let mut front = [0u8; 32];
-    let mut n = 0;
-    for part in parts {
-        for &byte in part.as_slice() {
-            if n < 32 {
-                front[n] = byte;
-                n += 1;
-            }
-        }
-    }
+    let n = bytes.len().min(32);
+    front[..n].copy_from_slice(&bytes[..n]);
     front
 }
 
@@ -258,52 +242,81 @@ fn spoiled_parts(rt: HostRuntime) -> Result<(), Fail> {
     let made = parts(&KEY, &goods);
     let others = cut(rt.alloc(), &made, &goods)?;
     assert!(rt; whole.len() == 2 && others.len() == 2);
-    let cases = [
-        Bad::Turned { part: 0, byte: 0 },
-        Bad::Turned { part: 0, byte: 31 },
-        Bad::Turned { part: 0, byte: 32 },
-        Bad::Turned { part: 0, byte: 999_999 },
-        Bad::Turned { part: 1, byte: 0 },
-        Bad::Turned { part: 1, byte: 31 },
-        Bad::Swapped,
-        Bad::FirstMissing,
-        Bad::LastMissing,
-        Bad::LastTwice,
-        Bad::OneByteMore,
-        Bad::OnlyAFront { len: 0 },
-        Bad::OnlyAFront { len: 31 },
-        Bad::OnlyAFront { len: 32 },
-        Bad::OfAnotherKey,
-        Bad::OnePartOfAnotherKey,
+    let cases: [&[Piece]; 16] = [
+        &[Piece { turned: 0, ..FIRST }, LAST],
+        &[
+            Piece {
+                turned: 31,
+                ..FIRST
+            },
+            LAST,
+        ],
+        &[
+            Piece {
+                turned: 32,
+                ..FIRST
+            },
+            LAST,
+        ],
+        &[TURNED, LAST],
+        &[FIRST, Piece { turned: 0, ..LAST }],
+        &[FIRST, Piece { turned: 31, ..LAST }],
+        &[LAST, FIRST],
+        &[LAST],
+        &[FIRST],
+        &[FIRST, LAST, LAST],
+        &[FIRST, LAST, Piece { len: 1, ..FIRST }],
+        &[],
+        &[Piece { len: 31, ..FIRST }],
+        &[Piece { len: 32, ..FIRST }],
+        &[
+            Piece {
+                foreign: true,
+                ..FIRST
+            },
+            Piece {
+                foreign: true,
+                ..LAST
+            },
+        ],
+        &[
+            FIRST,
+            Piece {
+                foreign: true,
+                ..LAST
+            },
+        ],
     ];
-    for bad in cases {
-        let parts = spoiled(rt.alloc(), &whole, &others, bad)?;
-        let iv = front_of(&parts);
-        assert!(rt; fit(&parts));
-        match open_parts(rt.alloc(), &key, &parts) {
-            Err(fault) => assert_eq!(rt; fault, OpenGoods::BadSeal { iv }, "{bad:?}"),
-            Ok(_) => return Err("spoiled parts do not open".into()),
-        }
+    for pieces in cases {
+        let parts = came(rt.alloc(), &whole, &others, pieces)?;
         let mut bytes = Vec::new(rt.alloc());
         for part in &parts {
             bytes.extend_from_slice(part.as_slice())?;
         }
-        assert!(rt; bytes.len() <= MAX_SEALED);
-        match open_goods(rt.alloc(), &key, &bytes) {
-            Err(fault) => assert_eq!(rt; fault, OpenGoods::BadSeal { iv }, "{bad:?}"),
-            Ok(_) => return Err("spoiled goods do not open".into()),
-        }
+        let want = OpenGoods::BadSeal {
+            iv: front_of(&bytes),
+        };
+        assert!(rt; fit(&parts) && bytes.len() <= MAX_SEALED);
+        let opened = open_parts(rt.alloc(), &key, &parts);
+        assert_eq!(rt; opened.err(), Some(want), "{pieces:?}");
+        let opened = open_goods(rt.alloc(), &key, &bytes);
+        assert_eq!(rt; opened.err(), Some(want), "{pieces:?}");
     }
-    let turned = spoiled(rt.alloc(), &whole, &others, Bad::Turned { part: 0, byte: 999_999 })?;
+    let turned = came(rt.alloc(), &whole, &others, &[TURNED, LAST])?;
     assert!(rt; turned.len() == 2);
-    assert_eq!(rt;
-        checksum(turned[0].as_slice()),
-        digest_of("5dfe57cb02341878b8bc467aa9629972bb9a6381a309f8d29b4e3fdc3e8da3d4")?
-    );
-    assert_eq!(rt;
-        checksum(turned[1].as_slice()),
-        digest_of("9b56eba416cbceb2fea38bb6f2a1bedce88ecfc2cd0b474b3af61fe96222495d")?
-    );
+    let cases = [
+        (
+            0,
+            "5dfe57cb02341878b8bc467aa9629972bb9a6381a309f8d29b4e3fdc3e8da3d4",
+        ),
+        (
+            1,
+            "9b56eba416cbceb2fea38bb6f2a1bedce88ecfc2cd0b474b3af61fe96222495d",
+        ),
+    ];
+    for (i, want) in cases {
+        assert_eq!(rt; checksum(turned[i].as_slice()), digest_of(want)?);
+    }
     Ok(())
 }
 

@@ -1,4 +1,4 @@
-use Rattle.std.proofs.Common.{ℕ, List, ◌≡◌, ◌≤◌, ◌+◌, ◌∙◌, take, get_or, length, ap, arith}
+use Rattle.std.proofs.Common.{◌≡◌, ◌≤◌, ◌+◌, ◌∙◌, take, get_or, length, ap, arith}
 use Rattle.std.proofs.lemmas.List.Folds.{length-flat_map-take}
 use Rattle.nb_goods.specs.Goods.{joined}
 use Rattle.nb_goods.proofs.joined.length_of.Goals as goal

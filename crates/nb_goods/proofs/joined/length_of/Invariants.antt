@@ -1,4 +1,4 @@
-use Rattle.std.proofs.Common.{◌≡◌, ◌≤◌, take, length}
+use Rattle.std.proofs.Common.{◌≡◌, take, length}
 use Rattle.nb_goods.specs.Goods.{joined}
 use Rattle.nb_goods.proofs.joined.length_of.Given as goal
 

@@ -14,7 +14,7 @@ returns-then-not-open_text c =
     let whole : c.front-iv.result ++ c.split_at_mut-text.result.1.now ≡ c.args.bytes.now =
     iv_and_text c.args.bytes.now _ _ c.if-bytes-lt-SEAL.false c.front-iv.ensures c.split_at_mut-text.ensures.back in (
       subst (OpensToNothing c.args.key.now) whole
-      (subst (λ (key : List ℕ). OpensToNothing key (c.front-iv.result ++ c.split_at_mut-text.result.1.now)) c.new.ensures (c.open_text.ensures.refused c.if-not-open_text.true)),
+          (subst (λ (key : List ℕ). OpensToNothing key (c.front-iv.result ++ c.split_at_mut-text.result.1.now)) c.new.ensures (c.open_text.ensures.refused c.if-not-open_text.true)),
       c.front-iv.ensures,
     )
 
@@ -24,4 +24,4 @@ returns c =
     iv_and_text c.args.bytes.now _ _ c.if-bytes-lt-SEAL.false c.front-iv.ensures c.split_at_mut-text.ensures.back in
     subst (λ (goods : List ℕ). OpensTo c.args.key.now c.args.bytes.now goods) (sym c.in_ok-goods.ensures)
     (subst (λ (bytes : List ℕ). OpensTo c.args.key.now bytes c.open_text.new.text) whole
-      (subst (λ (key : List ℕ). OpensTo key (c.front-iv.result ++ c.split_at_mut-text.result.1.now) c.open_text.new.text) c.new.ensures (c.if-not-open_text.ensures.opened refl)))
+    (subst (λ (key : List ℕ). OpensTo key (c.front-iv.result ++ c.split_at_mut-text.result.1.now) c.open_text.new.text) c.new.ensures (c.if-not-open_text.ensures.opened refl)))

@@ -1,6 +1,5 @@
-use Rattle.std.proofs.Common.{◌≡◌, ◌∙◌, ap, refl, List, ℕ, ◌++◌}
+use Rattle.std.proofs.Common.{◌≡◌, ◌∙◌, ap, refl, List, ℕ}
 use Rattle.std.specs.Prelude.{codes}
-use Rattle.nb_seal.specs.Hmac.{hmac_of}
 use Rattle.nb_seal.specs.Seal.{iv_of, stream_key_of}
 use Rattle.nb_goods.proofs.Sealing.{parts_are}
 use Rattle.nb_goods.proofs.divided.Parts.of.Goals as goal

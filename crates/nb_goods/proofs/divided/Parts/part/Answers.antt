@@ -1,4 +1,4 @@
-use Rattle.std.proofs.Common.{ℕ, List, ◌≡◌, ◌≤◌, ◌+◌, ◌∙◌, arith, ap, sym, subst, length, length-drop}
+use Rattle.std.proofs.Common.{ℕ, List, ◌≡◌, ◌≤◌, ◌+◌, ◌∙◌, arith, ap, subst, length}
 use Rattle.std.specs.Prelude.{codes, IfOk}
 use Rattle.nb_seal.specs.Seal.{iv_of, stream_key_of}
 use Rattle.nb_seal.proofs.Opening.{length-seal_of}
@@ -22,5 +22,5 @@ returns c =
     let short : length c.split_at.result.1.now ≤ 1000000 = omega arith in
     subst (λ (bytes : List ℕ). IfOk c.ciphered.result (λ part. part ≡ bytes))
     (part_of_goods 1000000 c.args.self.now.key c.args.goods.now c.self.inside.iv c.self.inside.stream c.split_at.result.1.now c.split_at-2.result.1.now c.split_at-3.result.0.now c.args.place _ _ _
-      iv_is stream_is (search) c.min.ensures c.split_at.ensures.back c.saturating_sub-from.ensures c.split_at-2.ensures.back c.min-2.ensures c.split_at-3.ensures.front short)
+    iv_is stream_is (search) c.min.ensures c.split_at.ensures.back c.saturating_sub-from.ensures c.split_at-2.ensures.back c.min-2.ensures c.split_at-3.ensures.front short)
     c.ciphered.ensures
