@@ -1,0 +1,117 @@
+-- Slices of lists, and of what was xored with a keystream.
+use Rattle.std.proofs.Common.{◌≡◌, ℕ, ◌+◌, ◌-◌, ◌*◌, ◌≤◌, min, List, [], ◌∷◌, ◌++◌, length, take, drop, replicate, bit_xor, refl, sym, ap, ◌∙◌, zero, suc, arith, add-zero, append-nil, append_assoc, length-drop, take-append-drop}
+use Rattle.std.proofs.lemmas.Grind.{common_steps, flat_map-append}
+use Rattle.std.proofs.lemmas.List.{length-take, length-take-le, take_all, take-append-le, drop-append-le}
+use Rattle.std.proofs.Math.Nat.{suc-mul}
+use Rattle.std.proofs.Math.Seq.{take-add, take-append-add, drop-append-add}
+use Rattle.nb_seal.specs.Keystream.{stream_byte, xored}
+use Rattle.nb_seal.specs.Seal.{iv_shown}
+use Rattle.nb_seal.proofs.Xoring.{xored-append}
+use Rattle.nb_goods.specs.Goods.{piece_at, first_pieces, part_at, joined, first_parts, count_of}
+
+-- what is left of a list that was xored is what is left of the list, xored from there on
+pub drop-xored : (key : List ℕ) (place n : ℕ) (bytes : List ℕ) → drop n (xored key place bytes) ≡ xored key (place + n) (drop n bytes)
+drop-xored key place zero bytes = rw add-zero refl
+drop-xored key place (suc n) [] = refl
+drop-xored key place (suc n) (b ∷ bytes) =
+    let e : place + 1 + n ≡ place + suc n = omega arith in
+    drop-xored key (place + 1) n bytes ∙ ap (λ (m : ℕ). xored key m (drop n bytes)) e
+
+-- the front of a list that was xored is its front, xored
+pub take-xored_front : (key : List ℕ) (place n : ℕ) (bytes : List ℕ) → take n (xored key place bytes) ≡ xored key place (take n bytes)
+take-xored_front key place zero bytes = refl
+take-xored_front key place (suc n) [] = refl
+take-xored_front key place (suc n) (b ∷ bytes) =
+    ap (λ (rest : List ℕ). bit_xor b (stream_byte key place) ∷ rest) (take-xored_front key (place + 1) n bytes)
+
+-- the same, from the keystream's first byte on
+pub drop-xored_first : (key : List ℕ) (n : ℕ) (bytes : List ℕ) → drop n (xored key 0 bytes) ≡ xored key n (drop n bytes)
+drop-xored_first key n bytes =
+    let e : 0 + n ≡ n = omega arith in
+    drop-xored key 0 n bytes ∙ ap (λ (m : ℕ). xored key m (drop n bytes)) e
+
+-- two lists xored from the keystream's first byte on
+xored_first-append : (key front rest : List ℕ) (at : ℕ) → at ≡ length front → xored key 0 (front ++ rest) ≡ xored key 0 front ++ xored key at rest
+xored_first-append key front rest at h =
+    let e : 0 + length front ≡ at = omega (arith, h) in
+    xored-append key 0 front rest ∙ ap (λ (m : ℕ). xored key 0 front ++ xored key m rest) e
+
+-- so many bytes as are there, at most n
+pub take-least : (n m : ℕ) (bytes : List ℕ) → m ≡ min (length bytes) n → take m bytes ≡ take n bytes
+take-least n m bytes e = grind (arith, common_steps)
+
+-- what is left of two lists, one behind the other
+pub drop-behind : (front rest : List ℕ) (place : ℕ) → drop place (front ++ rest) ≡ drop (min place (length front)) front ++ drop (place - length front) rest
+drop-behind front rest place = grind (arith, common_steps, drop-append-add front rest (place - length front), drop-append-le place front rest)
+
+-- a slice of a front and a text xored behind it: what is left of the front, and the slice of the text, xored in its place
+pub slice_of : (key front text lead left piece : List ℕ) (size place cut from n : ℕ)
+    → cut ≡ min place (length front) → lead ≡ drop cut front → from ≡ place - length front → left ≡ drop from text
+    → n ≡ min (length left) (size - length lead) → piece ≡ take n left → length lead ≤ size
+    → lead ++ xored key from piece ≡ take size (drop place (front ++ xored key 0 text))
+slice_of key front text lead left piece size place cut from n cut_is lead_is from_is left_is n_is piece_is h =
+    let behind : drop place (front ++ xored key 0 text) ≡ lead ++ drop from (xored key 0 text) =
+    drop-behind front (xored key 0 text) place ∙ rw (lead_is, cut_is, from_is) refl in
+    let size_is : size ≡ length lead + (size - length lead) = omega (arith, h) in
+    let rest : take (size - length lead) (drop from (xored key 0 text)) ≡ xored key from piece =
+    ap (take (size - length lead)) (drop-xored_first key from text)
+    ∙ take-xored_front key from (size - length lead) (drop from text)
+    ∙ ap (xored key from) (ap (take (size - length lead)) (sym left_is) ∙ sym (take-least (size - length lead) n left n_is) ∙ sym piece_is) in
+    sym (
+    ap (take size) behind
+    ∙ ap (λ (m : ℕ). take m (lead ++ drop from (xored key 0 text))) size_is
+    ∙ take-append-add lead (drop from (xored key 0 text)) (size - length lead)
+    ∙ ap (λ (bytes : List ℕ). lead ++ bytes) rest
+    )
+
+-- one piece more of a text, xored behind the pieces before it
+pub piece_xored : (key front text left piece : List ℕ) (at next n : ℕ)
+    → at ≤ length text → left ≡ drop at text → piece ≡ take n left → next ≡ at + n
+    → (front ++ xored key 0 (take at text)) ++ xored key at piece ≡ front ++ xored key 0 (take next text)
+piece_xored key front text left piece at next n h left_is piece_is next_is =
+    let long : length (take at text) ≡ at = length-take-le at text h in
+    let both : take next text ≡ take at text ++ piece = ap (λ (m : ℕ). take m text) next_is ∙ take-add at n text ∙ rw (piece_is, left_is) refl in
+    append_assoc front (xored key 0 (take at text)) (xored key at piece)
+    ∙ ap (λ (bytes : List ℕ). front ++ bytes) (sym (ap (xored key 0) both ∙ xored_first-append key (take at text) piece at (sym long)))
+
+-- the last piece of it
+pub rest_xored_behind : (key front text rest : List ℕ) (at : ℕ) → at ≤ length text → rest ≡ drop at text
+    → (front ++ xored key 0 (take at text)) ++ xored key at rest ≡ front ++ xored key 0 text
+rest_xored_behind key front text rest at h rest_is =
+    let long : length (take at text) ≡ at = length-take-le at text h in
+    let both : take at text ++ rest ≡ text = ap (λ (bytes : List ℕ). take at text ++ bytes) rest_is ∙ take-append-drop at text in
+    append_assoc front (xored key 0 (take at text)) (xored key at rest)
+    ∙ ap (λ (bytes : List ℕ). front ++ bytes) (sym (xored_first-append key (take at text) rest at (sym long)) ∙ ap (xored key 0) both)
+
+-- the first pieces joined are the front of the list
+pub first_pieces_join : (size : ℕ) (bytes : List ℕ) (n : ℕ) → joined (first_pieces size bytes n) ≡ take (n * size) bytes
+first_pieces_join size bytes zero =
+    let none : 0 * size ≡ 0 = omega arith in
+    sym (ap (λ (m : ℕ). take m bytes) none)
+first_pieces_join size bytes (suc n) =
+    let next : suc n * size ≡ n * size + size = suc-mul n size in
+    flat_map-append (λ (part : List ℕ). part) (first_pieces size bytes n) (piece_at size bytes (n * size) ∷ [])
+    ∙ rw (first_pieces_join size bytes n, append-nil (piece_at size bytes (n * size))) refl
+    ∙ sym (take-add (n * size) size bytes)
+    ∙ ap (λ (m : ℕ). take m bytes) (sym next)
+
+-- all parts are the list
+pub all_parts_join : (bytes : List ℕ) → joined (first_parts bytes (count_of bytes)) ≡ bytes
+all_parts_join bytes =
+    let enough : length bytes ≤ count_of bytes * 1000000 = omega arith in
+    first_pieces_join 1000000 bytes (count_of bytes) ∙ take_all (count_of bytes * 1000000) bytes enough
+
+-- how long a piece is
+length-piece_at : (size : ℕ) (bytes : List ℕ) (place : ℕ) → length (piece_at size bytes place) ≡ min size (length bytes - place)
+length-piece_at size bytes place = rw (length-take size (drop place bytes), length-drop place bytes) refl
+
+-- how long a part is
+pub length-part_at : (bytes : List ℕ) (place : ℕ) → length (part_at bytes place) ≡ min 1000000 (length bytes - place)
+length-part_at bytes place = length-piece_at 1000000 bytes place
+
+-- the first 32 bytes, and what follows them
+pub iv_and_text : (bytes iv text : List ℕ) → 32 ≤ length bytes → iv ≡ iv_shown bytes → text ≡ drop 32 bytes → iv ++ text ≡ bytes
+iv_and_text bytes iv text h iv_is text_is =
+    ap (λ (front : List ℕ). front ++ text) (iv_is ∙ take-append-le 32 bytes (replicate 32 0) h)
+    ∙ ap (λ (rest : List ℕ). take 32 bytes ++ rest) text_is
+    ∙ take-append-drop 32 bytes

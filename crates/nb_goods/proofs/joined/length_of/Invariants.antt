@@ -1,0 +1,7 @@
+use Rattle.std.proofs.Common.{◌≡◌, take, length}
+use Rattle.nb_goods.specs.Goods.{joined}
+use Rattle.nb_goods.proofs.joined.length_of.Given as goal
+
+-- the bytes of the parts so far
+abbrev pub invariant-loop-part : goal.invariant-loop-part
+invariant-loop-part l = l.total ≡ length (joined (take l.part-index l.parts))
