@@ -1,6 +1,6 @@
 // A vault over a disk in memory, of which calls fail, or which stops. Requests, entries and replies are another program's bytes.
 
-ghost use Rattle.std.specs.Prelude.{IsTrue};
+ghost use Rattle.std.specs.Prelude.{◌≤◌, IsTrue};
 ghost use Rattle.std.specs.List.{All};
 ghost use Rattle.nb_vault.specs.Asking.{IsWithin};
 
@@ -23,7 +23,10 @@ mod stopping;
 const MOMENT: u64 = 1000;
 
 // The number of the party that a small letter stands for, from 101 on. Its account has the same number.
-fn party(letter: u8) -> u8 {
+fn party(letter: u8) -> u8
+    ensures least { 101 ≤ result }
+    ensures most { result ≤ 126 }
+{
     letter.saturating_sub(b'a').min(25) + 101
 }
 
