@@ -7,6 +7,7 @@
 #![tactic(auto)]
 
 mod framing;
+mod goods;
 mod hashing;
 mod keystream;
 mod pattern;
@@ -24,7 +25,7 @@ use std::sync::Wait;
 use std::thread::Threads;
 
 const USAGE: &str =
-    "usage: bench sha|hmac|seal|unseal|stream|frames1|frames100|frames65536|copy SIZE TIMES
+    "usage: bench sha|hmac|seal|unseal|stream|parts|openparts|frames1|frames100|frames65536|copy SIZE TIMES
        bench turn|lock THREADS TIMES";
 
 // The words are none of the program's.
@@ -85,6 +86,10 @@ fn run<R: Threads + Wait + Sync>(
         Made::Unknown => {}
     }
     match framing::run(alloc, row, size, times)? {
+        Made::Bytes(bytes) => return Ok(Made::Bytes(bytes)),
+        Made::Unknown => {}
+    }
+    match goods::run(alloc, row, size, times)? {
         Made::Bytes(bytes) => return Ok(Made::Bytes(bytes)),
         Made::Unknown => {}
     }
