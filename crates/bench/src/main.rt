@@ -8,6 +8,7 @@
 #![tactic(auto)]
 
 mod framing;
+mod goods;
 mod hashing;
 mod indexing;
 mod keystream;
@@ -26,7 +27,8 @@ use std::sync::Wait;
 use std::thread::Threads;
 
 const USAGE: &str =
-    "usage: bench sha|hmac|seal|unseal|stream|frames1|frames100|frames65536|copy|lookup SIZE TIMES
+    "usage: bench sha|hmac|seal|unseal|stream|parts|openparts|lookup SIZE TIMES
+       bench frames1|frames100|frames65536|copy SIZE TIMES
        bench turn|lock THREADS TIMES";
 
 // The words are none of the program's.
@@ -91,6 +93,10 @@ fn run<R: Threads + Wait + Sync>(
         Made::Unknown => {}
     }
     match indexing::run(alloc, row, size, times)? {
+        Made::Bytes(bytes) => return Ok(Made::Bytes(bytes)),
+        Made::Unknown => {}
+    }
+    match goods::run(alloc, row, size, times)? {
         Made::Bytes(bytes) => return Ok(Made::Bytes(bytes)),
         Made::Unknown => {}
     }
