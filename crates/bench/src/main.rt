@@ -26,8 +26,7 @@ use std::process::ExitCode;
 use std::sync::Wait;
 use std::thread::Threads;
 
-const USAGE: &str =
-    "usage: bench sha|hmac|seal|unseal|stream|parts|openparts|lookup SIZE TIMES
+const USAGE: &str = "usage: bench sha|hmac|seal|unseal|stream|parts|openparts|lookup SIZE TIMES
        bench frames1|frames100|frames65536|copy SIZE TIMES
        bench turn|lock THREADS TIMES";
 
