@@ -4,7 +4,7 @@ use Rattle.std.proofs.lemmas.List.{append-nil, length-append}
 use Rattle.nb_port.specs.Tells.{DiskTells}
 use Rattle.nb_book.specs.declared.entry.Entry.{Entry}
 use Rattle.nb_journal.specs.declared.journal.Journal.{Journal}
-use Rattle.nb_journal.specs.Time.{LeavesOnly}
+use Rattle.nb_journal.specs.Time.{LeavesOnly, Unwritten}
 use Rattle.nb_journal.proofs.Moments.{started}
 use Rattle.nb_escrow.specs.Head.{head_of}
 use Rattle.nb_turns.specs.declared.limits.TheConstants.{MAX_FAULTS}
@@ -32,7 +32,7 @@ pub record Steps {D : Type 0} (tells : DiskTells D) (old mid p : Parts D) (by : 
   pub ready : Readied old mid by (next_turn old.lines.items)
   pub rests : Rests tells mid.records
   pub first : SameOrigin old mid
-  pub content : tells.content (disk_under mid.records) ≡ tells.content (disk_under old.records)
+  pub nothing : Unwritten tells (disk_under old.records) (disk_under mid.records)
   pub second : SameOrigin mid p
   pub journal : p.records.journal ≡ mid.records.journal
   pub over : over_of p.records ≡ mid.records.book.entries
@@ -62,15 +62,15 @@ house_is tells old mid vault same =
     ap (λ h. house_of h mid.records.book.cap) (same.head ∙ vault.keys) ∙ ap (λ (cap : ℕ). house_of (head_of old.records.head) cap) same.terms.cap
 
 pub stepped : {D : Type 0} (tells : DiskTells D) (old mid p : Parts D) (by turn : ℕ) (requests : List Request) → IsVault tells old → old.faults < MAX_FAULTS → turn ≡ next_turn old.lines.items → Readied old mid by turn → Rests tells mid.records
-    → SameOrigin old mid → tells.content (disk_under mid.records) ≡ tells.content (disk_under old.records) → SameOrigin mid p → p.records.journal ≡ mid.records.journal → over_of p.records ≡ mid.records.book.entries
+    → SameOrigin old mid → Unwritten tells (disk_under old.records) (disk_under mid.records) → SameOrigin mid p → p.records.journal ≡ mid.records.journal → over_of p.records ≡ mid.records.book.entries
     → p.records.group.items ≡ recorded (house_of mid.head mid.records.book.cap) mid.records.book.entries requests → p.lines.items ≡ mid.lines.items → p.faults ≡ mid.faults → Steps tells old mid p by requests
-stepped tells old mid p by turn requests vault few turn_is ready rests first content second journal over group lines faults = record {
+stepped tells old mid p by turn requests vault few turn_is ready rests first nothing second journal over group lines faults = record {
   vault = vault;
   few = few;
   ready = subst (λ (n : ℕ). Readied old mid by n) turn_is ready;
   rests = rests;
   first = first;
-  content = content;
+  nothing = nothing;
   second = second;
   journal = journal;
   over = over;
@@ -111,14 +111,14 @@ module _ {D : Type 0} (tells : DiskTells D) (old mid p : Parts D) (by : ℕ) (re
   -- the content stood for these entries
   told_over : IfSome (tells.content (disk_under old.records)) (StandsFor old.records.head old.records.book.cap (over_of p.records))
   told_over =
-      subst (λ (t : Option (List ℕ)). IfSome t (StandsFor old.records.head old.records.book.cap (over_of p.records))) s.content
+      subst (λ (t : Option (List ℕ)). IfSome t (StandsFor old.records.head old.records.book.cap (over_of p.records))) s.nothing.same
       (subst (λ (es : List Entry). IfSome (tells.content (disk_under mid.records)) (StandsFor old.records.head old.records.book.cap es)) (sym s.over)
       (subst (λ (cap : ℕ). IfSome (tells.content (disk_under mid.records)) (StandsFor old.records.head cap mid.records.book.entries)) s.first.terms.cap
       (subst (λ (head : List ℕ). IfSome (tells.content (disk_under mid.records)) (StandsFor head mid.records.book.cap mid.records.book.entries)) s.first.terms.head
       (fresh_content tells mid.records s.rests s.ready.fresh))))
 
   pub content_is : tells.content (disk_under p.records) ≡ tells.content (disk_under old.records)
-  content_is = ap (λ (j : Journal D). tells.content j.disk) s.journal ∙ s.content
+  content_is = ap (λ (j : Journal D). tells.content j.disk) s.journal ∙ s.nothing.same
 
   -- ---- a turn that decided
 
@@ -159,10 +159,15 @@ module _ {D : Type 0} (tells : DiskTells D) (old mid p : Parts D) (by : ℕ) (re
     decided_origin last = origin_is tells old new (s.ready.kept ++ p.records.group.items) s.vault (then_same old p new same last)
         (c.entries ∙ ap (λ (es : List Entry). es ++ p.records.group.items) over_is ∙ append_assoc old.records.book.entries s.ready.kept p.records.group.items)
 
+    -- where nothing is recorded the disk is the one behind settling, which writes nothing
+    decided_idle : (p.records.group.items ≡ [] → disk_under new.records ≡ disk_under p.records) → recorded (house_in (seen_as old)) (over_of p.records) requests ≡ [] → Unwritten tells (disk_under old.records) (disk_under new.records)
+    decided_idle idle none =
+        subst (λ (disk : D). Unwritten tells (disk_under old.records) disk) (sym (idle (group_is ∙ none) ∙ ap (λ (j : Journal D). j.disk) s.journal)) s.nothing
+
     pub decided_went : IsVault tells new → WritesItem p.records.head p.records.book.cap (over_of p.records) p.records.group.items (tells.content (disk_under p.records)) (tells.content (disk_under new.records))
-        → (found out out' : List ℕ) → found ≡ handed_places (house_in (seen_as old)) requests (Decides (over_of p.records)) → out' ≡ out ++ replies (decided (house_in (seen_as old)) (over_of p.records) requests)
+        → (p.records.group.items ≡ [] → disk_under new.records ≡ disk_under p.records) → (found out out' : List ℕ) → found ≡ handed_places (house_in (seen_as old)) requests (Decides (over_of p.records)) → out' ≡ out ++ replies (decided (house_in (seen_as old)) (over_of p.records) requests)
         → Went tells (seen_as old) (seen_as new) by requests (Decides (over_of p.records)) found out out'
-    decided_went vault wrote found out out' places bytes = record {
+    decided_went vault wrote idle found out out' places bytes = record {
       turn = (few_told, settles, state_seen tells new vault ∙ rw (decided_list, decided_fresh, decided_count, s.vault.faults_are) refl);
       found_is = places;
       out_is = bytes;
@@ -175,6 +180,7 @@ module _ {D : Type 0} (tells : DiskTells D) (old mid p : Parts D) (by : ℕ) (re
             (subst (λ (t : Option (List ℕ)). WritesItem old.records.head old.records.book.cap (over_of p.records) p.records.group.items t (tells.content (disk_under new.records))) content_is
             (subst (λ (cap : ℕ). WritesItem old.records.head cap (over_of p.records) p.records.group.items (tells.content (disk_under p.records)) (tells.content (disk_under new.records))) same.terms.cap
             (subst (λ (head : List ℕ). WritesItem head p.records.book.cap (over_of p.records) p.records.group.items (tells.content (disk_under p.records)) (tells.content (disk_under new.records))) same.terms.head wrote)));
+        idle = decided_idle idle;
       };
     }
 
@@ -323,15 +329,15 @@ module _ {D : Type 0} (tells : DiskTells D) (old new : Parts D) (by : ℕ) (requ
       let here : state_at new ≡ one_more (state_at old) = rw (u.entries, unready_doubt, u.faults) refl in
       here ∙ ap one_more (sym (state_seen tells old vault))
 
-  pub unready_went : IsVault tells new → tells.content (disk_under new.records) ≡ tells.content (disk_under old.records) → (out : List ℕ) → Went tells (seen_as old) (seen_as new) by requests (Fails counts.before counts.after) [] out out
-  unready_went done unwritten out = record {
+  pub unready_went : IsVault tells new → Unwritten tells (disk_under old.records) (disk_under new.records) → (out : List ℕ) → Went tells (seen_as old) (seen_as new) by requests (Fails counts.before counts.after) [] out out
+  unready_went done nothing out = record {
     turn = (unready_few, inl (was_some, state_seen tells new done ∙ failed_more));
     found_is = refl;
     out_is = sym (append-nil out);
     added = Fault by (next_turn old.lines.items) counts.before counts.after ∷ [];
     behind = u.lines;
     lines = unready_adds;
-    disk = record { from = u.failed.before; written = unwritten };
+    disk = record { from = u.failed.before; nothing = nothing };
   }
     where
       was_some : doubt_in (seen_as old) ≡ [] → ⊥

@@ -6,6 +6,7 @@ use Rattle.nb_port.specs.Faults.{Rose, Backed}
 use Rattle.nb_book.specs.declared.entry.Entry.{Entry}
 use Rattle.nb_book.specs.Legal.{Legal}
 use Rattle.nb_journal.specs.Layout.{AreTerms}
+use Rattle.nb_journal.specs.Time.{Unwritten}
 use Rattle.nb_escrow.specs.Head.{head_of}
 use Rattle.nb_turns.specs.declared.limits.TheConstants.{MAX_FAULTS, MAX_REQUESTS}
 use Rattle.nb_turns.specs.declared.line.Line.{Line}
@@ -83,10 +84,12 @@ LinesFit {D} tells = ((v : Chronicled D) → Keeps tells v → length v.lines �
 
 -- ---- answering
 
--- the disk in a turn that decided over these entries: its content stood for them, and what the verdicts record is written as one item
+-- the disk in a turn that decided over these entries: its content stood for them, and what the verdicts record is written as one item.
+-- Where they record nothing, nothing is written
 pub record WritesTurn {D : Type 0} (tells : DiskTells D) (old new : Chronicled D) (requests : List Request) (over : List Entry) : Type 0 where
   pub told : IfSome (tells.content old.disk) (StandsFor old.origin.head old.origin.cap over)
   pub written : WritesItem old.origin.head old.origin.cap over (recorded (house_in old) over requests) (tells.content old.disk) (tells.content new.disk)
+  pub idle : recorded (house_in old) over requests ≡ [] → Unwritten tells old.disk new.disk
 
 -- the disk in a turn whose item could not be made durable: its content stood for the entries that the turn was decided over, and bytes
 -- of the item's range may have changed
@@ -97,7 +100,7 @@ pub record TearsTurn {D : Type 0} (tells : DiskTells D) (old new : Chronicled D)
 -- the disk in a turn that could not settle what was in doubt, told from this count on: nothing is written
 pub record LeavesTurn {D : Type 0} (tells : DiskTells D) (old new : Chronicled D) (before : ℕ) : Type 0 where
   pub from : before ≡ tells.faults old.disk
-  pub written : tells.content new.disk ≡ tells.content old.disk
+  pub nothing : Unwritten tells old.disk new.disk
 
 -- how a turn failed: its state, its lines and the disk tell one and the same. What was in doubt could not be settled, and then there is
 -- the line of the fault alone; or what the verdicts over these entries record could not be made durable, and then there is a line of a

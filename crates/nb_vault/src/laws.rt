@@ -19,8 +19,8 @@ pub fn whole_is_good()
     ensures { WholeIsGood }
 {}
 
-/// An order that is payable is paid, and both its receipts say so, in each answer of a vault that is not worn and in which the count
-/// of the disk does not rise.
+/// Each order of a turn that is payable is paid, over the entries that the turn was decided over and those that the requests before it
+/// record, and both its receipts say so: where the vault is not worn and the count of the disk does not rise.
 pub fn payable_is_paid<D: Disk>()
     ensures { PayableIsPaid D.tells }
 {}

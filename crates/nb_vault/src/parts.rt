@@ -2,7 +2,7 @@
 
 ghost use Rattle.std.specs.Prelude.{◌≡◌, ◌⊎◌, ◌≤◌, ◌<◌, ◌+◌, ◌*◌, ◌++◌, ◌∷◌, [], false, length, slice_index_or, vec_capacity, vec_len};
 ghost use Rattle.std.specs.List.{All};
-ghost use Rattle.nb_journal.specs.Time.{LeavesOnly};
+ghost use Rattle.nb_journal.specs.Time.{LeavesOnly, Unwritten};
 ghost use Rattle.nb_msgs.specs.declared.reply.TheConstants.{REPLY_ROOM};
 ghost use Rattle.nb_turns.specs.declared.limits.TheConstants.{MAX_FAULTS, MAX_REQUESTS};
 ghost use Rattle.nb_turns.specs.declared.line.Line.TheVariants as line;
@@ -91,7 +91,7 @@ impl<D: Disk> Parts<D> {
         ensures gives { ReadyGives D.tells self.old self.new by turn result }
         ensures has { HasLines self.new self.new.records.book.entries }
         ensures origin { SameOrigin self.old self.new }
-        ensures content { D.tells.content (disk_under self.new.records) ≡ D.tells.content (disk_under self.old.records) }
+        ensures nothing { Unwritten D.tells (disk_under self.old.records) (disk_under self.new.records) }
         ensures any_moment { LeavesOnly D.tells (disk_under self.old.records) (disk_under self.new.records) (EitherOf self.old.records) }
         ensures idle { self.old.records.journal.stale ≡ false → D.tells.faults (disk_under self.new.records) ≡ D.tells.faults (disk_under self.old.records) }
         ensures count { D.tells.faults (disk_under self.old.records) ≤ D.tells.faults (disk_under self.new.records) }
@@ -119,6 +119,7 @@ impl<D: Disk> Parts<D> {
         ensures rests { Rests D.tells self.new.records }
         ensures gives { CommitGives D.tells self.old self.new by turn result }
         ensures writes { RecordWrites self.old.records (D.tells.content (disk_under self.old.records)) (D.tells.content (disk_under self.new.records)) result }
+        ensures idle { self.old.records.group.items ≡ [] → disk_under self.new.records ≡ disk_under self.old.records }
         ensures has { HasLines self.new self.new.records.book.entries }
         ensures places { self.new.records.places ≡ self.old.records.places }
         ensures origin { SameOrigin self.old self.new }

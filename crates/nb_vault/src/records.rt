@@ -3,7 +3,7 @@
 ghost use Rattle.std.specs.Prelude.{◌≡◌, ◌≤◌, ◌<◌, ◌++◌, ◌∷◌, [], false, length, take, vec_capacity};
 ghost use Rattle.nb_book.specs.Legal.{LegalAfter, Legal};
 ghost use Rattle.nb_book.specs.declared.spelling.TheConstants.{MAX_ITEM_ENTRIES};
-ghost use Rattle.nb_journal.specs.Time.{LeavesOnly};
+ghost use Rattle.nb_journal.specs.Time.{LeavesOnly, Unwritten};
 ghost use Rattle.nb_vault.specs.Records.{Rests, Gathers, RecordsSettle, RecordGives, RecordWrites, SameTerms, disk_under, over_of, EitherOf, WithOrWithout};
 
 use nb_book::{Book, Entry, MAX_ENTRY, MAX_ITEM_ENTRIES, write_entry};
@@ -43,7 +43,7 @@ impl<D: Disk> Records<D> {
         ensures gives { RecordsSettle D.tells self.old self.new result }
         ensures group { self.new.group ≡ self.old.group }
         ensures terms { SameTerms self.old self.new }
-        ensures content { D.tells.content (disk_under self.new) ≡ D.tells.content (disk_under self.old) }
+        ensures nothing { Unwritten D.tells (disk_under self.old) (disk_under self.new) }
         ensures any_moment { LeavesOnly D.tells (disk_under self.old) (disk_under self.new) (EitherOf self.old) }
         ensures idle { self.old.journal.stale ≡ false → D.tells.faults (disk_under self.new) ≡ D.tells.faults (disk_under self.old) }
         ensures count { D.tells.faults (disk_under self.old) ≤ D.tells.faults (disk_under self.new) }
@@ -102,6 +102,7 @@ impl<D: Disk> Records<D> {
         ensures rests { Rests D.tells self.new }
         ensures gives { RecordGives D.tells self.old self.new result }
         ensures writes { RecordWrites self.old (D.tells.content (disk_under self.old)) (D.tells.content (disk_under self.new)) result }
+        ensures idle { self.old.group.items ≡ [] → disk_under self.new ≡ disk_under self.old }
         ensures group { self.new.group ≡ self.old.group }
         ensures places { self.new.places ≡ self.old.places }
         ensures terms { SameTerms self.old self.new }

@@ -34,7 +34,7 @@ returns-in-Err-clause-turn g c =
     let requests = requests_of c.args.bytes.now c.args.asks.now in
     let counts = c.in-Err.field-0 in
     let unready = subst (λ (n : ℕ). Unready tells old c.ready.new.self c.args.by n counts) c.next_turn-turn.ensures c.in-Err.ensures.gives in
-    unready_went tells old c.ready.new.self c.args.by requests counts c.requires.vault c.if-self-ge-MAX_FAULTS.false unready (unready_vault tells old c.ready.new.self c.args.by requests counts c.requires.vault c.if-self-ge-MAX_FAULTS.false unready c.ready.ensures.origin c.ready.ensures.rests c.ready.ensures.has) c.ready.ensures.content c.args.out.now.items
+    unready_went tells old c.ready.new.self c.args.by requests counts c.requires.vault c.if-self-ge-MAX_FAULTS.false unready (unready_vault tells old c.ready.new.self c.args.by requests counts c.requires.vault c.if-self-ge-MAX_FAULTS.false unready c.ready.ensures.origin c.ready.ensures.rests c.ready.ensures.has) c.ready.ensures.nothing c.args.out.now.items
 
 pub returns-in-Err-clause-any_moment : goal.returns-in-Err-clause-any_moment
 returns-in-Err-clause-any_moment g c =
@@ -53,7 +53,7 @@ returns-in-Ok-commit-clause-vault g c =
     let requests = requests_of c.args.bytes.now c.args.asks.now in
     let p : Parts _ = record { records = c.decide_each.new.self; head = mid.head; opening = mid.opening; count = mid.count; lines = mid.lines; faults = mid.faults } in
     let steps = stepped tells old mid p c.args.by c.next_turn-turn.result requests c.requires.vault c.if-self-ge-MAX_FAULTS.false c.next_turn-turn.ensures c.in-Ok.ensures.gives c.ready.ensures.rests
-    c.ready.ensures.origin c.ready.ensures.content (record { terms = c.decide_each.ensures.terms; opening = refl; count = refl; head = refl }) c.decide_each.ensures.journal c.decide_each.ensures.over c.decide_each.ensures.group refl refl in
+    c.ready.ensures.origin c.ready.ensures.nothing (record { terms = c.decide_each.ensures.terms; opening = refl; count = refl; head = refl }) c.decide_each.ensures.journal c.decide_each.ensures.over c.decide_each.ensures.group refl refl in
     let done = subst (λ (n : ℕ). Committed p c.commit.new.self c.args.by n) c.next_turn-turn.ensures c.in-Ok-commit.ensures.gives in
     let vault = decided_vault tells old mid p c.args.by requests steps c.commit.new.self done c.commit.ensures.origin c.commit.ensures.rests c.commit.ensures.has
     (omega (arith, c.ready.ensures.count, c.commit.ensures.count, ap (λ (j : Journal _). tells.faults j.disk) c.decide_each.ensures.journal)) in
@@ -67,7 +67,7 @@ returns-in-Ok-commit-clause-turn g c =
     let requests = requests_of c.args.bytes.now c.args.asks.now in
     let p : Parts _ = record { records = c.decide_each.new.self; head = mid.head; opening = mid.opening; count = mid.count; lines = mid.lines; faults = mid.faults } in
     let steps = stepped tells old mid p c.args.by c.next_turn-turn.result requests c.requires.vault c.if-self-ge-MAX_FAULTS.false c.next_turn-turn.ensures c.in-Ok.ensures.gives c.ready.ensures.rests
-    c.ready.ensures.origin c.ready.ensures.content (record { terms = c.decide_each.ensures.terms; opening = refl; count = refl; head = refl }) c.decide_each.ensures.journal c.decide_each.ensures.over c.decide_each.ensures.group refl refl in
+    c.ready.ensures.origin c.ready.ensures.nothing (record { terms = c.decide_each.ensures.terms; opening = refl; count = refl; head = refl }) c.decide_each.ensures.journal c.decide_each.ensures.over c.decide_each.ensures.group refl refl in
     let done = subst (λ (n : ℕ). Committed p c.commit.new.self c.args.by n) c.next_turn-turn.ensures c.in-Ok-commit.ensures.gives in
     let vault = decided_vault tells old mid p c.args.by requests steps c.commit.new.self done c.commit.ensures.origin c.commit.ensures.rests c.commit.ensures.has
     (omega (arith, c.ready.ensures.count, c.commit.ensures.count, ap (λ (j : Journal _). tells.faults j.disk) c.decide_each.ensures.journal)) in
@@ -75,7 +75,7 @@ returns-in-Ok-commit-clause-turn g c =
     let same : decided (house_of mid.head mid.records.book.cap) mid.records.book.entries requests ≡ decided (house_in (seen_as old)) (over_of p.records) requests =
     ap (λ (h : House). decided h mid.records.book.entries requests) house ∙ ap (λ (es : List Entry). decided (house_in (seen_as old)) es requests) (sym c.decide_each.ensures.over) in (
       over_of p.records,
-      decided_went tells old mid p c.args.by requests steps c.commit.new.self done vault c.in-Ok-commit.ensures.writes _ c.args.out.now.items c.decide_each.new.out.items
+      decided_went tells old mid p c.args.by requests steps c.commit.new.self done vault c.in-Ok-commit.ensures.writes c.commit.ensures.idle _ c.args.out.now.items c.decide_each.new.out.items
           (ap (λ v. v.items) c.commit.ensures.places ∙ c.decide_each.ensures.places ∙ ap places same) (c.decide_each.ensures.out ∙ ap (λ answers. c.args.out.now.items ++ replies answers) same),
     )
 
@@ -87,7 +87,7 @@ returns-in-Ok-commit-clause-any_moment g c =
     let requests = requests_of c.args.bytes.now c.args.asks.now in
     let p : Parts _ = record { records = c.decide_each.new.self; head = mid.head; opening = mid.opening; count = mid.count; lines = mid.lines; faults = mid.faults } in
     let steps = stepped tells old mid p c.args.by c.next_turn-turn.result requests c.requires.vault c.if-self-ge-MAX_FAULTS.false c.next_turn-turn.ensures c.in-Ok.ensures.gives c.ready.ensures.rests
-    c.ready.ensures.origin c.ready.ensures.content (record { terms = c.decide_each.ensures.terms; opening = refl; count = refl; head = refl }) c.decide_each.ensures.journal c.decide_each.ensures.over c.decide_each.ensures.group refl refl in
+    c.ready.ensures.origin c.ready.ensures.nothing (record { terms = c.decide_each.ensures.terms; opening = refl; count = refl; head = refl }) c.decide_each.ensures.journal c.decide_each.ensures.over c.decide_each.ensures.group refl refl in
     let done = subst (λ (n : ℕ). Committed p c.commit.new.self c.args.by n) c.next_turn-turn.ensures c.in-Ok-commit.ensures.gives in
     let vault = decided_vault tells old mid p c.args.by requests steps c.commit.new.self done c.commit.ensures.origin c.commit.ensures.rests c.commit.ensures.has
     (omega (arith, c.ready.ensures.count, c.commit.ensures.count, ap (λ (j : Journal _). tells.faults j.disk) c.decide_each.ensures.journal)) in
@@ -101,7 +101,7 @@ returns-in-Ok-commit-clause-durable g c =
     let requests = requests_of c.args.bytes.now c.args.asks.now in
     let p : Parts _ = record { records = c.decide_each.new.self; head = mid.head; opening = mid.opening; count = mid.count; lines = mid.lines; faults = mid.faults } in
     let steps = stepped tells old mid p c.args.by c.next_turn-turn.result requests c.requires.vault c.if-self-ge-MAX_FAULTS.false c.next_turn-turn.ensures c.in-Ok.ensures.gives c.ready.ensures.rests
-    c.ready.ensures.origin c.ready.ensures.content (record { terms = c.decide_each.ensures.terms; opening = refl; count = refl; head = refl }) c.decide_each.ensures.journal c.decide_each.ensures.over c.decide_each.ensures.group refl refl in
+    c.ready.ensures.origin c.ready.ensures.nothing (record { terms = c.decide_each.ensures.terms; opening = refl; count = refl; head = refl }) c.decide_each.ensures.journal c.decide_each.ensures.over c.decide_each.ensures.group refl refl in
     let done = subst (λ (n : ℕ). Committed p c.commit.new.self c.args.by n) c.next_turn-turn.ensures c.in-Ok-commit.ensures.gives in
     let vault = decided_vault tells old mid p c.args.by requests steps c.commit.new.self done c.commit.ensures.origin c.commit.ensures.rests c.commit.ensures.has
     (omega (arith, c.ready.ensures.count, c.commit.ensures.count, ap (λ (j : Journal _). tells.faults j.disk) c.decide_each.ensures.journal)) in
@@ -115,7 +115,7 @@ returns-in-Ok-commit-clause-quiet g c =
     let requests = requests_of c.args.bytes.now c.args.asks.now in
     let p : Parts _ = record { records = c.decide_each.new.self; head = mid.head; opening = mid.opening; count = mid.count; lines = mid.lines; faults = mid.faults } in
     let steps = stepped tells old mid p c.args.by c.next_turn-turn.result requests c.requires.vault c.if-self-ge-MAX_FAULTS.false c.next_turn-turn.ensures c.in-Ok.ensures.gives c.ready.ensures.rests
-    c.ready.ensures.origin c.ready.ensures.content (record { terms = c.decide_each.ensures.terms; opening = refl; count = refl; head = refl }) c.decide_each.ensures.journal c.decide_each.ensures.over c.decide_each.ensures.group refl refl in
+    c.ready.ensures.origin c.ready.ensures.nothing (record { terms = c.decide_each.ensures.terms; opening = refl; count = refl; head = refl }) c.decide_each.ensures.journal c.decide_each.ensures.over c.decide_each.ensures.group refl refl in
     let done = subst (λ (n : ℕ). Committed p c.commit.new.self c.args.by n) c.next_turn-turn.ensures c.in-Ok-commit.ensures.gives in
     let vault = decided_vault tells old mid p c.args.by requests steps c.commit.new.self done c.commit.ensures.origin c.commit.ensures.rests c.commit.ensures.has
     (omega (arith, c.ready.ensures.count, c.commit.ensures.count, ap (λ (j : Journal _). tells.faults j.disk) c.decide_each.ensures.journal)) in
@@ -131,7 +131,7 @@ returns-in-Err-commit-clause-vault g c =
     let requests = requests_of c.args.bytes.now c.args.asks.now in
     let p : Parts _ = record { records = c.decide_each.new.self; head = mid.head; opening = mid.opening; count = mid.count; lines = mid.lines; faults = mid.faults } in
     let steps = stepped tells old mid p c.args.by c.next_turn-turn.result requests c.requires.vault c.if-self-ge-MAX_FAULTS.false c.next_turn-turn.ensures c.in-Ok.ensures.gives c.ready.ensures.rests
-    c.ready.ensures.origin c.ready.ensures.content (record { terms = c.decide_each.ensures.terms; opening = refl; count = refl; head = refl }) c.decide_each.ensures.journal c.decide_each.ensures.over c.decide_each.ensures.group refl refl in
+    c.ready.ensures.origin c.ready.ensures.nothing (record { terms = c.decide_each.ensures.terms; opening = refl; count = refl; head = refl }) c.decide_each.ensures.journal c.decide_each.ensures.over c.decide_each.ensures.group refl refl in
     let counts = c.in-Err-commit.field-0 in
     let done = subst (λ (n : ℕ). Doubted tells p c.commit.new.self c.args.by n counts) c.next_turn-turn.ensures c.in-Err-commit.ensures.gives in
     let vault = doubted_vault tells old mid p c.args.by requests steps c.commit.new.self counts done c.commit.ensures.origin c.commit.ensures.rests c.commit.ensures.has c.ready.ensures.count in
@@ -145,7 +145,7 @@ returns-in-Err-commit-clause-turn g c =
     let requests = requests_of c.args.bytes.now c.args.asks.now in
     let p : Parts _ = record { records = c.decide_each.new.self; head = mid.head; opening = mid.opening; count = mid.count; lines = mid.lines; faults = mid.faults } in
     let steps = stepped tells old mid p c.args.by c.next_turn-turn.result requests c.requires.vault c.if-self-ge-MAX_FAULTS.false c.next_turn-turn.ensures c.in-Ok.ensures.gives c.ready.ensures.rests
-    c.ready.ensures.origin c.ready.ensures.content (record { terms = c.decide_each.ensures.terms; opening = refl; count = refl; head = refl }) c.decide_each.ensures.journal c.decide_each.ensures.over c.decide_each.ensures.group refl refl in
+    c.ready.ensures.origin c.ready.ensures.nothing (record { terms = c.decide_each.ensures.terms; opening = refl; count = refl; head = refl }) c.decide_each.ensures.journal c.decide_each.ensures.over c.decide_each.ensures.group refl refl in
     let counts = c.in-Err-commit.field-0 in
     let done = subst (λ (n : ℕ). Doubted tells p c.commit.new.self c.args.by n counts) c.next_turn-turn.ensures c.in-Err-commit.ensures.gives in
     let vault = doubted_vault tells old mid p c.args.by requests steps c.commit.new.self counts done c.commit.ensures.origin c.commit.ensures.rests c.commit.ensures.has c.ready.ensures.count in
@@ -160,7 +160,7 @@ returns-in-Err-commit-clause-any_moment g c =
     let requests = requests_of c.args.bytes.now c.args.asks.now in
     let p : Parts _ = record { records = c.decide_each.new.self; head = mid.head; opening = mid.opening; count = mid.count; lines = mid.lines; faults = mid.faults } in
     let steps = stepped tells old mid p c.args.by c.next_turn-turn.result requests c.requires.vault c.if-self-ge-MAX_FAULTS.false c.next_turn-turn.ensures c.in-Ok.ensures.gives c.ready.ensures.rests
-    c.ready.ensures.origin c.ready.ensures.content (record { terms = c.decide_each.ensures.terms; opening = refl; count = refl; head = refl }) c.decide_each.ensures.journal c.decide_each.ensures.over c.decide_each.ensures.group refl refl in
+    c.ready.ensures.origin c.ready.ensures.nothing (record { terms = c.decide_each.ensures.terms; opening = refl; count = refl; head = refl }) c.decide_each.ensures.journal c.decide_each.ensures.over c.decide_each.ensures.group refl refl in
     let counts = c.in-Err-commit.field-0 in
     let done = subst (λ (n : ℕ). Doubted tells p c.commit.new.self c.args.by n counts) c.next_turn-turn.ensures c.in-Err-commit.ensures.gives in
     let vault = doubted_vault tells old mid p c.args.by requests steps c.commit.new.self counts done c.commit.ensures.origin c.commit.ensures.rests c.commit.ensures.has c.ready.ensures.count in
@@ -176,7 +176,7 @@ returns-in-Err-commit-clause-quiet g c =
     let requests = requests_of c.args.bytes.now c.args.asks.now in
     let p : Parts _ = record { records = c.decide_each.new.self; head = mid.head; opening = mid.opening; count = mid.count; lines = mid.lines; faults = mid.faults } in
     let steps = stepped tells old mid p c.args.by c.next_turn-turn.result requests c.requires.vault c.if-self-ge-MAX_FAULTS.false c.next_turn-turn.ensures c.in-Ok.ensures.gives c.ready.ensures.rests
-    c.ready.ensures.origin c.ready.ensures.content (record { terms = c.decide_each.ensures.terms; opening = refl; count = refl; head = refl }) c.decide_each.ensures.journal c.decide_each.ensures.over c.decide_each.ensures.group refl refl in
+    c.ready.ensures.origin c.ready.ensures.nothing (record { terms = c.decide_each.ensures.terms; opening = refl; count = refl; head = refl }) c.decide_each.ensures.journal c.decide_each.ensures.over c.decide_each.ensures.group refl refl in
     let counts = c.in-Err-commit.field-0 in
     let done = subst (λ (n : ℕ). Doubted tells p c.commit.new.self c.args.by n counts) c.next_turn-turn.ensures c.in-Err-commit.ensures.gives in
     let vault = doubted_vault tells old mid p c.args.by requests steps c.commit.new.self counts done c.commit.ensures.origin c.commit.ensures.rests c.commit.ensures.has c.ready.ensures.count in
@@ -199,7 +199,7 @@ returns-in-Ok-commit-clause-origin g c =
     let requests = requests_of c.args.bytes.now c.args.asks.now in
     let p : Parts _ = record { records = c.decide_each.new.self; head = mid.head; opening = mid.opening; count = mid.count; lines = mid.lines; faults = mid.faults } in
     let steps = stepped tells old mid p c.args.by c.next_turn-turn.result requests c.requires.vault c.if-self-ge-MAX_FAULTS.false c.next_turn-turn.ensures c.in-Ok.ensures.gives c.ready.ensures.rests
-    c.ready.ensures.origin c.ready.ensures.content (record { terms = c.decide_each.ensures.terms; opening = refl; count = refl; head = refl }) c.decide_each.ensures.journal c.decide_each.ensures.over c.decide_each.ensures.group refl refl in
+    c.ready.ensures.origin c.ready.ensures.nothing (record { terms = c.decide_each.ensures.terms; opening = refl; count = refl; head = refl }) c.decide_each.ensures.journal c.decide_each.ensures.over c.decide_each.ensures.group refl refl in
     let done = subst (λ (n : ℕ). Committed p c.commit.new.self c.args.by n) c.next_turn-turn.ensures c.in-Ok-commit.ensures.gives in
     decided_origin tells old mid p c.args.by requests steps c.commit.new.self done c.commit.ensures.origin
 
@@ -211,7 +211,7 @@ returns-in-Err-commit-clause-origin g c =
     let requests = requests_of c.args.bytes.now c.args.asks.now in
     let p : Parts _ = record { records = c.decide_each.new.self; head = mid.head; opening = mid.opening; count = mid.count; lines = mid.lines; faults = mid.faults } in
     let steps = stepped tells old mid p c.args.by c.next_turn-turn.result requests c.requires.vault c.if-self-ge-MAX_FAULTS.false c.next_turn-turn.ensures c.in-Ok.ensures.gives c.ready.ensures.rests
-    c.ready.ensures.origin c.ready.ensures.content (record { terms = c.decide_each.ensures.terms; opening = refl; count = refl; head = refl }) c.decide_each.ensures.journal c.decide_each.ensures.over c.decide_each.ensures.group refl refl in
+    c.ready.ensures.origin c.ready.ensures.nothing (record { terms = c.decide_each.ensures.terms; opening = refl; count = refl; head = refl }) c.decide_each.ensures.journal c.decide_each.ensures.over c.decide_each.ensures.group refl refl in
     let counts = c.in-Err-commit.field-0 in
     let done = subst (λ (n : ℕ). Doubted tells p c.commit.new.self c.args.by n counts) c.next_turn-turn.ensures c.in-Err-commit.ensures.gives in
     doubted_origin tells old mid p c.args.by requests steps c.commit.new.self counts done c.commit.ensures.origin
