@@ -15,11 +15,11 @@ use Rattle.nb_turns.specs.Lines.{AddsLines, Settled, DecidedLines, DoubtedLines,
 use Rattle.nb_turns.proofs.Lining.{decided_entries, doubt_faults, doubted_are, doubted_lines_entries, entries_append}
 use Rattle.nb_vault.specs.declared.parts.Parts.{Parts}
 use Rattle.nb_vault.specs.declared.records.Counts.{Counts}
-use Rattle.nb_vault.specs.Holdings.{StandsFor, WritesItem, TearsItem}
+use Rattle.nb_vault.specs.Holdings.{StandsFor, StandsForEither, WritesItem, TearsItem}
 use Rattle.nb_vault.specs.Parts.{HasLines, IsVault, SameOrigin, Readied, Unready, Committed, Doubted, opening_of, seen_as}
 use Rattle.nb_vault.specs.Records.{Rests, EitherOf, WithOrWithout, disk_under, doubt_of, over_of}
 use Rattle.nb_vault.specs.Rules.{house_of}
-use Rattle.nb_vault.specs.Vaults.{Went, doubt_in, house_in, handed_places, state_of, StandsForState}
+use Rattle.nb_vault.specs.Vaults.{Went, OneGateOpens, doubt_in, house_in, handed_places, state_of, StandsForState}
 use Rattle.nb_vault.proofs.Doubting.{few_faulted, few_recorded}
 use Rattle.nb_vault.proofs.Resting.{leaves_more, leaves_then, fresh_content, rest_images}
 use Rattle.nb_vault.proofs.Seeing.{doubt_seen, either_seen, state_at, state_seen}
@@ -120,6 +120,25 @@ module _ {D : Type 0} (tells : DiskTells D) (old mid p : Parts D) (by : ℕ) (re
   pub content_is : tells.content (disk_under p.records) ≡ tells.content (disk_under old.records)
   content_is = ap (λ (j : Journal D). tells.content j.disk) s.journal ∙ s.nothing.same
 
+  -- the terms are those at the start
+  at_start : (es : List Entry) (c : List ℕ) → StandsFor p.records.head p.records.book.cap es c → StandsFor old.records.head old.records.book.cap es c
+  at_start es c is =
+      subst (λ (head : List ℕ). StandsFor head old.records.book.cap es c) same.terms.head
+      (subst (λ (cap : ℕ). StandsFor p.records.head cap es c) same.terms.cap is)
+
+  -- up to the end of settling what stood before is left, and since then the entries alone or with the group
+  gate_opens : (new : Parts D) → LeavesOnly tells (disk_under old.records) (disk_under mid.records) (EitherOf old.records) → LeavesOnly tells (disk_under p.records) (disk_under new.records) (WithOrWithout p.records (over_of p.records) p.records.group.items)
+      → OneGateOpens tells (seen_as old) (seen_as new) requests (over_of p.records)
+  gate_opens new leaves more = record {
+    settled = disk_under mid.records;
+    before = leaves_more tells (disk_under old.records) (disk_under mid.records) (EitherOf old.records) (StandsForState (seen_as old)) (λ c is. either_seen tells old s.vault c is) leaves;
+    since = leaves_more tells (disk_under mid.records) (disk_under new.records) (WithOrWithout p.records (over_of p.records) p.records.group.items)
+        (StandsForEither old.records.head old.records.book.cap (over_of p.records) (recorded (house_in (seen_as old)) (over_of p.records) requests))
+        (λ c is. ⊎_elim (λ alone. inl (at_start (over_of p.records) c alone))
+        (λ all. inr (subst (λ (es : List Entry). StandsFor old.records.head old.records.book.cap (over_of p.records ++ es) c) group_is (at_start (over_of p.records ++ p.records.group.items) c all))) is)
+        (subst (λ (j : Journal D). LeavesOnly tells j.disk (disk_under new.records) (WithOrWithout p.records (over_of p.records) p.records.group.items)) s.journal more);
+  }
+
   -- ---- a turn that decided
 
   module _ (new : Parts D) (c : Committed p new by (next_turn old.lines.items)) where
@@ -165,9 +184,11 @@ module _ {D : Type 0} (tells : DiskTells D) (old mid p : Parts D) (by : ℕ) (re
         subst (λ (disk : D). Unwritten tells (disk_under old.records) disk) (sym (idle (group_is ∙ none) ∙ ap (λ (j : Journal D). j.disk) s.journal)) s.nothing
 
     pub decided_went : IsVault tells new → WritesItem p.records.head p.records.book.cap (over_of p.records) p.records.group.items (tells.content (disk_under p.records)) (tells.content (disk_under new.records))
-        → (p.records.group.items ≡ [] → disk_under new.records ≡ disk_under p.records) → (found out out' : List ℕ) → found ≡ handed_places (house_in (seen_as old)) requests (Decides (over_of p.records)) → out' ≡ out ++ replies (decided (house_in (seen_as old)) (over_of p.records) requests)
+        → (p.records.group.items ≡ [] → disk_under new.records ≡ disk_under p.records)
+        → LeavesOnly tells (disk_under old.records) (disk_under mid.records) (EitherOf old.records) → LeavesOnly tells (disk_under p.records) (disk_under new.records) (WithOrWithout p.records (over_of p.records) p.records.group.items)
+        → (found out out' : List ℕ) → found ≡ handed_places (house_in (seen_as old)) requests (Decides (over_of p.records)) → out' ≡ out ++ replies (decided (house_in (seen_as old)) (over_of p.records) requests)
         → Went tells (seen_as old) (seen_as new) by requests (Decides (over_of p.records)) found out out'
-    decided_went vault wrote idle found out out' places bytes = record {
+    decided_went vault wrote idle leaves more found out out' places bytes = record {
       turn = (few_told, settles, state_seen tells new vault ∙ rw (decided_list, decided_fresh, decided_count, s.vault.faults_are) refl);
       found_is = places;
       out_is = bytes;
@@ -181,6 +202,7 @@ module _ {D : Type 0} (tells : DiskTells D) (old mid p : Parts D) (by : ℕ) (re
             (subst (λ (cap : ℕ). WritesItem old.records.head cap (over_of p.records) p.records.group.items (tells.content (disk_under p.records)) (tells.content (disk_under new.records))) same.terms.cap
             (subst (λ (head : List ℕ). WritesItem head p.records.book.cap (over_of p.records) p.records.group.items (tells.content (disk_under p.records)) (tells.content (disk_under new.records))) same.terms.head wrote)));
         idle = decided_idle idle;
+        gate = gate_opens new leaves more;
       };
     }
 
@@ -226,8 +248,9 @@ module _ {D : Type 0} (tells : DiskTells D) (old mid p : Parts D) (by : ℕ) (re
     doubted_origin last = origin_is tells old new s.ready.kept s.vault (then_same old p new same last) (d.entries ∙ over_is)
 
     pub doubted_went : IsVault tells new → TearsItem p.records.head p.records.book.cap (over_of p.records) p.records.group.items (tells.content (disk_under p.records)) (tells.content (disk_under new.records))
+        → LeavesOnly tells (disk_under old.records) (disk_under mid.records) (EitherOf old.records) → LeavesOnly tells (disk_under p.records) (disk_under new.records) (WithOrWithout p.records (over_of p.records) p.records.group.items)
         → (out out' : List ℕ) → out' ≡ out → Went tells (seen_as old) (seen_as new) by requests (Fails counts.before counts.after) [] out out'
-    doubted_went vault torn out out' bytes = record {
+    doubted_went vault torn leaves more out out' bytes = record {
       turn = (
         few_told,
         inr (record {
@@ -250,6 +273,7 @@ module _ {D : Type 0} (tells : DiskTells D) (old mid p : Parts D) (by : ℕ) (re
               (subst (λ (t : Option (List ℕ)). TearsItem old.records.head old.records.book.cap (over_of p.records) p.records.group.items t (tells.content (disk_under new.records))) content_is
               (subst (λ (cap : ℕ). TearsItem old.records.head cap (over_of p.records) p.records.group.items (tells.content (disk_under p.records)) (tells.content (disk_under new.records))) same.terms.cap
               (subst (λ (head : List ℕ). TearsItem head p.records.book.cap (over_of p.records) p.records.group.items (tells.content (disk_under p.records)) (tells.content (disk_under new.records))) same.terms.head torn)));
+          gate = gate_opens new leaves more;
         },
       );
     }
@@ -268,12 +292,6 @@ module _ {D : Type 0} (tells : DiskTells D) (old mid p : Parts D) (by : ℕ) (re
       (subst (λ (j : Journal D). LeavesOnly tells j.disk (disk_under new.records) (WithOrWithout p.records (over_of p.records) p.records.group.items)) s.journal more)
       (λ c is. inl (either_seen tells old s.vault c is)) (λ c is. ⊎_elim (λ before. inl (without c before)) (λ behind. inr (with_group c behind list)) is)
     where
-      -- the terms are those at the start
-      at_start : (es : List Entry) (c : List ℕ) → StandsFor p.records.head p.records.book.cap es c → StandsFor old.records.head old.records.book.cap es c
-      at_start es c is =
-          subst (λ (head : List ℕ). StandsFor head old.records.book.cap es c) same.terms.head
-          (subst (λ (cap : ℕ). StandsFor p.records.head cap es c) same.terms.cap is)
-
       at_end : (es : List Entry) (c : List ℕ) → StandsFor p.records.head p.records.book.cap es c → StandsFor new.records.head new.records.book.cap es c
       at_end es c is =
           subst (λ (head : List ℕ). StandsFor head new.records.book.cap es c) (sym last.terms.head)

@@ -6,7 +6,7 @@ use Rattle.nb_port.specs.Faults.{Rose, Backed}
 use Rattle.nb_book.specs.declared.entry.Entry.{Entry}
 use Rattle.nb_book.specs.Legal.{Legal}
 use Rattle.nb_journal.specs.Layout.{AreTerms}
-use Rattle.nb_journal.specs.Time.{Unwritten}
+use Rattle.nb_journal.specs.Time.{LeavesOnly, Unwritten}
 use Rattle.nb_escrow.specs.Head.{head_of}
 use Rattle.nb_turns.specs.declared.limits.TheConstants.{MAX_FAULTS, MAX_REQUESTS}
 use Rattle.nb_turns.specs.declared.line.Line.{Line}
@@ -84,18 +84,27 @@ LinesFit {D} tells = ((v : Chronicled D) → Keeps tells v → length v.lines �
 
 -- ---- answering
 
+-- one gate opens all that the turn records over these entries: there is the disk behind settling, up to which a stop leaves what stands for
+-- the state before the turn, and since which it leaves what stands for the entries alone, or with all that is recorded
+pub record OneGateOpens {D : Type 0} (tells : DiskTells D) (old new : Chronicled D) (requests : List Request) (over : List Entry) : Type 0 where
+  pub settled : D
+  pub before : LeavesOnly tells old.disk settled (StandsForState old)
+  pub since : LeavesOnly tells settled new.disk (StandsForEither old.origin.head old.origin.cap over (recorded (house_in old) over requests))
+
 -- the disk in a turn that decided over these entries: its content stood for them, and what the verdicts record is written as one item.
 -- Where they record nothing, nothing is written
 pub record WritesTurn {D : Type 0} (tells : DiskTells D) (old new : Chronicled D) (requests : List Request) (over : List Entry) : Type 0 where
   pub told : IfSome (tells.content old.disk) (StandsFor old.origin.head old.origin.cap over)
   pub written : WritesItem old.origin.head old.origin.cap over (recorded (house_in old) over requests) (tells.content old.disk) (tells.content new.disk)
   pub idle : recorded (house_in old) over requests ≡ [] → Unwritten tells old.disk new.disk
+  pub gate : OneGateOpens tells old new requests over
 
 -- the disk in a turn whose item could not be made durable: its content stood for the entries that the turn was decided over, and bytes
 -- of the item's range may have changed
 pub record TearsTurn {D : Type 0} (tells : DiskTells D) (old new : Chronicled D) (requests : List Request) (over : List Entry) : Type 0 where
   pub told : IfSome (tells.content old.disk) (StandsFor old.origin.head old.origin.cap over)
   pub written : TearsItem old.origin.head old.origin.cap over (recorded (house_in old) over requests) (tells.content old.disk) (tells.content new.disk)
+  pub gate : OneGateOpens tells old new requests over
 
 -- the disk in a turn that could not settle what was in doubt, told from this count on: nothing is written
 pub record LeavesTurn {D : Type 0} (tells : DiskTells D) (old new : Chronicled D) (before : ℕ) : Type 0 where

@@ -75,7 +75,7 @@ returns-in-Ok-commit-clause-turn g c =
     let same : decided (house_of mid.head mid.records.book.cap) mid.records.book.entries requests ≡ decided (house_in (seen_as old)) (over_of p.records) requests =
     ap (λ (h : House). decided h mid.records.book.entries requests) house ∙ ap (λ (es : List Entry). decided (house_in (seen_as old)) es requests) (sym c.decide_each.ensures.over) in (
       over_of p.records,
-      decided_went tells old mid p c.args.by requests steps c.commit.new.self done vault c.in-Ok-commit.ensures.writes c.commit.ensures.idle _ c.args.out.now.items c.decide_each.new.out.items
+      decided_went tells old mid p c.args.by requests steps c.commit.new.self done vault c.in-Ok-commit.ensures.writes c.commit.ensures.idle c.ready.ensures.any_moment c.commit.ensures.any_moment _ c.args.out.now.items c.decide_each.new.out.items
           (ap (λ v. v.items) c.commit.ensures.places ∙ c.decide_each.ensures.places ∙ ap places same) (c.decide_each.ensures.out ∙ ap (λ answers. c.args.out.now.items ++ replies answers) same),
     )
 
@@ -149,7 +149,7 @@ returns-in-Err-commit-clause-turn g c =
     let counts = c.in-Err-commit.field-0 in
     let done = subst (λ (n : ℕ). Doubted tells p c.commit.new.self c.args.by n counts) c.next_turn-turn.ensures c.in-Err-commit.ensures.gives in
     let vault = doubted_vault tells old mid p c.args.by requests steps c.commit.new.self counts done c.commit.ensures.origin c.commit.ensures.rests c.commit.ensures.has c.ready.ensures.count in
-    doubted_went tells old mid p c.args.by requests steps c.commit.new.self counts done vault c.in-Err-commit.ensures.writes c.args.out.now.items c.truncate.new.self.items
+    doubted_went tells old mid p c.args.by requests steps c.commit.new.self counts done vault c.in-Err-commit.ensures.writes c.ready.ensures.any_moment c.commit.ensures.any_moment c.args.out.now.items c.truncate.new.self.items
     (c.truncate.ensures.items ∙ ap (take c.len-told.result) c.decide_each.ensures.out ∙ take_at c.args.out.now.items _ c.len-told.result (sym c.args.out.now.ok.0 ∙ sym c.len-told.ensures))
 
 pub returns-in-Err-commit-clause-any_moment : goal.returns-in-Err-commit-clause-any_moment
