@@ -1,3 +1,4 @@
+pub mod Ahead
 pub mod Fetching
 pub mod Sending
 pub mod Serving

@@ -5,7 +5,7 @@ use Rattle.std.specs.List.{flat_map, AllByRecursion}
 use Rattle.std.specs.Option.{option_to_list}
 use Rattle.std.specs.Io.KnownBytes.{Appends}
 use Rattle.std.proofs.KnownBytes.{Consumes-trans, Appends-trans, Appends-nil}
-use Rattle.std.proofs.lemmas.List.{map-append, length-append, length-drop, length-map}
+use Rattle.std.proofs.lemmas.List.{map-append, length-append, length-map}
 use Rattle.std.proofs.lemmas.List.Elements.{Contains-append_left, Contains-append_right, Contains-push}
 use Rattle.std.proofs.lemmas.Grind.{flat_map-append}
 use Rattle.nb_port.proofs.Backing.{backed_append}
@@ -15,11 +15,11 @@ use Rattle.nb_port.specs.Clock.{Gives}
 use Rattle.nb_units.specs.Frames.{Frame, frame, IsFrame, front_of, IsWhole, AreBytes, Splits}
 use Rattle.nb_book.specs.declared.entry.Entry.{Entry}
 use Rattle.nb_frame.specs.State.{Collected, waiting, unfed}
-use Rattle.nb_frame.specs.declared.stream.TheConstants.{MAX_HELD}
+use Rattle.nb_frame.specs.declared.stream.TheConstants.{MAX_PIECE}
 use Rattle.nb_frame.proofs.Shortness.{short_not_whole, bad_not_whole}
 use Rattle.nb_units.proofs.ByteLists.{AreBytes-drop}
 use Rattle.nb_units.proofs.FrameLaws.{has_reading}
-use Rattle.nb_batch.specs.Fetch.{Reads, EndsAs, IsReadEnd}
+use Rattle.nb_batch.specs.Fetch.{Reads, AheadAs, EndsAs, IsReadEnd}
 use Rattle.nb_batch.proofs.Fetching.{reads_none}
 use Rattle.nb_journal.specs.Time.{LeavesOnly}
 use Rattle.nb_vault.proofs.Joining.{all_more}
@@ -60,6 +60,7 @@ pub record Ran {D : Type 0} (tells : DiskTells D) (held : Collected) (old new : 
   pub went : Went tells held old new before after answered states disks
   pub wrote : Appends before.sent after.sent (replies answered)
   pub counted : length answered ≡ count
+  pub ahead : length (waiting held) < MAX_PIECE
 
 pub nothing_whole : IsWhole (front_of []) → ⊥
 unfolding front_of
@@ -244,7 +245,7 @@ module _ {D : Type 0} (tells : DiskTells D) where
       }
 
   pub ran_none : (house : Chronicled D) (start : Outside) → LeavesOnly tells house.disk house.disk (StandsForVault house) → Keeps tells house → Ran tells unfed house house start start 0
-  ran_none house start images keeps = record { answered = []; states = []; disks = []; went = went_none house start images keeps; wrote = Appends-nil start.sent; counted = refl }
+  ran_none house start images keeps = record { answered = []; states = []; disks = []; went = went_none house start images keeps; wrote = Appends-nil start.sent; counted = refl; ahead = omega arith }
 
   pub ran_more : (held held' : Collected) (old mid new : Chronicled D) (before between after : Outside) (n : ℕ) → Ran tells held old mid before between n → (more : Stepped tells held held' mid new between after)
       → new.origin ≡ mid.origin → LeavesOnly tells mid.disk new.disk (λ (image : List ℕ). StandsForVault mid image ⊎ StandsForVault new image) → (state_of new ≡ state_of mid → tells.content new.disk ≡ tells.content mid.disk)
@@ -258,6 +259,7 @@ module _ {D : Type 0} (tells : DiskTells D) where
         went = went_more held held' old mid new before between after ran.answered ran.states ran.disks ran.went more origin leaves quiet keeps;
         wrote = subst P (sym (replies_more ran.answered more.one)) (Appends-trans before.sent between.sent after.sent (replies ran.answered) more.one.reply ran.wrote sent);
         counted = omega (arith, ran.counted, length-append ran.answered (more.one ∷ []));
+        ahead = more.ahead ran.ahead;
       }
 
   -- as many bytes were given out as the frames have
@@ -269,9 +271,9 @@ module _ {D : Type 0} (tells : DiskTells D) where
 
   -- the batch ended, and so what waits reads
   served : (end : BatchEnd) (held held' : Collected) (old new : Chronicled D) (before between after : Outside) (answered : List Answered) (states : List State) (disks : List D) (unanswered : List Frame) (rest : List ℕ)
-      → Went tells held old new before between answered states disks → Reads between.left after.left held held' [] → after.moments ≡ between.moments → Splits (waiting held') unanswered rest → length held'.held ≤ MAX_HELD → (AnswersAll end → unanswered ≡ [])
+      → Went tells held old new before between answered states disks → Reads between.left after.left held held' [] → after.moments ≡ between.moments → Splits (waiting held') unanswered rest → AheadAs end (length (waiting held')) → (AnswersAll end → unanswered ≡ [])
       → EndsAs end held'.taken rest after.left → CountsAs end (length answered) → Wrote end before after answered → Served tells old new before after end
-  served end held held' old new before between after answered states disks unanswered rest went more unasked splits most all ends counted wrote =
+  served end held held' old new before between after answered states disks unanswered rest went more unasked splits ahead all ends counted wrote =
       let P : Option (List ℕ) → Type 0 = λ given. Gave before.moments given (map moment_of answered) in
       let fs : List Frame = map frame_of answered in
       let whole = reads_then before.left between.left after.left unfed held held' fs [] went.read more in
@@ -294,7 +296,7 @@ module _ {D : Type 0} (tells : DiskTells D) where
           ends = splits.ends;
         };
         all = all;
-        ahead = omega (arith, ap length splits.bytes, length-drop held'.at held'.held, most);
+        ahead = subst (AheadAs end) (ap length splits.bytes) ahead;
         ends = subst (λ (n : ℕ). EndsAs end n rest after.left) (omega (arith, whole.taken, ap (λ (gs : List Frame). length (flat_map frame gs)) same)) ends;
         counted = counted;
         asked = subst P (sym unasked) went.asked;
@@ -309,10 +311,10 @@ module _ {D : Type 0} (tells : DiskTells D) where
       }
 
   -- as many were answered as one batch answers
-  pub spent : (held : Collected) (old new : Chronicled D) (before after : Outside) (n : ℕ) → n ≡ MOST_FRAMES → AreBytes held.held → length held.held ≤ MAX_HELD → Ran tells held old new before after n → Served tells old new before after FrameLimit
-  spent held old new before after n all fits most ran =
+  pub spent : (held : Collected) (old new : Chronicled D) (before after : Outside) (n : ℕ) → n ≡ MOST_FRAMES → AreBytes held.held → Ran tells held old new before after n → Served tells old new before after FrameLimit
+  spent held old new before after n all fits ran =
       let reading = has_reading (waiting held) (AreBytes-drop held.at held.held fits) in
-      served FrameLimit held held old new before after after ran.answered ran.states ran.disks reading.0 reading.1 ran.went (reads_none after.left held) refl reading.2 most (λ none. absurd none) tt (ran.counted ∙ all) ran.wrote
+      served FrameLimit held held old new before after after ran.answered ran.states ran.disks reading.0 reading.1 ran.went (reads_none after.left held) refl reading.2 ran.ahead (λ none. absurd none) tt (ran.counted ∙ all) ran.wrote
 
   -- without memory nothing was begun
   pub unbegun : (house : Chronicled D) (start : Outside) → LeavesOnly tells house.disk house.disk (StandsForVault house) → Keeps tells house → Served tells house house start start NoMemory
@@ -339,23 +341,23 @@ module _ {D : Type 0} (tells : DiskTells D) where
 
   -- reading ended
   stop_with : (end : BatchEnd) (held held' : Collected) (old mid new : Chronicled D) (before between after : Outside) (n : ℕ) → Ran tells held old mid before between n → n < MOST_FRAMES → Stopped held held' mid new between after
-      → length held'.held ≤ MAX_HELD → IsReadEnd end → EndsAs end held'.taken (waiting held') after.left → Served tells old new before after end
-  stop_with end held held' old mid new before between after n ran few stop most is ends =
+      → AheadAs end (length (waiting held')) → IsReadEnd end → EndsAs end held'.taken (waiting held') after.left → Served tells old new before after end
+  stop_with end held held' old mid new before between after n ran few stop ahead is ends =
       let P : Option (List ℕ) → Type 0 = λ sent. Appends before.sent sent (replies ran.answered) in
       let W : Chronicled D → Type 0 = λ house. Went tells held old house before between ran.answered ran.states ran.disks in
       served end held held' old new before between after ran.answered ran.states ran.disks [] (waiting held') (subst W (sym stop.same) ran.went) stop.read stop.unasked
-      (record { bytes = refl; lawful = tt; ends = end_not_whole end held'.taken (waiting held') after.left is ends }) most (λ all. refl) ends (counts_end end (length ran.answered) is (omega (arith, ran.counted, few)))
+      (record { bytes = refl; lawful = tt; ends = end_not_whole end held'.taken (waiting held') after.left is ends }) ahead (λ all. refl) ends (counts_end end (length ran.answered) is (omega (arith, ran.counted, few)))
       (wrote_end end before after ran.answered is (subst P (sym stop.unsent) ran.wrote))
 
   -- the sink failed within the reply to the next frame
   stop_short : (held held' : Collected) (old mid new : Chronicled D) (before between after : Outside) (n : ℕ) → Ran tells held old mid before between n → n < MOST_FRAMES → (more : Stepped tells held held' mid new between after)
-      → AreBytes held'.held → length held'.held ≤ MAX_HELD → new.origin ≡ mid.origin → LeavesOnly tells mid.disk new.disk (λ (image : List ℕ). StandsForVault mid image ⊎ StandsForVault new image) → (state_of new ≡ state_of mid → tells.content new.disk ≡ tells.content mid.disk)
+      → AreBytes held'.held → new.origin ≡ mid.origin → LeavesOnly tells mid.disk new.disk (λ (image : List ℕ). StandsForVault mid image ⊎ StandsForVault new image) → (state_of new ≡ state_of mid → tells.content new.disk ≡ tells.content mid.disk)
       → Keeps tells new → SentPart between.sent after.sent more.one.reply → Served tells old new before after WriteFault
-  stop_short held held' old mid new before between after n ran few more fits most origin leaves quiet keeps part =
+  stop_short held held' old mid new before between after n ran few more fits origin leaves quiet keeps part =
       let reading = has_reading (waiting held') (AreBytes-drop held'.at held'.held fits) in
       served WriteFault held' held' old new before after after (ran.answered ++ more.one ∷ []) (ran.states ++ state_of new ∷ []) (ran.disks ++ new.disk ∷ []) reading.0 reading.1
       (went_more held held' old mid new before between after ran.answered ran.states ran.disks ran.went more origin leaves quiet keeps)
-      (reads_none after.left held') refl reading.2 most (λ none. absurd none) tt
+      (reads_none after.left held') refl reading.2 (more.ahead ran.ahead) (λ none. absurd none) tt
       (omega (arith, ran.counted, few, length-append ran.answered (more.one ∷ [])))
       (record {
         whole = ran.answered;
@@ -368,12 +370,12 @@ module _ {D : Type 0} (tells : DiskTells D) where
 
   -- the batch ends as its last step does
   pub ended : (end : BatchEnd) (held held' : Collected) (old mid new : Chronicled D) (before between after : Outside) (n : ℕ) → Ran tells held old mid before between n → n < MOST_FRAMES
-      → AreBytes held'.held → length held'.held ≤ MAX_HELD → new.origin ≡ mid.origin → LeavesOnly tells mid.disk new.disk (λ (image : List ℕ). StandsForVault mid image ⊎ StandsForVault new image) → (state_of new ≡ state_of mid → tells.content new.disk ≡ tells.content mid.disk)
+      → AreBytes held'.held → new.origin ≡ mid.origin → LeavesOnly tells mid.disk new.disk (λ (image : List ℕ). StandsForVault mid image ⊎ StandsForVault new image) → (state_of new ≡ state_of mid → tells.content new.disk ≡ tells.content mid.disk)
       → Keeps tells new → StepIs tells held held' mid new between after (step.Ended end) → Served tells old new before after end
-  ended WriteFault held held' old mid new before between after n ran few fits most origin leaves quiet keeps is = stop_short held held' old mid new before between after n ran few is.0 fits most origin leaves quiet keeps is.1
-  ended Clean held held' old mid new before between after n ran few fits most origin leaves quiet keeps is = stop_with Clean held held' old mid new before between after n ran few is.0 most is.1 is.2
-  ended (Cut place) held held' old mid new before between after n ran few fits most origin leaves quiet keeps is = stop_with (Cut place) held held' old mid new before between after n ran few is.0 most is.1 is.2
-  ended (BadFrame fault) held held' old mid new before between after n ran few fits most origin leaves quiet keeps is = stop_with (BadFrame fault) held held' old mid new before between after n ran few is.0 most is.1 is.2
-  ended ReadFault held held' old mid new before between after n ran few fits most origin leaves quiet keeps is = stop_with ReadFault held held' old mid new before between after n ran few is.0 most is.1 is.2
-  ended NoMemory held held' old mid new before between after n ran few fits most origin leaves quiet keeps is = stop_with NoMemory held held' old mid new before between after n ran few is.0 most is.1 is.2
-  ended FrameLimit held held' old mid new before between after n ran few fits most origin leaves quiet keeps is = stop_with FrameLimit held held' old mid new before between after n ran few is.0 most is.1 is.2
+  ended WriteFault held held' old mid new before between after n ran few fits origin leaves quiet keeps is = stop_short held held' old mid new before between after n ran few is.0 fits origin leaves quiet keeps is.1
+  ended Clean held held' old mid new before between after n ran few fits origin leaves quiet keeps is = stop_with Clean held held' old mid new before between after n ran few is.0 (is.3 ran.ahead) is.1 is.2
+  ended (Cut place) held held' old mid new before between after n ran few fits origin leaves quiet keeps is = stop_with (Cut place) held held' old mid new before between after n ran few is.0 (is.3 ran.ahead) is.1 is.2
+  ended (BadFrame fault) held held' old mid new before between after n ran few fits origin leaves quiet keeps is = stop_with (BadFrame fault) held held' old mid new before between after n ran few is.0 (is.3 ran.ahead) is.1 is.2
+  ended ReadFault held held' old mid new before between after n ran few fits origin leaves quiet keeps is = stop_with ReadFault held held' old mid new before between after n ran few is.0 (is.3 ran.ahead) is.1 is.2
+  ended NoMemory held held' old mid new before between after n ran few fits origin leaves quiet keeps is = stop_with NoMemory held held' old mid new before between after n ran few is.0 (is.3 ran.ahead) is.1 is.2
+  ended FrameLimit held held' old mid new before between after n ran few fits origin leaves quiet keeps is = stop_with FrameLimit held held' old mid new before between after n ran few is.0 (is.3 ran.ahead) is.1 is.2

@@ -1,5 +1,5 @@
 -- One step of a batch, from what its calls ensure.
-use Rattle.std.proofs.Common.{◌≡◌, ◌⊎◌, ℕ, ◌≤◌, List, [], ◌∷◌, ◌++◌, length, take, drop, Option, refl, sym, ap, subst, ◌∙◌, append-nil, inl, arith}
+use Rattle.std.proofs.Common.{◌≡◌, ◌⊎◌, ℕ, ◌<◌, ◌≤◌, List, [], ◌∷◌, ◌++◌, length, take, drop, Option, refl, sym, ap, subst, ◌∙◌, append-nil, inl, arith}
 use Rattle.std.specs.Option.{option_to_list}
 use Rattle.nb_port.specs.Tells.{DiskTells}
 use Rattle.nb_port.specs.Faults.{Rose, Backed}
@@ -7,6 +7,7 @@ use Rattle.nb_port.specs.Clock.{Gives}
 use Rattle.nb_units.specs.Frames.{Frame, IsFrame}
 use Rattle.nb_endorse.specs.declared.refusal.TheConstants.{DISK_FAULT, WORN}
 use Rattle.nb_frame.specs.State.{Collected, waiting}
+use Rattle.nb_frame.specs.declared.stream.TheConstants.{MAX_PIECE}
 use Rattle.nb_frame.specs.Collected.{frame_at}
 use Rattle.nb_frame.specs.declared.stream.FrameAt.{FrameAt}
 use Rattle.nb_turns.specs.declared.limits.TheConstants.{MAX_FAULTS}
@@ -29,7 +30,7 @@ use Rattle.std.proofs.Math.Seq.{take-append_seam}
 use Rattle.nb_batch.specs.declared.batch.BatchEnd.{BatchEnd}
 use Rattle.nb_batch.specs.declared.batch.BatchEnd.TheVariants.{Clean, Cut, BadFrame, ReadFault, WriteFault, NoMemory as Starved, FrameLimit}
 use Rattle.nb_batch.specs.declared.batch.Step.TheVariants as step
-use Rattle.nb_batch.specs.Fetch.{Reads, EndsAs, IsReadEnd}
+use Rattle.nb_batch.specs.Fetch.{Reads, AheadAs, EndsAs, IsReadEnd}
 use Rattle.nb_batch.specs.Batch.{MaySend, AnswersWith, failure_in_mark, Outside, Stepped, StepIs, FaultOf}
 
 -- ---- where nothing is done
@@ -110,9 +111,9 @@ may_send tells old new by request out sent place none same durable is =
 -- ---- one step
 
 pub stepped_with : {D : Type 0} (tells : DiskTells D) (held held' : Collected) (old new : Chronicled D) (f : FrameAt) (moment : ℕ) (body reply : List ℕ) (before after : Outside)
-    → Reads before.left after.left held held' (frame_at held'.held f ∷ []) → IsFrame (frame_at held'.held f) → body ≡ take f.len (drop f.start held'.held) → Gives before.moments after.moments moment
+    → Reads before.left after.left held held' (frame_at held'.held f ∷ []) → IsFrame (frame_at held'.held f) → (length (waiting held) < MAX_PIECE → length (waiting held') < MAX_PIECE) → body ≡ take f.len (drop f.start held'.held) → Gives before.moments after.moments moment
     → AnswersWith tells old new (request_of f.kind body moment) reply → (done : List ℕ → Type 0) → done reply → (s : Stepped tells held held' old new before after) × done s.one.reply
-stepped_with tells held held' old new f moment body reply before after read lawful is now answer done sent =
+stepped_with tells held held' old new f moment body reply before after read lawful ahead is now answer done sent =
     let one : List ℕ → Frame = λ bytes. record { kind = f.kind; body = bytes } in (
       record {
         one = record { request = request_of f.kind body moment; mark = answer.mark; reply = reply };
@@ -120,6 +121,7 @@ stepped_with tells held held' old new f moment body reply before after read lawf
         backed = answer.backed;
         lawful = subst (λ (bytes : List ℕ). IsFrame (one bytes)) (sym is) lawful;
         read = subst (λ (bytes : List ℕ). Reads before.left after.left held held' (one bytes ∷ [])) (sym is) read;
+        ahead = ahead;
         asked = now;
       },
       sent,
@@ -127,14 +129,14 @@ stepped_with tells held held' old new f moment body reply before after read lawf
 
 -- reading ended, and nothing else was done
 pub stopped_with : {D : Type 0} (tells : DiskTells D) (end : BatchEnd) (held held' : Collected) (house : Chronicled D) (before : Outside) (left : Option (List ℕ))
-    → Reads before.left left held held' [] → IsReadEnd end → EndsAs end held'.taken (waiting held') left → StepIs tells held held' house house before (record before { left = left }) (step.Ended end)
-stopped_with tells Clean held held' house before left read is ends = (record { read = read; same = refl; unsent = refl; unasked = refl }, is, ends)
-stopped_with tells (Cut place) held held' house before left read is ends = (record { read = read; same = refl; unsent = refl; unasked = refl }, is, ends)
-stopped_with tells (BadFrame fault) held held' house before left read is ends = (record { read = read; same = refl; unsent = refl; unasked = refl }, is, ends)
-stopped_with tells ReadFault held held' house before left read is ends = (record { read = read; same = refl; unsent = refl; unasked = refl }, is, ends)
-stopped_with tells WriteFault held held' house before left read is ends = absurd is
-stopped_with tells Starved held held' house before left read is ends = absurd is
-stopped_with tells FrameLimit held held' house before left read is ends = absurd is
+    → Reads before.left left held held' [] → IsReadEnd end → EndsAs end held'.taken (waiting held') left → (length (waiting held) < MAX_PIECE → AheadAs end (length (waiting held'))) → StepIs tells held held' house house before (record before { left = left }) (step.Ended end)
+stopped_with tells Clean held held' house before left read is ends ahead = (record { read = read; same = refl; unsent = refl; unasked = refl }, is, ends, ahead)
+stopped_with tells (Cut place) held held' house before left read is ends ahead = (record { read = read; same = refl; unsent = refl; unasked = refl }, is, ends, ahead)
+stopped_with tells (BadFrame fault) held held' house before left read is ends ahead = (record { read = read; same = refl; unsent = refl; unasked = refl }, is, ends, ahead)
+stopped_with tells ReadFault held held' house before left read is ends ahead = (record { read = read; same = refl; unsent = refl; unasked = refl }, is, ends, ahead)
+stopped_with tells WriteFault held held' house before left read is ends ahead = absurd is
+stopped_with tells Starved held held' house before left read is ends ahead = absurd is
+stopped_with tells FrameLimit held held' house before left read is ends ahead = absurd is
 
 -- the source failed where that is why reading ended
 pub read_fault : (end : BatchEnd) (source source' sink sink' : ℕ) → IsReadEnd end → (end ≡ ReadFault → Rose source source') → FaultOf source source' sink sink' end

@@ -8,7 +8,7 @@ use Rattle.nb_port.specs.Faults.{Rose, Failure, Backed}
 use Rattle.nb_port.specs.Clock.{Gives}
 use Rattle.nb_units.specs.Frames.{Frame, frame, IsFrame, Splits}
 use Rattle.nb_frame.specs.State.{Collected, waiting}
-use Rattle.nb_frame.specs.declared.stream.TheConstants.{MAX_HELD}
+use Rattle.nb_frame.specs.declared.stream.TheConstants.{MAX_PIECE}
 use Rattle.nb_journal.specs.Time.{LeavesOnly}
 use Rattle.nb_book.specs.declared.entry.Entry.{Entry}
 use Rattle.nb_endorse.specs.declared.refusal.TheConstants.{DISK_FAULT, WORN}
@@ -24,7 +24,7 @@ use Rattle.nb_batch.specs.declared.batch.BatchEnd.{BatchEnd}
 use Rattle.nb_batch.specs.declared.batch.BatchEnd.TheVariants.{ReadFault, WriteFault, NoMemory, FrameLimit}
 use Rattle.nb_batch.specs.declared.batch.Step.{Step}
 use Rattle.nb_batch.specs.declared.batch.Step.TheVariants as step
-use Rattle.nb_batch.specs.Fetch.{Reads, EndsAs, IsReadEnd}
+use Rattle.nb_batch.specs.Fetch.{Reads, AheadAs, EndsAs, IsReadEnd}
 use Rattle.nb_batch.specs.Send.{SentPart}
 
 -- a house with nothing in doubt and no faults
@@ -126,6 +126,7 @@ pub record Stepped {D : Type 0} (tells : DiskTells D) (held held' : Collected) (
   pub backed : Backed (tells.faults old.disk) (option_to_list (failure_in_mark one.mark)) (tells.faults new.disk)
   pub lawful : IsFrame (frame_of one)
   pub read : Reads before.left after.left held held' (frame_of one ∷ [])
+  pub ahead : length (waiting held) < MAX_PIECE → length (waiting held') < MAX_PIECE
   pub asked : Gives before.moments after.moments one.request.moment
 
 -- bytes were read, of which no frame was given out, and nothing else was done
@@ -143,6 +144,7 @@ StepIs tells held held' old new before after (step.Ended WriteFault) =
     (s : Stepped tells held held' old new before after) × SentPart before.sent after.sent s.one.reply
 StepIs tells held held' old new before after (step.Ended end) =
     Stopped held held' old new before after × IsReadEnd end × EndsAs end held'.taken (waiting held') after.left
+    × (length (waiting held) < MAX_PIECE → AheadAs end (length (waiting held')))
 
 -- ---- the whole batch
 
@@ -176,7 +178,7 @@ CountsAs other count = count < MOST_FRAMES
 -- What a batch did over a house, by how it ended
 pub record Served {D : Type 0} (tells : DiskTells D) (old new : Chronicled D) (before after : Outside) (end : BatchEnd) : Type 0 where
   -- the requests that were answered, the states that the house came to and the disks then; frames that were read and not answered,
-  -- and what follows them, which the reader held; all bytes that were read
+  -- and what follows them; all bytes that were read
   pub answered : List Answered
   pub states : List State
   pub disks : List D
@@ -186,7 +188,7 @@ pub record Served {D : Type 0} (tells : DiskTells D) (old new : Chronicled D) (b
   pub took : Consumes before.left after.left read
   pub frames : Splits read (map frame_of answered ++ unanswered) rest
   pub all : AnswersAll end → unanswered ≡ []
-  pub ahead : length (flat_map frame unanswered ++ rest) ≤ MAX_HELD
+  pub ahead : AheadAs end (length (flat_map frame unanswered ++ rest))
   pub ends : EndsAs end (length (flat_map frame (map frame_of answered))) rest after.left
   pub counted : CountsAs end (length answered)
   pub asked : Gave before.moments after.moments (map moment_of answered)

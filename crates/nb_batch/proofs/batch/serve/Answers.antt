@@ -15,7 +15,7 @@ returns-in-Ended-clause-served g c =
     let before : Outside = record { left = g.S.Source.left c.args.source.now; sent = g.K.Sink.sent c.args.sink.now; moments = g.C.Clock.moments c.args.clock.now } in
     let between : Outside = record { left = g.S.Source.left c.frames.source; sent = g.K.Sink.sent c.frames.sink; moments = g.C.Clock.moments c.frames.clock } in
     let after : Outside = record { left = g.S.Source.left c.answer_next.new.source; sent = g.K.Sink.sent c.answer_next.new.sink; moments = g.C.Clock.moments c.answer_next.new.clock } in
-    ended g.D.Disk.tells c.in-Ended.end c.frames.frames c.answer_next.new.frames c.args.house.now c.frames.house c.answer_next.new.house before between after c.frames.counter c.frames.invariant.ran (omega arith) c.bytes-waiting.ensures.bytes c.bytes-waiting.ensures.most
+    ended g.D.Disk.tells c.in-Ended.end c.frames.frames c.answer_next.new.frames c.args.house.now c.frames.house c.answer_next.new.house before between after c.frames.counter c.frames.invariant.ran (omega arith) c.bytes-waiting.ensures.bytes
     c.in-Ended.ensures.origin c.in-Ended.ensures.any_moment c.in-Ended.ensures.quiet c.in-Ended.ensures.keeps c.in-Ended.ensures.step
 
 pub frames-preserved : goal.frames-preserved
@@ -36,7 +36,7 @@ pub returns-clause-served : goal.returns-clause-served
 returns-clause-served g c =
     let before : Outside = record { left = g.S.Source.left c.args.source.now; sent = g.K.Sink.sent c.args.sink.now; moments = g.C.Clock.moments c.args.clock.now } in
     let after : Outside = record { left = g.S.Source.left c.frames.source; sent = g.K.Sink.sent c.frames.sink; moments = g.C.Clock.moments c.frames.clock } in
-    spent g.D.Disk.tells c.frames.frames c.args.house.now c.frames.house before after c.frames.counter (omega (arith, c.frames.auto.counter-end)) c.bytes-waiting-2.ensures.bytes c.bytes-waiting-2.ensures.most c.frames.invariant.ran
+    spent g.D.Disk.tells c.frames.frames c.args.house.now c.frames.house before after c.frames.counter (omega (arith, c.frames.auto.counter-end)) c.bytes-waiting-2.ensures.bytes c.frames.invariant.ran
 
 pub frames-init : goal.frames-init
 frames-init g c =
