@@ -1,10 +1,10 @@
 -- How far reading goes ahead of the frames that are given out: less than a piece, and where what follows is no frame, at most a header
 -- more.
-use Rattle.std.proofs.Common.{◌≡◌, ◌⊎◌, inl, inr, ⊎_elim, ℕ, zero, suc, ◌+◌, ◌<◌, ◌≤◌, Bool, true, false, cond, ltb, eqb, ◌&&◌, List, [], ◌∷◌, ◌++◌, length, take, drop, refl, sym, ap, subst, ◌∙◌, arith}
+use Rattle.std.proofs.Common.{◌≡◌, ◌⊎◌, inl, inr, ⊎_elim, ℕ, zero, suc, ◌+◌, ◌<◌, ◌≤◌, Bool, true, false, cond, ltb, eqb, ◌&&◌, List, [], ◌∷◌, ◌++◌, length, take, drop, sym, ap, subst, ◌∙◌, arith}
 use Rattle.std.proofs.lemmas.List.{length-append, take-append-drop, take-append-le}
 use Rattle.std.proofs.Math.Seq.{take-append_seam}
 use Rattle.std.specs.Int.{w32, from_be_bytes}
-use Rattle.nb_units.specs.Frames.{Frame, frame, IsFrame, HeaderFault, Front, Whole, Empty, Partial, Bad, body_of, behind_kind, behind_version, behind_magic, behind_first, front_of, IsWhole, IsBad}
+use Rattle.nb_units.specs.Frames.{Frame, frame, IsFrame, HeaderFault, Front, Whole, Partial, Bad, behind_kind, behind_version, behind_magic, behind_first, front_of, IsWhole, IsBad}
 use Rattle.nb_units.proofs.FrameLaws.{whole_front}
 use Rattle.nb_frame.specs.State.{Collected, waiting}
 use Rattle.nb_frame.specs.Looks.{IsShort}

@@ -13,7 +13,6 @@ use Rattle.nb_port.specs.Tells.{DiskTells}
 use Rattle.nb_port.specs.Faults.{Failure, Backed}
 use Rattle.nb_port.specs.Clock.{Gives}
 use Rattle.nb_units.specs.Frames.{Frame, frame, IsFrame, front_of, IsWhole, AreBytes, Splits}
-use Rattle.nb_book.specs.declared.entry.Entry.{Entry}
 use Rattle.nb_frame.specs.State.{Collected, waiting, unfed}
 use Rattle.nb_frame.specs.declared.stream.TheConstants.{MAX_PIECE}
 use Rattle.nb_frame.proofs.Shortness.{short_not_whole, bad_not_whole}

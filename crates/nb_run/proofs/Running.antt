@@ -1,6 +1,6 @@
 -- What a batch served, told as a run of the program.
 use Rattle.std.proofs.lemmas.List.{nil_from_length, length-append}
-use Rattle.std.proofs.Common.{◌≡◌, ◌≢◌, ℕ, ◌+◌, ◌≤◌, ◌⊎◌, Bool, false, List, [], ◌∷◌, ◌++◌, length, Option, IfSome, refl, sym, ap, subst, ◌∙◌, append-nil, arith, inl, inr, ⊎_elim}
+use Rattle.std.proofs.Common.{◌≡◌, ◌≢◌, ℕ, ◌+◌, ◌<◌, ◌≤◌, ◌⊎◌, Bool, false, List, [], ◌∷◌, ◌++◌, length, Option, IfSome, refl, sym, ap, subst, ◌∙◌, append-nil, arith, inl, inr, ⊎_elim}
 use Rattle.std.specs.Prelude.{map}
 use Rattle.std.specs.List.{flat_map, AllByRecursion}
 use Rattle.std.specs.Option.{option_to_list}
@@ -11,6 +11,8 @@ use Rattle.nb_port.specs.Faults.{Rose, Backed}
 use Rattle.nb_units.specs.Frames.{Frame, frame, front_of, IsBad, Splits}
 use Rattle.nb_book.specs.declared.entry.Entry.{Entry}
 use Rattle.nb_escrow.specs.Head.{head_of}
+use Rattle.nb_units.specs.declared.frames.TheConstants.{HEADER}
+use Rattle.nb_frame.specs.declared.stream.TheConstants.{MAX_PIECE}
 use Rattle.nb_frame.specs.Faults.{place_of}
 use Rattle.nb_frame.specs.Looks.{IsShort}
 use Rattle.nb_frame.proofs.Shortness.{short_not_bad, nothing_bad}
@@ -30,7 +32,7 @@ use Rattle.nb_batch.specs.declared.batch.TheConstants.{MOST_FRAMES}
 use Rattle.nb_batch.specs.declared.batch.BatchEnd.{BatchEnd}
 use Rattle.nb_batch.specs.declared.batch.BatchEnd.TheVariants.{Clean, Cut, BadFrame, ReadFault, WriteFault, NoMemory, FrameLimit}
 use Rattle.nb_batch.specs.Batch.{at_rest, AllDecided, IsDecided, failure_in_mark, failures_told, Outside, frame_of, CountsAs, AnswersAll, Wrote, WroteShort, Served, StandsInRun, GoesThrough}
-use Rattle.nb_batch.specs.Fetch.{EndsAs}
+use Rattle.nb_batch.specs.Fetch.{AheadAs, EndsAs}
 use Rattle.nb_run.specs.Ending.{ended, status_of}
 use Rattle.nb_run.specs.Run.{EndsBadly, Batch}
 
@@ -123,6 +125,30 @@ ends_bad ReadFault read frames rest left long ends is = absurd (omega arith)
 ends_bad WriteFault read frames rest left long ends is = absurd (omega arith)
 ends_bad NoMemory read frames rest left long ends is = absurd (omega arith)
 ends_bad FrameLimit read frames rest left long ends is = absurd (omega arith)
+
+-- how far was read
+ahead_of : (end : BatchEnd) (waits : ℕ) → AheadAs end waits → (status_of end ≡ SINK_FAILED) ⊎ (status_of end ≡ FRAME_LIMIT) → waits < MAX_PIECE
+ahead_of WriteFault waits ahead is = ahead
+ahead_of FrameLimit waits ahead is = ahead
+ahead_of Clean waits ahead (inl is) = absurd (omega arith)
+ahead_of Clean waits ahead (inr is) = absurd (omega arith)
+ahead_of (Cut place) waits ahead (inl is) = absurd (omega arith)
+ahead_of (Cut place) waits ahead (inr is) = absurd (omega arith)
+ahead_of (BadFrame fault) waits ahead (inl is) = absurd (omega arith)
+ahead_of (BadFrame fault) waits ahead (inr is) = absurd (omega arith)
+ahead_of ReadFault waits ahead (inl is) = absurd (omega arith)
+ahead_of ReadFault waits ahead (inr is) = absurd (omega arith)
+ahead_of NoMemory waits ahead (inl is) = absurd (omega arith)
+ahead_of NoMemory waits ahead (inr is) = absurd (omega arith)
+
+ahead_bad : (end : BatchEnd) (rest : List ℕ) (left : Option (List ℕ)) (before waits : ℕ) → AheadAs end waits → EndsAs end before rest left → status_of end ≡ BAD_INPUT → IsBad (front_of rest) → waits < MAX_PIECE + HEADER
+ahead_bad Clean rest left before waits ahead ends is bad = absurd (omega arith)
+ahead_bad (Cut place) rest left before waits ahead ends is bad = absurd (subst IsBad ends.0 bad)
+ahead_bad (BadFrame fault) rest left before waits ahead ends is bad = ahead
+ahead_bad ReadFault rest left before waits ahead ends is bad = absurd (omega arith)
+ahead_bad WriteFault rest left before waits ahead ends is bad = absurd (omega arith)
+ahead_bad NoMemory rest left before waits ahead ends is bad = absurd (omega arith)
+ahead_bad FrameLimit rest left before waits ahead ends is bad = absurd (omega arith)
 
 ends_failed : (end : BatchEnd) (rest : List ℕ) (left : Option (List ℕ)) (before : ℕ) → EndsAs end before rest left → status_of end ≡ SOURCE_FAILED → IsShort (front_of rest)
 ends_failed Clean rest left before ends is = absurd (omega arith)
@@ -251,7 +277,8 @@ module _ {D : Type 0} (tells : DiskTells D) where
         disks = s.disks;
         read = s.read;
         unanswered = s.unanswered;
-        ahead = s.ahead;
+        ahead = ahead_of end (length (flat_map frame s.unanswered ++ s.rest)) s.ahead;
+        ahead_bad = λ is bad. omega (arith, ahead_bad end s.rest after.left (length (flat_map frame (map frame_of s.answered))) (length (flat_map frame s.unanswered ++ s.rest)) s.ahead s.ends is bad, length-append (flat_map frame s.unanswered) s.rest);
         rest = s.rest;
         stands = opens.stands;
         took = s.took;

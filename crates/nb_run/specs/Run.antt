@@ -1,5 +1,5 @@
 -- What a run of the program does.
-use Rattle.std.specs.Prelude.{◌≡◌, ◌≢◌, ℕ, ◌≤◌, ◌<◌, ◌⊎◌, List, [], ◌++◌, Option, Some, length, map, IfSome}
+use Rattle.std.specs.Prelude.{◌≡◌, ◌≢◌, ℕ, ◌+◌, ◌≤◌, ◌<◌, ◌⊎◌, List, [], ◌++◌, Option, Some, length, map, IfSome}
 use Rattle.std.specs.List.{flat_map, AllByRecursion}
 use Rattle.std.specs.Io.KnownBytes.{Consumes, Appends, IsAtEnd}
 use Rattle.nb_port.specs.Tells.{DiskTells}
@@ -7,7 +7,8 @@ use Rattle.nb_port.specs.Faults.{Rose, Backed}
 use Rattle.nb_units.specs.Frames.{Frame, frame, IsFrame, HeaderFault, Partial, Bad, front_of, IsBad, Splits}
 use Rattle.nb_frame.specs.Faults.{placed, place_of}
 use Rattle.nb_frame.specs.Looks.{IsShort}
-use Rattle.nb_frame.specs.declared.stream.TheConstants.{MAX_HELD}
+use Rattle.nb_frame.specs.declared.stream.TheConstants.{MAX_PIECE}
+use Rattle.nb_units.specs.declared.frames.TheConstants.{HEADER}
 use Rattle.nb_book.specs.declared.entry.Entry.{Entry}
 use Rattle.nb_book.specs.Legal.{Legal}
 use Rattle.nb_escrow.specs.Head.{head_of}
@@ -89,8 +90,10 @@ pub record Batch {D : Type 0} (tells : DiskTells D) (old new : D) (before after 
   pub frames : Splits read (map frame_of answered ++ unanswered) rest
   -- they are all of them where the input ended, held what is no frame, or failed
   pub all : (ending.status ≡ CLEAN) ⊎ (ending.status ≡ BAD_INPUT) ⊎ (ending.status ≡ SOURCE_FAILED) → unanswered ≡ []
-  -- and no more was read ahead of the last answer than a reader of frames holds
-  pub ahead : length (flat_map frame unanswered ++ rest) ≤ MAX_HELD
+  -- where a write failed or the limit of frames was reached less than a piece was read ahead of the last answer, and where the input
+  -- held what is no frame at most a header more. Elsewhere the rest is less than a frame, as is said below
+  pub ahead : (ending.status ≡ SINK_FAILED) ⊎ (ending.status ≡ FRAME_LIMIT) → length (flat_map frame unanswered ++ rest) < MAX_PIECE
+  pub ahead_bad : ending.status ≡ BAD_INPUT → IsBad (front_of rest) → length rest < MAX_PIECE + HEADER
   -- one answer of the clock for each
   pub asked : Gave before.moments after.moments (map moment_of answered)
   -- there is a run of turns over them, from the entries with nothing in doubt

@@ -17,7 +17,7 @@ use Rattle.nb_turns.specs.Lines.{faults_of}
 use Rattle.nb_turns.specs.Turns.{Request, House, State, Answered, Decides, decided, recorded, replies, with_entry}
 use Rattle.nb_vault.specs.declared.answer.AnswerAll.{AnswerAll}
 use Rattle.nb_vault.specs.declared.answer.AnswerAll.TheVariants as answers
-use Rattle.nb_vault.specs.Vaults.{Chronicled, Went, entries_in, house_in, state_of, TurnOf, FaultWithin}
+use Rattle.nb_vault.specs.Vaults.{Chronicled, Went, house_in, TurnOf, FaultWithin}
 use Rattle.nb_vault.specs.Paying.{IsPaidOver, IsDecidedSo}
 
 -- what requests record is what the first of them record, and what the others do over that

@@ -1,5 +1,5 @@
 -- What becomes of an order that is payable.
-use Rattle.std.specs.Prelude.{◌≡◌, ℕ, ◌<◌, List, [], ◌∷◌, ◌++◌, IfSome}
+use Rattle.std.specs.Prelude.{◌≡◌, ℕ, ◌<◌, List, ◌∷◌, ◌++◌, IfSome}
 use Rattle.nb_port.specs.Tells.{DiskTells}
 use Rattle.nb_port.specs.Faults.{Rose}
 use Rattle.nb_units.specs.declared.frames.TheConstants.{ORDER_REQUEST}
