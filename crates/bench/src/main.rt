@@ -10,6 +10,7 @@
 
 mod answering;
 mod framing;
+mod goods;
 mod hashing;
 mod indexing;
 mod keystream;
@@ -27,8 +28,8 @@ use std::process::ExitCode;
 use std::sync::Wait;
 use std::thread::Threads;
 
-const USAGE: &str =
-    "usage: bench sha|hmac|seal|unseal|stream|frames1|frames100|frames65536|copy|lookup SIZE TIMES
+const USAGE: &str = "usage: bench sha|hmac|seal|unseal|stream|parts|openparts|lookup SIZE TIMES
+       bench frames1|frames100|frames65536|copy SIZE TIMES
        bench turn|lock THREADS TIMES
        bench answer JOURNAL REQUESTS";
 
@@ -101,6 +102,10 @@ fn run<R: Threads + Wait + Sync>(
         Made::Unknown => {}
     }
     match indexing::run(alloc, row, size, times)? {
+        Made::Bytes(bytes) => return Ok(Made::Bytes(bytes)),
+        Made::Unknown => {}
+    }
+    match goods::run(alloc, row, size, times)? {
         Made::Bytes(bytes) => return Ok(Made::Bytes(bytes)),
         Made::Unknown => {}
     }

@@ -1,5 +1,5 @@
-//! The program's words and lines. Digests are from a Python program over hashlib, hmac and another ChaCha20, and sums of frames and of
-//! look-ups from ones that read no frames and have no index.
+//! The program's words and lines. Digests are from Python programs over hashlib, hmac and another ChaCha20, for parts that of openssl,
+//! and sums of frames and of look-ups from ones that read no frames and have no index.
 
 use crate::line_of;
 use std::alloc::{AllocError, Global};
@@ -49,6 +49,22 @@ fn lines(rt: HostRuntime) -> Result<(), Fail> {
         ),
         (
             "unseal 64 3",
+            "fdeab9acf3710362bd2658cdc9a29e8f9c757fcf9811603a8c447cd1d9151108",
+        ),
+        (
+            "parts 100 2",
+            "353a3705eb9ebf5b4d08e460883375e64f97183243f3a27631e3d0b08d58f0eb",
+        ),
+        (
+            "parts 1500000 3",
+            "327f1046f313ea4f6f85561c8bfb69b9cdc4dad14d9da1fdeb5751e7dfb926c9",
+        ),
+        (
+            "openparts 10 1",
+            "6b7501522a149d3da64641170bf1c40a2e5427535bf48563c7e67cdcc22bcbec",
+        ),
+        (
+            "openparts 1000000 2",
             "fdeab9acf3710362bd2658cdc9a29e8f9c757fcf9811603a8c447cd1d9151108",
         ),
         (

@@ -1,0 +1,5 @@
+pub mod Shelf
+pub mod Products
+pub mod Fields
+pub mod Reads
+pub mod Laws

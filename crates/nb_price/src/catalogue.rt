@@ -1,0 +1,121 @@
+ghost use Rattle.std.specs.Prelude.{◌≡◌, ◌≤◌, ◌+◌, ◌++◌, ◌∷◌, [], length, IfOk, IfErr, OnOk, Contains, map, None};
+ghost use Rattle.nb_price.specs.declared.limits.TheConstants.{MAX_SHELF};
+ghost use Rattle.nb_price.specs.Products.{product_in, Product};
+ghost use Rattle.nb_price.specs.Reads.{ReadsShelf, Quotes, Holds, Adds};
+
+use crate::fault::{NoProduct, ShelfFault};
+use crate::line::{Found, item_of};
+use indexmap::IndexMap;
+use nb_units::{NoMemory, Price};
+use std::alloc::{AllocError, Global};
+use std::marker::Model;
+
+// What a product costs, and its goods.
+#[derive(Drop)]
+pub(crate) struct Goods {
+    pub(crate) price: u64,
+    pub(crate) bytes: Vec<u8>,
+}
+
+impl Clone for Goods {
+    ghost use Rattle.std.specs.Prelude.{◌≡◌};
+
+    ghost is_clone = { λ g copy. (copy.price ≡ g.price) × (copy.bytes.items ≡ g.bytes.items) };
+
+    fn clone(&self) -> Result<Goods, AllocError> {
+        Ok(Goods {
+            price: self.price,
+            bytes: self.bytes.clone()?,
+        })
+    }
+}
+
+/// The products of a shelf, by their numbers. It is seen as the list of them, in the shelf's order.
+#[derive(Drop)]
+pub struct Catalogue {
+    products: IndexMap<u32, Goods>,
+}
+
+impl Model for Catalogue {
+    ghost use Rattle.std.specs.Prelude.{List, map};
+    ghost use Rattle.nb_price.specs.Products.{Product, product_at};
+
+    ghost Value = { List Product };
+
+    ghost view = { λ c. map product_at c.products.entries };
+}
+
+impl Catalogue {
+    /// The catalogue of a shelf of at most [`MAX_SHELF`](crate::MAX_SHELF) bytes, which is the spelling of items whose numbers differ. Each item is a
+    /// line `id;price;name;length` that a line feed ends, and then so many bytes of goods. The id is from 0 to 4,294,967,295, the price from 1 to
+    /// 1,000,000,000, the length from 0 to 67,108,864; each is decimal without sign or leading zero. The name has 0 to 64 bytes from 20 to
+    /// 7E other than `;`. Goods alone are copied.
+    ///
+    /// It answers the fault of the first item that is not of this form ([`ShelfFault::BadItem`]) or has the number of one before it
+    /// ([`ShelfFault::Twice`]), and [`ShelfFault::NoMemory`] where there is none for the goods.
+    pub fn read(alloc: Global, bytes: &[u8]) -> Result<Catalogue, ShelfFault>
+        requires { length bytes.now ≤ MAX_SHELF }
+        ensures { ReadsShelf bytes.now result }
+    {
+        let mut catalogue = Catalogue {
+            products: IndexMap::new(alloc),
+        };
+        let mut item = 0;
+        let mut rest = bytes;
+        'items: while !rest.is_empty() {
+            item += 1;
+            match item_of(rest) {
+                Some(found) => {
+                    catalogue.add(alloc, item, &found)?;
+                    rest = found.rest;
+                }
+                None => return Err(ShelfFault::BadItem { item }),
+            }
+        }
+        Ok(catalogue)
+    }
+
+    // Adds the product of an item behind the others.
+    fn add(&mut self, alloc: Global, item: u32, found: &Found<'_>) -> Result<(), ShelfFault>
+        ensures { Adds self.old self.new item found.now result }
+    {
+        let goods = Goods {
+            price: u64::from(found.price),
+            bytes: Vec::from_slice(alloc, found.goods)?,
+        };
+        let was = self.products.insert(found.id, goods)?;
+        if was.is_some() {
+            return Err(ShelfFault::Twice { item, id: found.id });
+        }
+        Ok(())
+    }
+
+    /// What a product costs. It answers [`NoProduct`] exactly where the shelf has none of this number.
+    pub fn quote(&self, product: u32) -> Result<Price, NoProduct>
+        ensures { Quotes self.now product result }
+    {
+        match self.products.get(&product) {
+            Some(goods) => Ok(Price(goods.price)),
+            None => Err(NoProduct { id: product }),
+        }
+    }
+
+    /// The goods of a product, or `None` where the shelf has none of this number.
+    pub fn goods(&self, product: u32) -> Option<&[u8]>
+        ensures { Holds self.now product result }
+    {
+        match self.products.get(&product) {
+            Some(goods) => Some(goods.bytes.as_slice()),
+            None => None,
+        }
+    }
+
+    /// An equal catalogue, or [`NoMemory`] where there is none for it.
+    pub fn copy(&self) -> Result<Catalogue, NoMemory>
+        ensures { IfOk result (λ c. c ≡ self.now) }
+    {
+        Ok(Catalogue {
+            products: self.products.clone()?,
+        })
+    }
+}

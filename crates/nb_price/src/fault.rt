@@ -1,0 +1,51 @@
+use std::alloc::{AllocError, AllocFailed};
+use std::fmt;
+use thiserror::Error;
+
+/// Why a shelf was not read.
+#[derive(Clone, Copy, PartialEq, Eq, Debug, Error)]
+pub enum ShelfFault {
+    /// The item of this number, from 1 on, is not of the form of items. Those before it are, and their products' numbers differ.
+    #[error("shelf item {item} is bad")]
+    BadItem { item: u32 },
+    /// The item of this number, from 1 on, is of the form of items, and its product's number is that of one before it.
+    #[error("product {id} stands twice")]
+    Twice { item: u32, id: u32 },
+    /// There was no memory for the goods.
+    #[error("no memory")]
+    NoMemory,
+}
+
+impl From<AllocError> for ShelfFault {
+    ghost use Rattle.std.specs.Prelude.{◌≡◌};
+    ghost use Rattle.nb_price.specs.declared.fault.ShelfFault.TheVariants as fault;
+
+    ghost from_gives = { λ _ e. e ≡ fault.NoMemory };
+
+    fn from(_error: AllocError) -> ShelfFault {
+        ShelfFault::NoMemory
+    }
+}
+
+impl<T: Drop> From<AllocFailed<T>> for ShelfFault {
+    ghost use Rattle.std.specs.Prelude.{◌≡◌};
+    ghost use Rattle.nb_price.specs.declared.fault.ShelfFault.TheVariants as fault;
+
+    ghost from_gives = { λ _ e. e ≡ fault.NoMemory };
+
+    fn from(_failed: AllocFailed<T>) -> ShelfFault {
+        ShelfFault::NoMemory
+    }
+}
+
+/// The catalogue has no product of this number.
+#[derive(Clone, Copy, PartialEq, Eq, Debug)]
+pub struct NoProduct {
+    pub id: u32,
+}
+
+impl fmt::Display for NoProduct {
+    fn fmt<W: fmt::Write>(&self, f: &mut fmt::Formatter<W>) -> fmt::Result {
+        write!(f, "there is no product {}", self.id)
+    }
+}

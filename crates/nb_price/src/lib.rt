@@ -1,0 +1,25 @@
+//! What a merchant sells, and at which price.
+//!
+//! A shelf is a list of bytes: items one behind the other, each a line `id;price;name;length` and then so many bytes of goods.
+//! [`Catalogue::read`] reads it, or tells the first item that is bad or has the number of one before it. A [`Catalogue`] is seen as the list of
+//! the shelf's products, in its order; [`Catalogue::quote`] and [`Catalogue::goods`] find one by its number. Names are read and not kept.
+//!
+//! What a shelf is stands once, in `specs/Shelf.antt`, as the spelling of a list of items. That bytes have one answer is proved by the
+//! functions of [`laws`].
+//!
+//! Left to others: how goods are sealed, who may buy them, and what is paid.
+#![tactic(auto)]
+
+mod catalogue;
+mod fault;
+pub mod laws;
+mod limits;
+mod line;
+mod words;
+
+pub use catalogue::Catalogue;
+pub use fault::{NoProduct, ShelfFault};
+pub use limits::{MAX_NAME, MAX_PRICE, MAX_SHELF};
+
+#[cfg(test)]
+mod tests;
