@@ -2,11 +2,13 @@
 //!
 //! [`serve`] reads pieces of the source, takes one frame of them after another, asks the clock, lets the vault answer, and sends the
 //! reply; it reads on only where less than a frame waits. Where the vault answers none, the reply is the refusal that says why. Where a
-//! write fails, or so many frames were answered, some of the last piece stay unanswered. What is promised (`specs/Batch.antt`, `Served`): the frames that were answered are
-//! the first of the bytes that were taken; they were answered by a run of turns (`RunOfOnes` of nb_turns), whose replies are what was
-//! sent; a stop at any moment leaves the entries of one of the states of that run, without what is in doubt in it or with it; and
-//! how the batch ended says what is left of the input and what failed. The entry of a request that was answered stays, whatever
-//! comes behind it ([`laws::acknowledged_stays`]).
+//! write fails, or so many frames were answered, some of the last piece stay unanswered.
+//!
+//! What is promised (`specs/Batch.antt`, `Served`): the frames that were answered are the first of the bytes that were taken; they were
+//! answered by a run of turns (`RunOfOnes` of nb_turns), whose replies are what was sent; a stop at any moment leaves the entries of
+//! one of the states of that run, without what is in doubt in it or with it; and how the batch ended says what is left of the input,
+//! how far it was read, and what failed. The entry of a request that was answered stays, whatever comes behind it
+//! ([`laws::acknowledged_stays`]).
 //!
 //! Left to others: opening the vault, what of a batch's end is told outside, and the words of the program.
 #![tactic(auto)]

@@ -1,0 +1,127 @@
+// Requests answered over a journal in a file: each by itself, or up to 32 of them in a turn.
+
+ghost use Rattle.std.specs.Prelude.{IsTrue};
+ghost use Rattle.std.specs.List.{All};
+ghost use Rattle.nb_vault.specs.Asking.{IsWithin};
+
+use anyhow::anyhow;
+use nb_msgs::REPLY_ROOM;
+use nb_port::Clock;
+use nb_system::{FileDisk, StdFile, SystemClock};
+use nb_turns::MAX_REQUESTS;
+use nb_units::frames::HEADER;
+use nb_vault::{Answer, AnswerAll, AskAt, Vault};
+use std::alloc::Global;
+use std::fs::{File, OpenOptions};
+use std::io::Read;
+
+/// Answers the frames on standard input over the journal of this name, so many in a turn, or each by itself where that is 0. What is
+/// made is the number of bytes of all replies.
+pub fn run(rt: &HostRuntime, name: &str, turn: usize) -> anyhow::Result<usize> {
+    let alloc = rt.alloc();
+    let file = OpenOptions::new().read(true).write(true).open(rt, name)?;
+    let disk = FileDisk::over(file, File::open(rt, ".")?);
+    let mut vault = match Vault::open(alloc, disk) {
+        Ok(vault) => vault,
+        Err((fault, _)) => return Err(anyhow!("{fault}")),
+    };
+    let mut bytes = Vec::new(alloc);
+    rt.stdin().read_to_end(&mut bytes)?;
+    let moment = SystemClock::over(rt.clone()?).now();
+    let asks = asks_of(alloc, &bytes, moment)?;
+    let mut ats = Vec::new(alloc);
+    let mut out = Vec::new(alloc);
+    let mut told = 0usize;
+    if turn == 0 {
+        for ask in asks.as_slice() {
+            answer(&mut vault, &bytes, ask, &mut out)?;
+            told = told.saturating_add(out.len());
+        }
+    } else {
+        for group in asks.as_slice().chunks(turn) {
+            answer_all(&mut vault, &bytes, group, &mut ats, &mut out)?;
+            told = told.saturating_add(out.len());
+        }
+    }
+    Ok(told)
+}
+
+// The requests in these frames, one behind the other, all at one moment. A header has the kind in its fourth byte and the number of the
+// body's bytes in the four behind it. It ends where no whole frame is left.
+fn asks_of(alloc: Global, bytes: &[u8], moment: u64) -> anyhow::Result<Vec<AskAt>> {
+    let mut asks = Vec::new(alloc);
+    let mut rest = bytes;
+    let mut at = 0usize;
+    'reading: for _ in 0..u64::MAX {
+        if rest.len() < HEADER {
+            break 'reading;
+        }
+        let (header, body) = rest.split_at(HEADER);
+        let len = u32::from_be_bytes([header[4], header[5], header[6], header[7]]) as usize;
+        if len > body.len() {
+            break 'reading;
+        }
+        let start = at.saturating_add(HEADER);
+        asks.push(AskAt {
+            kind: header[3],
+            start,
+            len,
+            moment,
+        })?;
+        at = start.saturating_add(len);
+        rest = body.split_at(len).1;
+    }
+    Ok(asks)
+}
+
+// Answers one request.
+fn answer(
+    vault: &mut Vault<FileDisk<StdFile>>,
+    bytes: &[u8],
+    ask: &AskAt,
+    out: &mut Vec<u8>,
+) -> anyhow::Result<()> {
+    out.clear();
+    out.reserve(REPLY_ROOM)?;
+    if ask.start > bytes.len() || ask.len > bytes.len() - ask.start {
+        return Err(anyhow!("a body ends behind the bytes"));
+    }
+    let body = bytes.split_at(ask.start).1.split_at(ask.len).0;
+    match vault.answer(0, ask.kind, body, ask.moment, out) {
+        Answer::Answered { .. } => Ok(()),
+        _ => Err(anyhow!("the disk failed")),
+    }
+}
+
+// Answers the requests of a turn.
+fn answer_all(
+    vault: &mut Vault<FileDisk<StdFile>>,
+    bytes: &[u8],
+    asks: &[AskAt],
+    ats: &mut Vec<u64>,
+    out: &mut Vec<u8>,
+) -> anyhow::Result<()> {
+    ats.clear();
+    ats.reserve(MAX_REQUESTS)?;
+    out.clear();
+    out.reserve(REPLY_ROOM * MAX_REQUESTS)?;
+    if asks.is_empty() || asks.len() > MAX_REQUESTS || !are_within(bytes, asks) {
+        return Err(anyhow!("a turn has from 1 to 32 requests"));
+    }
+    match vault.answer_all(0, bytes, asks, ats, out) {
+        AnswerAll::Answered => Ok(()),
+        _ => Err(anyhow!("the disk failed")),
+    }
+}
+
+// Whether all bodies stand within the bytes.
+fn are_within(bytes: &[u8], asks: &[AskAt]) -> bool
+    ensures { IsTrue result → All (IsWithin bytes.now) asks.now }
+{
+    for ask in asks {
+        if ask.start > bytes.len() || ask.len > bytes.len() - ask.start {
+            return false;
+        }
+    }
+    true
+}
