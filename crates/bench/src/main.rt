@@ -2,7 +2,7 @@
 //! `bench ROW SIZE TIMES`. It prints the SHA-256 digest of what the work made, in hexadecimal.
 //!
 //! The work begins with SIZE bytes of a pattern; a turn and a lock have no bytes, and SIZE is the number of threads; of look-ups it is
-//! how many keys there are. Each round works on what the last one made, so that none can be left out. `bench answer JOURNAL REQUESTS`
+//! how many keys there are, and of a shelf how many products. Each round works on what the last one made, so that none can be left out. `bench answer JOURNAL REQUESTS`
 //! answers the frames on standard input over a journal, so many in a turn, and prints how many bytes their replies have. A file has one
 //! subject and its rows: a new row touches that file alone. How long a round takes is no claim of the proofs, and no clause says more
 //! than its safety needs: bench/run measures from outside, and the tests compare what is made with other programs.
@@ -16,6 +16,7 @@ mod indexing;
 mod keystream;
 mod pattern;
 mod sealing;
+mod shelves;
 #[cfg(test)]
 mod tests;
 mod turning;
@@ -28,7 +29,8 @@ use std::process::ExitCode;
 use std::sync::Wait;
 use std::thread::Threads;
 
-const USAGE: &str = "usage: bench sha|hmac|seal|unseal|stream|parts|openparts|lookup SIZE TIMES
+const USAGE: &str =
+    "usage: bench sha|hmac|seal|unseal|stream|parts|openparts|lookup|shelf SIZE TIMES
        bench frames1|frames100|frames65536|copy SIZE TIMES
        bench turn|lock THREADS TIMES
        bench answer JOURNAL REQUESTS";
@@ -106,6 +108,10 @@ fn run<R: Threads + Wait + Sync>(
         Made::Unknown => {}
     }
     match goods::run(alloc, row, size, times)? {
+        Made::Bytes(bytes) => return Ok(Made::Bytes(bytes)),
+        Made::Unknown => {}
+    }
+    match shelves::run(alloc, row, size, times)? {
         Made::Bytes(bytes) => return Ok(Made::Bytes(bytes)),
         Made::Unknown => {}
     }

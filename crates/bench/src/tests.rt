@@ -108,6 +108,10 @@ fn lines(rt: HostRuntime) -> Result<(), Fail> {
             "be4979ba8d2ecc83689d64e35a2bb395bbb685af2c34062d4e7855451987485b",
         ),
         (
+            "shelf 3 2",
+            "4d75f61869104baa4ccff5be73311be9bdd6cc31779301dfc699479403c8a786",
+        ),
+        (
             "turn 1 100",
             "5fcba2633bef1c29420e0eed7b037ced8b00466b0e8f1c5ce1cad2e97e117aad",
         ),
