@@ -4,8 +4,8 @@
 //! [`Catalogue::read`] reads it, or tells the first item that is bad or has the number of one before it. A [`Catalogue`] is seen as the list of
 //! the shelf's products, in its order; [`Catalogue::quote`] and [`Catalogue::goods`] find one by its number. Names are read and not kept.
 //!
-//! What a shelf is stands once, in `specs/Shelf.antt`, as the spelling of a list of items. That bytes have one answer is proved by the
-//! functions of [`laws`].
+//! What a shelf is stands once, in `specs/Shelf.antt`, as the spelling of a list of items. That what stands at the front of bytes is
+//! one item is proved by a function of [`laws`].
 //!
 //! Left to others: how goods are sealed, who may buy them, and what is paid.
 #![tactic(auto)]
