@@ -1,0 +1,4 @@
+pub mod Asking
+pub mod Answers
+pub mod Desks
+pub mod Asks

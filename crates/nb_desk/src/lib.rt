@@ -1,0 +1,11 @@
+//! The desk: a vault that many callers ask.
+#![tactic(auto)]
+
+mod asked;
+mod desk;
+mod handed;
+
+pub use asked::{Asked, AskedAll};
+pub use desk::{Desk, Pass};
+pub use handed::DeskVault;
+pub use nb_turn::{NoMemory, SplitFault};
