@@ -7,8 +7,7 @@ use Rattle.nb_book.specs.declared.entry.Entry.{Entry}
 use Rattle.nb_turns.specs.declared.limits.TheConstants.{MAX_FAULTS}
 use Rattle.nb_turns.specs.declared.line.Line.{Line}
 use Rattle.nb_turns.specs.Turns.{Request, Outcome, Decides, Fails, Refuses}
-use Rattle.nb_turns.specs.Lines.{maker_of, lines_by}
-use Rattle.nb_turns.specs.Laws.{StateOver}
+use Rattle.nb_turns.specs.Lines.{StateOver, maker_of, lines_by}
 use Rattle.nb_turns.specs.Callers.{Turned, Follows, behind}
 use Rattle.nb_turn.specs.declared.chronicle.View.{View}
 use Rattle.nb_turn.specs.Lines.{NoneBy}
