@@ -1,9 +1,11 @@
 -- One turn of a vault, as a pass sees it.
-use Rattle.std.proofs.Common.{◌≡◌, ◌⊎◌, inl, inr, ℕ, Bool, true, false, true≢false, List, [], ◌∷◌, ◌++◌, length, drop, Some, is_some, cond, sym, refl, ap, ◌∙◌, subst, append-nil, eq-eqb}
+use Rattle.std.proofs.Common.{◌≡◌, ◌⊎◌, inl, inr, ℕ, ◌≤◌, Bool, true, false, true≢false, List, [], ◌∷◌, ◌++◌, length, drop, Some, is_some, cond, sym, refl, ap, ◌∙◌, subst, append-nil, eq-eqb, arith}
 use Rattle.std.proofs.lemmas.Option.{same_Some}
 use Rattle.std.specs.List.{AllByRecursion}
+use Rattle.std.proofs.lemmas.List.{length-map}
 use Rattle.nb_port.specs.Tells.{DiskTells}
 use Rattle.nb_book.specs.declared.entry.Entry.{Entry}
+use Rattle.nb_turns.specs.declared.limits.TheConstants.{MAX_REQUESTS}
 use Rattle.nb_turns.specs.declared.line.Line.{Line}
 use Rattle.nb_turns.specs.Turns.{Request, Outcome, Decides, Fails, Refuses, FitTurn}
 use Rattle.nb_turns.specs.Lines.{AddsLines, AreBelow, StateOver, lines_by, maker_of, next_turn, open_doubt, entries_of}
@@ -12,6 +14,7 @@ use Rattle.nb_turns.proofs.Lists.{all_weaker}
 use Rattle.nb_turns.proofs.Numbering.{next_is_above}
 use Rattle.nb_turn.specs.declared.chronicle.View.{View}
 use Rattle.nb_turn.specs.Lines.{NoneBy}
+use Rattle.nb_turn.specs.Told.{TakenOnce, TakenAtLast}
 use Rattle.nb_turn.specs.Views.{number_of, first_sees, found_more, gave, reseen, took}
 use Rattle.nb_turn.proofs.Lists.{by-append, first_again, rest_is}
 use Rattle.nb_turns.specs.Callers.{Follows}
@@ -19,14 +22,23 @@ use Rattle.nb_vault.specs.declared.answer.Answer.{Answer}
 use Rattle.nb_vault.specs.declared.answer.Answer.TheVariants as one
 use Rattle.nb_vault.specs.declared.answer.AnswerAll.{AnswerAll}
 use Rattle.nb_vault.specs.declared.answer.AnswerAll.TheVariants as all
+use Rattle.nb_vault.specs.declared.answer.AskAt.{AskAt}
+use Rattle.nb_vault.specs.Asking.{requests_of}
 use Rattle.nb_vault.specs.declared.origin.Origin.{Origin}
 use Rattle.nb_vault.specs.Vaults.{Chronicled, Went, TurnOf, all_of, entries_in, house_in, place_in, state_of}
 use Rattle.nb_desk.specs.declared.asked.AskedAll.{AskedAll}
 use Rattle.nb_desk.specs.declared.asked.AskedAll.TheVariants as asked
 use Rattle.nb_desk.specs.Answers.{Answers, AnswersAs, AnswersHeld}
 use Rattle.nb_desk.specs.Asking.{asked_of, asked_all_of}
-use Rattle.nb_desk.specs.Asks.{Asks, Gives, GoesOn, Tries, turned, all_asked, place_asked}
+use Rattle.nb_desk.specs.Asks.{Asks, Gives, GoesOn, GoesOnAtLast, Tries, turned, all_asked, place_asked}
 use Rattle.nb_desk.specs.Desks.{MeetsVault}
+
+-- a pass took the turn of a vault
+abbrev pub TakenOnceVault : {D : Type 0} → View Origin Line → View Origin Line → Chronicled D → Type 0
+TakenOnceVault {D} v h vault = TakenOnce (λ (c : Chronicled D). c.origin) (λ (c : Chronicled D). c.lines) maker_of v h vault
+
+abbrev pub TakenAtLastVault : {D : Type 0} → View Origin Line → View Origin Line → Chronicled D → Type 0
+TakenAtLastVault {D} v h vault = TakenAtLast (λ (c : Chronicled D). c.origin) (λ (c : Chronicled D). c.lines) maker_of v h vault
 
 -- ---- the lines of a turn
 
@@ -59,6 +71,10 @@ module _ {D : Type 0} (tells : DiskTells D) (old new : Chronicled D) (by : ℕ) 
       let a = added_by found out out' answer t in
       let e : new.lines ≡ lines ++ a.0 = a.1 ∙ ap (λ (x : List Line). x ++ a.0) same in
       ((a.0, e), subst (AllByRecursion (λ (l : Line). maker_of l ≡ by)) (sym (rest_is new.lines lines a.0 e)) a.2)
+
+-- as many requests are asked as a turn may have
+pub asks_fit : (bytes : List ℕ) (asks : List AskAt) → 1 ≤ length asks → length asks ≤ MAX_REQUESTS → FitTurn (requests_of bytes asks)
+asks_fit bytes asks least most = let same : length (requests_of bytes asks) ≡ length asks = length-map asks _ in (omega (arith, same, least), omega (arith, same, most))
 
 -- ---- what is told of an answer
 
@@ -142,3 +158,34 @@ goes_on u w before behind view =
         ap (λ (ps : List (ℕ × List Line)). let x : View Origin Line = record { origin = u.origin; seen = behind; parts = ps; found = u.found ++ (0, 0) ∷ []; holds = false } in x) (first_again behind before u.parts) in
     let seen : w.seen ≡ behind = ap (λ (x : View Origin Line). x.seen) view in
     view ∙ again ∙ ap (λ (s : List Line). gave (took s u)) (sym seen)
+
+-- what the pass knows behind an answer
+held_view : {D : Type 0} (tells : DiskTells D) (old : Chronicled D) (by : ℕ) (h w : View Origin Line) (requests : List Request) (found out out' : List ℕ) (answer : AskedAll)
+    → AnswersHeld tells old by h w requests found out out' answer → (lines : List Line) × (w ≡ gave (reseen lines h))
+held_view tells old by h w requests found out out' asked.Served a = (a.0.lines, a.2)
+held_view tells old by h w requests found out out' (asked.DiskFault before after) a = (a.0.lines, a.2)
+held_view tells old by h w requests found out out' (asked.Worn faults) a = (a.0.lines, a.2)
+held_view tells old by h w requests found out out' (asked.Busy word) a = absurd a
+
+-- so it is where the turn was taken by one swap
+goes_on_once : (v h w : View Origin Line) (before : List Line) → h ≡ took before v → (lines : List Line) × (w ≡ gave (reseen lines h)) → GoesOn v w
+goes_on_once v h w before taken (lines, view) = goes_on v w before lines (view ∙ ap (λ (x : View Origin Line). gave (reseen lines x)) taken)
+
+module _ {D : Type 0} (tells : DiskTells D) (by n : ℕ) (v h w : View Origin Line) (requests : List Request) (found out out' : List ℕ) (old : Chronicled D) (answer : AskedAll)
+    (fits : FitTurn requests) (number : number_of v.parts ≡ Some by) (same : n ≡ by) (told : AnswersHeld tells old n h w requests found out out' answer) where
+  -- what is given where the turn was taken
+  pub given : MeetsVault v old → Gives tells by v w requests found out out' answer
+  given meets = gives tells by v h w requests found out out' old fits number meets answer (subst (λ (k : ℕ). AnswersHeld tells old k h w requests found out out' answer) same told)
+
+  -- by one swap
+  pub tried : TakenOnceVault v h old → Tries tells by v w requests found out out' answer
+  tried taken = part answer (goes_on_once v h w old.lines taken.0 (held_view tells old n h w requests found out out' answer told)) (given taken.1) where
+    part : (a : AskedAll) → GoesOn v w → Gives tells by v w requests found out out' a → Tries tells by v w requests found out out' a
+    part asked.Served goes g = (goes, g)
+    part (asked.DiskFault before after) goes g = (goes, g)
+    part (asked.Worn faults) goes g = (goes, g)
+    part (asked.Busy word) goes g = absurd g
+
+  -- or at last
+  pub at_last : TakenAtLastVault v h old → GoesOnAtLast v w
+  at_last taken = (taken.0.0, taken.0.1, goes_on_once (found_more taken.0.0 v) h w old.lines taken.0.2 (held_view tells old n h w requests found out out' answer told))
