@@ -4,20 +4,18 @@ use Rattle.std.proofs.lemmas.Option.{same_Some}
 use Rattle.std.specs.List.{AllByRecursion}
 use Rattle.std.proofs.lemmas.List.{length-map}
 use Rattle.nb_port.specs.Tells.{DiskTells}
-use Rattle.nb_book.specs.declared.entry.Entry.{Entry}
 use Rattle.nb_turns.specs.declared.limits.TheConstants.{MAX_REQUESTS}
 use Rattle.nb_turns.specs.declared.line.Line.{Line}
 use Rattle.nb_turns.specs.Turns.{Request, Outcome, Decides, Fails, Refuses, FitTurn}
-use Rattle.nb_turns.specs.Lines.{AddsLines, AreBelow, StateOver, lines_by, maker_of, next_turn, open_doubt, entries_of}
+use Rattle.nb_turns.specs.Lines.{AddsLines, AreBelow, StateOver, lines_by, maker_of, next_turn, open_doubt}
 use Rattle.nb_turns.proofs.Lining.{lines_are_of}
 use Rattle.nb_turns.proofs.Lists.{all_weaker}
 use Rattle.nb_turns.proofs.Numbering.{next_is_above}
 use Rattle.nb_turn.specs.declared.chronicle.View.{View}
 use Rattle.nb_turn.specs.Lines.{NoneBy}
 use Rattle.nb_turn.specs.Told.{TakenOnce, TakenAtLast}
-use Rattle.nb_turn.specs.Views.{number_of, first_sees, found_more, gave, reseen, took}
+use Rattle.nb_turn.specs.Views.{number_of, found_more, gave, reseen, took}
 use Rattle.nb_turn.proofs.Lists.{by-append, first_again, rest_is}
-use Rattle.nb_turns.specs.Callers.{Follows}
 use Rattle.nb_vault.specs.declared.answer.Answer.{Answer}
 use Rattle.nb_vault.specs.declared.answer.Answer.TheVariants as one
 use Rattle.nb_vault.specs.declared.answer.AnswerAll.{AnswerAll}
@@ -25,12 +23,12 @@ use Rattle.nb_vault.specs.declared.answer.AnswerAll.TheVariants as all
 use Rattle.nb_vault.specs.declared.answer.AskAt.{AskAt}
 use Rattle.nb_vault.specs.Asking.{requests_of}
 use Rattle.nb_vault.specs.declared.origin.Origin.{Origin}
-use Rattle.nb_vault.specs.Vaults.{Chronicled, Went, TurnOf, all_of, entries_in, house_in, place_in, state_of}
+use Rattle.nb_vault.specs.Vaults.{Chronicled, Went, TurnOf, all_of, house_in, place_in, state_of}
 use Rattle.nb_desk.specs.declared.asked.AskedAll.{AskedAll}
 use Rattle.nb_desk.specs.declared.asked.AskedAll.TheVariants as asked
 use Rattle.nb_desk.specs.Answers.{Answers, AnswersAs, AnswersHeld}
 use Rattle.nb_desk.specs.Asking.{asked_of, asked_all_of}
-use Rattle.nb_desk.specs.Asks.{Asks, Gives, GoesOn, GoesOnAtLast, Tries, turned, all_asked, place_asked}
+use Rattle.nb_desk.specs.Asks.{Asks, Gives, GoesOn, GoesOnAtLast, Tries, all_asked, place_asked}
 use Rattle.nb_desk.specs.Desks.{MeetsVault}
 
 -- a pass took the turn of a vault

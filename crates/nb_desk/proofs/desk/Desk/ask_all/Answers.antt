@@ -1,4 +1,3 @@
-use Rattle.std.proofs.Common.{arith}
 use Rattle.nb_turns.specs.Turns.{FitTurn}
 use Rattle.nb_vault.specs.Asking.{requests_of}
 use Rattle.nb_turn.specs.Passes.{held_sees, sees}
