@@ -113,10 +113,7 @@ module _ {D : Type 0} (tells : DiskTells D) (by : ℕ) (v h w : View Origin Line
       record {
         old = old;
         new = new;
-        others = meets.others;
-        origin = meets.origin_is;
-        begins = meets.begins;
-        apart = meets.alone;
+        meets = meets;
         went = t;
         same_origin = a.origin;
         seen_is = seen_is;

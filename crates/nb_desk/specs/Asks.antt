@@ -1,5 +1,5 @@
 -- What an answer of a desk tells: one turn of its vault, over what the pass knew.
-use Rattle.std.specs.Prelude.{◌≡◌, ◌⊎◌, ℕ, ◌≤◌, List, [], ◌∷◌, ◌++◌, Some}
+use Rattle.std.specs.Prelude.{◌≡◌, ◌⊎◌, ℕ, ◌≤◌, List, [], ◌∷◌, ◌++◌}
 use Rattle.std.specs.List.{AllByRecursion}
 use Rattle.nb_port.specs.Tells.{DiskTells}
 use Rattle.nb_journal.specs.Time.{LeavesOnly}
@@ -7,10 +7,9 @@ use Rattle.nb_book.specs.declared.entry.Entry.{Entry}
 use Rattle.nb_turns.specs.declared.limits.TheConstants.{MAX_FAULTS}
 use Rattle.nb_turns.specs.declared.line.Line.{Line}
 use Rattle.nb_turns.specs.Turns.{Request, Outcome, Decides, Fails, Refuses}
-use Rattle.nb_turns.specs.Lines.{StateOver, maker_of, lines_by}
+use Rattle.nb_turns.specs.Lines.{StateOver, lines_by}
 use Rattle.nb_turns.specs.Callers.{Turned, Follows, behind}
 use Rattle.nb_turn.specs.declared.chronicle.View.{View}
-use Rattle.nb_turn.specs.Lines.{NoneBy}
 use Rattle.nb_turn.specs.Views.{found_one, found_more, took, gave}
 use Rattle.nb_vault.specs.declared.answer.AnswerAll.{AnswerAll}
 use Rattle.nb_vault.specs.declared.answer.AnswerAll.TheVariants as all
@@ -20,6 +19,7 @@ use Rattle.nb_desk.specs.declared.asked.Asked.{Asked}
 use Rattle.nb_desk.specs.declared.asked.Asked.TheVariants as one
 use Rattle.nb_desk.specs.declared.asked.AskedAll.{AskedAll}
 use Rattle.nb_desk.specs.declared.asked.AskedAll.TheVariants as asked
+use Rattle.nb_desk.specs.Desks.{MeetsVault}
 
 -- a turn of a pass: what was asked, how it went, the lines of others since the pass saw the last, and its own
 abbrev pub turned : List Request → Outcome → List Line → List Line → Turned
@@ -30,18 +30,15 @@ pub record Asks {D : Type 0} (tells : DiskTells D) (by : ℕ) (v w : View Origin
   pub old : Chronicled D
   pub new : Chronicled D
   -- it was what the desk was opened with, and its lines began with all that the pass had seen. What others made since is neither the
-  -- pass's nor of one that was joined into it
-  pub others : List Line
-  pub origin : v.origin ≡ Some old.origin
-  pub begins : old.lines ≡ v.seen ++ others
-  pub apart : AllByRecursion (NoneBy maker_of others) v.parts
+  -- pass's nor of one that was joined into it: for each of them its own lines are exactly the vault's lines of its number
+  pub meets : MeetsVault v old
   -- it made one turn, and the pass has seen all its lines
   pub went : Went tells old new by requests outcome found out out'
   pub same_origin : new.origin ≡ old.origin
   pub seen_is : w.seen ≡ new.lines
   -- so the pass has seen the lines of others and its own, which are those of such a turn, under the next turn's number, and nothing else
-  pub follows : Follows (house_in old) old.origin.entries by v.seen (turned requests outcome others went.added)
-  pub seen : w.seen ≡ behind v.seen (turned requests outcome others went.added)
+  pub follows : Follows (house_in old) old.origin.entries by v.seen (turned requests outcome meets.others went.added)
+  pub seen : w.seen ≡ behind v.seen (turned requests outcome meets.others went.added)
   pub own : lines_by by w.seen ≡ lines_by by v.seen ++ went.added
   -- its states are states over these lines
   pub over_before : StateOver old.origin.entries old.lines (state_of old)

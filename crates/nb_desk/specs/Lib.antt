@@ -2,3 +2,4 @@ pub mod Asking
 pub mod Answers
 pub mod Desks
 pub mod Asks
+pub mod Laws

@@ -4,6 +4,7 @@
 mod asked;
 mod desk;
 mod handed;
+pub mod laws;
 
 pub use asked::{Asked, AskedAll};
 pub use desk::{Desk, Pass};
