@@ -25,16 +25,19 @@ use nb_vault::{AskAt, Vault};
 use std::alloc::Global;
 use std::sync::Wait;
 
-/// The right to ask a desk, with what was seen of the vault's lines.
+/// The right to ask a desk, with what was seen of the vault's lines: a pass of the desk's turn, seen as its
+/// [`View`](nb_turn::View).
 pub type Pass<D> = nb_turn::Pass<DeskVault<D>>;
 
-/// A vault that the holders of passes ask in turn.
+/// A vault that the holders of passes ask, one after another. It waits for nobody, and no lock is in it.
 #[derive(Drop)]
 pub struct Desk<D: Disk> {
     turn: Turn<DeskVault<D>>,
 }
 
 impl<D: Disk + Drop> Desk<D> {
+    /// Makes a desk over a vault that has done nothing since it was opened, and its first pass, of number 0, which has seen nothing.
+    /// Where there is no memory the vault comes back.
     pub fn open(alloc: Global, vault: Vault<D>) -> Result<(Desk<D>, Pass<D>), (NoMemory, Vault<D>)>
         requires { vault.lines ≡ [] }
         ensures ok { IfOk result (λ r. IsAt r.1 r.0 × (r.1.number ≡ 0) × (sees r.1 ≡ fresh_view vault.origin)) }
@@ -46,6 +49,7 @@ impl<D: Disk + Drop> Desk<D> {
         }
     }
 
+    /// Splits a pass of this number off. It takes no memory.
     pub fn split(
         &mut self,
         pass: Pass<D>,
@@ -63,6 +67,7 @@ impl<D: Disk + Drop> Desk<D> {
         self.turn.split(pass, number)
     }
 
+    /// Joins the second pass into the first.
     pub fn join(&mut self, first: Pass<D>, second: Pass<D>) -> Pass<D>
         requires first { IsAt first self.old }
         requires second { IsAt second self.old }
@@ -75,6 +80,8 @@ impl<D: Disk + Drop> Desk<D> {
         self.turn.join(first, second)
     }
 
+    /// Takes the turn, waiting while another pass has it, and ends the desk: the vault comes out. For the pass and each one joined
+    /// into it, its own lines are exactly the vault's lines of its number.
     pub fn close<R: Wait>(self, rt: &R, pass: Pass<D>) -> Vault<D>
         requires desk { IsAt pass self }
         ensures meets { MeetsVault (sees pass) result }
@@ -83,6 +90,9 @@ impl<D: Disk + Drop> Desk<D> {
         self.turn.close(rt, pass).into_vault()
     }
 
+    /// Asks for one request, as [`Vault::answer`] does, in the name of the pass's number, at a moment in seconds since 1970-01-01 00:00
+    /// UTC. It waits for nobody: where another pass has the turn it is [`Busy`](Asked::Busy), and nothing was asked. It takes no
+    /// memory; `out` needs room for [`REPLY_ROOM`](nb_msgs::REPLY_ROOM) bytes.
     pub fn try_ask(
         &self,
         pass: Pass<D>,
@@ -104,6 +114,7 @@ impl<D: Disk + Drop> Desk<D> {
         }
     }
 
+    /// Asks for one request as [`Desk::try_ask`] does, and waits while another pass has the turn. It is never Busy.
     pub fn ask<R: Wait>(
         &self,
         rt: &R,
@@ -125,6 +136,9 @@ impl<D: Disk + Drop> Desk<D> {
         self.ask_held(held, kind, body, moment, out)
     }
 
+    /// Asks for from 1 to [`MAX_REQUESTS`](nb_turns::MAX_REQUESTS) requests in one turn, as [`Vault::answer_all`] does, in the name of
+    /// the pass's number. It waits for nobody, and takes no memory: `ats` needs room for one place each, and `out` for
+    /// [`REPLY_ROOM`](nb_msgs::REPLY_ROOM) bytes each.
     pub fn try_ask_all(
         &self,
         pass: Pass<D>,
@@ -151,6 +165,7 @@ impl<D: Disk + Drop> Desk<D> {
         }
     }
 
+    /// Asks for several requests as [`Desk::try_ask_all`] does, and waits while another pass has the turn. It is never Busy.
     pub fn ask_all<R: Wait>(
         &self,
         rt: &R,
