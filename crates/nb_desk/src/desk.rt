@@ -159,7 +159,8 @@ impl<D: Disk + Drop> Desk<D> {
         ensures room { vec_capacity out.new ≡ vec_capacity out.old }
         ensures places { vec_capacity ats.new ≡ vec_capacity ats.old }
     {
-        match self.turn.try_take(pass) {
+        let tried = self.turn.try_take(pass);
+        match tried {
             Ok(held) => self.ask_all_held(held, bytes, asks, ats, out),
             Err((Busy { word }, pass)) => (pass, AskedAll::Busy { word }),
         }
