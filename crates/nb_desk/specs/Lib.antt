@@ -1,0 +1,5 @@
+pub mod Asking
+pub mod Answers
+pub mod Desks
+pub mod Asks
+pub mod Laws

@@ -1,0 +1,248 @@
+ghost use Rattle.std.specs.Prelude.{◌≡◌, ◌≢◌, ◌≤◌, ◌<◌, ◌+◌, ◌*◌, ◌++◌, ◌∷◌, [], ℕ, List, length, IfOk, IfErr, Some, vec_capacity, vec_len};
+ghost use Rattle.std.specs.List.{All};
+ghost use Rattle.std.specs.Int.{bit_at};
+ghost use Rattle.nb_turns.specs.declared.limits.TheConstants.{MAX_REQUESTS};
+ghost use Rattle.nb_turns.specs.Lines.{maker_of};
+ghost use Rattle.nb_msgs.specs.declared.reply.TheConstants.{REPLY_ROOM};
+ghost use Rattle.nb_units.specs.Room.{spare_of};
+ghost use Rattle.nb_vault.specs.Asking.{IsWithin, request_of, requests_of};
+ghost use Rattle.nb_vault.specs.Vaults.{Keeps, all_of, place_in};
+ghost use Rattle.nb_turn.specs.Lines.{StartsWith, lines_by};
+ghost use Rattle.nb_turn.specs.Views.{fresh_view, newcomer, found_one, named, joined, reseen, gave};
+ghost use Rattle.nb_turn.specs.Faults.{no_memory, taken_in};
+ghost use Rattle.nb_turn.specs.Told.{Meets};
+ghost use Rattle.nb_turn.specs.Passes.{sees, held_sees, IsOf, Belongs};
+ghost use Rattle.nb_turn.specs.declared.words.TheConstants.{MAX_PASSES};
+ghost use Rattle.nb_desk.specs.Answers.{AnswersHeld};
+ghost use Rattle.nb_desk.specs.Asks.{Gives, Tries, GoesOnAtLast, all_asked, place_asked};
+ghost use Rattle.nb_desk.specs.Desks.{IsAt, IsSameDesk, MeetsVault};
+
+use crate::asked::{Asked, AskedAll};
+use crate::handed::DeskVault;
+use nb_port::Disk;
+use nb_turn::{Busy, Held, NoMemory, SplitFault, Turn};
+use nb_vault::{AskAt, Vault};
+use std::alloc::Global;
+use std::sync::Wait;
+
+/// The right to ask a desk, with what was seen of the vault's lines: a pass of the desk's turn, seen as its
+/// [`View`](nb_turn::View).
+pub type Pass<D> = nb_turn::Pass<DeskVault<D>>;
+
+/// A vault that the holders of passes ask, one after another. It waits for nobody, and no lock is in it.
+#[derive(Drop)]
+pub struct Desk<D: Disk> {
+    turn: Turn<DeskVault<D>>,
+}
+
+impl<D: Disk + Drop> Desk<D> {
+    /// Makes a desk over a vault that has done nothing since it was opened, and its first pass, of number 0, which has seen nothing.
+    /// Where there is no memory the vault comes back.
+    pub fn open(alloc: Global, vault: Vault<D>) -> Result<(Desk<D>, Pass<D>), (NoMemory, Vault<D>)>
+        requires { vault.lines ≡ [] }
+        ensures ok { IfOk result (λ r. IsAt r.1 r.0 × (r.1.number ≡ 0) × (sees r.1 ≡ fresh_view vault.origin)) }
+        ensures err { IfErr result (λ e. e.1 ≡ vault) }
+    {
+        match Turn::open(alloc, DeskVault::of(vault)) {
+            Ok((turn, pass)) => Ok((Desk { turn }, pass)),
+            Err((fault, vault)) => Err((fault, vault.into_vault())),
+        }
+    }
+
+    /// Splits a pass of this number off. It takes no memory.
+    pub fn split(
+        &mut self,
+        pass: Pass<D>,
+        number: u64,
+    ) -> Result<(Pass<D>, Pass<D>), (SplitFault, Pass<D>)>
+        requires desk { IsAt pass self.old }
+        requires number { number < MAX_PASSES }
+        ensures same { IsSameDesk self.new self.old }
+        ensures first { IfOk result (λ r. IsAt r.0 self.new × (r.0.number ≡ pass.number) × (sees r.0 ≡ sees pass)) }
+        ensures second { IfOk result (λ r. IsAt r.1 self.new × (r.1.number ≡ number) × ((word : ℕ) × (bit_at word number ≡ 0) × (sees r.1 ≡ named number word (newcomer (sees pass))))) }
+        ensures fresh { IfOk result (λ r. lines_by maker_of number (sees pass).seen ≡ []) }
+        ensures taken { IfErr result (λ e. (word : ℕ) × (e.0 ≡ taken_in word) × (bit_at word number ≡ 1) × IsAt e.1 self.new × (e.1.number ≡ pass.number) × (sees e.1 ≡ found_one 2 word (sees pass))) }
+        ensures memory { IfErr result (λ e. e.0 ≢ no_memory) }
+    {
+        self.turn.split(pass, number)
+    }
+
+    /// Joins the second pass into the first.
+    pub fn join(&mut self, first: Pass<D>, second: Pass<D>) -> Pass<D>
+        requires first { IsAt first self.old }
+        requires second { IsAt second self.old }
+        ensures same { IsSameDesk self.new self.old }
+        ensures desk { IsAt result self.new }
+        ensures number { result.number ≡ first.number }
+        ensures view { sees result ≡ joined (sees first) (sees second) }
+        ensures begins { StartsWith (sees result).seen (sees first).seen × StartsWith (sees result).seen (sees second).seen }
+    {
+        self.turn.join(first, second)
+    }
+
+    /// Takes the turn, waiting while another pass has it, and ends the desk: the vault comes out. For the pass and each one joined
+    /// into it, its own lines are exactly the vault's lines of its number.
+    pub fn close<R: Wait>(self, rt: &R, pass: Pass<D>) -> Vault<D>
+        requires desk { IsAt pass self }
+        ensures meets { MeetsVault (sees pass) result }
+        ensures keeps { Keeps D.tells result }
+    {
+        self.turn.close(rt, pass).into_vault()
+    }
+
+    /// Asks for one request, as [`Vault::answer`] does, in the name of the pass's number, at a moment in seconds since 1970-01-01 00:00
+    /// UTC. It waits for nobody: where another pass has the turn it is [`Busy`](Asked::Busy), and nothing was asked. It takes no
+    /// memory; `out` needs room for [`REPLY_ROOM`](nb_msgs::REPLY_ROOM) bytes.
+    pub fn try_ask(
+        &self,
+        pass: Pass<D>,
+        kind: u8,
+        body: &[u8],
+        moment: u64,
+        out: &mut Vec<u8>,
+    ) -> (Pass<D>, Asked)
+        requires desk { IsAt pass self.now }
+        requires room { REPLY_ROOM ≤ spare_of out.old }
+        ensures desk { IsAt result.0 self.now }
+        ensures number { result.0.number ≡ pass.number }
+        ensures tries { Tries D.tells pass.number (sees pass) (sees result.0) (request_of kind body.now moment ∷ []) (place_asked result.1) out.old.items out.new.items (all_asked result.1) }
+        ensures room { vec_capacity out.new ≡ vec_capacity out.old }
+    {
+        match self.turn.try_take(pass) {
+            Ok(held) => self.ask_held(held, kind, body, moment, out),
+            Err((Busy { word }, pass)) => (pass, Asked::Busy { word }),
+        }
+    }
+
+    /// Asks for one request as [`Desk::try_ask`] does, and waits while another pass has the turn. It is never Busy.
+    pub fn ask<R: Wait>(
+        &self,
+        rt: &R,
+        pass: Pass<D>,
+        kind: u8,
+        body: &[u8],
+        moment: u64,
+        out: &mut Vec<u8>,
+    ) -> (Pass<D>, Asked)
+        requires desk { IsAt pass self.now }
+        requires room { REPLY_ROOM ≤ spare_of out.old }
+        ensures desk { IsAt result.0 self.now }
+        ensures number { result.0.number ≡ pass.number }
+        ensures goes_on { GoesOnAtLast (sees pass) (sees result.0) }
+        ensures gives { Gives D.tells pass.number (sees pass) (sees result.0) (request_of kind body.now moment ∷ []) (place_asked result.1) out.old.items out.new.items (all_asked result.1) }
+        ensures room { vec_capacity out.new ≡ vec_capacity out.old }
+    {
+        let held = self.turn.take(rt, pass);
+        self.ask_held(held, kind, body, moment, out)
+    }
+
+    /// Asks for from 1 to [`MAX_REQUESTS`](nb_turns::MAX_REQUESTS) requests in one turn, as [`Vault::answer_all`] does, in the name of
+    /// the pass's number. It waits for nobody, and takes no memory: `ats` needs room for one place each, and `out` for
+    /// [`REPLY_ROOM`](nb_msgs::REPLY_ROOM) bytes each.
+    pub fn try_ask_all(
+        &self,
+        pass: Pass<D>,
+        bytes: &[u8],
+        asks: &[AskAt],
+        ats: &mut Vec<u64>,
+        out: &mut Vec<u8>,
+    ) -> (Pass<D>, AskedAll)
+        requires desk { IsAt pass self.now }
+        requires some { 1 ≤ length asks.now }
+        requires most { length asks.now ≤ MAX_REQUESTS }
+        requires within { All (IsWithin bytes.now) asks.now }
+        requires places { vec_len ats.old + length asks.now ≤ vec_capacity ats.old }
+        requires room { REPLY_ROOM * length asks.now ≤ spare_of out.old }
+        ensures desk { IsAt result.0 self.now }
+        ensures number { result.0.number ≡ pass.number }
+        ensures tries { (found : List ℕ) × (ats.new.items ≡ ats.old.items ++ found) × Tries D.tells pass.number (sees pass) (sees result.0) (requests_of bytes.now asks.now) found out.old.items out.new.items result.1 }
+        ensures room { vec_capacity out.new ≡ vec_capacity out.old }
+        ensures places { vec_capacity ats.new ≡ vec_capacity ats.old }
+    {
+        let tried = self.turn.try_take(pass);
+        match tried {
+            Ok(held) => self.ask_all_held(held, bytes, asks, ats, out),
+            Err((Busy { word }, pass)) => (pass, AskedAll::Busy { word }),
+        }
+    }
+
+    /// Asks for several requests as [`Desk::try_ask_all`] does, and waits while another pass has the turn. It is never Busy.
+    pub fn ask_all<R: Wait>(
+        &self,
+        rt: &R,
+        pass: Pass<D>,
+        bytes: &[u8],
+        asks: &[AskAt],
+        ats: &mut Vec<u64>,
+        out: &mut Vec<u8>,
+    ) -> (Pass<D>, AskedAll)
+        requires desk { IsAt pass self.now }
+        requires some { 1 ≤ length asks.now }
+        requires most { length asks.now ≤ MAX_REQUESTS }
+        requires within { All (IsWithin bytes.now) asks.now }
+        requires places { vec_len ats.old + length asks.now ≤ vec_capacity ats.old }
+        requires room { REPLY_ROOM * length asks.now ≤ spare_of out.old }
+        ensures desk { IsAt result.0 self.now }
+        ensures number { result.0.number ≡ pass.number }
+        ensures goes_on { GoesOnAtLast (sees pass) (sees result.0) }
+        ensures gives { (found : List ℕ) × (ats.new.items ≡ ats.old.items ++ found) × Gives D.tells pass.number (sees pass) (sees result.0) (requests_of bytes.now asks.now) found out.old.items out.new.items result.1 }
+        ensures room { vec_capacity out.new ≡ vec_capacity out.old }
+        ensures places { vec_capacity ats.new ≡ vec_capacity ats.old }
+    {
+        let held = self.turn.take(rt, pass);
+        self.ask_all_held(held, bytes, asks, ats, out)
+    }
+
+    // Asks for a pass that has the turn, which it gives back.
+    fn ask_held(
+        &self,
+        held: Held<DeskVault<D>>,
+        kind: u8,
+        body: &[u8],
+        moment: u64,
+        out: &mut Vec<u8>,
+    ) -> (Pass<D>, Asked)
+        requires turn { IsOf held self.now.turn }
+        requires origin { (held_sees held).origin ≡ Some held.value.origin }
+        requires lines { held.value.lines ≡ (held_sees held).seen }
+        requires room { REPLY_ROOM ≤ spare_of out.old }
+        ensures desk { IsAt result.0 self.now }
+        ensures number { result.0.number ≡ held.hold.number }
+        ensures answers { AnswersHeld D.tells held.value held.hold.number (held_sees held) (sees result.0) (request_of kind body.now moment ∷ []) (place_asked result.1) out.old.items out.new.items (all_asked result.1) }
+        ensures room { vec_capacity out.new ≡ vec_capacity out.old }
+    {
+        let mut held = held;
+        let by = held.number();
+        let answer = held.value().answer(by, kind, body, moment, out);
+        (self.turn.give(held), Asked::of(answer))
+    }
+
+    // Asks for a pass that has the turn, which it gives back.
+    fn ask_all_held(
+        &self,
+        held: Held<DeskVault<D>>,
+        bytes: &[u8],
+        asks: &[AskAt],
+        ats: &mut Vec<u64>,
+        out: &mut Vec<u8>,
+    ) -> (Pass<D>, AskedAll)
+        requires turn { IsOf held self.now.turn }
+        requires origin { (held_sees held).origin ≡ Some held.value.origin }
+        requires lines { held.value.lines ≡ (held_sees held).seen }
+        requires some { 1 ≤ length asks.now }
+        requires most { length asks.now ≤ MAX_REQUESTS }
+        requires within { All (IsWithin bytes.now) asks.now }
+        requires places { vec_len ats.old + length asks.now ≤ vec_capacity ats.old }
+        requires room { REPLY_ROOM * length asks.now ≤ spare_of out.old }
+        ensures desk { IsAt result.0 self.now }
+        ensures number { result.0.number ≡ held.hold.number }
+        ensures answers { (found : List ℕ) × (ats.new.items ≡ ats.old.items ++ found) × AnswersHeld D.tells held.value held.hold.number (held_sees held) (sees result.0) (requests_of bytes.now asks.now) found out.old.items out.new.items result.1 }
+        ensures room { vec_capacity out.new ≡ vec_capacity out.old }
+        ensures places { vec_capacity ats.new ≡ vec_capacity ats.old }
+    {
+        let mut held = held;
+        let by = held.number();
+        let answer = held.value().answer_all(by, bytes, asks, ats, out);
+        (self.turn.give(held), AskedAll::of(answer))
+    }
+}

@@ -1,0 +1,26 @@
+//! What holds of all answers of a desk. Each function here does nothing: its contract is the law.
+
+ghost use Rattle.nb_desk.specs.Laws.{EntriesGrow, PlaceIsCount, KeysStay, ResultsStay};
+
+use nb_port::Disk;
+
+/// What a pass has seen behind an answer begins with what it had seen, and so do the entries of it.
+pub fn entries_grow<D: Disk>()
+    ensures { EntriesGrow D.tells }
+{}
+
+/// The place that one request is told is the number of entries that the pass has seen, less one where this call recorded one.
+pub fn place_is_count<D: Disk>()
+    ensures { PlaceIsCount D.tells }
+{}
+
+/// A key that one pass was told by an authentic status query is told to every pass whose seen list begins with what that one has
+/// seen, where it asks for the same order and the same party.
+pub fn keys_stay<D: Disk>()
+    ensures { KeysStay D.tells }
+{}
+
+/// The result of an order that one pass was told is told to every such pass that presents the order, under the same keys.
+pub fn results_stay<D: Disk>()
+    ensures { ResultsStay D.tells }
+{}

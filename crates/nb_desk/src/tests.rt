@@ -1,0 +1,138 @@
+// A desk over disks in memory, asked by several threads. Requests and replies are another program's bytes, but for the funds under
+// many references, whose tags are made here.
+ghost use Rattle.std.specs.Prelude.{◌≡◌, ◌<◌, length, IfSome, IfOk};
+ghost use Rattle.std.specs.List.{All};
+ghost use Rattle.nb_turn.specs.declared.words.TheConstants.{MAX_PASSES};
+ghost use Rattle.nb_vault.specs.Asking.{IsWithin};
+ghost use Rattle.nb_desk.specs.Desks.{IsAt};
+
+use crate::{Asked, AskedAll, Desk, Pass, SplitFault};
+use nb_msgs::REPLY_ROOM;
+use nb_port::{Disk, MemDisk};
+use nb_samples::{DONE_1, DONE_2, ENROL_1, ENROL_2, JOURNAL_CAP_4, STATUS_1};
+use nb_vault::{AskAt, Vault};
+use std::alloc::Global;
+use std::sync::Wait;
+use std::test::Fail;
+use std::thread::join;
+
+
+mod waiting;
+
+// The moment of all requests.
+const MOMENT: u64 = 1000;
+
+// Opens a desk over a journal.
+fn desk_over<D: Disk + Drop>(alloc: Global, disk: D) -> Result<(Desk<D>, Pass<D>), Fail>
+    ensures { IfOk result (λ r. IsAt r.1 r.0) }
+{
+    let Ok(vault) = Vault::open(alloc, disk) else {
+        return Err("no vault was opened".into());
+    };
+    match Desk::open(alloc, vault) {
+        Ok(opened) => Ok(opened),
+        Err(_) => Err("no desk was opened".into()),
+    }
+}
+
+// Splits a pass of this number off.
+fn halves<D: Disk + Drop>(
+    desk: &mut Desk<D>,
+    pass: Pass<D>,
+    number: u64,
+) -> Result<(Pass<D>, Pass<D>), Fail>
+    requires desk { IsAt pass desk.old }
+    requires number { number < MAX_PASSES }
+    ensures { IfOk result (λ r. IsAt r.0 desk.new × IsAt r.1 desk.new) }
+{
+    match desk.split(pass, number) {
+        Ok(passes) => Ok(passes),
+        Err(_) => Err("the number was given before".into()),
+    }
+}
+
+// Asks for what a frame asks for, and gives the answer and the reply.
+fn ask_frame<R: Wait, D: Disk + Drop>(
+    rt: &R,
+    alloc: Global,
+    desk: &Desk<D>,
+    pass: Pass<D>,
+    frame: &str,
+) -> Option<(Pass<D>, Asked, Vec<u8>)>
+    requires { IsAt pass desk.now }
+    ensures { IfSome result (λ r. IsAt r.0 desk.now) }
+{
+    let frame = hex::decode(alloc, frame).ok()?;
+    let mut out = Vec::with_capacity(alloc, REPLY_ROOM).ok()?;
+    let (header, body) = frame.as_slice().split_at(frame.len().min(8));
+    let kind = *header.get(3)?;
+    let (pass, asked) = desk.ask(rt, pass, kind, body, MOMENT, &mut out);
+    Some((pass, asked, out))
+}
+
+#[test]
+fn a_number_is_given_once(rt: HostRuntime) -> Result<(), Fail> {
+    let content = hex::decode(rt.alloc(), JOURNAL_CAP_4)?;
+    let disk = MemDisk::new(rt.alloc(), content.as_slice(), &[])?;
+    let (mut desk, pass) = desk_over(rt.alloc(), disk)?;
+    let (first, second) = halves(&mut desk, pass, 1)?;
+    let pass = desk.join(first, second);
+    let Err((fault, pass)) = desk.split(pass, 1) else {
+        return Err("the number was given before".into());
+    };
+    assert_eq!(rt; fault, SplitFault::Taken { word: 3 });
+    assert_eq!(rt; desk.close(&rt, pass).line(0), None);
+    Ok(())
+}
+
+#[test]
+fn two_are_asked_at_once_and_then_again(rt: HostRuntime) -> Result<(), Fail> {
+    let alloc = rt.alloc();
+    let content = hex::decode(alloc, JOURNAL_CAP_4)?;
+    let (desk, pass) = desk_over(alloc, MemDisk::new(alloc, content.as_slice(), &[])?)?;
+    let mut bytes = hex::decode(alloc, ENROL_1)?;
+    bytes.extend_from_slice(hex::decode(alloc, ENROL_2)?.as_slice())?;
+    if bytes.len() != 178 {
+        return Err("a frame that enrols has 89 bytes".into());
+    }
+    let asks = both_asks(bytes.as_slice());
+    let mut ats = Vec::with_capacity(alloc, 4)?;
+    let mut out = Vec::with_capacity(alloc, 4 * REPLY_ROOM)?;
+    let (pass, first) = desk.ask_all(&rt, pass, bytes.as_slice(), &asks, &mut ats, &mut out);
+    assert_eq!(rt; first, AskedAll::Served);
+    assert_eq!(rt; ats.as_slice(), &[0u64, 1][..]);
+    let mut ats = Vec::with_capacity(alloc, 4)?;
+    let mut out_again = Vec::with_capacity(alloc, 4 * REPLY_ROOM)?;
+    let (pass, again) = desk.try_ask_all(pass, bytes.as_slice(), &asks, &mut ats, &mut out_again);
+    assert_eq!(rt; again, AskedAll::Served);
+    assert_eq!(rt; ats.as_slice(), &[2u64, 2][..]);
+    let mut told = hex::decode(alloc, DONE_1)?;
+    told.extend_from_slice(hex::decode(alloc, DONE_2)?.as_slice())?;
+    assert_eq!(rt; out.as_slice(), told.as_slice());
+    assert_eq!(rt; out_again.as_slice(), told.as_slice());
+    assert_eq!(rt; pass.seen(), 2);
+    Ok(())
+}
+
+// The requests of two frames that enrol, one behind the other, each with a header of 8 bytes.
+fn both_asks(bytes: &[u8]) -> [AskAt; 2]
+    requires { length bytes.now ≡ 178 }
+    ensures within { All (IsWithin bytes.now) result }
+    ensures len { length result ≡ 2 }
+{
+    let _len = bytes.len();
+    [
+        AskAt {
+            kind: 13,
+            start: 8,
+            len: 81,
+            moment: MOMENT,
+        },
+        AskAt {
+            kind: 13,
+            start: 97,
+            len: 81,
+            moment: MOMENT,
+        },
+    ]
+}
