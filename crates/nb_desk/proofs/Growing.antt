@@ -73,9 +73,10 @@ behind_is tells by v w requests found out out' over told a = sym a.over_behind.e
 pub place_is_count : {D : Type 0} (tells : DiskTells D) → PlaceIsCount tells
 place_is_count tells by v w request at out out' g =
     let made = recorded (house_in g.1.old) g.0 (request ∷ []) in
-    let place : at ≡ length g.0 = ap (λ (xs : List ℕ). slice_index_or xs 0 0) g.1.went.found_is in
-    (at_most_one ((house_in g.1.old).rules g.0 request).entry,
-      ap length (behind_is tells by v w (request ∷ []) (at ∷ []) out out' g.0 _ g.1) ∙ length-append g.0 made ∙ ap (λ (n : ℕ). n + length made) (sym place))
+    let place : at ≡ length g.0 = ap (λ (xs : List ℕ). slice_index_or xs 0 0) g.1.went.found_is in (
+      at_most_one ((house_in g.1.old).rules g.0 request).entry,
+      ap length (behind_is tells by v w (request ∷ []) (at ∷ []) out out' g.0 _ g.1) ∙ length-append g.0 made ∙ ap (λ (n : ℕ). n + length made) (sym place),
+    )
 
 -- ---- what was told
 
@@ -105,9 +106,11 @@ over_more tells by by' v w u z requests requests' found found' out out' more mor
     let same : b.1.old.origin ≡ a.1.old.origin = same_Some _ _ (sym b.1.meets.origin_is ∙ later.0 ∙ a.1.meets.origin_is) in
     let seen : StartsWith b.1.old.lines w.seen = starts-trans b.1.old.lines u.seen w.seen (b.1.meets.others, b.1.meets.begins) later.1 in
     let listed : StartsWith (entries_in b.1.old) (entries_of a.1.old.origin.entries w.seen) =
-        subst (λ (o : Origin). StartsWith (entries_in b.1.old) (entries_of o.entries w.seen)) same (entries_more b.1.old.origin.entries b.1.old.lines w.seen seen) in
-    (same, subst (StartsWith b.0) (behind_is tells by v w requests found out out' a.0 _ a.1)
-      (starts-trans b.0 (entries_in b.1.old) (entries_of a.1.old.origin.entries w.seen) (settled_more (state_of b.1.old) b.0 b.1.went.turn.1).0 listed))
+    subst (λ (o : Origin). StartsWith (entries_in b.1.old) (entries_of o.entries w.seen)) same (entries_more b.1.old.origin.entries b.1.old.lines w.seen seen) in (
+      same,
+      subst (StartsWith b.0) (behind_is tells by v w requests found out out' a.0 _ a.1)
+          (starts-trans b.0 (entries_in b.1.old) (entries_of a.1.old.origin.entries w.seen) (settled_more (state_of b.1.old) b.0 b.1.went.turn.1).0 listed),
+    )
 
 pub keys_stay : {D : Type 0} (tells : DiskTells D) → KeysStay tells
 keys_stay tells by by' v w u z body body' moment moment' found found' out out' more more' a b later asked asked' key is least is' least' same_order same_party gives =
@@ -115,7 +118,7 @@ keys_stay tells by by' v w u z body body' moment moment' found found' out out' m
     let made = recorded (house_in a.1.old) a.0 (request_of STATUS_REQUEST body moment ∷ []) in
     let all = starts-trans b.0 (a.0 ++ made) a.0 o.1 (made, refl) in
     let here : Any (PaysWith asked.epoid asked.asker key) a.0 =
-        (status_tells_key a.0 (over_legal tells a.1.old a.0 a.1.kept a.1.went.turn.1) (head_of a.1.old.origin.head) a.1.old.origin.cap body moment asked key is least).0 gives in
+    (status_tells_key a.0 (over_legal tells a.1.old a.0 a.1.kept a.1.went.turn.1) (head_of a.1.old.origin.head) a.1.old.origin.cap body moment asked key is least).0 gives in
     let there : Any (PaysWith asked.epoid asked.asker key) b.0 = subst (Any (PaysWith asked.epoid asked.asker key)) (sym all.1) (any_front _ a.0 all.0 here) in
     let named : Any (PaysWith asked'.epoid asked'.asker key) b.0 = subst (λ e. Any (PaysWith e asked'.asker key) b.0) (sym same_order) (subst (λ p. Any (PaysWith asked.epoid p key) b.0) (sym same_party) there) in
     (status_tells_key b.0 (over_legal tells b.1.old b.0 b.1.kept b.1.went.turn.1) (head_of b.1.old.origin.head) b.1.old.origin.cap body' moment' asked' key is' least').1 named

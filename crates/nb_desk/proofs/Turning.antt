@@ -150,7 +150,7 @@ module _ {D : Type 0} (tells : DiskTells D) (by : ℕ) (v h w : View Origin Line
 pub goes_on : (u w : View Origin Line) (before behind : List Line) → w ≡ gave (reseen behind (took before u)) → GoesOn u w
 goes_on u w before behind view =
     let again : gave (reseen behind (took before u)) ≡ gave (took behind u) =
-        ap (λ (ps : List (ℕ × List Line)). let x : View Origin Line = record { origin = u.origin; seen = behind; parts = ps; found = u.found ++ (0, 0) ∷ []; holds = false } in x) (first_again behind before u.parts) in
+    ap (λ (ps : List (ℕ × List Line)). let x : View Origin Line = record { origin = u.origin; seen = behind; parts = ps; found = u.found ++ (0, 0) ∷ []; holds = false } in x) (first_again behind before u.parts) in
     let seen : w.seen ≡ behind = ap (λ (x : View Origin Line). x.seen) view in
     view ∙ again ∙ ap (λ (s : List Line). gave (took s u)) (sym seen)
 

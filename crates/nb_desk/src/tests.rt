@@ -16,7 +16,6 @@ use std::sync::Wait;
 use std::test::Fail;
 use std::thread::join;
 
-
 mod waiting;
 
 // The moment of all requests.

@@ -2,15 +2,14 @@
 ghost use Rattle.std.specs.Prelude.{◌≡◌, ◌<◌, ◌≤◌, ◌+◌, ◌^◌, length, IfSome};
 ghost use Rattle.nb_desk.specs.Desks.{IsAt};
 
-use super::{ask_frame, desk_over, halves, MOMENT};
+use super::{MOMENT, ask_frame, desk_over, halves};
 use crate::{Asked, Desk, Pass};
 use nb_msgs::REPLY_ROOM;
 use nb_port::{Disk, DiskOut, DiskRead, MemDisk};
 use nb_samples::{ENROL_1, JOURNAL_CAP_4, STATUS_1};
 use std::alloc::Global;
-use std::sync::Arc;
-use std::sync::Wait;
 use std::sync::atomic::{AtomicU64, Ordering};
+use std::sync::{Arc, Wait};
 use std::test::Fail;
 use std::thread::{self, join};
 use std::time::{Clock, Duration};

@@ -20,8 +20,7 @@ give-requires-clause-made g c =
 pub returns-clause-answers : goal.returns-clause-answers
 returns-clause-answers g c =
     let answered = subst (λ (x : Chronicled _ × ℕ). AnswersAs g.D.Disk.tells x.0 x.1 (held_sees c.args.held) (sees c.give.result) (requests_of c.args.bytes.now c.args.asks.now) c.answer_all-answer.ensures.answers.0 c.args.out.now.items c.answer_all-answer.new.out.items c.answer_all-answer.result) (λ i. (c.value.ensures.now i, c.number-by.ensures.number i)) (c.answer_all-answer.new.self, c.answer_all-answer.ensures.answers.2, c.give.ensures.view) in
-    let told = held_all g.D.Disk.tells c.args.held.value c.args.held.hold.number (held_sees c.args.held) (sees c.give.result) (requests_of c.args.bytes.now c.args.asks.now) c.answer_all-answer.ensures.answers.0 c.args.out.now.items c.answer_all-answer.new.out.items c.answer_all-answer.result answered in
-    (
+    let told = held_all g.D.Disk.tells c.args.held.value c.args.held.hold.number (held_sees c.args.held) (sees c.give.result) (requests_of c.args.bytes.now c.args.asks.now) c.answer_all-answer.ensures.answers.0 c.args.out.now.items c.answer_all-answer.new.out.items c.answer_all-answer.result answered in (
       c.answer_all-answer.ensures.answers.0,
       c.answer_all-answer.ensures.answers.1,
       subst (λ (r : AskedAll). AnswersHeld g.D.Disk.tells c.args.held.value c.args.held.hold.number (held_sees c.args.held) (sees c.give.result) (requests_of c.args.bytes.now c.args.asks.now) c.answer_all-answer.ensures.answers.0 c.args.out.now.items c.answer_all-answer.new.out.items r) (sym c.of.ensures) told,

@@ -8,5 +8,5 @@ pub returns-clause-answers : goal.returns-clause-answers
 returns-clause-answers g c =
     let e = c.answer_all-answer.ensures in
     subst (λ (v : Chronicled _). (found : List ℕ) × (c.answer_all-answer.new.ats.items ≡ c.args.ats.now.items ++ found)
-        × Answers g.D.Disk.tells v c.answer_all-answer.new.self c.args.by (requests_of c.args.bytes.now c.args.asks.now) found c.args.out.now.items c.answer_all-answer.new.out.items c.answer_all-answer.result) c.self.view_is
+    × Answers g.D.Disk.tells v c.answer_all-answer.new.self c.args.by (requests_of c.args.bytes.now c.args.asks.now) found c.args.out.now.items c.answer_all-answer.new.out.items c.answer_all-answer.result) c.self.view_is
     (e.turn.0, e.turn.1, record { kept = c.witness.ensures.keeps; keeps = e.keeps; turn = e.turn.2; origin = e.origin; any_moment = e.any_moment; durable = e.durable; quiet = e.quiet; same = e.same; fault = e.fault; count = e.count })
