@@ -1,7 +1,7 @@
 -- Slices of lists, and of what was xored with a keystream.
-use Rattle.std.proofs.Common.{◌≡◌, ℕ, ◌+◌, ◌-◌, ◌*◌, ◌≤◌, min, List, [], ◌∷◌, ◌++◌, length, take, drop, replicate, bit_xor, refl, sym, ap, ◌∙◌, zero, suc, arith, add-zero, append-nil, append_assoc, length-drop, take-append-drop}
+use Rattle.std.proofs.Common.{◌≡◌, ℕ, ◌+◌, ◌-◌, ◌*◌, ◌≤◌, ◌<◌, min, List, [], ◌∷◌, ◌++◌, length, take, drop, get_or, replicate, bit_xor, refl, sym, ap, ◌∙◌, zero, suc, arith, add-zero, append-nil, append_assoc, length-drop, take-append-drop}
 use Rattle.std.proofs.lemmas.Grind.{common_steps, flat_map-append}
-use Rattle.std.proofs.lemmas.List.{length-take, length-take-le, take_all, take-append-le, drop-append-le}
+use Rattle.std.proofs.lemmas.List.{length-take, length-take-le, take_all, take_more, take-append-le, drop-append-le}
 use Rattle.std.proofs.Math.Nat.{suc-mul}
 use Rattle.std.proofs.Math.Seq.{take-add, take-append-add, drop-append-add}
 use Rattle.nb_seal.specs.Keystream.{stream_byte, xored}
@@ -115,3 +115,57 @@ iv_and_text bytes iv text h iv_is text_is =
     ap (λ (front : List ℕ). front ++ text) (iv_is ∙ take-append-le 32 bytes (replicate 32 0) h)
     ∙ ap (λ (rest : List ℕ). take 32 bytes ++ rest) text_is
     ∙ take-append-drop 32 bytes
+
+-- the front of two lists, one behind the other, and what follows it
+pub front_behind : (n : ℕ) (before bytes : List ℕ) → take n (before ++ bytes) ≡ take n before ++ take (n - length before) bytes
+front_behind n before bytes = grind (arith, common_steps, take-append-add before bytes (n - length before), take-append-le n before bytes)
+
+-- the first bytes and what follows them, with bytes more behind them
+pub divided_behind : (n m : ℕ) (before bytes front text : List ℕ) → front ≡ take n before → text ≡ drop n before → m ≡ min (length bytes) (n - length front)
+    → (front ++ take m bytes ≡ take n (before ++ bytes)) × (text ++ drop m bytes ≡ drop n (before ++ bytes))
+divided_behind n m before bytes front text front_is text_is m_is = (near, far)
+  where
+    long : length front ≡ min (length before) n
+    long = grind (arith, common_steps)
+
+    near : front ++ take m bytes ≡ take n (before ++ bytes)
+    near = grind (arith, common_steps, front_behind n before bytes)
+
+    far : text ++ drop m bytes ≡ drop n (before ++ bytes)
+    far = grind (arith, common_steps, drop-behind before bytes n)
+
+-- one part more, joined
+pub part_more : (parts : List (List ℕ)) (i : ℕ) (part : List ℕ) → i < length parts → part ≡ get_or parts i part → joined (take (i + 1) parts) ≡ joined (take i parts) ++ part
+part_more parts i part within is =
+    ap joined (take_more parts i part within)
+    ∙ flat_map-append (λ (bytes : List ℕ). bytes) (take i parts) (get_or parts i part ∷ [])
+    ∙ ap (λ (bytes : List ℕ). joined (take i parts) ++ bytes) (append-nil (get_or parts i part) ∙ sym is)
+
+-- a front is no longer than its limit
+pub front_short : (n : ℕ) (bytes front : List ℕ) → front ≡ take n bytes → length front ≤ n
+front_short n bytes front is = omega (arith, ap length is ∙ length-take n bytes)
+
+-- what follows a front is no longer than the bytes
+pub rest_short : (n : ℕ) (bytes rest : List ℕ) → rest ≡ drop n bytes → length rest ≤ length bytes
+rest_short n bytes rest is = omega (arith, ap length is ∙ length-drop n bytes)
+
+-- a front of fewer bytes than its limit is all bytes
+pub front_all : (n : ℕ) (bytes front : List ℕ) → front ≡ take n bytes → length front < n → front ≡ bytes
+front_all n bytes front is short =
+    let few : length bytes ≤ n = omega (arith, ap length is ∙ length-take n bytes, short) in
+    is ∙ take_all n bytes few
+
+-- of a whole front there is enough
+pub front_whole : (n : ℕ) (bytes front : List ℕ) → front ≡ take n bytes → n ≤ length front → n ≤ length bytes
+front_whole n bytes front is long = omega (arith, ap length is ∙ length-take n bytes, long)
+
+-- the iv is shown by the front as by the bytes
+pub front_shows : (bytes front : List ℕ) → front ≡ take 32 bytes → iv_shown front ≡ iv_shown bytes
+front_shows bytes front is = front_shown 32 bytes front is
+  where
+    front_shown : (n : ℕ) (bytes front : List ℕ) → front ≡ take n bytes → take n (front ++ replicate n 0) ≡ take n (bytes ++ replicate n 0)
+    front_shown n bytes front is = grind (arith, common_steps, front_behind n bytes (replicate n 0), front_behind n front (replicate n 0), length-take n bytes)
+
+-- a vector that was written over whole
+pub written_all : (len : ℕ) (new items : List ℕ) → len ≡ length items → length new ≡ length items → take len (new ++ drop (length new) items) ≡ new
+written_all len new items e f = grind (arith, common_steps)

@@ -110,7 +110,7 @@ fn ciphered(
     part.extend_from_slice(front)?;
     part.extend_from_slice(text)?;
     stream_xor(stream, from as u64, &mut part[front.len()..]);
-    Blob::of(alloc, part.as_slice())
+    Ok(Blob::from_vec(part))
 }
 
 // The digest of the sealed goods, which are made chunk by chunk.

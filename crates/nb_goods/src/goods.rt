@@ -81,7 +81,7 @@ pub fn sealed(alloc: Global, key: &Secret, goods: &[u8]) -> Result<Blob, NoMemor
 {
     let mut bytes = Vec::with_capacity(alloc, SEAL + goods.len())?;
     seal_spare(key, &GOODS_LABEL, goods, &mut bytes);
-    Blob::of(alloc, bytes.as_slice())
+    Ok(Blob::from_vec(bytes))
 }
 
 /// The checksum of sealed goods: their SHA-256 digest (FIPS 180-4).
@@ -100,8 +100,7 @@ pub fn open_goods(alloc: Global, key: &Secret, sealed: &[u8]) -> Result<Blob, Op
 {
     let mut goods = Vec::new(alloc);
     unseal(key, &GOODS_LABEL, sealed, &mut goods)?;
-    let blob = Blob::of(alloc, goods.as_slice())?;
-    Ok(blob)
+    Ok(Blob::from_vec(goods))
 }
 
 /// What the parts of goods, sealed under the key, are made from. The goods have at most [`MAX_SEALED`](crate::MAX_SEALED) bytes. They are

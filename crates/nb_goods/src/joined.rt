@@ -1,5 +1,6 @@
-ghost use Rattle.std.specs.Prelude.{◌≡◌, ◌≤◌, ◌<◌, ◌++◌, List, false, length, IfOk, IsTrue};
+ghost use Rattle.std.specs.Prelude.{◌≡◌, ◌≤◌, ◌++◌, false, length, take, drop, IfOk, IsTrue};
 ghost use Rattle.nb_seal.specs.Seal.{iv_shown};
+ghost use Rattle.nb_units.specs.declared.width.TheConstants.{SEAL};
 ghost use Rattle.nb_goods.specs.declared.limits.TheConstants.{MAX_SEALED};
 ghost use Rattle.nb_goods.specs.Goods.{OpensTo, OpensToNothing, joined};
 ghost use Rattle.nb_goods.specs.Opening.{Opening};
@@ -17,25 +18,15 @@ pub fn open_parts(alloc: Global, key: &Secret, parts: &[Blob]) -> Result<Blob, O
     requires { length (joined parts.now) ≤ MAX_SEALED }
     ensures { Opening key.now (joined parts.now) result }
 {
-    let mut bytes = join(alloc, parts)?;
-    open_in_place(alloc, key, bytes.as_mut_slice())
-}
-
-// The goods that the bytes are sealed from. They are opened where they lie.
-fn open_in_place(alloc: Global, key: &Secret, bytes: &mut [u8]) -> Result<Blob, OpenGoods>
-    requires { length bytes.old ≤ MAX_SEALED }
-    ensures { Opening key.now bytes.old result }
-{
-    let iv = front(bytes);
-    if bytes.len() < SEAL {
+    let (front, mut text) = divided(alloc, parts)?;
+    let iv = padded(&front);
+    if front.len() < SEAL {
         return Err(OpenGoods::BadSeal { iv });
     }
-    let (_, text) = bytes.split_at_mut(SEAL);
-    if !open_text(&KeyState::new(key), &iv, text) {
+    if !open_text(&KeyState::new(key), &iv, &mut text) {
         return Err(OpenGoods::BadSeal { iv });
     }
-    let goods = Blob::of(alloc, text)?;
-    Ok(goods)
+    Ok(Blob::from_vec(text))
 }
 
 // How many bytes the parts have together.
@@ -50,26 +41,31 @@ fn length_of(parts: &[Blob]) -> usize
     total
 }
 
-// The parts joined.
-fn join(alloc: Global, parts: &[Blob]) -> Result<Vec<u8>, NoMemory>
+// The first 32 bytes of the parts joined, or as many as there are, and what follows them.
+fn divided(alloc: Global, parts: &[Blob]) -> Result<(Vec<u8>, Vec<u8>), NoMemory>
     requires { length (joined parts.now) ≤ MAX_SEALED }
-    ensures { IfOk result (λ bytes. bytes.items ≡ joined parts.now) }
+    ensures front { IfOk result (λ p. p.0.items ≡ take SEAL (joined parts.now)) }
+    ensures text { IfOk result (λ p. p.1.items ≡ drop SEAL (joined parts.now)) }
 {
-    let mut bytes = Vec::with_capacity(alloc, length_of(parts))?;
+    let mut front = Vec::with_capacity(alloc, SEAL)?;
+    let mut text = Vec::with_capacity(alloc, length_of(parts).saturating_sub(SEAL))?;
     for part in parts {
-        bytes.extend_from_slice(part.as_slice())?;
+        let bytes = part.as_slice();
+        let (near, far) = bytes.split_at(bytes.len().min(SEAL - front.len()));
+        front.extend_from_slice(near)?;
+        text.extend_from_slice(far)?;
     }
-    Ok(bytes)
+    Ok((front, text))
 }
 
-// The first 32 bytes, with zeros where there are fewer.
-fn front(bytes: &[u8]) -> [u8; SEAL]
-    ensures { result ≡ iv_shown bytes.now }
+// At most 32 bytes, with zeros behind them where there are fewer.
+fn padded(front: &[u8]) -> [u8; SEAL]
+    requires { length front.now ≤ SEAL }
+    ensures { result ≡ iv_shown front.now }
 {
-    let mut front = [0u8; SEAL];
-    let n = bytes.len().min(SEAL);
-    front[..n].copy_from_slice(&bytes[..n]);
-    front
+    let mut iv = [0u8; SEAL];
+    iv[..front.len()].copy_from_slice(front);
+    iv
 }
 
 // Combines the text with the keystream behind the iv, and says whether the iv is that of what it became.

@@ -1,7 +1,7 @@
 -- An item's line and its goods.
-use Rattle.std.proofs.Common.{◌≡◌, ℕ, ◌+◌, ◌<◌, ◌≤◌, List, [], ◌∷◌, ◌++◌, length, refl, sym, ap, ◌∙◌, arith, append_assoc}
+use Rattle.std.proofs.Common.{◌≡◌, ℕ, List, ◌∷◌, ◌++◌, length, ap, ◌∙◌, append_assoc}
 use Rattle.std.specs.Fmt.{decimal}
-use Rattle.nb_price.specs.Shelf.{Item, IsItem, IsName, item_bytes}
+use Rattle.nb_price.specs.Shelf.{Item, IsName, item_bytes}
 use Rattle.nb_price.specs.Fields.{IsFree, line_bytes}
 
 -- an item is its line and its goods

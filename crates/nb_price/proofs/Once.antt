@@ -1,8 +1,8 @@
 -- What stands at the front of bytes is one item.
-use Rattle.std.proofs.Common.{◌≡◌, ℕ, ◌+◌, ◌<◌, ◌≤◌, List, [], ◌∷◌, ◌++◌, length, take, drop, inl, inr, ◌^◌, refl, sym, ap, ◌∙◌, arith}
+use Rattle.std.proofs.Common.{◌≡◌, ℕ, ◌<◌, List, ◌∷◌, ◌++◌, length, take, drop, inl, inr, ◌^◌, refl, sym, ap, ◌∙◌, arith}
 use Rattle.std.proofs.lemmas.List.{take_at, drop_at}
 use Rattle.std.specs.Fmt.{decimal}
-use Rattle.nb_price.specs.Shelf.{Item, IsItem, BeginsWith}
+use Rattle.nb_price.specs.Shelf.{Item, BeginsWith}
 use Rattle.nb_price.specs.Fields.{IsNoDigit, line_bytes}
 use Rattle.nb_price.proofs.Splitting.{one_word}
 use Rattle.nb_price.proofs.Numerals.{free_decimal, one_number}

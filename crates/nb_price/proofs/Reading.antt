@@ -1,15 +1,15 @@
 -- A shelf, read item by item.
-use Rattle.std.proofs.Common.{◌≡◌, ℕ, ◌+◌, ◌<◌, ◌≤◌, Bool, true, false, suc, List, [], ◌∷◌, ◌++◌, length, map, Option, None, Some, Contains, refl, sym, ap, subst, ◌∙◌, arith, append_assoc, append-nil, length-append}
+use Rattle.std.proofs.Common.{◌≡◌, ℕ, ◌+◌, ◌<◌, ◌≤◌, Bool, true, false, List, [], ◌∷◌, ◌++◌, length, Option, None, Some, refl, sym, ap, subst, ◌∙◌, arith, append_assoc, append-nil, length-append}
 use Rattle.std.specs.Prelude.{◌≢◌, ◌==◌, nat_eq, cond, Err}
 use Rattle.std.specs.Cmp.{nat_eq_equiv}
-use Rattle.std.specs.List.{AllByRecursion, IsDistinct, list_any, flat_map}
+use Rattle.std.specs.List.{AllByRecursion, IsDistinct, list_any}
 use Rattle.std.proofs.lemmas.Bool.{eqb-true, false≢true}
 use Rattle.std.proofs.lemmas.Grind.{flat_map-append}
 use Rattle.std.proofs.lemmas.List.{map-append}
 use Rattle.std.proofs.lemmas.Map.Keys.{IsDistinct-push}
 use Rattle.indexmap.proofs.CallerLemmas.{Contains-list_any}
 use Rattle.std.specs.Fmt.{decimal}
-use Rattle.nb_price.specs.Shelf.{Item, IsItem, IsShelf, item_bytes, shelf_bytes, ids, BeginsWith, BeginsWithNone}
+use Rattle.nb_price.specs.Shelf.{Item, IsItem, item_bytes, shelf_bytes, ids, BeginsWith, BeginsWithNone}
 use Rattle.nb_price.specs.Products.{Product, product_of, products_of, product_in}
 use Rattle.nb_price.specs.Reads.{Front, FailsAt, RepeatsAt, IsCatalogue, ReadsShelf, Adds}
 use Rattle.nb_price.specs.declared.line.Found.{Found}

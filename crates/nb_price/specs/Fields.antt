@@ -1,5 +1,5 @@
 -- The parts of an item's line, each up to its mark. For the contracts of private functions alone.
-use Rattle.std.specs.Prelude.{◌≡◌, ◌≢◌, ◌⊎◌, ℕ, ◌<◌, ◌≤◌, ◌^◌, List, [], ◌∷◌, ◌++◌, length, slice_index, codes, Option, None, Some}
+use Rattle.std.specs.Prelude.{◌≡◌, ◌≢◌, ◌⊎◌, ℕ, ◌<◌, ◌≤◌, List, ◌∷◌, ◌++◌, length, slice_index, Option, None, Some}
 use Rattle.std.specs.Fmt.{decimal}
 use Rattle.std.specs.Borrow.{Bor}
 use Rattle.nb_price.specs.declared.limits.TheConstants.{MAX_PRICE, SEMICOLON, LINE_FEED}
@@ -20,10 +20,6 @@ IsNoDigit mark = (mark < 48) ⊎ (57 < mark)
 abbrev pub IsNumbered : Option (ℕ × Bor (List ℕ)) → ℕ → List ℕ → Type 0
 IsNumbered (Some p) n rest = (p.0 ≡ n) × (p.1.now ≡ rest)
 IsNumbered None n rest = ⊥
-
--- the word is not empty and has neither a plus nor a leading zero
-abbrev pub IsPlain : List ℕ → Type 0
-IsPlain word = (0 < length word) × (slice_index word 0 ≢ slice_index (codes "+") 0) × ((slice_index word 0 ≢ slice_index (codes "0") 0) ⊎ (length word ≡ 1))
 
 -- a line: two numbers, a name and a number, each with its mark, and what follows it
 unfoldable pub line_bytes : ℕ → ℕ → List ℕ → ℕ → List ℕ → List ℕ

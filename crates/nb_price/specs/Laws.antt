@@ -1,5 +1,5 @@
 -- What holds of every shelf.
-use Rattle.std.specs.Prelude.{◌≡◌, ℕ, ◌^◌, List}
+use Rattle.std.specs.Prelude.{◌≡◌, ℕ, List}
 use Rattle.nb_price.specs.declared.limits.TheConstants.{MAX_SHELF, MAX_NAME, MAX_PRICE, SEMICOLON, LINE_FEED}
 use Rattle.nb_price.specs.Shelf.{Item, BeginsWith}
 

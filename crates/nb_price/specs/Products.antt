@@ -1,5 +1,5 @@
 -- What a catalogue is seen as: the products of a shelf in its order, without their names.
-use Rattle.std.specs.Prelude.{◌≡◌, ℕ, List, [], ◌∷◌, map, nat_eq, Option, None, Some, if◌then◌else◌}
+use Rattle.std.specs.Prelude.{ℕ, List, [], ◌∷◌, map, nat_eq, Option, None, Some, if◌then◌else◌}
 use Rattle.nb_price.specs.declared.catalogue.Goods.{Goods}
 use Rattle.nb_price.specs.Shelf.{Item}
 

@@ -6,7 +6,7 @@ use Rattle.nb_price.specs.declared.line.Found.{Found}
 use Rattle.nb_price.specs.declared.fault.NoProduct.{NoProduct}
 use Rattle.nb_price.specs.declared.fault.ShelfFault.{ShelfFault}
 use Rattle.nb_price.specs.declared.fault.ShelfFault.TheVariants.{BadItem, Twice, NoMemory}
-use Rattle.nb_price.specs.Shelf.{Item, IsItem, IsShelf, item_bytes, shelf_bytes, ids, BeginsWith, BeginsWithNone}
+use Rattle.nb_price.specs.Shelf.{Item, IsShelf, shelf_bytes, ids, BeginsWith, BeginsWithNone}
 use Rattle.nb_price.specs.Products.{Product, products_of, product_in}
 
 -- the bytes are the spelling of these items, and then a rest

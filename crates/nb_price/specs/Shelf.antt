@@ -1,5 +1,5 @@
 -- The shelf of a merchant: items one behind the other. An item is a line, id;price;name;length, and then so many bytes of goods.
-use Rattle.std.specs.Prelude.{◌≡◌, ◌≢◌, ℕ, ◌<◌, ◌≤◌, ◌^◌, List, [], ◌∷◌, ◌++◌, length, slice_index, map, nat_eq}
+use Rattle.std.specs.Prelude.{◌≡◌, ◌≢◌, ℕ, ◌<◌, ◌≤◌, ◌^◌, List, ◌∷◌, ◌++◌, length, slice_index, map, nat_eq}
 use Rattle.std.specs.List.{flat_map, AllByRecursion, IsDistinct}
 use Rattle.std.specs.Fmt.{decimal}
 use Rattle.nb_goods.specs.declared.limits.TheConstants.{MAX_GOODS}

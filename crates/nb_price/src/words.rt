@@ -1,10 +1,10 @@
-ghost use Rattle.std.specs.Prelude.{◌≡◌, ◌≤◌, ◌<◌, ◌^◌, ◌↔◌, ◌++◌, ◌∷◌, ℕ, List, length, IfSome, IsNone, Some, IsTrue};
+ghost use Rattle.std.specs.Prelude.{◌≡◌, ◌≤◌, ◌<◌, ◌^◌, ◌++◌, ◌∷◌, ℕ, List, length, IfSome, IsNone};
 ghost use Rattle.std.specs.Fmt.{decimal};
-ghost use Rattle.nb_price.specs.Fields.{IsFree, IsNoDigit, IsNumbered, IsPlain};
+ghost use Rattle.nb_price.specs.Fields.{IsFree, IsNoDigit, IsNumbered};
 
 use crate::limits::MAX_DIGITS;
 use memchr::memchr;
-use std::str;
+use nb_units::decimal_of;
 
 // The bytes before the first mark and those behind it, where at most so many stand before it.
 pub(crate) fn split(bytes: &[u8], mark: u8, most: usize) -> Option<(&[u8], &[u8])>
@@ -27,30 +27,6 @@ pub(crate) fn numbered(bytes: &[u8], mark: u8) -> Option<(u32, &[u8])>
     ensures each { (n : ℕ) (rest : List ℕ) → n < 2 ^ 32 → bytes.now ≡ decimal n ++ mark ∷ rest → IsNumbered result n rest }
 {
     let (word, rest) = split(bytes, mark, MAX_DIGITS)?;
-    let n = number_of(word)?;
+    let n = decimal_of(word)?;
     Some((n, rest))
-}
-
-// The number of 32 bits that the word is.
-fn number_of(word: &[u8]) -> Option<u32>
-    ensures some { IfSome result (λ n. word.now ≡ decimal n) }
-    ensures each { (n : ℕ) → n < 2 ^ 32 → word.now ≡ decimal n → result ≡ Some n }
-{
-    if !is_plain(word) {
-        return None;
-    }
-    match str::from_utf8(word) {
-        Ok(text) => match text.parse::<u32>() {
-            Ok(n) => Some(n),
-            Err(_) => None,
-        },
-        Err(_) => None,
-    }
-}
-
-// Whether the word is not empty and has neither a plus nor a leading zero.
-fn is_plain(word: &[u8]) -> bool
-    ensures { IsTrue result ↔ IsPlain word.now }
-{
-    !word.is_empty() && word[0] != b'+' && (word[0] != b'0' || word.len() == 1)
 }

@@ -1,6 +1,7 @@
-ghost use Rattle.std.specs.Prelude.{◌≡◌, ◌<◌, ◌↔◌, ◌^◌, ℕ, [], Some, map, codes, slice_index_or, IsTrue, IsSome, IfSome, string_bytes};
-ghost use Rattle.std.specs.Fmt.{decimal};
-ghost use Rattle.nb_run.specs.Words.{IsName, IsPlain, IsCommand, CommandIs};
+ghost use Rattle.std.specs.Prelude.{◌≡◌, ◌↔◌, [], map, codes, slice_index_or, IsTrue, IsSome, IfSome, string_bytes};
+ghost use Rattle.nb_run.specs.Words.{IsName, IsCommand, CommandIs};
+
+use nb_units::decimal_of;
 
 /// What the words tell the program to do with the journal that they name.
 #[derive(Clone, Copy, PartialEq, Eq, Debug)]
@@ -20,7 +21,7 @@ pub fn command_of(words: &[String]) -> Option<Command>
         return Some(Command::Batch);
     }
     if words.len() == 3 && is_init(words[0].as_str()) && is_name(words[1].as_str()) {
-        return number_of(words[2].as_str()).map(|cap| Command::Init { cap });
+        return decimal_of(words[2].as_bytes()).map(|cap| Command::Init { cap });
     }
     None
 }
@@ -52,25 +53,4 @@ fn is_name(word: &str) -> bool
     ensures { IsTrue result ↔ IsName word.now }
 {
     !word.is_empty() && word.as_bytes()[0] != b'-'
-}
-
-// The number below 2^32 that the word is.
-fn number_of(word: &str) -> Option<u32>
-    ensures some { IfSome result (λ n. word.now ≡ decimal n) }
-    ensures each { (n : ℕ) → n < 2 ^ 32 → word.now ≡ decimal n → result ≡ Some n }
-{
-    if !is_plain(word.as_bytes()) {
-        return None;
-    }
-    match word.parse::<u32>() {
-        Ok(n) => Some(n),
-        Err(_) => None,
-    }
-}
-
-// Whether the word is not empty and has neither a plus nor a leading zero.
-fn is_plain(word: &[u8]) -> bool
-    ensures { IsTrue result ↔ IsPlain word.now }
-{
-    !word.is_empty() && word[0] != b'+' && (word[0] != b'0' || word.len() == 1)
 }

@@ -4,3 +4,4 @@ pub mod HeaderLaws
 pub mod FieldLaws
 pub mod EpoidLaws
 pub mod Rows
+pub mod Numerals

@@ -6,4 +6,5 @@ pub mod Frames
 pub mod Epoid
 pub mod Padding
 pub mod Reasons
+pub mod Numerals
 pub mod Laws

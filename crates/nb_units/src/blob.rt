@@ -28,6 +28,13 @@ impl Blob {
         })
     }
 
+    /// These bytes, which are not copied.
+    pub fn from_vec(bytes: Vec<u8>) -> Blob
+        ensures { result ≡ bytes.items }
+    {
+        Blob { bytes }
+    }
+
     /// Its bytes.
     pub fn as_slice(&self) -> &[u8]
         ensures { result.now ≡ self.now }

@@ -41,7 +41,7 @@ pub use ids::{AcctId, Digest, PartyId, Price, Secret, Tag};
 pub use limits::{HEAD, MAX_CAP, MAX_HIDDEN, MAX_MEMO, MAX_ORDER};
 pub use malformed::{Malformed, allow};
 pub use memory::{NoMemory, room};
-pub use number::u32_of;
+pub use number::{decimal_of, u32_of};
 pub use pen::Pen;
 pub use reason::{FIRST_REASON, LAST_REASON, is_reason};
 pub use small::{MAX_SMALL, Small};

@@ -69,8 +69,30 @@ fn holds_values(rt: HostRuntime) -> Result<(), Fail> {
         Blob::of(rt.alloc(), b"goods")?.as_slice(),
         b"goods".as_slice()
     );
+    assert_eq!(rt;
+        Blob::from_vec(Vec::from_slice(rt.alloc(), b"goods")?).as_slice(),
+        b"goods".as_slice()
+    );
     assert_eq!(rt; allow(is_reason(36), 69), Ok(()));
     assert_eq!(rt; allow(is_reason(38), 69), Err(Malformed { place: 69 }));
+    Ok(())
+}
+
+#[test]
+fn reads_decimal_words(rt: HostRuntime) -> Result<(), Fail> {
+    let cases: [(&[u8], Option<u32>); 8] = [
+        (b"0", Some(0)),
+        (b"4294967295", Some(u32::MAX)),
+        (b"4294967296", None),
+        (b"", None),
+        (b"+1", None),
+        (b"-1", None),
+        (b"01", None),
+        (b"1 ", None),
+    ];
+    for (word, number) in cases {
+        assert_eq!(rt; decimal_of(word), number);
+    }
     Ok(())
 }
 

@@ -1,7 +1,7 @@
-use Rattle.std.proofs.Common.{refl, sym, ◌∙◌, ◌≡◌, ◌∷◌, ◌++◌, List, ℕ, Option, None, Some, ◌<◌, ◌^◌, ap}
+use Rattle.std.proofs.Common.{refl, sym, ◌∙◌, ◌≡◌, ◌∷◌, ◌++◌, List, ℕ, Option, None, Some, ◌<◌, ◌^◌}
 use Rattle.std.specs.Fmt.{decimal}
 use Rattle.nb_price.specs.Fields.{IsFree, IsNoDigit}
-use Rattle.nb_price.proofs.Numerals.{free_decimal, short_decimal, one_number}
+use Rattle.nb_price.proofs.Numerals.{free_decimal, short_decimal}
 use Rattle.nb_price.proofs.Splitting.{one_word}
 use Rattle.nb_price.proofs.words.numbered.Goals as goal
 

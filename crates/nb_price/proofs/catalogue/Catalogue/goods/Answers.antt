@@ -1,4 +1,4 @@
-use Rattle.std.proofs.Common.{◌≡◌, List, Option, None, Some, sym, subst, ◌∙◌}
+use Rattle.std.proofs.Common.{◌≡◌, List, None, Some, sym, subst, ◌∙◌}
 use Rattle.nb_price.specs.Products.{Product, product_in}
 use Rattle.nb_price.proofs.Lookups.{held, not_held}
 use Rattle.nb_price.proofs.catalogue.Catalogue.goods.Goals as goal

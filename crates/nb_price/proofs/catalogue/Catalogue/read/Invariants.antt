@@ -1,4 +1,4 @@
-use Rattle.std.proofs.Common.{ℕ, length}
+use Rattle.std.proofs.Common.{length}
 use Rattle.nb_price.proofs.Reading.{SoFar}
 use Rattle.nb_price.proofs.catalogue.Catalogue.read.Given as goal
 

@@ -1,9 +1,9 @@
 use Rattle.std.proofs.Common.{Some, ap, sym, subst, ◌∙◌, arith}
 use Rattle.std.proofs.lemmas.Bool.{iff_false}
 use Rattle.std.proofs.lemmas.Fmt.{parse-decimal}
-use Rattle.nb_price.specs.Fields.{IsPlain}
-use Rattle.nb_price.proofs.Numerals.{plain, is_text, parsed, one_value, no_error}
-use Rattle.nb_price.proofs.words.number_of.Goals as goal
+use Rattle.nb_units.specs.Numerals.{IsPlain}
+use Rattle.nb_units.proofs.Numerals.{plain, is_text, parsed, one_value, no_error}
+use Rattle.nb_units.proofs.number.decimal_of.Goals as goal
 
 pub returns-then-not-is_plain-clause-each : goal.returns-then-not-is_plain-clause-each
 returns-then-not-is_plain-clause-each c n small is = absurd (iff_false c.is_plain.ensures c.if-not-is_plain.true (plain c.args.word.now n small is))
