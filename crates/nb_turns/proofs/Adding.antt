@@ -100,13 +100,13 @@ turn_adds_lines house opening by turn before requests Refuses old new closed sta
 -- ---- Legal lines
 
 -- the line records an entry
-abbrev IsRecorded : Line → Type 0
+abbrev pub IsRecorded : Line → Type 0
 IsRecorded line = (is_doubt line ≡ false) × (is_fault line ≡ false)
 
-adopted_recorded : (by turn : ℕ) (es : List Entry) → AllByRecursion IsRecorded (adopts by turn es)
+pub adopted_recorded : (by turn : ℕ) (es : List Entry) → AllByRecursion IsRecorded (adopts by turn es)
 adopted_recorded by turn es = all_map IsRecorded (λ (e : Entry). Adopted by turn e) es (λ (e : Entry). (refl, refl))
 
-committed_recorded : (by turn : ℕ) (es : List Entry) → AllByRecursion IsRecorded (commits by turn es)
+pub committed_recorded : (by turn : ℕ) (es : List Entry) → AllByRecursion IsRecorded (commits by turn es)
 committed_recorded by turn es = all_map IsRecorded (λ (e : Entry). Commit by turn e) es (λ (e : Entry). (refl, refl))
 
 -- where the newest line records an entry nothing is in doubt
@@ -117,7 +117,7 @@ none_open older newest is =
     ∙ ap (λ (b : Bool). reverse (filter_map doubted (cond b (newest ∷ take_while is_doubt older) []))) is.0
 
 -- behind lines that record entries nothing is in doubt, but what was where there are none
-open_behind : (before lines : List Line) → AllByRecursion IsRecorded lines → (lines ≡ []) ⊎ (open_doubt (before ++ lines) ≡ [])
+pub open_behind : (before lines : List Line) → AllByRecursion IsRecorded lines → (lines ≡ []) ⊎ (open_doubt (before ++ lines) ≡ [])
 open_behind before lines all = by_reverse (reverse lines) refl (all_reverse IsRecorded lines all)
   where
     by_reverse : (older : List Line) → reverse lines ≡ older → AllByRecursion IsRecorded older → (lines ≡ []) ⊎ (open_doubt (before ++ lines) ≡ [])
