@@ -48,7 +48,7 @@ pub fn run(rt: &HostRuntime, name: &str, turn: usize) -> anyhow::Result<usize> {
 
 // The requests in these frames, one behind the other, all at one moment. A header has the kind in its fourth byte and the number of the
 // body's bytes in the four behind it. It ends where no whole frame is left.
-fn asks_of(alloc: Global, bytes: &[u8], moment: u64) -> anyhow::Result<Vec<AskAt>> {
+pub(crate) fn asks_of(alloc: Global, bytes: &[u8], moment: u64) -> anyhow::Result<Vec<AskAt>> {
     let mut asks = Vec::new(alloc);
     let mut rest = bytes;
     let mut at = 0usize;
@@ -115,7 +115,7 @@ fn answer_all(
 }
 
 // Whether all bodies stand within the bytes.
-fn are_within(bytes: &[u8], asks: &[AskAt]) -> bool
+pub(crate) fn are_within(bytes: &[u8], asks: &[AskAt]) -> bool
     ensures { IsTrue result → All (IsWithin bytes.now) asks.now }
 {
     for ask in asks {

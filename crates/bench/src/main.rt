@@ -2,13 +2,15 @@
 //! `bench ROW SIZE TIMES`. It prints the SHA-256 digest of what the work made, in hexadecimal.
 //!
 //! The work begins with SIZE bytes of a pattern; a turn and a lock have no bytes, and SIZE is the number of threads; of look-ups it is
-//! how many keys there are, and of a shelf how many products. Each round works on what the last one made, so that none can be left out. `bench answer JOURNAL REQUESTS`
-//! answers the frames on standard input over a journal, so many in a turn, and prints how many bytes their replies have. A file has one
-//! subject and its rows: a new row touches that file alone. How long a round takes is no claim of the proofs, and no clause says more
-//! than its safety needs: bench/run measures from outside, and the tests compare what is made with other programs.
+//! how many keys there are, and of a shelf how many products. Each round works on what the last one made, so that none can be left out.
+//! `bench answer JOURNAL REQUESTS` answers the frames on standard input over a journal, so many in a turn, and prints how many bytes their
+//! replies have; `bench ask JOURNAL REQUESTS THREADS` asks a desk for them, by 1, 2 or 4 threads. A file has one subject and its rows: a
+//! new row touches that file alone. How long a round takes is no claim of the proofs, and no clause says more than its safety needs:
+//! bench/run measures from outside, and the tests compare what is made with other programs.
 #![tactic(auto)]
 
 mod answering;
+mod asking;
 mod framing;
 mod goods;
 mod hashing;
@@ -33,7 +35,8 @@ const USAGE: &str =
     "usage: bench sha|hmac|seal|unseal|stream|parts|openparts|lookup|shelf SIZE TIMES
        bench frames1|frames100|frames65536|copy SIZE TIMES
        bench turn|lock THREADS TIMES
-       bench answer JOURNAL REQUESTS";
+       bench answer JOURNAL REQUESTS
+       bench ask JOURNAL REQUESTS THREADS";
 
 // The words are none of the program's.
 const BAD_WORDS: u8 = 2;
@@ -54,6 +57,13 @@ fn main(rt: HostRuntime) -> anyhow::Result<ExitCode> {
         && let Ok(turn) = turn.as_str().parse::<usize>()
     {
         println!(rt; "{}", answering::run(&rt, name.as_str(), turn)?)?;
+        return Ok(ExitCode::SUCCESS);
+    }
+    if let [row, name, turn, threads] = words.as_slice()
+        && row.as_str() == "ask"
+        && let (Ok(turn), Ok(threads)) = (turn.as_str().parse(), threads.as_str().parse())
+    {
+        println!(rt; "{}", asking::run(&rt, name.as_str(), turn, threads)?)?;
         return Ok(ExitCode::SUCCESS);
     }
     let line = line_of(&rt, rt.alloc(), words.as_slice()).map_err(|_| anyhow!("out of memory"))?;

@@ -4,7 +4,7 @@ ghost use Rattle.std.specs.Prelude.{◌≡◌, ◌<◌, length, IfSome, IfOk};
 ghost use Rattle.std.specs.List.{All};
 ghost use Rattle.nb_turn.specs.declared.words.TheConstants.{MAX_PASSES};
 ghost use Rattle.nb_vault.specs.Asking.{IsWithin};
-ghost use Rattle.nb_desk.specs.Desks.{IsAt};
+ghost use Rattle.nb_desk.specs.Desks.{IsAt, IsSameDesk};
 
 use crate::{Asked, AskedAll, Desk, Pass, SplitFault};
 use nb_msgs::REPLY_ROOM;
@@ -16,6 +16,7 @@ use std::sync::Wait;
 use std::test::Fail;
 use std::thread::join;
 
+mod many;
 mod waiting;
 
 // The moment of all requests.
@@ -42,7 +43,8 @@ fn halves<D: Disk + Drop>(
 ) -> Result<(Pass<D>, Pass<D>), Fail>
     requires desk { IsAt pass desk.old }
     requires number { number < MAX_PASSES }
-    ensures { IfOk result (λ r. IsAt r.0 desk.new × IsAt r.1 desk.new) }
+    ensures same { IsSameDesk desk.new desk.old }
+    ensures at { IfOk result (λ r. IsAt r.0 desk.new × IsAt r.1 desk.new) }
 {
     match desk.split(pass, number) {
         Ok(passes) => Ok(passes),
