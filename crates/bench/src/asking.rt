@@ -29,8 +29,14 @@ struct Part<'a> {
 }
 
 /// Asks for what the frames on standard input ask, over the journal of this name, so many in a turn: those before the orders by one thread,
-/// and the others by 1, 2 or 4 threads at once. What is made is the number of bytes of all replies.
-pub fn run(rt: &HostRuntime, name: &str, turn: usize, threads: u32) -> anyhow::Result<usize> {
+/// and the others by 1, 2 or 4 threads at once, which `many` starts. What is made is the number of bytes of all replies.
+pub fn run<R: Threads + Wait + Sync>(
+    rt: &HostRuntime,
+    many: &R,
+    name: &str,
+    turn: usize,
+    threads: u32,
+) -> anyhow::Result<usize> {
     let alloc = rt.alloc();
     let file = OpenOptions::new().read(true).write(true).open(rt, name)?;
     let disk = FileDisk::over(file, File::open(rt, ".")?);
@@ -59,7 +65,7 @@ pub fn run(rt: &HostRuntime, name: &str, turn: usize, threads: u32) -> anyhow::R
         asks: orders,
         turn,
     };
-    match ask_by(rt, alloc, desk, pass, before, part, threads) {
+    match ask_by(many, alloc, desk, pass, before, part, threads) {
         Some(told) => Ok(told),
         None => Err(anyhow!("the disk failed")),
     }

@@ -63,7 +63,7 @@ fn main(rt: HostRuntime) -> anyhow::Result<ExitCode> {
         && row.as_str() == "ask"
         && let (Ok(turn), Ok(threads)) = (turn.as_str().parse(), threads.as_str().parse())
     {
-        println!(rt; "{}", asking::run(&rt, name.as_str(), turn, threads)?)?;
+        println!(rt; "{}", asking::run(&rt, &rt, name.as_str(), turn, threads)?)?;
         return Ok(ExitCode::SUCCESS);
     }
     let line = line_of(&rt, rt.alloc(), words.as_slice()).map_err(|_| anyhow!("out of memory"))?;
