@@ -132,16 +132,16 @@ unfolding enrolment_bytes
 enrolment_spelled_so p = refl
 
 pub enrolment_spells_back : EnrolmentSpellsBack
-enrolment_spells_back bytes e are e =
-    let w = whole_found enrolment_row is_enrolment_row Enrolment bytes (λ p. Ok (enrolment_made p)) e are (sym (enrolment_read_so bytes) ∙ e) in
-    subst (λ (x : Enrolment). IsEnrolment x × (bytes ≡ enrolment_bytes x)) (ok_is (enrolment_made w.0) e w.3)
+enrolment_spells_back bytes n are e =
+    let w = whole_found enrolment_row is_enrolment_row Enrolment bytes (λ p. Ok (enrolment_made p)) n are (sym (enrolment_read_so bytes) ∙ e) in
+    subst (λ (x : Enrolment). IsEnrolment x × (bytes ≡ enrolment_bytes x)) (ok_is (enrolment_made w.0) n w.3)
     (record { id = w.1.0.0.0.0.0; role = role_is w.0.0.0.0.0.1 w.1.0.0.0.0.1.1; acct = w.1.0.0.0.1; nonce = w.1.0.0.1; key = w.1.0.1; tag = w.1.1 }, w.2 ∙ enrolment_spelled_so w.0)
 
 pub enrolment_reads_back : EnrolmentReadsBack
-enrolment_reads_back e is =
-    let p : EnrolmentParts = (((((e.id.0, e.role), e.acct.0), e.nonce), e.key), e.tag) in
-    enrolment_read_so (enrolment_bytes e)
-    ∙ whole_reads enrolment_row is_enrolment_row Enrolment (enrolment_bytes e) (λ q. Ok (enrolment_made q)) p (((((is.id, (role_fits e.role is.role, role_tested e.role is.role)), is.acct), is.nonce), is.key), is.tag) (sym (enrolment_spelled_so p))
+enrolment_reads_back n is =
+    let p : EnrolmentParts = (((((n.id.0, n.role), n.acct.0), n.nonce), n.key), n.tag) in
+    enrolment_read_so (enrolment_bytes n)
+    ∙ whole_reads enrolment_row is_enrolment_row Enrolment (enrolment_bytes n) (λ q. Ok (enrolment_made q)) p (((((is.id, (role_fits n.role is.role, role_tested n.role is.role)), is.acct), is.nonce), is.key), is.tag) (sym (enrolment_spelled_so p))
 
 pub one_enrolment : OneEnrolment
 one_enrolment a b first second same = ok_is a b (sym (enrolment_reads_back a first) ∙ ap enrolment_of same ∙ enrolment_reads_back b second)

@@ -40,11 +40,11 @@ OneQuery = (a b : StatusQuery) → IsQuery a → IsQuery b → query_bytes a ≡
 
 -- what was spelled of an enrolment is read as that
 abbrev pub EnrolmentReadsBack : Type 0
-EnrolmentReadsBack = (e : Enrolment) → IsEnrolment e → enrolment_of (enrolment_bytes e) ≡ Ok e
+EnrolmentReadsBack = (n : Enrolment) → IsEnrolment n → enrolment_of (enrolment_bytes n) ≡ Ok n
 
 -- what was read as an enrolment is spelled as those bytes, and is within its limits
 abbrev pub EnrolmentSpellsBack : Type 0
-EnrolmentSpellsBack = (bytes : List ℕ) (e : Enrolment) → AreBytes bytes → enrolment_of bytes ≡ Ok e → IsEnrolment e × (bytes ≡ enrolment_bytes e)
+EnrolmentSpellsBack = (bytes : List ℕ) (n : Enrolment) → AreBytes bytes → enrolment_of bytes ≡ Ok n → IsEnrolment n × (bytes ≡ enrolment_bytes n)
 
 -- two of them with one spelling are one
 abbrev pub OneEnrolment : Type 0

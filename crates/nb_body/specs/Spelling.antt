@@ -41,16 +41,16 @@ pub record IsQuery (q : StatusQuery) : Type 0 where
 
 -- an enrolment: id 4 | role 1, 1 or 2 | account 4 | nonce 8 | key 32 | tag 32
 unfoldable pub enrolment_bytes : Enrolment → List ℕ
-enrolment_bytes e = be4 e.id.0 ++ (e.role ∷ []) ++ be4 e.acct.0 ++ be8 e.nonce ++ e.key ++ e.tag
+enrolment_bytes n = be4 n.id.0 ++ (n.role ∷ []) ++ be4 n.acct.0 ++ be8 n.nonce ++ n.key ++ n.tag
 
 -- each field of an enrolment is within its limits
-pub record IsEnrolment (e : Enrolment) : Type 0 where
-  pub id : e.id.0 < 2 ^ 32
-  pub role : IsRole e.role
-  pub acct : e.acct.0 < 2 ^ 32
-  pub nonce : e.nonce < 2 ^ 64
-  pub key : length e.key ≡ 32
-  pub tag : length e.tag ≡ 32
+pub record IsEnrolment (n : Enrolment) : Type 0 where
+  pub id : n.id.0 < 2 ^ 32
+  pub role : IsRole n.role
+  pub acct : n.acct.0 < 2 ^ 32
+  pub nonce : n.nonce < 2 ^ 64
+  pub key : length n.key ≡ 32
+  pub tag : length n.tag ≡ 32
 
 -- a funding: account 4 | amount 8, from 1 to MAX_AMOUNT | reference 16 | tag 32
 unfoldable pub funding_bytes : Funding → List ℕ

@@ -1,10 +1,10 @@
-ghost use Rattle.std.specs.Prelude.{IfOk, Ok, length, ◌+◌, ◌≡◌, ◌≤◌};
+ghost use Rattle.std.specs.Prelude.{◌+◌, ◌≡◌, ◌≤◌, IfOk, Ok, length};
 ghost use Rattle.nb_units.specs.Reads.{Reads};
 ghost use Rattle.nb_body.specs.declared.limits.TheConstants.{MAX_ENDORSED};
 ghost use Rattle.nb_body.specs.Spelling.{IsEndorsedOrder, endorsed_bytes};
 ghost use Rattle.nb_body.specs.Reading.{endorsed_of};
 
-use crate::limits::{MAX_ENDORSED};
+use crate::limits::MAX_ENDORSED;
 use nb_units::{Buffer, Cut, Malformed, PartyId};
 
 /// A merchant asks the house for the payment of an order.

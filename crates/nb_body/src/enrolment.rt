@@ -1,4 +1,4 @@
-ghost use Rattle.std.specs.Prelude.{IfOk, Ok, length, ◌≡◌};
+ghost use Rattle.std.specs.Prelude.{◌≡◌, IfOk, Ok, length};
 ghost use Rattle.nb_units.specs.Reads.{Reads};
 ghost use Rattle.nb_body.specs.Spelling.{IsEnrolment, enrolment_bytes, IsRole};
 ghost use Rattle.nb_body.specs.Reading.{enrolment_of};
@@ -32,8 +32,8 @@ impl Enrolment {
         ensures role { IfOk result (λ asked. IsRole asked.role) }
 
         // What is read is spelled so, and what is spelled so is read.
-        ensures spelled { IfOk result (λ e. IsEnrolment e × (bytes.now ≡ enrolment_bytes e)) }
-        ensures found { (e : Enrolment) → IsEnrolment e → bytes.now ≡ enrolment_bytes e → result ≡ Ok e }
+        ensures spelled { IfOk result (λ n. IsEnrolment n × (bytes.now ≡ enrolment_bytes n)) }
+        ensures found { (n : Enrolment) → IsEnrolment n → bytes.now ≡ enrolment_bytes n → result ≡ Ok n }
     {
         read_fields(bytes)
     }

@@ -1,10 +1,10 @@
-ghost use Rattle.std.specs.Prelude.{IfOk, Ok, length, ◌≡◌, ◌≤◌};
+ghost use Rattle.std.specs.Prelude.{◌≡◌, ◌≤◌, IfOk, Ok, length};
 ghost use Rattle.nb_units.specs.Reads.{Reads};
 ghost use Rattle.nb_body.specs.declared.limits.TheConstants.{MAX_AMOUNT};
 ghost use Rattle.nb_body.specs.Spelling.{IsFunding, funding_bytes};
 ghost use Rattle.nb_body.specs.Reading.{funding_of};
 
-use crate::limits::{MAX_AMOUNT};
+use crate::limits::MAX_AMOUNT;
 use nb_units::{AcctId, Buffer, Cut, Malformed, Tag, allow};
 
 /// The operator asks to put money into an account.

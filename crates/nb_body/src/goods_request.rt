@@ -1,4 +1,4 @@
-ghost use Rattle.std.specs.Prelude.{IfOk, Ok, length, ◌≡◌};
+ghost use Rattle.std.specs.Prelude.{◌≡◌, IfOk, Ok, length};
 ghost use Rattle.nb_units.specs.Reads.{Reads};
 ghost use Rattle.nb_body.specs.Spelling.{IsGoodsRequest, goods_request_bytes};
 ghost use Rattle.nb_body.specs.Reading.{goods_request_of};
@@ -49,8 +49,5 @@ fn read_fields(bytes: &[u8]) -> Result<GoodsRequest, Malformed>
     let transaction = cut.u64()?;
     let place = cut.u64()?;
     cut.done()?;
-    Ok(GoodsRequest {
-        transaction,
-        place,
-    })
+    Ok(GoodsRequest { transaction, place })
 }

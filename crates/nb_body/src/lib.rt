@@ -28,11 +28,11 @@ pub use enrolment::Enrolment;
 pub use funding::Funding;
 pub use goods_head::GoodsHead;
 pub use goods_request::GoodsRequest;
-pub use payment_request::PaymentRequest;
-pub use price_request::PriceRequest;
-pub use query::StatusQuery;
-pub use quote::Quote;
 pub use limits::{
     CONSUMER_ROLE, GOODS_HEAD_BYTES, GOODS_PLACE, GOODS_REQUEST_BYTES, MAX_AMOUNT, MAX_ENDORSED,
     MAX_PAYMENT_REQUEST, MAX_PRICE_REQUEST, MAX_REQUEST, MERCHANT_ROLE, QUOTE_BYTES, TRANSACTION,
 };
+pub use payment_request::PaymentRequest;
+pub use price_request::PriceRequest;
+pub use query::StatusQuery;
+pub use quote::Quote;

@@ -1,9 +1,7 @@
 //! The values and the lengths that fields may have, and how long the records are. Each length is a sum of these and of the widths of
 //! fields.
 
-use nb_units::width::{
-    ACCOUNT, DIGEST, EPOID, LENGTH, MONEY, PRODUCT, SEAL, SECRET,
-};
+use nb_units::width::{ACCOUNT, DIGEST, EPOID, LENGTH, MONEY, PRODUCT, SEAL, SECRET};
 use nb_units::{MAX_MEMO, MAX_ORDER};
 
 /// The role of a party that buys.

@@ -1,10 +1,10 @@
-ghost use Rattle.std.specs.Prelude.{IfOk, Ok, length, ◌+◌, ◌≡◌, ◌≤◌};
+ghost use Rattle.std.specs.Prelude.{◌+◌, ◌≡◌, ◌≤◌, IfOk, Ok, length};
 ghost use Rattle.nb_units.specs.Reads.{Reads};
 ghost use Rattle.nb_body.specs.declared.limits.TheConstants.{MAX_REQUEST};
 ghost use Rattle.nb_body.specs.Spelling.{IsPriceRequest, price_request_bytes};
 ghost use Rattle.nb_body.specs.Reading.{price_request_of};
 
-use crate::limits::{MAX_REQUEST};
+use crate::limits::MAX_REQUEST;
 use nb_units::{Buffer, Cut, Malformed, Small};
 
 /// What a consumer asks a merchant for a price, before it is sealed: at most [`MAX_PRICE_REQUEST`] bytes.

@@ -1,4 +1,4 @@
-ghost use Rattle.std.specs.Prelude.{IfOk, Ok, length, ◌≡◌};
+ghost use Rattle.std.specs.Prelude.{◌≡◌, IfOk, Ok, length};
 ghost use Rattle.nb_units.specs.Reads.{Reads};
 ghost use Rattle.nb_body.specs.Spelling.{IsQuote, quote_bytes};
 ghost use Rattle.nb_body.specs.Reading.{quote_of};

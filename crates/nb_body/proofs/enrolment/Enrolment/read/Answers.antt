@@ -7,7 +7,7 @@ use Rattle.nb_body.proofs.enrolment.Enrolment.read.Goals as goal
 
 pub returns-clause-spelled : goal.returns-clause-spelled
 returns-clause-spelled c =
-    if_read c.read_fields.result (enrolment_of c.args.bytes.now) (λ e. IsEnrolment e × (c.args.bytes.now ≡ enrolment_bytes e)) c.read_fields.ensures (λ e e. enrolment_spells_back c.args.bytes.now e (λ i. omega (arith, c.type_inv.bytes i)) e)
+    if_read c.read_fields.result (enrolment_of c.args.bytes.now) (λ n. IsEnrolment n × (c.args.bytes.now ≡ enrolment_bytes n)) c.read_fields.ensures.reads (λ n e. enrolment_spells_back c.args.bytes.now n (λ i. omega (arith, c.type_inv.bytes i)) e)
 
 pub returns-clause-found : goal.returns-clause-found
-returns-clause-found c = λ e is e. reads_ok c.read_fields.result (enrolment_of c.args.bytes.now) e c.read_fields.ensures (ap enrolment_of e ∙ enrolment_reads_back e is)
+returns-clause-found c = λ n is e. reads_ok c.read_fields.result (enrolment_of c.args.bytes.now) n c.read_fields.ensures.reads (ap enrolment_of e ∙ enrolment_reads_back n is)
