@@ -1,2 +1,4 @@
 pub mod ReplyBytes
 pub mod Limits
+pub mod Bodies
+pub mod Reading

@@ -7,10 +7,23 @@
 //! Left to others: what is replied, and the reading of frames.
 #![tactic(auto)]
 
+mod fault;
 mod grant;
+mod limits;
+mod message;
+mod reading;
 mod reply;
+mod writing;
 
-pub use reply::{LONGEST_REPLY, REPLY_ROOM, limits, write_reply, write_reply_with};
+pub use fault::BodyFault;
+pub use limits::{
+    MAX_SEALED_GOODS_REQUEST, MAX_SEALED_HEAD, MAX_SEALED_PAYMENT, MAX_SEALED_PRICE_REQUEST,
+    MAX_SEALED_QUOTE,
+};
+pub use message::Message;
+pub use reading::read_body;
+pub use reply::{LONGEST_REPLY, MOST_STATUS, REPLY_ROOM, limits, write_reply, write_reply_with};
+pub use writing::write_message;
 
 #[cfg(test)]
 mod tests;

@@ -30,8 +30,8 @@ const MOST_BODY: usize = 2 * (LENGTH + RECEIPT_BYTES);
 // The most bytes of a status before it is sealed: place, identifier, and a receipt behind the byte that says whether there is one.
 const MOST_TEXT: usize = PLACE + EPOID + FLAG + SIGNED_BYTES;
 
-// The most bytes of a status, sealed.
-const MOST_STATUS: usize = SEAL + MOST_TEXT;
+/// The most bytes of a status, sealed.
+pub const MOST_STATUS: usize = SEAL + MOST_TEXT;
 
 // The status of an order is sealed under this label.
 const STATUS_SEAL_LABEL: [u8; 4] = *b"stat";
@@ -153,7 +153,7 @@ fn status_text(place: u64, epoid: &Epoid, receipt: &Option<Receipt>, keys: &Repl
 }
 
 // The body that says what was done.
-fn done_body(acct: AcctId, at: u64, balance: u64) -> Buffer
+pub(crate) fn done_body(acct: AcctId, at: u64, balance: u64) -> Buffer
     ensures bytes { result ≡ (layout.done_frame acct at balance).body }
     ensures short { length result ≤ MOST_BODY }
 {
@@ -165,7 +165,7 @@ fn done_body(acct: AcctId, at: u64, balance: u64) -> Buffer
 }
 
 // The body that refuses.
-fn refusal_body(refusal: &Refusal) -> Buffer
+pub(crate) fn refusal_body(refusal: &Refusal) -> Buffer
     ensures bytes { result ≡ (layout.refusal_frame refusal.now).body }
     ensures short { length result ≤ MOST_BODY }
 {
