@@ -16,7 +16,7 @@ use Rattle.nb_body.specs.declared.goods_head.GoodsHead.{GoodsHead}
 use Rattle.nb_body.specs.declared.payment_request.PaymentRequest.{PaymentRequest}
 use Rattle.nb_body.specs.Spelling.{IsRole, IsEndorsedOrder, endorsed_bytes, IsQuery, query_bytes, IsEnrolment, enrolment_bytes, IsFunding, funding_bytes, IsPriceRequest, price_request_bytes, IsQuote, quote_bytes, IsGoodsRequest, goods_request_bytes, IsGoodsHead, goods_head_bytes, IsPaymentRequest, payment_request_bytes}
 use Rattle.nb_body.specs.Reading.{is_role, is_amount, endorsed_of, query_of, enrolment_of, funding_of, price_request_of, quote_of, goods_request_of, goods_head_of, payment_request_of}
-use Rattle.nb_body.specs.Laws.{EndorsedReadsBack, EndorsedSpellsBack, OneEndorsed, QueryReadsBack, QuerySpellsBack, OneQuery, EnrolmentReadsBack, EnrolmentSpellsBack, OneEnrolment, FundingReadsBack, FundingSpellsBack, OneFunding, PriceRequestReadsBack, PriceRequestSpellsBack, OnePriceRequest, QuoteReadsBack, QuoteSpellsBack, OneQuote, GoodsRequestReadsBack, GoodsRequestSpellsBack, OneGoodsRequest, GoodsHeadReadsBack, GoodsHeadSpellsBack, OneGoodsHead, PaymentRequestReadsBack, PaymentRequestSpellsBack, OnePaymentRequest}
+use Rattle.nb_body.specs.Laws.{EndorsedReadsBack, EndorsedSpellsBack, EndorsedIsAsLong, OneEndorsed, QueryReadsBack, QuerySpellsBack, QueryIsAsLong, OneQuery, EnrolmentReadsBack, EnrolmentSpellsBack, EnrolmentIsAsLong, OneEnrolment, FundingReadsBack, FundingSpellsBack, FundingIsAsLong, OneFunding, PriceRequestReadsBack, PriceRequestSpellsBack, PriceRequestIsAsLong, OnePriceRequest, QuoteReadsBack, QuoteSpellsBack, QuoteIsAsLong, OneQuote, GoodsRequestReadsBack, GoodsRequestSpellsBack, GoodsRequestIsAsLong, OneGoodsRequest, GoodsHeadReadsBack, GoodsHeadSpellsBack, GoodsHeadIsAsLong, OneGoodsHead, PaymentRequestReadsBack, PaymentRequestSpellsBack, PaymentRequestIsAsLong, OnePaymentRequest}
 
 -- ---- tests of values
 
@@ -69,6 +69,11 @@ endorsed_reads_back o is =
     endorsed_read_so (endorsed_bytes o)
     ∙ whole_reads endorsed_row is_endorsed_row EndorsedOrder (endorsed_bytes o) (λ q. Ok (endorsed_made q)) p (is.merchant, is.sealed) (sym (endorsed_spelled_so p))
 
+pub endorsed_is_as_long : EndorsedIsAsLong
+endorsed_is_as_long o is =
+    let p : EndorsedParts = (o.merchant.0, o.sealed) in
+    omega (arith, is_endorsed_row.long 0 p (is.merchant, is.sealed), ap length (endorsed_spelled_so p))
+
 pub one_endorsed : OneEndorsed
 one_endorsed a b first second same = ok_is a b (sym (endorsed_reads_back a first) ∙ ap endorsed_of same ∙ endorsed_reads_back b second)
 
@@ -105,6 +110,11 @@ query_reads_back q is =
     let p : QueryParts = (((q.asker.0, q.epoid), q.least), q.tag) in
     query_read_so (query_bytes q)
     ∙ whole_reads query_row is_query_row StatusQuery (query_bytes q) (λ q. Ok (query_made q)) p (((is.asker, is.epoid), is.least), is.tag) (sym (query_spelled_so p))
+
+pub query_is_as_long : QueryIsAsLong
+query_is_as_long q is =
+    let p : QueryParts = (((q.asker.0, q.epoid), q.least), q.tag) in
+    omega (arith, is_query_row.long 0 p (((is.asker, is.epoid), is.least), is.tag), ap length (query_spelled_so p))
 
 pub one_query : OneQuery
 one_query a b first second same = ok_is a b (sym (query_reads_back a first) ∙ ap query_of same ∙ query_reads_back b second)
@@ -143,6 +153,11 @@ enrolment_reads_back n is =
     enrolment_read_so (enrolment_bytes n)
     ∙ whole_reads enrolment_row is_enrolment_row Enrolment (enrolment_bytes n) (λ q. Ok (enrolment_made q)) p (((((is.id, (role_fits n.role is.role, role_tested n.role is.role)), is.acct), is.nonce), is.key), is.tag) (sym (enrolment_spelled_so p))
 
+pub enrolment_is_as_long : EnrolmentIsAsLong
+enrolment_is_as_long n is =
+    let p : EnrolmentParts = (((((n.id.0, n.role), n.acct.0), n.nonce), n.key), n.tag) in
+    omega (arith, is_enrolment_row.long 0 p (((((is.id, (role_fits n.role is.role, role_tested n.role is.role)), is.acct), is.nonce), is.key), is.tag), ap length (enrolment_spelled_so p))
+
 pub one_enrolment : OneEnrolment
 one_enrolment a b first second same = ok_is a b (sym (enrolment_reads_back a first) ∙ ap enrolment_of same ∙ enrolment_reads_back b second)
 
@@ -179,6 +194,11 @@ funding_reads_back f is =
     let p : FundingParts = (((f.acct.0, f.amount), f.reference), f.tag) in
     funding_read_so (funding_bytes f)
     ∙ whole_reads funding_row is_funding_row Funding (funding_bytes f) (λ q. Ok (funding_made q)) p (((is.acct, (omega (arith, is.amount.1), amount_tested f.amount is.amount)), is.reference), is.tag) (sym (funding_spelled_so p))
+
+pub funding_is_as_long : FundingIsAsLong
+funding_is_as_long f is =
+    let p : FundingParts = (((f.acct.0, f.amount), f.reference), f.tag) in
+    omega (arith, is_funding_row.long 0 p (((is.acct, (omega (arith, is.amount.1), amount_tested f.amount is.amount)), is.reference), is.tag), ap length (funding_spelled_so p))
 
 pub one_funding : OneFunding
 one_funding a b first second same = ok_is a b (sym (funding_reads_back a first) ∙ ap funding_of same ∙ funding_reads_back b second)
@@ -217,6 +237,11 @@ price_request_reads_back r is =
     price_request_read_so (price_request_bytes r)
     ∙ whole_reads price_request_row is_price_request_row PriceRequest (price_request_bytes r) (λ q. Ok (price_request_made q)) p ((is.transaction, is.product), is.request) (sym (price_request_spelled_so p))
 
+pub price_request_is_as_long : PriceRequestIsAsLong
+price_request_is_as_long r is =
+    let p : PriceRequestParts = ((r.transaction, r.product), r.request) in
+    omega (arith, is_price_request_row.long 0 p ((is.transaction, is.product), is.request), ap length (price_request_spelled_so p))
+
 pub one_price_request : OnePriceRequest
 one_price_request a b first second same = ok_is a b (sym (price_request_reads_back a first) ∙ ap price_request_of same ∙ price_request_reads_back b second)
 
@@ -253,6 +278,11 @@ quote_reads_back q is =
     let p : QuoteParts = ((q.transaction, q.product), q.price.0) in
     quote_read_so (quote_bytes q)
     ∙ whole_reads quote_row is_quote_row Quote (quote_bytes q) (λ q. Ok (quote_made q)) p ((is.transaction, is.product), is.price) (sym (quote_spelled_so p))
+
+pub quote_is_as_long : QuoteIsAsLong
+quote_is_as_long q is =
+    let p : QuoteParts = ((q.transaction, q.product), q.price.0) in
+    omega (arith, is_quote_row.long 0 p ((is.transaction, is.product), is.price), ap length (quote_spelled_so p))
 
 pub one_quote : OneQuote
 one_quote a b first second same = ok_is a b (sym (quote_reads_back a first) ∙ ap quote_of same ∙ quote_reads_back b second)
@@ -291,6 +321,11 @@ goods_request_reads_back r is =
     goods_request_read_so (goods_request_bytes r)
     ∙ whole_reads goods_request_row is_goods_request_row GoodsRequest (goods_request_bytes r) (λ q. Ok (goods_request_made q)) p (is.transaction, is.place) (sym (goods_request_spelled_so p))
 
+pub goods_request_is_as_long : GoodsRequestIsAsLong
+goods_request_is_as_long r is =
+    let p : GoodsRequestParts = (r.transaction, r.place) in
+    omega (arith, is_goods_request_row.long 0 p (is.transaction, is.place), ap length (goods_request_spelled_so p))
+
 pub one_goods_request : OneGoodsRequest
 one_goods_request a b first second same = ok_is a b (sym (goods_request_reads_back a first) ∙ ap goods_request_of same ∙ goods_request_reads_back b second)
 
@@ -328,6 +363,11 @@ goods_head_reads_back h is =
     goods_head_read_so (goods_head_bytes h)
     ∙ whole_reads goods_head_row is_goods_head_row GoodsHead (goods_head_bytes h) (λ q. Ok (goods_head_made q)) p ((((is.transaction, is.epoid), is.total), is.place), is.checksum) (sym (goods_head_spelled_so p))
 
+pub goods_head_is_as_long : GoodsHeadIsAsLong
+goods_head_is_as_long h is =
+    let p : GoodsHeadParts = ((((h.transaction, h.epoid), h.total), h.place), h.checksum) in
+    omega (arith, is_goods_head_row.long 0 p ((((is.transaction, is.epoid), is.total), is.place), is.checksum), ap length (goods_head_spelled_so p))
+
 pub one_goods_head : OneGoodsHead
 one_goods_head a b first second same = ok_is a b (sym (goods_head_reads_back a first) ∙ ap goods_head_of same ∙ goods_head_reads_back b second)
 
@@ -364,6 +404,11 @@ payment_request_reads_back r is =
     let p : PaymentRequestParts = (r.transaction, r.order) in
     payment_request_read_so (payment_request_bytes r)
     ∙ whole_reads payment_request_row is_payment_request_row PaymentRequest (payment_request_bytes r) (λ q. Ok (payment_request_made q)) p (is.transaction, is.order) (sym (payment_request_spelled_so p))
+
+pub payment_request_is_as_long : PaymentRequestIsAsLong
+payment_request_is_as_long r is =
+    let p : PaymentRequestParts = (r.transaction, r.order) in
+    omega (arith, is_payment_request_row.long 0 p (is.transaction, is.order), ap length (payment_request_spelled_so p))
 
 pub one_payment_request : OnePaymentRequest
 one_payment_request a b first second same = ok_is a b (sym (payment_request_reads_back a first) ∙ ap payment_request_of same ∙ payment_request_reads_back b second)

@@ -1,5 +1,5 @@
 -- Spelling and reading are the two sides of one thing.
-use Rattle.std.specs.Prelude.{◌≡◌, ℕ, List, length, Ok}
+use Rattle.std.specs.Prelude.{◌≡◌, ℕ, ◌+◌, List, length, Ok}
 use Rattle.nb_units.specs.Frames.{AreBytes}
 use Rattle.nb_body.specs.declared.limits.TheConstants as limit
 use Rattle.nb_body.specs.declared.endorsed.EndorsedOrder.{EndorsedOrder}
@@ -22,6 +22,10 @@ EndorsedReadsBack = (o : EndorsedOrder) → IsEndorsedOrder o → endorsed_of (e
 abbrev pub EndorsedSpellsBack : Type 0
 EndorsedSpellsBack = (bytes : List ℕ) (o : EndorsedOrder) → AreBytes bytes → endorsed_of bytes ≡ Ok o → IsEndorsedOrder o × (bytes ≡ endorsed_bytes o)
 
+-- how many bytes it has
+abbrev pub EndorsedIsAsLong : Type 0
+EndorsedIsAsLong = (o : EndorsedOrder) → IsEndorsedOrder o → length (endorsed_bytes o) ≡ 8 + length o.sealed
+
 -- two of them with one spelling are one
 abbrev pub OneEndorsed : Type 0
 OneEndorsed = (a b : EndorsedOrder) → IsEndorsedOrder a → IsEndorsedOrder b → endorsed_bytes a ≡ endorsed_bytes b → a ≡ b
@@ -33,6 +37,10 @@ QueryReadsBack = (q : StatusQuery) → IsQuery q → query_of (query_bytes q) �
 -- what was read as a status query is spelled as those bytes, and is within its limits
 abbrev pub QuerySpellsBack : Type 0
 QuerySpellsBack = (bytes : List ℕ) (q : StatusQuery) → AreBytes bytes → query_of bytes ≡ Ok q → IsQuery q × (bytes ≡ query_bytes q)
+
+-- how many bytes it has
+abbrev pub QueryIsAsLong : Type 0
+QueryIsAsLong = (q : StatusQuery) → IsQuery q → length (query_bytes q) ≡ 60
 
 -- two of them with one spelling are one
 abbrev pub OneQuery : Type 0
@@ -46,6 +54,10 @@ EnrolmentReadsBack = (n : Enrolment) → IsEnrolment n → enrolment_of (enrolme
 abbrev pub EnrolmentSpellsBack : Type 0
 EnrolmentSpellsBack = (bytes : List ℕ) (n : Enrolment) → AreBytes bytes → enrolment_of bytes ≡ Ok n → IsEnrolment n × (bytes ≡ enrolment_bytes n)
 
+-- how many bytes it has
+abbrev pub EnrolmentIsAsLong : Type 0
+EnrolmentIsAsLong = (n : Enrolment) → IsEnrolment n → length (enrolment_bytes n) ≡ 81
+
 -- two of them with one spelling are one
 abbrev pub OneEnrolment : Type 0
 OneEnrolment = (a b : Enrolment) → IsEnrolment a → IsEnrolment b → enrolment_bytes a ≡ enrolment_bytes b → a ≡ b
@@ -57,6 +69,10 @@ FundingReadsBack = (f : Funding) → IsFunding f → funding_of (funding_bytes f
 -- what was read as a funding is spelled as those bytes, and is within its limits
 abbrev pub FundingSpellsBack : Type 0
 FundingSpellsBack = (bytes : List ℕ) (f : Funding) → AreBytes bytes → funding_of bytes ≡ Ok f → IsFunding f × (bytes ≡ funding_bytes f)
+
+-- how many bytes it has
+abbrev pub FundingIsAsLong : Type 0
+FundingIsAsLong = (f : Funding) → IsFunding f → length (funding_bytes f) ≡ 60
 
 -- two of them with one spelling are one
 abbrev pub OneFunding : Type 0
@@ -70,6 +86,10 @@ PriceRequestReadsBack = (r : PriceRequest) → IsPriceRequest r → price_reques
 abbrev pub PriceRequestSpellsBack : Type 0
 PriceRequestSpellsBack = (bytes : List ℕ) (r : PriceRequest) → AreBytes bytes → price_request_of bytes ≡ Ok r → IsPriceRequest r × (bytes ≡ price_request_bytes r)
 
+-- how many bytes it has
+abbrev pub PriceRequestIsAsLong : Type 0
+PriceRequestIsAsLong = (r : PriceRequest) → IsPriceRequest r → length (price_request_bytes r) ≡ 16 + length r.request
+
 -- two of them with one spelling are one
 abbrev pub OnePriceRequest : Type 0
 OnePriceRequest = (a b : PriceRequest) → IsPriceRequest a → IsPriceRequest b → price_request_bytes a ≡ price_request_bytes b → a ≡ b
@@ -81,6 +101,10 @@ QuoteReadsBack = (q : Quote) → IsQuote q → quote_of (quote_bytes q) ≡ Ok q
 -- what was read as a quote is spelled as those bytes, and is within its limits
 abbrev pub QuoteSpellsBack : Type 0
 QuoteSpellsBack = (bytes : List ℕ) (q : Quote) → AreBytes bytes → quote_of bytes ≡ Ok q → IsQuote q × (bytes ≡ quote_bytes q)
+
+-- how many bytes it has
+abbrev pub QuoteIsAsLong : Type 0
+QuoteIsAsLong = (q : Quote) → IsQuote q → length (quote_bytes q) ≡ 20
 
 -- two of them with one spelling are one
 abbrev pub OneQuote : Type 0
@@ -94,6 +118,10 @@ GoodsRequestReadsBack = (r : GoodsRequest) → IsGoodsRequest r → goods_reques
 abbrev pub GoodsRequestSpellsBack : Type 0
 GoodsRequestSpellsBack = (bytes : List ℕ) (r : GoodsRequest) → AreBytes bytes → goods_request_of bytes ≡ Ok r → IsGoodsRequest r × (bytes ≡ goods_request_bytes r)
 
+-- how many bytes it has
+abbrev pub GoodsRequestIsAsLong : Type 0
+GoodsRequestIsAsLong = (r : GoodsRequest) → IsGoodsRequest r → length (goods_request_bytes r) ≡ 16
+
 -- two of them with one spelling are one
 abbrev pub OneGoodsRequest : Type 0
 OneGoodsRequest = (a b : GoodsRequest) → IsGoodsRequest a → IsGoodsRequest b → goods_request_bytes a ≡ goods_request_bytes b → a ≡ b
@@ -106,6 +134,10 @@ GoodsHeadReadsBack = (h : GoodsHead) → IsGoodsHead h → goods_head_of (goods_
 abbrev pub GoodsHeadSpellsBack : Type 0
 GoodsHeadSpellsBack = (bytes : List ℕ) (h : GoodsHead) → AreBytes bytes → goods_head_of bytes ≡ Ok h → IsGoodsHead h × (bytes ≡ goods_head_bytes h)
 
+-- how many bytes it has
+abbrev pub GoodsHeadIsAsLong : Type 0
+GoodsHeadIsAsLong = (h : GoodsHead) → IsGoodsHead h → length (goods_head_bytes h) ≡ 72
+
 -- two of them with one spelling are one
 abbrev pub OneGoodsHead : Type 0
 OneGoodsHead = (a b : GoodsHead) → IsGoodsHead a → IsGoodsHead b → goods_head_bytes a ≡ goods_head_bytes b → a ≡ b
@@ -117,6 +149,10 @@ PaymentRequestReadsBack = (r : PaymentRequest) → IsPaymentRequest r → paymen
 -- what was read as an order for its merchant is spelled as those bytes, and is within its limits
 abbrev pub PaymentRequestSpellsBack : Type 0
 PaymentRequestSpellsBack = (bytes : List ℕ) (r : PaymentRequest) → AreBytes bytes → payment_request_of bytes ≡ Ok r → IsPaymentRequest r × (bytes ≡ payment_request_bytes r)
+
+-- how many bytes it has
+abbrev pub PaymentRequestIsAsLong : Type 0
+PaymentRequestIsAsLong = (r : PaymentRequest) → IsPaymentRequest r → length (payment_request_bytes r) ≡ 12 + length r.order
 
 -- two of them with one spelling are one
 abbrev pub OnePaymentRequest : Type 0

@@ -105,6 +105,19 @@ pub fn one_spelling()
     ensures payment_request { law.OnePaymentRequest }
 {}
 
+/// A law: how many bytes a record of each sort has.
+pub fn lengths()
+    ensures endorsed { law.EndorsedIsAsLong }
+    ensures query { law.QueryIsAsLong }
+    ensures enrolment { law.EnrolmentIsAsLong }
+    ensures funding { law.FundingIsAsLong }
+    ensures price_request { law.PriceRequestIsAsLong }
+    ensures quote { law.QuoteIsAsLong }
+    ensures goods_request { law.GoodsRequestIsAsLong }
+    ensures goods_head { law.GoodsHeadIsAsLong }
+    ensures payment_request { law.PaymentRequestIsAsLong }
+{}
+
 /// A law: the roles and limits in numbers.
 pub fn limits()
     ensures bodies { law.BodyLimitsAre }

@@ -2,3 +2,4 @@ pub mod ReplyBytes
 pub mod Limits
 pub mod Bodies
 pub mod Reading
+pub mod Laws

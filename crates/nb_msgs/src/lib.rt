@@ -9,14 +9,15 @@
 
 mod fault;
 mod grant;
-mod limits;
+pub mod laws;
+mod lengths;
 mod message;
 mod reading;
 mod reply;
 mod writing;
 
 pub use fault::BodyFault;
-pub use limits::{
+pub use lengths::{
     MAX_SEALED_GOODS_REQUEST, MAX_SEALED_HEAD, MAX_SEALED_PAYMENT, MAX_SEALED_PRICE_REQUEST,
     MAX_SEALED_QUOTE,
 };

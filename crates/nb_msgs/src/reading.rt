@@ -5,7 +5,7 @@ ghost use Rattle.nb_msgs.specs.Bodies.{IsMessage, kind_of, body_bytes};
 ghost use Rattle.nb_msgs.specs.Reading as reading;
 
 use crate::fault::BodyFault;
-use crate::limits::{
+use crate::lengths::{
     MAX_SEALED_GOODS_REQUEST, MAX_SEALED_HEAD, MAX_SEALED_PAYMENT, MAX_SEALED_PRICE_REQUEST,
     MAX_SEALED_QUOTE,
 };

@@ -1,8 +1,9 @@
-ghost use Rattle.std.specs.Prelude.{◌≡◌, ◌≤◌, ◌++◌, codes, length, vec_capacity, IfSome};
+ghost use Rattle.std.specs.Prelude.{◌≡◌, ◌≤◌, ◌<◌, ◌^◌, ◌++◌, codes, length, vec_capacity, IfSome};
 ghost use Rattle.nb_seal.specs.Seal.{seal_of};
 ghost use Rattle.nb_units.specs.Room.{spare_of};
 ghost use Rattle.nb_units.specs.declared.frames.TheConstants.{LAST_KIND};
 ghost use Rattle.nb_endorse.specs.Replies.{HasLawfulReceipts, ReceiptKeepsRules};
+ghost use Rattle.nb_msgs.specs.Bodies.{IsRefusal};
 ghost use Rattle.nb_msgs.specs.Limits.{ReplyLimitsAre};
 ghost use Rattle.nb_msgs.specs.ReplyBytes as layout;
 ghost use Rattle.nb_msgs.specs.declared.reply.TheConstants.{MOST_BODY, REPLY_ROOM, LONGEST_REPLY, MOST_TEXT, MOST_STATUS};
@@ -155,6 +156,7 @@ fn status_text(place: u64, epoid: &Epoid, receipt: &Option<Receipt>, keys: &Repl
 // The body that says what was done.
 pub(crate) fn done_body(acct: AcctId, at: u64, balance: u64) -> Buffer
     ensures bytes { result ≡ (layout.done_frame acct at balance).body }
+    ensures fits { (acct.0 < 2 ^ 32) × (at < 2 ^ 64) × (balance < 2 ^ 64) }
     ensures short { length result ≤ MOST_BODY }
 {
     let mut body = Buffer::new();
@@ -167,6 +169,7 @@ pub(crate) fn done_body(acct: AcctId, at: u64, balance: u64) -> Buffer
 // The body that refuses.
 pub(crate) fn refusal_body(refusal: &Refusal) -> Buffer
     ensures bytes { result ≡ (layout.refusal_frame refusal.now).body }
+    ensures fits { IsRefusal refusal.now }
     ensures short { length result ≤ MOST_BODY }
 {
     let mut body = Buffer::new();

@@ -1,7 +1,10 @@
-ghost use Rattle.std.specs.Prelude.{◌≡◌, ◌≤◌, ◌<◌, ◌^◌, ◌++◌, ◌∷◌, [], length, OnOk, OnErr};
+ghost use Rattle.std.specs.Prelude.{◌≡◌, ◌≤◌, ◌<◌, ◌+◌, ◌^◌, ◌++◌, ◌∷◌, [], length, OnOk, OnErr};
 ghost use Rattle.nb_units.specs.Fields.{be4, be8, sized};
-ghost use Rattle.nb_units.specs.declared.frames.TheConstants.{FIRST_MAGIC, SECOND_MAGIC, VERSION};
+ghost use Rattle.nb_units.specs.declared.frames.TheConstants.{FIRST_MAGIC, SECOND_MAGIC, VERSION, HEADER};
+ghost use Rattle.nb_body.specs.declared.limits.TheConstants.{MAX_ENDORSED};
+ghost use Rattle.nb_goods.specs.declared.limits.TheConstants.{PART_BYTES};
 ghost use Rattle.nb_body.specs.Spelling.{endorsed_bytes, IsEndorsedOrder};
+ghost use Rattle.nb_msgs.specs.declared.lengths.TheConstants.{MAX_SEALED_HEAD, MOST_FRONT};
 ghost use Rattle.nb_msgs.specs.Bodies as bodies;
 
 use crate::message::Message;
@@ -33,7 +36,7 @@ pub fn write_message(m: &Message, out: &mut Vec<u8>) -> Result<(), NoMemory>
 // The header of a frame.
 fn header(kind: u8, len: u32) -> Buffer
     ensures bytes { result ≡ FIRST_MAGIC ∷ SECOND_MAGIC ∷ VERSION ∷ kind ∷ be4 len }
-    ensures long { length result ≡ 8 }
+    ensures long { length result ≡ HEADER }
 {
     let mut bytes = Buffer::new();
     bytes.raw(&[FIRST_MAGIC, SECOND_MAGIC, VERSION, kind]);
@@ -45,7 +48,7 @@ fn header(kind: u8, len: u32) -> Buffer
 fn part_of(m: &Message) -> &[u8]
     requires { bodies.MessageKeepsRules m.now }
     ensures bytes { result.now ≡ bodies.part_in m.now }
-    ensures short { length result.now ≤ 1000000 }
+    ensures short { length result.now ≤ PART_BYTES }
 {
     match m {
         Message::Goods { part, .. } => part.as_slice(),
@@ -58,7 +61,7 @@ fn front_of(m: &Message) -> Buffer
     requires { bodies.MessageKeepsRules m.now }
     ensures bytes { bodies.body_bytes m.now ≡ result ++ bodies.part_in m.now }
     ensures fits { bodies.IsMessage m.now }
-    ensures short { length result ≤ 428 }
+    ensures short { length result ≤ MOST_FRONT }
 {
     match m {
         Message::PriceAsk { ticket, sealed } => two_texts(ticket, sealed),
@@ -89,8 +92,7 @@ fn front_of(m: &Message) -> Buffer
 
 // Two texts, each behind its length.
 fn two_texts(first: &Blob, second: &Blob) -> Buffer
-    requires first { length first.now ≤ 200 }
-    requires second { length second.now ≤ 400 - length first.now }
+    requires { 4 + length first.now + (4 + length second.now) ≤ MOST_FRONT }
     ensures bytes { result ≡ sized first.now ++ sized second.now }
 {
     let mut bytes = Buffer::new();
@@ -101,7 +103,7 @@ fn two_texts(first: &Blob, second: &Blob) -> Buffer
 
 // A purchase's number, and a text behind its length.
 fn numbered_text(transaction: u64, text: &Blob) -> Buffer
-    requires { length text.now ≤ 400 }
+    requires { 8 + (4 + length text.now) ≤ MOST_FRONT }
     ensures bytes { result ≡ be8 transaction ++ sized text.now }
     ensures fits { transaction < 2 ^ 64 }
 {
@@ -113,8 +115,8 @@ fn numbered_text(transaction: u64, text: &Blob) -> Buffer
 
 // A body of goods before the part, whose length is the last of it.
 fn goods_front(transaction: u64, head: &Blob, part: &Blob) -> Buffer
-    requires head { length head.now ≤ 400 }
-    requires part { length part.now < 2 ^ 32 }
+    requires head { length head.now ≤ MAX_SEALED_HEAD }
+    requires part { length part.now ≤ PART_BYTES }
     ensures bytes { result ≡ be8 transaction ++ sized head.now ++ be4 (length part.now) }
     ensures fits { transaction < 2 ^ 64 }
 {
@@ -127,9 +129,10 @@ fn goods_front(transaction: u64, head: &Blob, part: &Blob) -> Buffer
 
 // An order that a merchant endorsed.
 fn endorsed(merchant: PartyId, sealed: &Blob) -> Buffer
-    requires { length sealed.now ≤ 420 }
+    requires { length sealed.now ≤ MAX_ENDORSED }
     ensures bytes { result ≡ endorsed_bytes (record { merchant = merchant; sealed = sealed.now }) }
     ensures fits { IsEndorsedOrder (record { merchant = merchant; sealed = sealed.now }) }
+    ensures short { length result ≤ MOST_FRONT }
 {
     let mut text = Buffer::new();
     text.raw(sealed.as_slice());
@@ -142,7 +145,7 @@ fn endorsed(merchant: PartyId, sealed: &Blob) -> Buffer
 
 // A body that is sealed as a whole.
 fn whole(sealed: &Blob) -> Buffer
-    requires { length sealed.now ≤ 400 }
+    requires { length sealed.now ≤ MOST_FRONT }
     ensures bytes { result ≡ sealed.now }
 {
     let mut bytes = Buffer::new();
