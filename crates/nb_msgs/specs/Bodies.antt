@@ -14,7 +14,7 @@ use Rattle.nb_ticket.specs.declared.granted.TheConstants.{GRANT_BYTES}
 use Rattle.nb_ticket.specs.Spelling.{IsAsk, ask_bytes}
 use Rattle.nb_goods.specs.declared.limits.TheConstants.{PART_BYTES}
 use Rattle.nb_msgs.specs.declared.lengths.TheConstants.{MAX_SEALED_PRICE_REQUEST, MAX_SEALED_QUOTE, MAX_SEALED_GOODS_REQUEST, MAX_SEALED_HEAD, MAX_SEALED_PAYMENT}
-use Rattle.nb_msgs.specs.declared.reply.TheConstants.{MOST_STATUS}
+use Rattle.nb_msgs.specs.declared.status.TheConstants.{MOST_STATUS}
 use Rattle.nb_msgs.specs.declared.message.Message.{Message}
 use Rattle.nb_msgs.specs.declared.message.Message.TheVariants as message
 

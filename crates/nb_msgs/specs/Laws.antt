@@ -2,10 +2,12 @@
 use Rattle.std.specs.Prelude.{◌≡◌, ℕ, List, ◌++◌, Ok}
 use Rattle.nb_units.specs.Frames.{AreBytes, IsFrame, Front, Whole, front_of}
 use Rattle.nb_msgs.specs.declared.lengths.TheConstants as limit
-use Rattle.nb_msgs.specs.declared.reply.TheConstants.{MOST_STATUS}
+use Rattle.nb_msgs.specs.declared.status.TheConstants.{MOST_STATUS}
+use Rattle.nb_msgs.specs.declared.status.StatusText.{StatusText}
 use Rattle.nb_msgs.specs.declared.message.Message.{Message}
 use Rattle.nb_msgs.specs.Bodies.{kind_of, body_bytes, message_frame, message_bytes, IsMessage}
 use Rattle.nb_msgs.specs.Reading.{message_of}
+use Rattle.nb_msgs.specs.StatusText.{IsStatusText, text_bytes, text_of}
 
 -- what was spelled of a message is read as that message
 abbrev pub MessageReadsBack : Type 0
@@ -22,6 +24,18 @@ OneMessage = (a b : Message) → IsMessage a → IsMessage b → message_bytes a
 -- the frame of a message is one that frames are read as, whatever follows it in a stream
 abbrev pub MessageIsFrame : Type 0
 MessageIsFrame = (m : Message) (rest : List ℕ) → IsMessage m → IsFrame (message_frame m) × (front_of (message_bytes m ++ rest) ≡ Whole (message_frame m) rest)
+
+-- what was spelled of a status is read as that status
+abbrev pub StatusReadsBack : Type 0
+StatusReadsBack = (t : StatusText) → IsStatusText t → text_of (text_bytes t) ≡ Ok t
+
+-- what was read as a status is within its limits, and is spelled as those bytes
+abbrev pub StatusSpellsBack : Type 0
+StatusSpellsBack = (bytes : List ℕ) (t : StatusText) → AreBytes bytes → text_of bytes ≡ Ok t → IsStatusText t × (bytes ≡ text_bytes t)
+
+-- two statuses with one spelling are one
+abbrev pub OneStatus : Type 0
+OneStatus = (a b : StatusText) → IsStatusText a → IsStatusText b → text_bytes a ≡ text_bytes b → a ≡ b
 
 -- the limits in numbers
 abbrev pub MessageLimitsAre : Type 0

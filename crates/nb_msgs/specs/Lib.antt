@@ -1,3 +1,4 @@
+pub mod StatusText
 pub mod ReplyBytes
 pub mod Limits
 pub mod Bodies

@@ -22,6 +22,21 @@ pub fn message_is_frame()
     ensures { law.MessageIsFrame }
 {}
 
+/// A law: what was spelled of a status is read as that status.
+pub fn status_reads_back()
+    ensures { law.StatusReadsBack }
+{}
+
+/// A law: what was read as a status is within its limits, and is spelled as those bytes.
+pub fn status_spells_back()
+    ensures { law.StatusSpellsBack }
+{}
+
+/// A law: two statuses with one spelling are one.
+pub fn one_status()
+    ensures { law.OneStatus }
+{}
+
 /// A law: the limits of messages in numbers.
 pub fn message_limits()
     ensures { law.MessageLimitsAre }

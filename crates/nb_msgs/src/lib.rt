@@ -14,6 +14,7 @@ mod lengths;
 mod message;
 mod reading;
 mod reply;
+mod status;
 mod writing;
 
 pub use fault::BodyFault;
@@ -23,7 +24,8 @@ pub use lengths::{
 };
 pub use message::Message;
 pub use reading::read_body;
-pub use reply::{LONGEST_REPLY, MOST_STATUS, REPLY_ROOM, limits, write_reply, write_reply_with};
+pub use reply::{LONGEST_REPLY, REPLY_ROOM, limits, write_reply, write_reply_with};
+pub use status::{MOST_STATUS, StatusText};
 pub use writing::write_message;
 
 #[cfg(test)]

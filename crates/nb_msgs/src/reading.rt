@@ -10,7 +10,7 @@ use crate::lengths::{
     MAX_SEALED_QUOTE,
 };
 use crate::message::Message;
-use crate::reply::MOST_STATUS;
+use crate::status::MOST_STATUS;
 use nb_body::{EndorsedOrder, Enrolment, Funding, StatusQuery};
 use nb_endorse::{RECEIPT_BYTES, Refusal};
 use nb_goods::PART_BYTES;

@@ -6,17 +6,17 @@ ghost use Rattle.nb_endorse.specs.Replies.{HasLawfulReceipts, ReceiptKeepsRules}
 ghost use Rattle.nb_msgs.specs.Bodies.{IsRefusal};
 ghost use Rattle.nb_msgs.specs.Limits.{ReplyLimitsAre};
 ghost use Rattle.nb_msgs.specs.ReplyBytes as layout;
-ghost use Rattle.nb_msgs.specs.declared.reply.TheConstants.{MOST_BODY, REPLY_ROOM, LONGEST_REPLY, MOST_TEXT, MOST_STATUS};
+ghost use Rattle.nb_msgs.specs.declared.reply.TheConstants.{MOST_BODY, REPLY_ROOM, LONGEST_REPLY};
+ghost use Rattle.nb_msgs.specs.declared.status.TheConstants.{MOST_STATUS};
 
 use crate::grant::grant_body;
-use nb_endorse::{
-    ABSENT, PRESENT, RECEIPT_BYTES, Receipt, Refusal, Reply, ReplyKeys, ReplyStates, SIGNED_BYTES,
-};
+use crate::status::{MOST_STATUS, StatusText};
+use nb_endorse::{RECEIPT_BYTES, Receipt, Refusal, Reply, ReplyKeys, ReplyStates};
 use nb_frame::write_frame;
 use nb_units::frames::{
     DONE_REPLY, GRANT_REPLY, HEADER, REFUSED_REPLY, RESULT_REPLY, STATUS_REPLY,
 };
-use nb_units::width::{EPOID, FLAG, LENGTH, PLACE, SEAL};
+use nb_units::width::LENGTH;
 use nb_units::{AcctId, Buffer, Epoid};
 
 /// The room that is asked for a reply's frame.
@@ -27,12 +27,6 @@ pub const LONGEST_REPLY: usize = HEADER + MOST_BODY;
 
 // The most bytes of a reply's body: those of a result, two sealed receipts, each behind its length.
 const MOST_BODY: usize = 2 * (LENGTH + RECEIPT_BYTES);
-
-// The most bytes of a status before it is sealed: place, identifier, and a receipt behind the byte that says whether there is one.
-const MOST_TEXT: usize = PLACE + EPOID + FLAG + SIGNED_BYTES;
-
-/// The most bytes of a status, sealed.
-pub const MOST_STATUS: usize = SEAL + MOST_TEXT;
 
 // The status of an order is sealed under this label.
 const STATUS_SEAL_LABEL: [u8; 4] = *b"stat";
@@ -126,7 +120,7 @@ fn status_body(place: u64, epoid: &Epoid, receipt: &Option<Receipt>, keys: &Repl
     ensures bytes { result ≡ (layout.status_frame keys.now place epoid.now receipt.now).body }
     ensures short { length result ≤ MOST_STATUS }
 {
-    let plain = status_text(place, epoid, receipt, keys);
+    let plain = told(place, epoid, receipt, keys).spelled();
     let mut sealed = [0u8; MOST_STATUS];
     let n = keys.seal_text_first(&STATUS_SEAL_LABEL, plain.as_slice(), &mut sealed);
     let mut body = Buffer::new();
@@ -134,23 +128,25 @@ fn status_body(place: u64, epoid: &Epoid, receipt: &Option<Receipt>, keys: &Repl
     body
 }
 
-// The bytes of a status before they are sealed.
-fn status_text(place: u64, epoid: &Epoid, receipt: &Option<Receipt>, keys: &ReplyStates) -> Buffer
+// What is told of an order. A receipt is signed by the house.
+fn told(place: u64, epoid: &Epoid, receipt: &Option<Receipt>, keys: &ReplyStates) -> StatusText
     requires { IfSome receipt.now ReceiptKeepsRules }
-    ensures bytes { result ≡ layout.status_bytes keys.now.house place epoid.now receipt.now }
-    ensures short { length result ≤ MOST_TEXT }
+    ensures told { result ≡ layout.told_status keys.now.house place epoid.now receipt.now }
+    ensures lawful { IfSome result.receipt (λ s. ReceiptKeepsRules s.receipt) }
 {
-    let mut text = Buffer::new();
-    text.u64(place);
-    text.raw(&epoid.write());
+    let epoid = *epoid;
     match receipt {
-        None => text.u8(ABSENT),
-        Some(receipt) => {
-            text.u8(PRESENT);
-            text.raw(keys.sign(receipt).spelled().as_slice());
-        }
+        None => StatusText {
+            place,
+            epoid,
+            receipt: None,
+        },
+        Some(receipt) => StatusText {
+            place,
+            epoid,
+            receipt: Some(keys.sign(receipt)),
+        },
     }
-    text
 }
 
 // The body that says what was done.
