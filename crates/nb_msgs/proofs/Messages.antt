@@ -16,7 +16,7 @@ use Rattle.nb_msgs.specs.declared.fault.BodyFault.{BodyFault}
 use Rattle.nb_msgs.specs.declared.fault.BodyFault.TheVariants as fault
 use Rattle.nb_msgs.specs.declared.message.Message.{Message}
 use Rattle.nb_msgs.specs.declared.message.Message.TheVariants as message
-use Rattle.nb_msgs.specs.Bodies.{IsMessage, kind_of, body_bytes, message_frame, message_bytes}
+use Rattle.nb_msgs.specs.Bodies.{IsMessage, MessageKeepsRules, kind_of, body_bytes, message_frame, message_bytes}
 use Rattle.nb_msgs.specs.Laws.{MessageReadsBack, MessageSpellsBack, OneMessage, MessageIsFrame}
 use Rattle.nb_msgs.specs.Reading.{two_texts_of, numbered_text_of, whole_of, goods_of, done_of, refusal_of, made, message_of, ReadsBody}
 use Rattle.nb_msgs.proofs.Layouts.{two_texts_found, two_texts_read, numbered_text_found, numbered_text_read, whole_of_found, whole_of_reads, goods_found, goods_reads, done_found, done_reads, refusal_found, refusal_reads, Spelled}
@@ -199,3 +199,22 @@ pub body_or_none : {A : Type 0} (r : Result A BodyFault) (read : Result A ℕ) (
 body_or_none (Ok y) read x is e = inl (ap Ok (ok_is y x (sym is ∙ e)))
 body_or_none (Err (fault.Malformed place)) read x is e = absurd cc
 body_or_none (Err fault.NoMemory) read x is e = inr refl
+
+-- a message within its limits keeps the rules
+pub keeps_rules : (m : Message) → IsMessage m → MessageKeepsRules m
+keeps_rules (message.PriceAsk ticket sealed) is = is
+keeps_rules (message.Quote transaction sealed) is = is.1
+keeps_rules (message.GoodsAsk ticket sealed) is = is
+keeps_rules (message.Goods transaction head part) is = (is.1, is.2)
+keeps_rules (message.Order ticket sealed) is = is
+keeps_rules (message.Endorsed merchant sealed) is = is.sealed
+keeps_rules (message.Result merchant consumer) is = is
+keeps_rules (message.Passed transaction part) is = is.1
+keeps_rules (message.StatusAsk query) is = tt
+keeps_rules (message.Status sealed) is = is
+keeps_rules (message.TicketAsk ask) is = tt
+keeps_rules (message.Grant sealed) is = is
+keeps_rules (message.Enrol enrolment) is = is.role
+keeps_rules (message.Fund funding) is = is.amount
+keeps_rules (message.Done acct at balance) is = tt
+keeps_rules (message.Refusal refusal) is = tt

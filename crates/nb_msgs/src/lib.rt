@@ -29,4 +29,6 @@ pub use status::{MOST_STATUS, StatusText};
 pub use writing::write_message;
 
 #[cfg(test)]
+mod body_tests;
+#[cfg(test)]
 mod tests;

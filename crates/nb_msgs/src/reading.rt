@@ -1,7 +1,7 @@
 ghost use Rattle.std.specs.Prelude.{◌≡◌, ◌≤◌, ◌⊎◌, length, IfOk, Ok, Err};
 ghost use Rattle.nb_units.specs.declared.frames.TheConstants.{LAST_KIND};
 ghost use Rattle.nb_msgs.specs.declared.fault.BodyFault.TheVariants as fault;
-ghost use Rattle.nb_msgs.specs.Bodies.{IsMessage, kind_of, body_bytes};
+ghost use Rattle.nb_msgs.specs.Bodies.{IsMessage, MessageKeepsRules, kind_of, body_bytes};
 ghost use Rattle.nb_msgs.specs.Reading as reading;
 
 use crate::fault::BodyFault;
@@ -31,8 +31,9 @@ pub fn read_body(alloc: Global, kind: u8, body: &[u8]) -> Result<Message, BodyFa
     // The fields in their order, and the first that fails. There is want of memory only where the body spells a message.
     ensures reads { reading.ReadsBody result (reading.message_of kind body.now) }
 
-    // A message that is read is spelled so, and one that is spelled so is read.
+    // A message that is read is spelled so, and can be written again; one that is spelled so is read.
     ensures spelled { IfOk result (λ m. IsMessage m × (kind_of m ≡ kind) × (body.now ≡ body_bytes m)) }
+    ensures lawful { IfOk result MessageKeepsRules }
     ensures found { (m : Message) → IsMessage m → kind_of m ≡ kind → body.now ≡ body_bytes m → (result ≡ Ok m) ⊎ (result ≡ Err fault.NoMemory) }
 {
     read_kind(alloc, kind, body)
