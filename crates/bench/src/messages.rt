@@ -53,9 +53,13 @@ fn read(alloc: Global, size: u32, times: u32) -> Result<Made, NoMemory> {
     let mut made = 0;
     'reading: for _ in 0..times {
         match read_body(alloc, GOODS_REPLY, body) {
-            Ok(Message::Goods {
-                transaction, part, ..
-            }) => made = mixed(transaction, part.as_slice().last().copied().unwrap_or(0)),
+            Ok(
+                Message::Goods {
+                    transaction,
+                    part,
+                    ..
+                },
+            ) => made = mixed(transaction, part.as_slice().last().copied().unwrap_or(0)),
             Ok(_) | Err(BodyFault::Malformed { .. }) => return Ok(Made::Unknown),
             Err(BodyFault::NoMemory) => return Err(NoMemory),
         }
