@@ -258,3 +258,89 @@ def grant(house, consumer, merchant, nonce, moment):
 def refusal(why, a, b, x):
     """The reply that refuses a request and records nothing."""
     return frame(REFUSAL, struct.pack(">BQQ", why, a, b) + x)
+
+
+class Field(typing.NamedTuple):
+    """A field of a layout: so many bytes, or a text of at most so many behind its length. The values are the ones that a test takes,
+    and next to them ones that are not allowed."""
+
+    width: int
+    text: bool = False
+    value: int = None
+    bad: tuple = ()
+
+
+def text(most):
+    """A text of at most so many bytes."""
+    return Field(most, text=True)
+
+
+NUMBER, LONG, EPOID, WIDE = Field(4), Field(8), Field(16), Field(32)
+ROLE = Field(1, value=2, bad=(0, 3))
+AMOUNT = Field(8, value=10**18, bad=(0, 10**18 + 1))
+
+# The bodies, by their kind. Those of 0A and 0C are sealed as a whole, and have at most so many bytes.
+BODIES = {
+    0x01: (text(80), text(112)),
+    0x02: (LONG, text(52)),
+    0x03: (text(80), text(48)),
+    0x04: (LONG, text(104), text(1_000_000)),
+    0x05: (text(80), text(324)),
+    0x06: (NUMBER, text(420)),
+    0x07: (text(167), text(167)),
+    0x08: (LONG, text(167)),
+    0x09: (NUMBER, EPOID, LONG, WIDE),
+    0x0B: (NUMBER, NUMBER, LONG, WIDE),
+    0x0D: (NUMBER, ROLE, NUMBER, LONG, WIDE, WIDE),
+    0x0E: (NUMBER, AMOUNT, EPOID, WIDE),
+    0x0F: (NUMBER, LONG, LONG),
+    0x10: (Field(1), LONG, LONG, WIDE),
+}
+WHOLE_BODIES = {0x0A: 192, 0x0C: 168}
+
+# What is sealed in messages, and an endorsed order, a status query, an enrolment and a fund.
+RECORDS = {
+    "endorsed order": BODIES[0x06],
+    "status query": BODIES[0x09],
+    "enrolment": BODIES[0x0D],
+    "funding": BODIES[0x0E],
+    "price request": (LONG, NUMBER, text(64)),
+    "quote": (LONG, NUMBER, LONG),
+    "goods request": (LONG, LONG),
+    "goods head": (LONG, EPOID, LONG, LONG, WIDE),
+    "payment request": (LONG, text(280)),
+}
+
+
+def spelled(fields):
+    """Bytes of a layout, and the places of its fields. The bytes of each field are its number, from 1 on; a text has three."""
+    made, places = b"", []
+    for number, field in enumerate(fields, 1):
+        places.append(len(made))
+        if field.text:
+            made += sized(bytes([number] * 3))
+        elif field.value is None:
+            made += bytes([number] * field.width)
+        else:
+            made += field.value.to_bytes(field.width, "big")
+    return made, places
+
+
+def cuts(fields):
+    """How many bytes of a layout are left, and the place that is then bad: at each field's front, and one byte before its end."""
+    made, places = spelled(fields)
+    for place, end in zip(places, places[1:] + [len(made)]):
+        for cut in sorted({place, end - 1}):
+            yield cut, place
+
+
+def faults(fields):
+    """Bytes that break one field of a layout, and its place: the length of a text above its limit, a value that is not allowed; and
+    the place of the first byte behind the layout."""
+    made, places = spelled(fields)
+    for field, place in zip(fields, places):
+        for bad in field.bad:
+            yield made[:place] + bad.to_bytes(field.width, "big") + made[place + field.width :], place
+        if field.text:
+            yield made[:place] + struct.pack(">I", field.width + 1) + made[place + 4 :], place
+    yield made + b"\0", len(made)

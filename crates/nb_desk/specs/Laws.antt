@@ -7,7 +7,7 @@ use Rattle.nb_endorse.specs.declared.receipt.Receipt.{Receipt}
 use Rattle.nb_endorse.specs.declared.reply.Reply.TheVariants.{Result as Receipts}
 use Rattle.nb_endorse.specs.declared.reply.ReplyKeys.{ReplyKeys}
 use Rattle.nb_escrow.specs.declared.decision.Decision.{Decision}
-use Rattle.nb_escrow.specs.declared.status.StatusQuery.{StatusQuery}
+use Rattle.nb_body.specs.declared.query.StatusQuery.{StatusQuery}
 use Rattle.nb_escrow.specs.Head.{head_of}
 use Rattle.nb_escrow.specs.Laws.{IsAuthentic, GivesKey}
 use Rattle.nb_escrow.specs.Verdict.{verdict}

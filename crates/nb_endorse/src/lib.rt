@@ -32,7 +32,7 @@ pub use endorsement::{
 };
 pub use receipt::{
     ABSENT, NO_KEY, PAID_CODE, PRESENT, RECEIPT_BYTES, Receipt, SIGNED_BYTES, Signed, read_receipt,
-    receipt_tag_ok, seal_receipt, seal_receipt_with, sign_receipt, sign_receipt_with,
+    read_signed, receipt_tag_ok, seal_receipt, seal_receipt_with, sign_receipt, sign_receipt_with,
     write_receipt,
 };
 pub use refusal::Refusal;

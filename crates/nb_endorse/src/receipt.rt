@@ -250,10 +250,15 @@ fn write_shown(shown: Option<(u64, u64)>, bytes: &mut Buffer)
     }
 }
 
-// The receipt and its tag that the bytes spell, or the place of the first field that fails.
-fn read_signed(bytes: &[u8]) -> Result<Signed, Malformed>
+/// The receipt and its tag that the bytes spell, as they are before they are sealed, or the place of the first field that fails,
+/// as [`read_receipt`] tells it. Any tag is read.
+pub fn read_signed(bytes: &[u8]) -> Result<Signed, Malformed>
+    // The fields in their order, and the first that fails.
     ensures reads { Reads result (reading.signed_of bytes.now) }
+
+    // A receipt that is read is spelled so, and one that is spelled so is read.
     ensures spelled { IfOk result (λ s. spelling.IsSigned s × (bytes.now ≡ spelling.signed_bytes s)) }
+    ensures found { (s : Signed) → spelling.IsSigned s → bytes.now ≡ spelling.signed_bytes s → result ≡ Ok s }
 {
     read_fields(bytes)
 }

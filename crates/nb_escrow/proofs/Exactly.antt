@@ -32,14 +32,14 @@ use Rattle.nb_endorse.specs.declared.reply.Reply.TheVariants.{Result as Receipts
 use Rattle.nb_endorse.specs.Reading.{endorsement_of}
 use Rattle.nb_seal.specs.Seal.{OpensAs}
 use Rattle.nb_escrow.specs.declared.decision.Decision.{Decision}
-use Rattle.nb_escrow.specs.declared.enrolment.Enrolment.{Enrolment}
-use Rattle.nb_escrow.specs.declared.funding.Funding.{Funding}
+use Rattle.nb_body.specs.declared.enrolment.Enrolment.{Enrolment}
+use Rattle.nb_body.specs.declared.funding.Funding.{Funding}
 use Rattle.nb_escrow.specs.declared.head.Head.{Head}
 use Rattle.nb_escrow.specs.declared.order.Presented.{Presented}
 use Rattle.nb_escrow.specs.declared.settlement.PaymentOutcome.TheVariants as outcome
 use Rattle.nb_escrow.specs.declared.settlement.RefusalReason.{RefusalReason}
 use Rattle.nb_escrow.specs.declared.settlement.Settlement.{Settlement}
-use Rattle.nb_escrow.specs.declared.status.StatusQuery.{StatusQuery}
+use Rattle.nb_body.specs.declared.query.StatusQuery.{StatusQuery}
 use Rattle.nb_escrow.specs.Checks.{signed_part, unless, well_formed, enrolled_as, right_tag, room_left}
 use Rattle.nb_escrow.specs.Claims.{IsTrueRefusal}
 use Rattle.nb_escrow.specs.Enrolments.{enrol_entry, party_place, numbers_free, again_or_enrol, enrol_steps}
@@ -49,7 +49,7 @@ use Rattle.nb_escrow.specs.Laws.{IsAuthentic, IsEnrolment, IsFund, IsPayment, Is
 use Rattle.nb_escrow.specs.Orders.{endorsement_in, hidden_in, same_merchant, same_digest, settled, result, again_or_settle, order_steps}
 use Rattle.nb_escrow.specs.Payable.{IsAuthenticOrder, MaySettle, IsPayable, payment_of, TellsPayment, IsTrueReason, refusal_of, TellsReason, digest_held}
 use Rattle.nb_escrow.specs.Payments.{payment_steps, outcome_of}
-use Rattle.nb_escrow.specs.Requests.{enrolment_of, funding_of, endorsed_of}
+use Rattle.nb_body.specs.Reading.{enrolment_of, funding_of, endorsed_of}
 use Rattle.nb_escrow.specs.Settlements.{settlement_at, settlement_in, entry_with, settlement_entry, receipt_in_role, may_see}
 use Rattle.nb_escrow.specs.Statuses.{status_told}
 use Rattle.nb_escrow.specs.Verdict.{steps, told, verdict}

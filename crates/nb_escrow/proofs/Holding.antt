@@ -19,8 +19,8 @@ use Rattle.nb_book.specs.Legal.{Legal}
 use Rattle.nb_book.specs.Laws.{enrols, cites}
 use Rattle.nb_book.proofs.Summing.{none_overdrawn}
 use Rattle.nb_book.proofs.Counting.{enrolled_once, funded_once}
-use Rattle.nb_escrow.specs.declared.enrolment.Enrolment.{Enrolment}
-use Rattle.nb_escrow.specs.declared.funding.Funding.{Funding}
+use Rattle.nb_body.specs.declared.enrolment.Enrolment.{Enrolment}
+use Rattle.nb_body.specs.declared.funding.Funding.{Funding}
 use Rattle.nb_escrow.specs.Held.{same_entry, place_at, place_in}
 use Rattle.nb_escrow.specs.Enrolments.{enrol_entry, party_place}
 use Rattle.nb_escrow.specs.Fundings.{fund_entry, funded_place}

@@ -33,16 +33,16 @@ use Rattle.nb_ticket.specs.declared.ask.TicketAsk.{TicketAsk}
 use Rattle.nb_ticket.specs.Keys.{ask_tag}
 use Rattle.nb_ticket.specs.Reading.{ask_of}
 use Rattle.nb_escrow.specs.declared.decision.Decision.{Decision}
-use Rattle.nb_escrow.specs.declared.enrolment.Enrolment.{Enrolment}
-use Rattle.nb_escrow.specs.declared.funding.Funding.{Funding}
+use Rattle.nb_body.specs.declared.enrolment.Enrolment.{Enrolment}
+use Rattle.nb_body.specs.declared.funding.Funding.{Funding}
 use Rattle.nb_escrow.specs.declared.head.Head.{Head}
 use Rattle.nb_escrow.specs.declared.order.Presented.{Presented}
 use Rattle.nb_escrow.specs.declared.settlement.RefusalReason.{RefusalReason}
 use Rattle.nb_escrow.specs.declared.settlement.Settlement.{Settlement}
-use Rattle.nb_escrow.specs.declared.status.StatusQuery.{StatusQuery}
+use Rattle.nb_body.specs.declared.query.StatusQuery.{StatusQuery}
 use Rattle.nb_escrow.specs.Checks.{signed_part, well_formed, enrolled, enrolled_as, right_tag, room_left}
 use Rattle.nb_escrow.specs.Held.{place_in, done}
-use Rattle.nb_escrow.specs.Requests.{enrolment_of, funding_of, endorsed_of, query_of}
+use Rattle.nb_body.specs.Reading.{enrolment_of, funding_of, endorsed_of, query_of}
 use Rattle.nb_escrow.specs.Enrolments.{enrol_entry, if_unheld, numbers_free, again_or_enrol, enrol_steps}
 use Rattle.nb_escrow.specs.Fundings.{fund_entry, funded_place, if_unfunded, reference_new, account_held, total_within, again_or_fund, fund_steps}
 use Rattle.nb_escrow.specs.Orders.{endorsement_in, hidden_in, same_merchant, same_digest, settled, result, again_or_settle, order_steps}

@@ -27,7 +27,7 @@ use Rattle.nb_escrow.specs.declared.decision.Decision.{Decision}
 use Rattle.nb_escrow.specs.declared.head.Head.{Head}
 use Rattle.nb_escrow.specs.declared.settlement.PaymentOutcome.TheVariants as outcome
 use Rattle.nb_escrow.specs.declared.settlement.Settlement.{Settlement}
-use Rattle.nb_escrow.specs.declared.status.StatusQuery.{StatusQuery}
+use Rattle.nb_body.specs.declared.query.StatusQuery.{StatusQuery}
 use Rattle.nb_escrow.specs.Checks.{signed_part, enrolled, right_tag}
 use Rattle.nb_escrow.specs.Settlements.{settlement, settlement_at, settlement_of, settlement_in, receipt_in_role, receipt_of_party}
 use Rattle.nb_escrow.specs.Statuses.{enough_entries, status_told, status_steps}

@@ -24,14 +24,14 @@ use Rattle.nb_endorse.specs.declared.refusal.TheConstants.{IN_BODY, IN_ORDER, NO
 use Rattle.nb_endorse.specs.declared.refusal.Refusal.{Refusal}
 use Rattle.nb_endorse.specs.Refusals.{refusal}
 use Rattle.nb_escrow.specs.declared.decision.Decision.{Decision}
-use Rattle.nb_escrow.specs.declared.enrolment.Enrolment.{Enrolment}
-use Rattle.nb_escrow.specs.declared.funding.Funding.{Funding}
+use Rattle.nb_body.specs.declared.enrolment.Enrolment.{Enrolment}
+use Rattle.nb_body.specs.declared.funding.Funding.{Funding}
 use Rattle.nb_escrow.specs.declared.head.Head.{Head}
 use Rattle.nb_escrow.specs.declared.order.Presented.{Presented}
 use Rattle.nb_escrow.specs.declared.settlement.Settlement.{Settlement}
 use Rattle.nb_escrow.specs.Checks.{signed_part, unless, well_formed, if_found, enrolled, enrolled_as, right_tag, room_left}
 use Rattle.nb_escrow.specs.Held.{place_in}
-use Rattle.nb_escrow.specs.Requests.{enrolment_of, funding_of, endorsed_of}
+use Rattle.nb_body.specs.Reading.{enrolment_of, funding_of, endorsed_of}
 use Rattle.nb_escrow.specs.Enrolments.{enrol_entry, if_unheld, numbers_free, again_or_enrol, enrol_steps}
 use Rattle.nb_escrow.specs.Fundings.{fund_entry, if_unfunded, reference_new, account_held, total_within, again_or_fund, fund_steps}
 use Rattle.nb_escrow.specs.Orders.{presented_of, IsPresented, endorsement_in, hidden_in, names_endorser, same_merchant, same_digest, again_or_settle, order_steps}

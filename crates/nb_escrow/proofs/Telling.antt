@@ -32,10 +32,10 @@ use Rattle.nb_escrow.specs.declared.order.Presented.{Presented}
 use Rattle.nb_escrow.specs.declared.settlement.Settlement.{Settlement}
 use Rattle.nb_escrow.specs.declared.settlement.PaymentOutcome.{PaymentOutcome}
 use Rattle.nb_escrow.specs.declared.settlement.PaymentOutcome.TheVariants as outcome
-use Rattle.nb_escrow.specs.declared.enrolment.Enrolment.{Enrolment}
-use Rattle.nb_escrow.specs.declared.funding.Funding.{Funding}
+use Rattle.nb_body.specs.declared.enrolment.Enrolment.{Enrolment}
+use Rattle.nb_body.specs.declared.funding.Funding.{Funding}
 use Rattle.nb_escrow.specs.Checks.{well_formed, signed_part, unless, if_found, enrolled, enrolled_as, right_tag, room_left}
-use Rattle.nb_escrow.specs.Requests.{endorsed_of, query_of, enrolment_of, funding_of}
+use Rattle.nb_body.specs.Reading.{endorsed_of, query_of, enrolment_of, funding_of}
 use Rattle.nb_seal.specs.Hmac.{hmac_of}
 use Rattle.nb_escrow.specs.Held.{same_entry, place_at, place_in, done}
 use Rattle.nb_escrow.specs.Enrolments.{enrol_entry, numbers_free, again_or_enrol, enrol_steps}

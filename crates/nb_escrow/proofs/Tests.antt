@@ -18,7 +18,7 @@ use Rattle.nb_endorse.specs.declared.refusal.TheConstants.{NOT_ENROLLED, OTHER_M
 use Rattle.nb_endorse.specs.declared.refusal.Refusal.{Refusal}
 use Rattle.nb_endorse.specs.Refusals.{refusal, refusal_with}
 use Rattle.nb_seal.specs.Seal.{OpensAs}
-use Rattle.nb_escrow.specs.declared.order.EndorsedOrder.{EndorsedOrder}
+use Rattle.nb_body.specs.declared.endorsed.EndorsedOrder.{EndorsedOrder}
 use Rattle.nb_escrow.specs.Checks.{unless, well_formed, if_found, enrolled, enrolled_as, if_text, unsealed, right_tag, room_left}
 use Rattle.nb_escrow.specs.Orders.{names_endorser, same_merchant, same_digest}
 use Rattle.nb_escrow.specs.Claims.{IsMalformed, IsNotInRole, IsNotSealed, IsSealedBadly, IsOtherTag, IsFull, NamesOther}

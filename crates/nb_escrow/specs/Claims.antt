@@ -23,13 +23,13 @@ use Rattle.nb_endorse.specs.Refusals.{refusal, refusal_with}
 use Rattle.nb_ticket.specs.declared.ask.TicketAsk.{TicketAsk}
 use Rattle.nb_ticket.specs.Keys.{ask_tag}
 use Rattle.nb_ticket.specs.Reading.{ask_of}
-use Rattle.nb_escrow.specs.declared.enrolment.Enrolment.{Enrolment}
-use Rattle.nb_escrow.specs.declared.funding.Funding.{Funding}
+use Rattle.nb_body.specs.declared.enrolment.Enrolment.{Enrolment}
+use Rattle.nb_body.specs.declared.funding.Funding.{Funding}
 use Rattle.nb_escrow.specs.declared.head.Head.{Head}
-use Rattle.nb_escrow.specs.declared.order.EndorsedOrder.{EndorsedOrder}
+use Rattle.nb_body.specs.declared.endorsed.EndorsedOrder.{EndorsedOrder}
 use Rattle.nb_escrow.specs.declared.order.Presented.{Presented}
-use Rattle.nb_escrow.specs.declared.status.StatusQuery.{StatusQuery}
-use Rattle.nb_escrow.specs.Requests.{endorsed_of, query_of, enrolment_of, funding_of}
+use Rattle.nb_body.specs.declared.query.StatusQuery.{StatusQuery}
+use Rattle.nb_body.specs.Reading.{endorsed_of, query_of, enrolment_of, funding_of}
 use Rattle.nb_escrow.specs.Checks.{signed_part}
 use Rattle.nb_escrow.specs.Grants.{IsAuthenticAsk}
 use Rattle.nb_escrow.specs.Payable.{IsAsked, IsEndorsed, IsOrdered, IsSignedOrder, IsAuthenticOrder, digest_held}

@@ -13,8 +13,8 @@ use Rattle.nb_escrow.specs.declared.head.Head.{Head}
 use Rattle.nb_escrow.specs.declared.decision.Decision.{Decision}
 use Rattle.nb_endorse.specs.declared.refusal.Refusal.{Refusal}
 use Rattle.nb_endorse.specs.declared.refusal.TheConstants.{IN_BODY, REFERENCE_HELD, ACCOUNT_NOT_HELD, TOTAL_TOO_HIGH}
-use Rattle.nb_escrow.specs.declared.funding.Funding.{Funding}
-use Rattle.nb_escrow.specs.Requests.{funding_of}
+use Rattle.nb_body.specs.declared.funding.Funding.{Funding}
+use Rattle.nb_body.specs.Reading.{funding_of}
 use Rattle.nb_escrow.specs.Checks.{signed_part, well_formed, right_tag, room_left, unless}
 use Rattle.nb_endorse.specs.Refusals.{refusal}
 use Rattle.nb_escrow.specs.Held.{place_in, done}

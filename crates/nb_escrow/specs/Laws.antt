@@ -6,6 +6,10 @@ use Rattle.nb_units.specs.declared.epoid.Epoid.{Epoid}
 use Rattle.nb_units.specs.declared.frames.TheConstants.{ORDER_REQUEST, STATUS_REQUEST, TICKET_REQUEST, ENROL_REQUEST, FUND_REQUEST}
 use Rattle.nb_units.specs.declared.ids.PartyId.{PartyId}
 use Rattle.nb_seal.specs.Hmac.{hmac_of}
+use Rattle.nb_body.specs.declared.limits.TheConstants as request
+use Rattle.nb_book.specs.declared.entry.TheConstants.{CONSUMER, MERCHANT}
+use Rattle.nb_book.specs.declared.limits.TheConstants.{MAX_TOTAL}
+use Rattle.nb_endorse.specs.declared.endorsement.TheConstants.{MAX_SEALED}
 use Rattle.nb_book.specs.declared.entry.Entry.{Entry}
 use Rattle.nb_book.specs.declared.entry.Entry.TheVariants.{Enrol, Fund, Paid, Refused}
 use Rattle.nb_book.specs.declared.kept.Kept.{Kept}
@@ -19,13 +23,13 @@ use Rattle.nb_endorse.specs.declared.refusal.Refusal.{Refusal}
 use Rattle.nb_endorse.specs.declared.reply.Reply.TheVariants.{Result as Receipts, Grant, Done, Status, Refused as Told}
 use Rattle.nb_endorse.specs.declared.reply.ReplyKeys.{ReplyKeys}
 use Rattle.nb_ticket.specs.declared.ask.TicketAsk.{TicketAsk}
-use Rattle.nb_escrow.specs.declared.enrolment.Enrolment.{Enrolment}
-use Rattle.nb_escrow.specs.declared.funding.Funding.{Funding}
+use Rattle.nb_body.specs.declared.enrolment.Enrolment.{Enrolment}
+use Rattle.nb_body.specs.declared.funding.Funding.{Funding}
 use Rattle.nb_escrow.specs.declared.head.Head.{Head}
 use Rattle.nb_escrow.specs.declared.order.Presented.{Presented}
 use Rattle.nb_escrow.specs.declared.settlement.RefusalReason.{RefusalReason}
-use Rattle.nb_escrow.specs.declared.status.StatusQuery.{StatusQuery}
-use Rattle.nb_escrow.specs.Requests.{query_of, enrolment_of, funding_of}
+use Rattle.nb_body.specs.declared.query.StatusQuery.{StatusQuery}
+use Rattle.nb_body.specs.Reading.{query_of, enrolment_of, funding_of}
 use Rattle.nb_escrow.specs.Checks.{signed_part}
 use Rattle.nb_escrow.specs.Enrolments.{enrol_entry}
 use Rattle.nb_escrow.specs.Fundings.{fund_entry}
@@ -185,3 +189,7 @@ GrantedExactlyWhere = (H : List Entry) (head : Head) (cap kind : ℕ) (body : Li
 abbrev pub RefusalsAreTrue : Type 0
 RefusalsAreTrue = (H : List Entry) → Legal H → (head : Head) (cap kind : ℕ) (body : List ℕ) (moment : ℕ) (why : Refusal)
     → (verdict H head cap kind body moment).reply ≡ Told why → IsTrueRefusal H head cap kind body why
+
+-- What a request may say are the roles and the amounts that a book may record, and sealed endorsements as long as endorsements are.
+abbrev pub RequestLimitsAre : Type 0
+RequestLimitsAre = (request.CONSUMER_ROLE ≡ CONSUMER) × (request.MERCHANT_ROLE ≡ MERCHANT) × (request.MAX_AMOUNT ≡ MAX_TOTAL) × (request.MAX_ENDORSED ≡ MAX_SEALED)

@@ -1,5 +1,4 @@
 pub mod Head
-pub mod Requests
 pub mod Checks
 pub mod Held
 pub mod Enrolments

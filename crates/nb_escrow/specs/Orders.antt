@@ -26,7 +26,7 @@ use Rattle.nb_escrow.specs.declared.head.Head.{Head}
 use Rattle.nb_escrow.specs.declared.decision.Decision.{Decision}
 use Rattle.nb_escrow.specs.declared.order.Presented.{Presented}
 use Rattle.nb_escrow.specs.declared.settlement.Settlement.{Settlement}
-use Rattle.nb_escrow.specs.Requests.{endorsed_of}
+use Rattle.nb_body.specs.Reading.{endorsed_of}
 use Rattle.nb_escrow.specs.Checks.{unless, well_formed, enrolled_as, unsealed, right_tag, room_left}
 use Rattle.nb_escrow.specs.Settlements.{settlement_in, settlement_entry, receipt_in_role}
 use Rattle.nb_escrow.specs.Payments.{payment_steps, outcome_of}

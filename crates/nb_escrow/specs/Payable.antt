@@ -19,10 +19,10 @@ use Rattle.nb_endorse.specs.declared.reply.Reply.TheVariants.{Result as Receipts
 use Rattle.nb_endorse.specs.Reading.{endorsement_of}
 use Rattle.nb_seal.specs.Seal.{OpensAs}
 use Rattle.nb_endorse.specs.Tags.{endorsement_digest}
-use Rattle.nb_escrow.specs.declared.order.EndorsedOrder.{EndorsedOrder}
+use Rattle.nb_body.specs.declared.endorsed.EndorsedOrder.{EndorsedOrder}
 use Rattle.nb_escrow.specs.declared.order.Presented.{Presented}
 use Rattle.nb_escrow.specs.declared.settlement.RefusalReason.{RefusalReason}
-use Rattle.nb_escrow.specs.Requests.{endorsed_of}
+use Rattle.nb_body.specs.Reading.{endorsed_of}
 
 -- a party that is enrolled as a merchant asks for the payment of an order
 pub record IsAsked (H : List Entry) (body : List ℕ) (request : EndorsedOrder) (merchant : Party) : Type 0 where

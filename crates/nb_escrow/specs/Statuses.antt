@@ -11,8 +11,8 @@ use Rattle.nb_endorse.specs.declared.receipt.TheConstants.{NO_KEY}
 use Rattle.nb_endorse.specs.Refusals.{refusal}
 use Rattle.nb_escrow.specs.declared.head.Head.{Head}
 use Rattle.nb_escrow.specs.declared.decision.Decision.{Decision}
-use Rattle.nb_escrow.specs.declared.status.StatusQuery.{StatusQuery}
-use Rattle.nb_escrow.specs.Requests.{query_of}
+use Rattle.nb_body.specs.declared.query.StatusQuery.{StatusQuery}
+use Rattle.nb_body.specs.Reading.{query_of}
 use Rattle.nb_escrow.specs.Checks.{signed_part, unless, well_formed, enrolled, right_tag}
 use Rattle.nb_escrow.specs.Settlements.{settlement_in, receipt_of_party}
 

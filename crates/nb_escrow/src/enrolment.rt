@@ -1,94 +1,46 @@
 ghost use Rattle.std.specs.Prelude.{◌≡◌, ◌≢◌, ◌<◌, ◌⊎◌, length, OnOk, IfOk, IfSome, IsSome, IsNone};
-ghost use Rattle.nb_units.specs.Reads.{Reads};
-ghost use Rattle.nb_book.specs.declared.entry.TheConstants.{CONSUMER, MERCHANT};
 ghost use Rattle.nb_book.specs.Searches.{party_in, holder_in};
 ghost use Rattle.nb_book.specs.Legal.{LegalAfter};
 ghost use Rattle.nb_endorse.specs.Keys.{no_keys};
 ghost use Rattle.nb_endorse.specs.Replies.{HasLawfulReceipts};
-ghost use Rattle.nb_escrow.specs.Requests.{enrolment_of};
 ghost use Rattle.nb_escrow.specs.Held.{place_in};
 ghost use Rattle.nb_escrow.specs.Enrolments.{enrol_entry, party_place, numbers_free, enrol_steps};
 
 use crate::checks::{balance_now, check_room, check_tag, signed};
 use crate::decision::Decision;
 use crate::head::Head;
-use nb_book::{Book, CONSUMER, Entry, MERCHANT, Party};
+use nb_body::Enrolment;
+use nb_book::{Book, Entry, Party};
 use nb_endorse::Refusal;
 use nb_endorse::refusal::PARTY_HELD;
 use nb_seal::hmac;
-use nb_units::{AcctId, Cut, Malformed, PartyId, Secret, Tag, allow};
+use nb_units::{AcctId, PartyId};
 
 // What the tag of an enrolment is over begins with this.
 const ENROL_LABEL: [u8; 4] = *b"enro";
 
-/// The operator asks to enrol a party.
-#[derive(Clone, Copy, PartialEq, Eq, Debug)]
-pub struct Enrolment {
-    /// The party's number, 4 bytes wide.
-    pub id: PartyId,
-    /// [`CONSUMER`] or [`MERCHANT`], one byte wide.
-    pub role: u8,
-    /// The number of its account, 4 bytes wide.
-    pub acct: AcctId,
-    /// The number that its orders must show, 8 bytes wide.
-    pub nonce: u64,
-    /// The key that it shares with the house, 32 bytes.
-    pub key: Secret,
-    /// The HMAC-SHA-256 (RFC 2104) of "enro" and the body before the tag, under the operator's key.
-    pub tag: Tag,
+// The entry that is recorded for an enrolment.
+fn entry_of(asked: &Enrolment) -> Entry
+    ensures { result ≡ enrol_entry asked.now }
+{
+    Entry::Enrol {
+        id: asked.id,
+        role: asked.role,
+        acct: asked.acct,
+        nonce: asked.nonce,
+        key: asked.key,
+    }
 }
 
-impl Enrolment {
-    /// The enrolment that the body spells, or the place of the first field that fails, in bytes from the body's front. A role
-    /// other than the two fails at 4.
-    #[tactic(auto, unfolding(crate::specs::Requests::enrolment_of))]
-    pub fn read(body: &[u8]) -> Result<Enrolment, Malformed>
-        ensures reads { Reads result (enrolment_of body.now) }
-        ensures role { IfOk result (λ asked. (asked.role ≡ CONSUMER) ⊎ (asked.role ≡ MERCHANT)) }
-    {
-        let mut cut = Cut::new(body);
-        let id = cut.u32()?;
-        let place = cut.place();
-        let role = cut.u8()?;
-        allow(role == CONSUMER || role == MERCHANT, place)?;
-        let acct = cut.u32()?;
-        let nonce = cut.u64()?;
-        let key = cut.fixed32()?;
-        let tag = cut.fixed32()?;
-        cut.done()?;
-        Ok(Enrolment {
-            id: PartyId(id),
-            role,
-            acct: AcctId(acct),
-            nonce,
-            key,
-            tag,
-        })
-    }
-
-    /// The entry that is recorded for it.
-    pub fn entry(&self) -> Entry
-        ensures { result ≡ enrol_entry self.now }
-    {
-        Entry::Enrol {
-            id: self.id,
-            role: self.role,
-            acct: self.acct,
-            nonce: self.nonce,
-            key: self.key,
-        }
-    }
-
-    // The place of the enrolment of the party that has this number, where that is equal to this one.
-    fn place_of(&self, party: &Party) -> Option<u64>
-        ensures { result ≡ party_place self.now party.now }
-    {
-        let same = party.role == self.role
-            && party.acct == self.acct
-            && party.nonce == self.nonce
-            && party.key == self.key;
-        if same { Some(party.at) } else { None }
-    }
+// The place of the enrolment of the party that has this number, where that is equal to this one.
+fn place_of(asked: &Enrolment, party: &Party) -> Option<u64>
+    ensures { result ≡ party_place asked.now party.now }
+{
+    let same = party.role == asked.role
+        && party.acct == asked.acct
+        && party.nonce == asked.nonce
+        && party.key == asked.key;
+    if same { Some(party.at) } else { None }
 }
 
 // The tests of an enrolment, in order.
@@ -105,7 +57,7 @@ pub(crate) fn decide_enrolment(book: &Book, head: &Head, body: &[u8]) -> Result<
         &asked.tag,
         &hmac(&head.operator, &ENROL_LABEL, signed(body)),
     )?;
-    let entry = asked.entry();
+    let entry = entry_of(&asked);
     if let Some(at) = enrolled_at(book, &asked) {
         return Ok(Decision::done(asked.acct, at, balance_now(book, asked.acct), None));
     }
@@ -120,7 +72,7 @@ fn enrolled_at(book: &Book, asked: &Enrolment) -> Option<u64>
     ensures { result ≡ place_in book.now.entries (enrol_entry asked.now) }
 {
     match book.party(asked.id) {
-        Some(party) => asked.place_of(&party),
+        Some(party) => place_of(asked, &party),
         None => None,
     }
 }

@@ -123,3 +123,9 @@ pub fn grant_opens_for_both()
 pub fn other_kinds_are_refused()
     ensures { replies.OtherKindsAreRefused }
 {}
+
+/// A law: the roles and the greatest amount of a request are those of the book, and the most bytes of a sealed endorsement in one those of
+/// an endorsement.
+pub fn request_limits()
+    ensures { law.RequestLimitsAre }
+{}

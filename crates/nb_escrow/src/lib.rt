@@ -4,9 +4,8 @@
 //! `verdict` of `specs/Verdict.antt`, over the list of the entries that are held. The tests of each kind stand in a module of
 //! their own, in their order, a line each: an endorsed order in `Orders.antt` and, from its payment on, in `Payments.antt`; a status
 //! query in `Statuses.antt`; a request for a ticket in `Tickets.antt`; an enrolment in `Enrolments.antt`; a fund in
-//! `Fundings.antt`. What they share stands in `Checks.antt` and `Held.antt`, the layout of what may be asked for in
-//! `Requests.antt`, but for that of a request for a ticket, which is `nb_ticket`'s, and what the parties of an order are told in
-//! `Settlements.antt`. In `src/` each of these has its file: `order.rt`, `payment.rt`, `status.rt`, `ticket.rt`, `enrolment.rt`,
+//! `Fundings.antt`. What they share stands in `Checks.antt` and `Held.antt`, and what the parties of an order are told in
+//! `Settlements.antt`. The layout of what may be asked for is `nb_body`'s, and that of a request for a ticket `nb_ticket`'s. In `src/` each of these has its file: `order.rt`, `payment.rt`, `status.rt`, `ticket.rt`, `enrolment.rt`,
 //! `funding.rt`, `checks.rt`, `settlement.rt`.
 //!
 //! [`decide_with`] is the same, and leaves the states of the reply's keys, which were made once for all codes of the request.
@@ -33,9 +32,6 @@ mod status;
 mod ticket;
 
 pub use decision::{Decision, decide, decide_with};
-pub use enrolment::Enrolment;
-pub use funding::Funding;
 pub use head::Head;
-pub use order::{EndorsedOrder, Presented};
+pub use order::Presented;
 pub use settlement::{PaymentOutcome, RefusalReason, Settlement};
-pub use status::StatusQuery;

@@ -1,5 +1,4 @@
 ghost use Rattle.std.specs.Prelude.{◌≡◌, ◌≤◌, ◌<◌, length, IfOk, IfErr, IfSome, IsSome, IsNone, OnOk, None, Ok, Err};
-ghost use Rattle.nb_units.specs.Reads.{Reads};
 ghost use Rattle.nb_book.specs.Legal.{LegalAfter};
 ghost use Rattle.nb_book.specs.Searches.{order_in};
 ghost use Rattle.nb_units.specs.declared.limits.TheConstants.{MAX_HIDDEN};
@@ -10,7 +9,6 @@ ghost use Rattle.nb_endorse.specs.Tags.{endorsement_digest};
 ghost use Rattle.nb_endorse.specs.declared.endorsement.TheConstants.{MAX_SEALED};
 ghost use Rattle.nb_endorse.specs.declared.refusal.TheConstants.{IN_ORDER};
 ghost use Rattle.nb_endorse.specs.Replies.{HasLawfulReceipts};
-ghost use Rattle.nb_escrow.specs.Requests.{endorsed_of};
 ghost use Rattle.nb_escrow.specs.Checks.{well_formed, right_tag};
 ghost use Rattle.nb_escrow.specs.Orders as orders;
 ghost use Rattle.nb_escrow.specs.Settlements.{settlement_entry, settlement_in, IsPaymentOutcome};
@@ -20,48 +18,19 @@ use crate::decision::Decision;
 use crate::head::Head;
 use crate::payment::outcome;
 use crate::settlement::{Settlement, settled_before};
+use nb_body::EndorsedOrder;
 use nb_book::{Book, CONSUMER, Entry, MERCHANT, Party};
 use nb_endorse::refusal::{
     IDENTIFIER_USED, IN_ENDORSEMENT, IN_HIDDEN, IN_ORDER, MALFORMED, NOT_SEALED, OTHER_MERCHANT,
     WRONG_TAG,
 };
 use nb_endorse::{
-    DigestedEndorsement, Endorsement, MAX_SEALED, Refusal, Reply, ReplyKeys, ReplyStates,
-    SealedFault, read_sealed_with,
+    DigestedEndorsement, Endorsement, Refusal, Reply, ReplyKeys, ReplyStates, SealedFault,
+    read_sealed_with,
 };
 use nb_epo::{Hidden, Order, RevealFault, read_order, read_tag_ok, reveal_with};
 use nb_seal::KeyState;
-use nb_units::{Buffer, Cut, Digest, Epoid, Malformed, PartyId, Small};
-
-/// A merchant asks the house for the payment of an order.
-#[derive(Drop)]
-pub struct EndorsedOrder {
-    /// The merchant's number, 4 bytes wide.
-    pub merchant: PartyId,
-    /// The endorsement, sealed under the merchant's key: at most [`MAX_SEALED`] bytes.
-    pub sealed: Buffer,
-}
-
-impl EndorsedOrder {
-    /// The endorsed order that the body spells, or the place of the first field that fails, in bytes from the body's front. A
-    /// bad sealed endorsement is told at the place of its length, 4.
-    #[tactic(auto, unfolding(crate::specs::Requests::endorsed_of))]
-    pub fn read(body: &[u8]) -> Result<EndorsedOrder, Malformed>
-        ensures reads { Reads result (endorsed_of body.now) }
-        ensures short { IfOk result (λ asked. length asked.sealed ≤ MAX_SEALED) }
-    {
-        let mut cut = Cut::new(body);
-        let merchant = cut.u32()?;
-        let bytes = cut.bytes(MAX_SEALED as u32)?;
-        cut.done()?;
-        let mut sealed = Buffer::new();
-        sealed.raw(bytes);
-        Ok(EndorsedOrder {
-            merchant: PartyId(merchant),
-            sealed,
-        })
-    }
-}
+use nb_units::{Buffer, Digest, Epoid, Malformed, PartyId, Small};
 
 /// An order whose parties, seals, grammar and tag were tested: who takes part, and what each of them says. Whether it was
 /// settled before, and whether it is paid, is tested next.

@@ -1,14 +1,13 @@
 ghost use Rattle.std.specs.Prelude.{◌≡◌, IfOk, OnOk, IsNone};
-ghost use Rattle.nb_units.specs.Reads.{Reads};
 ghost use Rattle.nb_book.specs.Legal.{Legal};
 ghost use Rattle.nb_endorse.specs.Replies.{HasLawfulReceipts};
-ghost use Rattle.nb_escrow.specs.Requests.{query_of};
 ghost use Rattle.nb_escrow.specs.Statuses.{enough_entries, status_told, status_steps};
 
 use crate::checks::{check_tag, find_party, signed};
 use crate::decision::Decision;
 use crate::head::Head;
 use crate::settlement::settled_before;
+use nb_body::StatusQuery;
 use nb_book::{Book, Party};
 use nb_endorse::refusal::TOO_FEW_ENTRIES;
 use nb_endorse::{Refusal, Reply, ReplyKeys, ReplyStates};
@@ -17,40 +16,6 @@ use nb_units::{Cut, Epoid, Malformed, PartyId, Tag};
 
 // What the tag of a status query is over begins with this.
 const STATUS_LABEL: [u8; 4] = *b"stat";
-
-/// A party asks for the status of an order.
-#[derive(Clone, Copy, PartialEq, Eq, Debug)]
-pub struct StatusQuery {
-    /// The number of who asks, 4 bytes wide.
-    pub asker: PartyId,
-    /// The order's identifier, 16 bytes wide.
-    pub epoid: Epoid,
-    /// How many entries the house has to hold at least, 8 bytes wide.
-    pub least: u64,
-    /// The HMAC-SHA-256 (RFC 2104) of "stat" and the body before the tag, under the key of who asks.
-    pub tag: Tag,
-}
-
-impl StatusQuery {
-    /// The status query that the body spells, or the place of the first field that fails, in bytes from the body's front.
-    #[tactic(auto, unfolding(crate::specs::Requests::query_of))]
-    pub fn read(body: &[u8]) -> Result<StatusQuery, Malformed>
-        ensures { Reads result (query_of body.now) }
-    {
-        let mut cut = Cut::new(body);
-        let asker = cut.u32()?;
-        let epoid = cut.fixed16()?;
-        let least = cut.u64()?;
-        let tag = cut.fixed32()?;
-        cut.done()?;
-        Ok(StatusQuery {
-            asker: PartyId(asker),
-            epoid: Epoid::read(&epoid),
-            least,
-            tag,
-        })
-    }
-}
 
 // The tests of a status query, in order.
 #[tactic(auto, unfolding(crate::specs::Statuses::status_steps))]

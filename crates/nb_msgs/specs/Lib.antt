@@ -1,2 +1,6 @@
+pub mod StatusText
 pub mod ReplyBytes
 pub mod Limits
+pub mod Bodies
+pub mod Reading
+pub mod Laws

@@ -16,6 +16,8 @@ use Rattle.nb_endorse.specs.declared.reply.ReplyKeys.{ReplyKeys}
 use Rattle.nb_ticket.specs.Sealed.{sealed_grant, grant_with_ticket}
 use Rattle.nb_endorse.specs.Spelling.{signed_bytes}
 use Rattle.nb_endorse.specs.Tags.{signed_receipt}
+use Rattle.nb_msgs.specs.declared.status.StatusText.{StatusText}
+use Rattle.nb_msgs.specs.StatusText.{text_bytes}
 
 -- a receipt, signed by the house and sealed for a party
 abbrev pub sealed_receipt : List ℕ → List ℕ → Receipt → List ℕ
@@ -26,18 +28,14 @@ abbrev pub result_frame : ReplyKeys → Receipt → Receipt → Frame
 result_frame keys merchant consumer =
     record { kind = RESULT_REPLY; body = sized (sealed_receipt keys.house keys.first merchant) ++ sized (sealed_receipt keys.house keys.second consumer) }
 
--- a receipt behind the byte that says whether there is one, signed by the house: has 1, 0 or 1 | receipt and tag 135, where there is one
-abbrev pub receipt_text : List ℕ → Option Receipt → List ℕ
-receipt_text house None = 0 ∷ []
-receipt_text house (Some r) = 1 ∷ signed_bytes (signed_receipt house r)
-
--- a status before it is sealed: place 8 | identifier 16 | the receipt, where there is one
-abbrev pub status_bytes : List ℕ → ℕ → Epoid → Option Receipt → List ℕ
-status_bytes house place epoid receipt = be8 place ++ epoid_bytes epoid ++ receipt_text house receipt
+-- what is told of an order, with the receipt signed by the house where there is one
+abbrev pub told_status : List ℕ → ℕ → Epoid → Option Receipt → StatusText
+told_status house place epoid None = record { place = place; epoid = epoid; receipt = None }
+told_status house place epoid (Some r) = record { place = place; epoid = epoid; receipt = Some (signed_receipt house r) }
 
 -- the whole body is the seal of that under the key of who asks and the label "stat"
 abbrev pub status_frame : ReplyKeys → ℕ → Epoid → Option Receipt → Frame
-status_frame keys place epoid receipt = record { kind = STATUS_REPLY; body = seal_of keys.first (codes "stat") (status_bytes keys.house place epoid receipt) }
+status_frame keys place epoid receipt = record { kind = STATUS_REPLY; body = seal_of keys.first (codes "stat") (text_bytes (told_status keys.house place epoid receipt)) }
 
 -- the whole body is a grant, sealed for the consumer, and in it the ticket, sealed for the merchant
 abbrev pub grant_frame : ReplyKeys → PartyId → PartyId → ℕ → ℕ → List ℕ → Frame

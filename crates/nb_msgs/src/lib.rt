@@ -7,10 +7,28 @@
 //! Left to others: what is replied, and the reading of frames.
 #![tactic(auto)]
 
+mod fault;
 mod grant;
+pub mod laws;
+mod lengths;
+mod message;
+mod reading;
 mod reply;
+mod status;
+mod writing;
 
+pub use fault::BodyFault;
+pub use lengths::{
+    MAX_SEALED_GOODS_REQUEST, MAX_SEALED_HEAD, MAX_SEALED_PAYMENT, MAX_SEALED_PRICE_REQUEST,
+    MAX_SEALED_QUOTE,
+};
+pub use message::Message;
+pub use reading::read_body;
 pub use reply::{LONGEST_REPLY, REPLY_ROOM, limits, write_reply, write_reply_with};
+pub use status::{MOST_STATUS, StatusText};
+pub use writing::write_message;
 
+#[cfg(test)]
+mod body_tests;
 #[cfg(test)]
 mod tests;

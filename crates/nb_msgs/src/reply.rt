@@ -1,21 +1,22 @@
-ghost use Rattle.std.specs.Prelude.{◌≡◌, ◌≤◌, ◌++◌, codes, length, vec_capacity, IfSome};
+ghost use Rattle.std.specs.Prelude.{◌≡◌, ◌≤◌, ◌<◌, ◌^◌, ◌++◌, codes, length, vec_capacity, IfSome};
 ghost use Rattle.nb_seal.specs.Seal.{seal_of};
 ghost use Rattle.nb_units.specs.Room.{spare_of};
 ghost use Rattle.nb_units.specs.declared.frames.TheConstants.{LAST_KIND};
 ghost use Rattle.nb_endorse.specs.Replies.{HasLawfulReceipts, ReceiptKeepsRules};
+ghost use Rattle.nb_msgs.specs.Bodies.{IsRefusal};
 ghost use Rattle.nb_msgs.specs.Limits.{ReplyLimitsAre};
 ghost use Rattle.nb_msgs.specs.ReplyBytes as layout;
-ghost use Rattle.nb_msgs.specs.declared.reply.TheConstants.{MOST_BODY, REPLY_ROOM, LONGEST_REPLY, MOST_TEXT, MOST_STATUS};
+ghost use Rattle.nb_msgs.specs.declared.reply.TheConstants.{MOST_BODY, REPLY_ROOM, LONGEST_REPLY};
+ghost use Rattle.nb_msgs.specs.declared.status.TheConstants.{MOST_STATUS};
 
 use crate::grant::grant_body;
-use nb_endorse::{
-    ABSENT, PRESENT, RECEIPT_BYTES, Receipt, Refusal, Reply, ReplyKeys, ReplyStates, SIGNED_BYTES,
-};
+use crate::status::{MOST_STATUS, StatusText};
+use nb_endorse::{RECEIPT_BYTES, Receipt, Refusal, Reply, ReplyKeys, ReplyStates};
 use nb_frame::write_frame;
 use nb_units::frames::{
     DONE_REPLY, GRANT_REPLY, HEADER, REFUSED_REPLY, RESULT_REPLY, STATUS_REPLY,
 };
-use nb_units::width::{EPOID, FLAG, LENGTH, PLACE, SEAL};
+use nb_units::width::LENGTH;
 use nb_units::{AcctId, Buffer, Epoid};
 
 /// The room that is asked for a reply's frame.
@@ -26,12 +27,6 @@ pub const LONGEST_REPLY: usize = HEADER + MOST_BODY;
 
 // The most bytes of a reply's body: those of a result, two sealed receipts, each behind its length.
 const MOST_BODY: usize = 2 * (LENGTH + RECEIPT_BYTES);
-
-// The most bytes of a status before it is sealed: place, identifier, and a receipt behind the byte that says whether there is one.
-const MOST_TEXT: usize = PLACE + EPOID + FLAG + SIGNED_BYTES;
-
-// The most bytes of a status, sealed.
-const MOST_STATUS: usize = SEAL + MOST_TEXT;
 
 // The status of an order is sealed under this label.
 const STATUS_SEAL_LABEL: [u8; 4] = *b"stat";
@@ -125,7 +120,7 @@ fn status_body(place: u64, epoid: &Epoid, receipt: &Option<Receipt>, keys: &Repl
     ensures bytes { result ≡ (layout.status_frame keys.now place epoid.now receipt.now).body }
     ensures short { length result ≤ MOST_STATUS }
 {
-    let plain = status_text(place, epoid, receipt, keys);
+    let plain = told(place, epoid, receipt, keys).spelled();
     let mut sealed = [0u8; MOST_STATUS];
     let n = keys.seal_text_first(&STATUS_SEAL_LABEL, plain.as_slice(), &mut sealed);
     let mut body = Buffer::new();
@@ -133,28 +128,31 @@ fn status_body(place: u64, epoid: &Epoid, receipt: &Option<Receipt>, keys: &Repl
     body
 }
 
-// The bytes of a status before they are sealed.
-fn status_text(place: u64, epoid: &Epoid, receipt: &Option<Receipt>, keys: &ReplyStates) -> Buffer
+// What is told of an order. A receipt is signed by the house.
+fn told(place: u64, epoid: &Epoid, receipt: &Option<Receipt>, keys: &ReplyStates) -> StatusText
     requires { IfSome receipt.now ReceiptKeepsRules }
-    ensures bytes { result ≡ layout.status_bytes keys.now.house place epoid.now receipt.now }
-    ensures short { length result ≤ MOST_TEXT }
+    ensures told { result ≡ layout.told_status keys.now.house place epoid.now receipt.now }
+    ensures lawful { IfSome result.receipt (λ s. ReceiptKeepsRules s.receipt) }
 {
-    let mut text = Buffer::new();
-    text.u64(place);
-    text.raw(&epoid.write());
+    let epoid = *epoid;
     match receipt {
-        None => text.u8(ABSENT),
-        Some(receipt) => {
-            text.u8(PRESENT);
-            text.raw(keys.sign(receipt).spelled().as_slice());
-        }
+        None => StatusText {
+            place,
+            epoid,
+            receipt: None,
+        },
+        Some(receipt) => StatusText {
+            place,
+            epoid,
+            receipt: Some(keys.sign(receipt)),
+        },
     }
-    text
 }
 
 // The body that says what was done.
-fn done_body(acct: AcctId, at: u64, balance: u64) -> Buffer
+pub(crate) fn done_body(acct: AcctId, at: u64, balance: u64) -> Buffer
     ensures bytes { result ≡ (layout.done_frame acct at balance).body }
+    ensures fits { (acct.0 < 2 ^ 32) × (at < 2 ^ 64) × (balance < 2 ^ 64) }
     ensures short { length result ≤ MOST_BODY }
 {
     let mut body = Buffer::new();
@@ -165,8 +163,9 @@ fn done_body(acct: AcctId, at: u64, balance: u64) -> Buffer
 }
 
 // The body that refuses.
-fn refusal_body(refusal: &Refusal) -> Buffer
+pub(crate) fn refusal_body(refusal: &Refusal) -> Buffer
     ensures bytes { result ≡ (layout.refusal_frame refusal.now).body }
+    ensures fits { IsRefusal refusal.now }
     ensures short { length result ≤ MOST_BODY }
 {
     let mut body = Buffer::new();

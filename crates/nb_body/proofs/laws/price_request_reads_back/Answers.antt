@@ -1,0 +1,5 @@
+use Rattle.nb_body.proofs.Layouts.{price_request_reads_back}
+use Rattle.nb_body.proofs.laws.price_request_reads_back.Goals as goal
+
+pub returns : goal.returns
+returns c = price_request_reads_back

@@ -1,0 +1,64 @@
+ghost use Rattle.std.specs.Prelude.{◌+◌, ◌≡◌, ◌≤◌, IfOk, Ok, length};
+ghost use Rattle.nb_units.specs.Reads.{Reads};
+ghost use Rattle.nb_body.specs.declared.limits.TheConstants.{MAX_ENDORSED};
+ghost use Rattle.nb_body.specs.Spelling.{IsEndorsedOrder, endorsed_bytes};
+ghost use Rattle.nb_body.specs.Reading.{endorsed_of};
+
+use crate::limits::MAX_ENDORSED;
+use nb_units::{Buffer, Cut, Malformed, PartyId};
+
+/// A merchant asks the house for the payment of an order.
+#[derive(Drop)]
+pub struct EndorsedOrder {
+    /// The merchant's number, 4 bytes wide.
+    pub merchant: PartyId,
+    /// The endorsement, sealed under the merchant's key: at most [`MAX_ENDORSED`] bytes.
+    pub sealed: Buffer,
+}
+
+impl EndorsedOrder {
+    /// The endorsed order that the bytes spell, or the place of the first field that fails, in bytes from their front. A bad sealed
+    /// endorsement is told at the place of its length, 4.
+    pub fn read(bytes: &[u8]) -> Result<EndorsedOrder, Malformed>
+        // The fields in their order, and the first that fails.
+        ensures reads { Reads result (endorsed_of bytes.now) }
+        ensures short { IfOk result (λ asked. length asked.sealed ≤ MAX_ENDORSED) }
+
+        // What is read is spelled so, and what is spelled so is read.
+        ensures spelled { IfOk result (λ o. IsEndorsedOrder o × (bytes.now ≡ endorsed_bytes o)) }
+        ensures found { (o : EndorsedOrder) → IsEndorsedOrder o → bytes.now ≡ endorsed_bytes o → result ≡ Ok o }
+    {
+        read_fields(bytes)
+    }
+
+    /// Its bytes: merchant 4, endorsement, sealed, at most MAX_ENDORSED, behind its length 4.
+    #[tactic(auto, unfolding(crate::specs::Spelling::endorsed_bytes))]
+    pub fn spelled(&self) -> Buffer
+        requires sealed { length self.now.sealed ≤ MAX_ENDORSED }
+        ensures bytes { result ≡ endorsed_bytes self.now }
+        ensures fits { IsEndorsedOrder self.now }
+        ensures long { length result ≡ 8 + length self.now.sealed }
+    {
+        let mut bytes = Buffer::new();
+        bytes.u32(self.merchant.0);
+        bytes.bytes(self.sealed.as_slice());
+        bytes
+    }
+}
+
+#[tactic(auto, unfolding(crate::specs::Reading::endorsed_of))]
+fn read_fields(bytes: &[u8]) -> Result<EndorsedOrder, Malformed>
+    ensures reads { Reads result (endorsed_of bytes.now) }
+    ensures short { IfOk result (λ asked. length asked.sealed ≤ MAX_ENDORSED) }
+{
+    let mut cut = Cut::new(bytes);
+    let merchant = cut.u32()?;
+    let text = cut.bytes(MAX_ENDORSED as u32)?;
+    cut.done()?;
+    let mut sealed = Buffer::new();
+    sealed.raw(text);
+    Ok(EndorsedOrder {
+        merchant: PartyId(merchant),
+        sealed,
+    })
+}

@@ -1,0 +1,43 @@
+-- What a message is written as and what is read are the two sides of one thing.
+use Rattle.std.specs.Prelude.{◌≡◌, ℕ, List, ◌++◌, Ok}
+use Rattle.nb_units.specs.Frames.{AreBytes, IsFrame, Front, Whole, front_of}
+use Rattle.nb_msgs.specs.declared.lengths.TheConstants as limit
+use Rattle.nb_msgs.specs.declared.status.TheConstants.{MOST_STATUS}
+use Rattle.nb_msgs.specs.declared.status.StatusText.{StatusText}
+use Rattle.nb_msgs.specs.declared.message.Message.{Message}
+use Rattle.nb_msgs.specs.Bodies.{kind_of, body_bytes, message_frame, message_bytes, IsMessage}
+use Rattle.nb_msgs.specs.Reading.{message_of}
+use Rattle.nb_msgs.specs.StatusText.{IsStatusText, text_bytes, text_of}
+
+-- what was spelled of a message is read as that message
+abbrev pub MessageReadsBack : Type 0
+MessageReadsBack = (m : Message) → IsMessage m → message_of (kind_of m) (body_bytes m) ≡ Ok m
+
+-- what was read as a message is within its limits, is of the kind that it was read as, and is spelled as those bytes
+abbrev pub MessageSpellsBack : Type 0
+MessageSpellsBack = (kind : ℕ) (body : List ℕ) (m : Message) → AreBytes body → message_of kind body ≡ Ok m → IsMessage m × (kind_of m ≡ kind) × (body ≡ body_bytes m)
+
+-- two messages with one frame are one
+abbrev pub OneMessage : Type 0
+OneMessage = (a b : Message) → IsMessage a → IsMessage b → message_bytes a ≡ message_bytes b → a ≡ b
+
+-- the frame of a message is one that frames are read as, whatever follows it in a stream
+abbrev pub MessageIsFrame : Type 0
+MessageIsFrame = (m : Message) (rest : List ℕ) → IsMessage m → IsFrame (message_frame m) × (front_of (message_bytes m ++ rest) ≡ Whole (message_frame m) rest)
+
+-- what was spelled of a status is read as that status
+abbrev pub StatusReadsBack : Type 0
+StatusReadsBack = (t : StatusText) → IsStatusText t → text_of (text_bytes t) ≡ Ok t
+
+-- what was read as a status is within its limits, and is spelled as those bytes
+abbrev pub StatusSpellsBack : Type 0
+StatusSpellsBack = (bytes : List ℕ) (t : StatusText) → AreBytes bytes → text_of bytes ≡ Ok t → IsStatusText t × (bytes ≡ text_bytes t)
+
+-- two statuses with one spelling are one
+abbrev pub OneStatus : Type 0
+OneStatus = (a b : StatusText) → IsStatusText a → IsStatusText b → text_bytes a ≡ text_bytes b → a ≡ b
+
+-- the limits in numbers
+abbrev pub MessageLimitsAre : Type 0
+MessageLimitsAre = (limit.MAX_SEALED_PRICE_REQUEST ≡ 112) × (limit.MAX_SEALED_QUOTE ≡ 52) × (limit.MAX_SEALED_GOODS_REQUEST ≡ 48)
+    × (limit.MAX_SEALED_HEAD ≡ 104) × (limit.MAX_SEALED_PAYMENT ≡ 324) × (MOST_STATUS ≡ 192)

@@ -1,0 +1,43 @@
+//! What holds of every message. Each function here does nothing: its contract is the law.
+
+ghost use Rattle.nb_msgs.specs.Laws as law;
+
+/// A law: what was spelled of a message is read as that message.
+pub fn message_reads_back()
+    ensures { law.MessageReadsBack }
+{}
+
+/// A law: what was read as a message is within its limits, is of the kind that it was read as, and is spelled as those bytes.
+pub fn message_spells_back()
+    ensures { law.MessageSpellsBack }
+{}
+
+/// A law: two messages with one frame are one.
+pub fn one_message()
+    ensures { law.OneMessage }
+{}
+
+/// A law: the frame of a message is one that frames are read as, whatever follows it in a stream.
+pub fn message_is_frame()
+    ensures { law.MessageIsFrame }
+{}
+
+/// A law: what was spelled of a status is read as that status.
+pub fn status_reads_back()
+    ensures { law.StatusReadsBack }
+{}
+
+/// A law: what was read as a status is within its limits, and is spelled as those bytes.
+pub fn status_spells_back()
+    ensures { law.StatusSpellsBack }
+{}
+
+/// A law: two statuses with one spelling are one.
+pub fn one_status()
+    ensures { law.OneStatus }
+{}
+
+/// A law: the limits of messages in numbers.
+pub fn message_limits()
+    ensures { law.MessageLimitsAre }
+{}
