@@ -2,3 +2,4 @@ pub mod Layouts
 pub mod Messages
 pub mod Places
 pub mod StatusTexts
+pub mod ReplyMessages

@@ -14,7 +14,7 @@ use Rattle.nb_units.specs.Frames.{AreBytes}
 use Rattle.nb_endorse.specs.declared.receipt.Signed.{Signed}
 use Rattle.nb_endorse.specs.Spelling.{IsSigned, signed_bytes}
 use Rattle.nb_endorse.specs.Reading.{signed_of}
-use Rattle.nb_endorse.proofs.Receipts.{receipt_reads_back, receipt_spells_back}
+use Rattle.nb_endorse.proofs.Receipts.{receipt_reads_back, receipt_spells_back, receipt_is_as_long}
 use Rattle.nb_msgs.specs.declared.status.StatusText.{StatusText}
 use Rattle.nb_msgs.specs.StatusText.{IsStatusText, told_bytes, text_bytes, told_from, told_of, text_of}
 use Rattle.nb_msgs.specs.Laws.{StatusReadsBack, StatusSpellsBack, OneStatus}
@@ -148,3 +148,13 @@ status_spells_back bytes t are e =
 
 pub one_status : OneStatus
 one_status a b first second same = ok_is a b (sym (status_reads_back a first) ∙ ap text_of same ∙ status_reads_back b second)
+
+rest_short : (o : Option Signed) → IfSome o IsSigned → length (rest_of o) ≤ 135
+rest_short None is = omega arith
+rest_short (Some s) is = omega (arith, receipt_is_as_long s is)
+
+-- no status has more bytes than this
+pub status_short : (t : StatusText) → IsStatusText t → length (text_bytes t) ≤ 160
+status_short t is =
+    let f : Front = ((t.place, t.epoid), flag_of t.receipt) in
+    omega (arith, ap length (bytes_so t), length-append (front_row.spelled f) (rest_of t.receipt), front_long f ((is.place, is.epoid), flag_fits t.receipt), rest_short t.receipt is.receipt)

@@ -2,5 +2,6 @@ pub mod StatusText
 pub mod ReplyBytes
 pub mod Limits
 pub mod Bodies
+pub mod ReplyMessages
 pub mod Reading
 pub mod Laws

@@ -1,6 +1,7 @@
 //! What holds of every message. Each function here does nothing: its contract is the law.
 
 ghost use Rattle.nb_msgs.specs.Laws as law;
+ghost use Rattle.nb_msgs.specs.ReplyMessages.{ReplyIsMessage};
 
 /// A law: what was spelled of a message is read as that message.
 pub fn message_reads_back()
@@ -35,6 +36,11 @@ pub fn status_spells_back()
 /// A law: two statuses with one spelling are one.
 pub fn one_status()
     ensures { law.OneStatus }
+{}
+
+/// A law: a reply whose fields are within their limits is a message within its limits, and its frame is that message's.
+pub fn reply_is_message()
+    ensures { ReplyIsMessage }
 {}
 
 /// A law: the limits of messages in numbers.

@@ -1,10 +1,16 @@
-//! The house's replies, as bytes.
+//! Messages: what one frame says, for each kind, and the house's replies, as bytes.
+//!
+//! A [`Message`] has a variant for each of the sixteen kinds. [`read_body`] gives the message that a body spells, or the place of the first
+//! field that fails; [`write_message`] appends the one frame of a message. The layouts stand in `specs/Bodies.antt`, as a function of the
+//! message, and in `specs/Reading.antt`, field by field with the place of each. That they are the two sides of one thing, for every kind,
+//! is proved by the functions of [`laws`].
 //!
 //! [`write_reply`] appends the one frame of a reply. Which bytes these are stands in `specs/ReplyBytes.antt`, as a
 //! function of the reply and of the keys that it is signed and sealed under; no reply has more than [`LONGEST_REPLY`]
-//! bytes. No memory is taken. [`write_reply_with`] is the same where the states of the keys are at hand.
+//! bytes. No memory is taken. [`write_reply_with`] is the same where the states of the keys are at hand. A reply is a message
+//! ([`laws::reply_is_message`]). What is sealed in a status is a [`StatusText`], in `specs/StatusText.antt`.
 //!
-//! Left to others: what is replied, and the reading of frames.
+//! Left to others: what is replied, what is sealed in the other messages, keys and seals, and the reading of frames from a stream.
 #![tactic(auto)]
 
 mod fault;
