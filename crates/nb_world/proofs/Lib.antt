@@ -1,3 +1,6 @@
 pub mod Lists
 pub mod Chains
 pub mod Fitting
+pub mod Growing
+pub mod Outside
+pub mod Serving

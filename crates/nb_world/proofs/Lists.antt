@@ -17,10 +17,10 @@ pub get_last : {A : Type 0} (xs ys : List A) (x : A) → slice_get (xs ++ x ∷ 
 get_last [] ys x = refl
 get_last (y ∷ xs) ys x = get_last xs ys x
 
-pub begins_same : {A : Type 0} (xs : List A) → Begins xs xs
+abbrev pub begins_same : {A : Type 0} (xs : List A) → Begins xs xs
 begins_same xs = ([], sym (append-nil xs))
 
-pub begins_then : {A : Type 0} (xs ys zs : List A) → Begins ys xs → Begins zs ys → Begins zs xs
+abbrev pub begins_then : {A : Type 0} (xs ys zs : List A) → Begins ys xs → Begins zs ys → Begins zs xs
 begins_then xs ys zs first second = (first.0 ++ second.0, second.1 ∙ ap (λ front. front ++ second.0) first.1 ∙ append_assoc xs first.0 second.0)
 
 pub all_append : {A : Type 0} (P : A → Type 0) (xs ys : List A) → AllByRecursion P xs → AllByRecursion P ys → AllByRecursion P (xs ++ ys)

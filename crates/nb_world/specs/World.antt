@@ -75,14 +75,14 @@ abbrev pub is_opened : Stage → Bool
 is_opened stage.Opened = true
 is_opened other = false
 
--- the entry that a turn has written and not opened
+-- the entry of a verdict that is written and not opened
+abbrev pub written_at : Stage → Option Entry → Option Entry
+written_at stage.Written entry = entry
+written_at other entry = None
+
 abbrev pub entry_written : Option Turning → Option Entry
 entry_written None = None
 entry_written (Some t) = written_at t.stage t.verdict.entry
-  where
-    written_at : Stage → Option Entry → Option Entry
-    written_at stage.Written entry = entry
-    written_at other entry = None
 
 -- the commit list: the durable entries, and then the one that is written and not opened
 abbrev pub commits : {C M : Type 0} → World C M → List Entry
