@@ -4,3 +4,4 @@ pub mod Fitting
 pub mod Growing
 pub mod Outside
 pub mod Serving
+pub mod Stopping

@@ -142,7 +142,7 @@ pub record HasOrigins {C M : Type 0} (first w : World C M) : Type 0 where
   pub in_order : (k : ℕ) (origin : Origin) → slice_get w.origins k ≡ Some origin → origin.place ≡ length first.durable + k
 
 abbrev pub EntriesHaveOrigins : Type 0 → Type 0 → Type 0
-EntriesHaveOrigins C M = (p : Rules C M) (w : World C M) → RecordsLegal p.verdict → IsSetUp w → (es : List Event) → HasOrigins w (run p w es)
+EntriesHaveOrigins C M = (p : Rules C M) (w : World C M) → IsSetUp w → (es : List Event) → HasOrigins w (run p w es)
 
 -- ---- a stop
 
