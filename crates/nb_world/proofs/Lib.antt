@@ -5,3 +5,4 @@ pub mod Growing
 pub mod Outside
 pub mod Serving
 pub mod Stopping
+pub mod Settling

@@ -2,3 +2,4 @@ pub mod World
 pub mod Steps
 pub mod Fits
 pub mod Laws
+pub mod Headline

@@ -1,6 +1,7 @@
 //! What holds of every list of events, whatever nodes do and whatever the verdict is. Each function here does nothing but to cite
 //! laws of the book: its contract is the law. `C` and `M` are what consumers and merchants are.
 
+ghost use Rattle.nb_world.specs.Headline as headline;
 ghost use Rattle.nb_world.specs.Laws as law;
 
 /// An event leads to a world exactly where it fits: in words of what stands in the world, a row for each event.
@@ -64,3 +65,29 @@ pub fn answer_acknowledges<C, M>()
 pub fn others_acknowledge_nothing<C, M>()
     ensures { law.OthersAcknowledgeNothing C M }
 {}
+
+/// An order moves its price at most once along every run: at most one durable entry settles it, and stays the one that does.
+pub fn order_moves_once<C, M>()
+    ensures { headline.OrderMovesOnce C M }
+{
+    nb_book::laws::stays_legal();
+}
+
+/// No money is made or lost along any run: the balances sum to the total of the funds, and no account is overdrawn; also with an
+/// entry that is written and not opened.
+pub fn money_is_conserved<C, M>()
+    ensures { headline.MoneyIsConserved C M }
+{
+    nb_book::laws::stays_legal();
+}
+
+/// The consumer of an order, and its merchant, is given its key by status query exactly where the payment stands among the durable
+/// entries that the reply tells the number of: where the verdict is the house's, in whatever form its replies are shown.
+pub fn key_where_it_stands<C, M>()
+    ensures { headline.KeyWhereItStands C M }
+{
+    nb_book::laws::stays_legal();
+    nb_escrow::laws::records_legal();
+    nb_escrow::laws::status_tells_key();
+    nb_escrow::laws::status_tells_the_order();
+}
