@@ -6,3 +6,4 @@ pub mod Outside
 pub mod Serving
 pub mod Stopping
 pub mod Settling
+pub mod Tying

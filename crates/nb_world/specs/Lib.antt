@@ -3,3 +3,4 @@ pub mod Steps
 pub mod Fits
 pub mod Laws
 pub mod Headline
+pub mod Ties
