@@ -7,3 +7,5 @@ pub mod Serving
 pub mod Stopping
 pub mod Settling
 pub mod Tying
+pub mod Playing
+pub mod Small

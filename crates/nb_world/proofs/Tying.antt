@@ -180,7 +180,7 @@ module _ {C M : Type 0} (p : Rules C M) where
 
   module _ (w : World C M) (entries : List Entry) (number : Request → ℕ) (request : Request) (at : IsAt w entries) (is : IsPacketOf w (number request) request) where
     -- it is answered
-    told_as : (o : Option Entry) → (p.verdict entries request).entry ≡ o
+    pub told_as : (o : Option Entry) → (p.verdict entries request).entry ≡ o
         → One w (asks number (length w.calls) request ++ ends (length w.calls) Answers o) ((ruling_of (p.verdict entries request)).reply ∷ []) (entries ++ option_to_list o)
     told_as None has =
         let first = asked w entries number request at is in
@@ -234,7 +234,7 @@ module _ {C M : Type 0} (p : Rules C M) where
     }
 
     -- its entry is written, and a stop leaves it or not
-    left_as : (keep : Bool) (entry : Entry) → (p.verdict entries request).entry ≡ Some entry
+    pub left_as : (keep : Bool) (entry : Entry) → (p.verdict entries request).entry ≡ Some entry
         → One w (asks number (length w.calls) request ++ on.Write (length w.calls) ∷ on.Stop keep ∷ []) [] (if keep then entries ++ entry ∷ [] else entries)
     unfolding stop_of
     left_as keep entry has =

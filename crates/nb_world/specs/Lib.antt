@@ -4,3 +4,4 @@ pub mod Fits
 pub mod Laws
 pub mod Headline
 pub mod Ties
+pub mod Worked

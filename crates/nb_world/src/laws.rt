@@ -3,6 +3,8 @@
 
 ghost use Rattle.nb_world.specs.Headline as headline;
 ghost use Rattle.nb_world.specs.Laws as law;
+ghost use Rattle.nb_world.specs.Ties as ties;
+ghost use Rattle.nb_world.specs.Worked as worked;
 
 /// An event leads to a world exactly where it fits: in words of what stands in the world, a row for each event.
 pub fn fits_exactly_where<C, M>()
@@ -91,3 +93,26 @@ pub fn key_where_it_stands<C, M>()
     nb_escrow::laws::status_tells_key();
     nb_escrow::laws::status_tells_the_order();
 }
+
+/// Each run of turns of a house on a disk, whose verdicts are those of a world, is a list of events of each world that has its
+/// entries, a free house and packets of its requests: request by request, and before the requests of a turn those that gave what was
+/// in doubt, with a stop that keeps each, or with one that drops the first. Both lists are then the entries of the run's last state, and
+/// the answers hand out the replies of the requests that have a place, in order.
+pub fn run_is_events<C, M>()
+    ensures { ties.RunIsEvents C M }
+{}
+
+/// In numbers, of a small world: a consumer sends a request, the house answers, and the consumer hears the reply.
+pub fn heard_once()
+    ensures { worked.HeardOnce }
+{}
+
+/// The house stops behind the writing, and the entry is left; the request comes again and is told what is held.
+pub fn left_and_told()
+    ensures { worked.LeftAndTold }
+{}
+
+/// An injected request is recorded, and no packet is made of its reply.
+pub fn injected_is_recorded()
+    ensures { worked.InjectedIsRecorded }
+{}
