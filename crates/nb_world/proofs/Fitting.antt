@@ -1,15 +1,13 @@
 -- An event leads to a world exactly where it fits.
-use Rattle.std.proofs.Common.{◌≡◌, ◌≢◌, ◌⊎◌, inl, inr, ℕ, ◌≤◌, Bool, true, false, List, length, Option, None, Some, refl, sym, ap, subst, ◌∙◌, arith}
-use Rattle.std.specs.Prelude.{◌↔◌, ◌==◌, ◌&&◌, nat_le, IsTrue, IsSome}
-use Rattle.std.specs.List.{position, slice_get}
+use Rattle.std.proofs.Common.{◌≡◌, ◌≢◌, ◌⊎◌, inl, inr, ℕ, Bool, true, false, List, length, Option, None, Some, refl, ap, ◌∙◌}
+use Rattle.std.specs.Prelude.{◌==◌, ◌&&◌, nat_le}
+use Rattle.std.specs.List.{slice_get}
 use Rattle.std.specs.Option.{is_some, is_none}
 use Rattle.std.proofs.lemmas.Bool.{eqb-true, eq-eqb, leb-true, le-leb}
 use Rattle.nb_units.specs.declared.frames.TheConstants.{LAST_KIND, MAX_BODY}
 use Rattle.nb_units.specs.declared.limits.TheConstants.{MAX_MEMO}
 use Rattle.nb_units.specs.declared.ids.PartyId.{PartyId}
-use Rattle.nb_units.specs.Frames.{IsFrame}
 use Rattle.nb_book.specs.declared.entry.Entry.{Entry}
-use Rattle.nb_world.specs.declared.call.Call.{Call}
 use Rattle.nb_world.specs.declared.call.CallPhase.{CallPhase}
 use Rattle.nb_world.specs.declared.call.CallPhase.TheVariants.{Waiting, InTurn, Answered, Gone}
 use Rattle.nb_world.specs.declared.event.Event.{Event}
@@ -21,12 +19,11 @@ use Rattle.nb_world.specs.declared.packet.To.TheVariants as to
 use Rattle.nb_world.specs.declared.start.Start.{Start}
 use Rattle.nb_world.specs.declared.turning.Stage.{Stage}
 use Rattle.nb_world.specs.declared.turning.Stage.TheVariants as stage
-use Rattle.nb_world.specs.declared.turning.Turning.{Turning}
-use Rattle.nb_world.specs.World.{Going, Stays, Goes, Rules, World, is_decided, is_written, is_opened}
-use Rattle.nb_world.specs.Steps.{◌>>=◌, where_so, started, consumer_at, merchant_at, is_known, is_waiting, may_answer, delivered_to, consumer_gets, merchant_gets, buy_of, quiet_consumer_of, quiet_merchant_of, restart_consumer_of, restart_merchant_of, deliver_of, inject_of, turn_of, write_of, open_of, answer_of, step, next, or_same}
-use Rattle.nb_world.specs.Fits.{IsConsumer, IsMerchant, IsKnown, Waits, HasTurn, Fits}
+use Rattle.nb_world.specs.World.{Going, Stays, Goes, Rules, World, is_decided, is_written}
+use Rattle.nb_world.specs.Steps.{where_so, started, consumer_at, merchant_at, is_known, is_waiting, may_answer, delivered_to, buy_of, quiet_consumer_of, quiet_merchant_of, restart_consumer_of, restart_merchant_of, deliver_of, inject_of, turn_of, write_of, open_of, answer_of, step, or_same}
+use Rattle.nb_world.specs.Fits.{IsConsumer, IsMerchant, IsKnown, Fits}
 use Rattle.nb_world.specs.Laws.{FitsExactlyWhere, UnfitChangesNothing}
-use Rattle.nb_world.proofs.Chains.{some_inside, link, holds, so, value, no_value, same_some, stands_there}
+use Rattle.nb_world.proofs.Chains.{some_inside, holds, so, value, no_value, stands_there}
 
 -- tests and what they say
 waiting_is : (phase : CallPhase) → is_waiting phase ≡ true → phase ≡ Waiting

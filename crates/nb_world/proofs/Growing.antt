@@ -1,6 +1,6 @@
 -- Nothing is lost from a world to a later one, and what was true of it stays true.
-use Rattle.std.proofs.Common.{◌≡◌, ℕ, zero, suc, ◌+◌, ◌<◌, ◌≤◌, List, [], ◌∷◌, ◌++◌, length, take, Option, None, Some, refl, sym, ap, subst, ◌∙◌, append_assoc, arith, length-append}
-use Rattle.std.proofs.lemmas.List.{append-nil, take-append-le}
+use Rattle.std.proofs.Common.{◌≡◌, ℕ, ◌<◌, ◌≤◌, List, length, take, Option, None, Some, sym, ap, subst, ◌∙◌, arith, length-append}
+use Rattle.std.proofs.lemmas.List.{take-append-le}
 use Rattle.std.proofs.lemmas.Option.{slice_get_within}
 use Rattle.std.specs.List.{slice_get, AllByRecursion}
 use Rattle.nb_book.specs.declared.entry.Entry.{Entry}
@@ -10,7 +10,6 @@ use Rattle.nb_world.specs.declared.call.Call.{Call}
 use Rattle.nb_world.specs.declared.packet.Maker.{Maker}
 use Rattle.nb_world.specs.declared.packet.Maker.TheVariants as by
 use Rattle.nb_world.specs.declared.packet.Packet.{Packet}
-use Rattle.nb_world.specs.declared.packet.To.{To}
 use Rattle.nb_world.specs.declared.turning.Acknowledged.{Acknowledged}
 use Rattle.nb_world.specs.declared.turning.Origin.{Origin}
 use Rattle.nb_world.specs.declared.turning.Stage.{Stage}
@@ -89,13 +88,13 @@ module _ {C M : Type 0} (verdict : List Entry → Request → Verdict) (v w : Wo
       let within : origin.place < length v.durable = slice_get_within v.durable origin.place came.entry came.stands in
       let same : take origin.place w.durable ≡ take origin.place v.durable = front origin.place (omega arith) in
       record {
-    packet = came.packet;
-    moment = came.moment;
-    entry = came.entry;
-    asks = grows.calls origin.call came.packet came.moment came.asks;
-    stands = get_begins v.durable w.durable grows.durable origin.place came.entry came.stands;
-    ruled = ap (λ entries. (verdict entries (request_of came.packet came.moment)).entry) same ∙ came.ruled;
-  }
+        packet = came.packet;
+        moment = came.moment;
+        entry = came.entry;
+        asks = grows.calls origin.call came.packet came.moment came.asks;
+        stands = get_begins v.durable w.durable grows.durable origin.place came.entry came.stands;
+        ruled = ap (λ entries. (verdict entries (request_of came.packet came.moment)).entry) same ∙ came.ruled;
+      }
 
   stands_later : (a : Acknowledged) → StandsDurable v a → StandsDurable w a
   stands_later a is = get_begins v.durable w.durable grows.durable a.place a.entry is
@@ -105,16 +104,16 @@ module _ {C M : Type 0} (verdict : List Entry → Request → Verdict) (v w : Wo
       let same : take at w.durable ≡ take at v.durable = front at is.within in
       let more : length v.durable ≤ length w.durable = longer v.durable w.durable grows.durable in
       record {
-    packet = is.packet;
-    moment = is.moment;
-    asks = grows.calls c is.packet is.moment is.asks;
-    within = omega (arith, is.within, more);
-    kind = is.kind ∙ ap (λ entries. (verdict entries (request_of is.packet is.moment)).kind) (sym same);
-    body = is.body ∙ ap (λ entries. (verdict entries (request_of is.packet is.moment)).body) (sym same);
-    recorded = λ entry records. get_begins v.durable w.durable grows.durable at entry
-        (is.recorded entry (ap (λ entries. (verdict entries (request_of is.packet is.moment)).entry) (sym same) ∙ records));
-    for_asker = is.for_asker;
-  }
+        packet = is.packet;
+        moment = is.moment;
+        asks = grows.calls c is.packet is.moment is.asks;
+        within = omega (arith, is.within, more);
+        kind = is.kind ∙ ap (λ entries. (verdict entries (request_of is.packet is.moment)).kind) (sym same);
+        body = is.body ∙ ap (λ entries. (verdict entries (request_of is.packet is.moment)).body) (sym same);
+        recorded = λ entry records. get_begins v.durable w.durable grows.durable at entry
+            (is.recorded entry (ap (λ entries. (verdict entries (request_of is.packet is.moment)).entry) (sym same) ∙ records));
+        for_asker = is.for_asker;
+      }
 
   replies_later : (made : Packet) (maker : Maker) → RepliesSo verdict v made maker → RepliesSo verdict w made maker
   replies_later made (by.Consumer id) is = tt

@@ -18,16 +18,13 @@ use Rattle.nb_world.specs.declared.packet.Sending.{Sending}
 use Rattle.nb_world.specs.declared.packet.To.{To}
 use Rattle.nb_world.specs.declared.packet.To.TheVariants as to
 use Rattle.nb_world.specs.declared.start.Start.{Start}
-use Rattle.nb_world.specs.declared.turning.Acknowledged.{Acknowledged}
-use Rattle.nb_world.specs.declared.turning.Origin.{Origin}
-use Rattle.nb_world.specs.declared.turning.Turning.{Turning}
 use Rattle.nb_world.specs.declared.turning.Verdict.{Verdict}
 use Rattle.nb_world.specs.World.{Going, Stays, Goes, Rules, World}
-use Rattle.nb_world.specs.Steps.{◌>>=◌, where_so, packets_of, consumer_goes, merchant_goes, consumer_at, merchant_at, is_known, started, consumer_gets, merchant_gets, server_gets, delivered_to, buy_of, quiet_consumer_of, quiet_merchant_of, restart_consumer_of, restart_merchant_of, deliver_of, inject_of}
-use Rattle.nb_world.specs.Laws.{Asks, CallsHouse, RepliesSo, IsLawfulWorld, GrowsInto}
+use Rattle.nb_world.specs.Steps.{where_so, packets_of, consumer_goes, merchant_goes, consumer_at, merchant_at, is_known, started, server_gets, delivered_to, buy_of, quiet_consumer_of, quiet_merchant_of, restart_consumer_of, restart_merchant_of, deliver_of, inject_of}
+use Rattle.nb_world.specs.Laws.{CallsHouse, RepliesSo, GrowsInto}
 use Rattle.nb_world.proofs.Chains.{inside, same_some}
 use Rattle.nb_world.proofs.Lists.{get_append, all_append, all_weaker}
-use Rattle.nb_world.proofs.Growing.{Sound, TurnIs, grows_same, lawful_later, called_later, turn_is_later, get_begins}
+use Rattle.nb_world.proofs.Growing.{Sound, TurnIs, lawful_later, called_later, turn_is_later, get_begins}
 
 -- the packet is not the house's
 abbrev pub NotByHouse : Packet → Type 0
@@ -77,21 +74,21 @@ module _ {C M : Type 0} (verdict : List Entry → Request → Verdict) (v : Worl
   outside_kept w out =
       let grows : GrowsInto v w = outside_grows v w out in
       let calls_later : (call : Call) → CallsHouse v call → CallsHouse w call =
-          λ (call : Call) (is : CallsHouse v call). record { packet = is.packet; of = get_begins v.packets w.packets grows.packets call.packet is.packet is.of; for_house = is.for_house } in
+      λ (call : Call) (is : CallsHouse v call). record { packet = is.packet; of = get_begins v.packets w.packets grows.packets call.packet is.packet is.of; for_house = is.for_house } in
       record {
-    sound = record {
-      lawful = lawful_later verdict v w grows sound.lawful
-          (subst Legal (sym out.durable) sound.lawful.legal)
-          (out.server ∙ sound.lawful.same ∙ sym out.durable)
-          (subst (AllByRecursion (CallsHouse w)) (sym out.calls)
-          (all_append (CallsHouse w) v.calls out.asked (called_later verdict v w grows sound.lawful.called) (all_weaker (CallsHouse v) (CallsHouse w) out.asked calls_later out.of_house)))
-          tt
-          tt
-          (all_weaker NotByHouse (λ (made : Packet). RepliesSo verdict w made made.maker) out.made (λ (made : Packet) (not : NotByHouse made). replies_so w made made.maker refl not) out.not_by_house);
-      turn = subst (TurnIs verdict w) (sym out.turn) (turn_is_later verdict v w grows out.durable v.turn sound.turn);
-    };
-    grows = grows;
-  }
+        sound = record {
+          lawful = lawful_later verdict v w grows sound.lawful
+              (subst Legal (sym out.durable) sound.lawful.legal)
+              (out.server ∙ sound.lawful.same ∙ sym out.durable)
+              (subst (AllByRecursion (CallsHouse w)) (sym out.calls)
+              (all_append (CallsHouse w) v.calls out.asked (called_later verdict v w grows sound.lawful.called) (all_weaker (CallsHouse v) (CallsHouse w) out.asked calls_later out.of_house)))
+              tt
+              tt
+              (all_weaker NotByHouse (λ (made : Packet). RepliesSo verdict w made made.maker) out.made (λ (made : Packet) (not : NotByHouse made). replies_so w made made.maker refl not) out.not_by_house);
+          turn = subst (TurnIs verdict w) (sym out.turn) (turn_is_later verdict v w grows out.durable v.turn sound.turn);
+        };
+        grows = grows;
+      }
 
 -- ---- each event that touches nothing of the house
 
@@ -106,24 +103,51 @@ merchant_sends id (Some s) = ((λ c at is. cc), tt)
 module _ {C M : Type 0} where
   same_outside : (v : World C M) → Outside v v
   same_outside v = record {
-    made = []; asked = []; durable = refl; server = refl; origins = refl; acknowledged = refl; turn = refl;
-    packets = sym (append-nil v.packets); calls = sym (append-nil v.calls); not_by_house = tt; of_house = tt;
+    made = [];
+    asked = [];
+    durable = refl;
+    server = refl;
+    origins = refl;
+    acknowledged = refl;
+    turn = refl;
+    packets = sym (append-nil v.packets);
+    calls = sym (append-nil v.calls);
+    not_by_house = tt;
+    of_house = tt;
   }
 
   -- consumers, merchants or the clock change
   nodes_outside : (v : World C M) (consumers : List C) (merchants : List M) (moment : ℕ)
       → Outside v (record v { consumers = consumers; merchants = merchants; moment = moment })
   nodes_outside v consumers merchants moment = record {
-    made = []; asked = []; durable = refl; server = refl; origins = refl; acknowledged = refl; turn = refl;
-    packets = sym (append-nil v.packets); calls = sym (append-nil v.calls); not_by_house = tt; of_house = tt;
+    made = [];
+    asked = [];
+    durable = refl;
+    server = refl;
+    origins = refl;
+    acknowledged = refl;
+    turn = refl;
+    packets = sym (append-nil v.packets);
+    calls = sym (append-nil v.calls);
+    not_by_house = tt;
+    of_house = tt;
   }
 
   -- and these packets are new
   sends_outside : (v : World C M) (consumers : List C) (merchants : List M) (made : List Packet) → AllByRecursion NotByHouse made
       → Outside v (record v { consumers = consumers; merchants = merchants; packets = v.packets ++ made })
   sends_outside v consumers merchants made not = record {
-    made = made; asked = []; durable = refl; server = refl; origins = refl; acknowledged = refl; turn = refl;
-    packets = refl; calls = sym (append-nil v.calls); not_by_house = not; of_house = tt;
+    made = made;
+    asked = [];
+    durable = refl;
+    server = refl;
+    origins = refl;
+    acknowledged = refl;
+    turn = refl;
+    packets = refl;
+    calls = sym (append-nil v.calls);
+    not_by_house = not;
+    of_house = tt;
   }
 
   consumer_outside : (v : World C M) (i : ℕ) (id : PartyId) (g : Going C) → Outside v (consumer_goes v i id g)
@@ -144,8 +168,17 @@ module _ {C M : Type 0} where
 
   server_outside : (v : World C M) (k : ℕ) (packet : Packet) → slice_get v.packets k ≡ Some packet → packet.to ≡ to.Server → Outside v (server_gets v k)
   server_outside v k packet there for_house = record {
-    made = []; asked = record { packet = k; moment = v.moment; phase = Waiting } ∷ []; durable = refl; server = refl; origins = refl; acknowledged = refl; turn = refl;
-    packets = sym (append-nil v.packets); calls = refl; not_by_house = tt; of_house = (record { packet = packet; of = there; for_house = for_house }, tt);
+    made = [];
+    asked = record { packet = k; moment = v.moment; phase = Waiting } ∷ [];
+    durable = refl;
+    server = refl;
+    origins = refl;
+    acknowledged = refl;
+    turn = refl;
+    packets = sym (append-nil v.packets);
+    calls = refl;
+    not_by_house = tt;
+    of_house = (record { packet = packet; of = there; for_house = for_house }, tt);
   }
 
 module _ {C M : Type 0} (p : Rules C M) (v w : World C M) where

@@ -1,20 +1,19 @@
 -- What a run of turns plays leads a world as the run leads the house.
-use Rattle.std.proofs.Common.{◌≡◌, ◌≢◌, ◌⊎◌, inl, inr, ℕ, zero, suc, ◌+◌, Bool, true, false, List, [], ◌∷◌, ◌++◌, length, take, Option, None, Some, refl, sym, ap, subst, ◌∙◌, append_assoc, arith, length-append}
+use Rattle.std.proofs.Common.{◌≡◌, ◌≢◌, ◌⊎◌, inl, inr, ℕ, ◌+◌, Bool, true, false, List, [], ◌∷◌, ◌++◌, length, take, Option, None, Some, refl, sym, ap, subst, ◌∙◌, append_assoc, arith, length-append}
 use Rattle.std.proofs.lemmas.List.{append-nil}
-use Rattle.std.specs.Prelude.{map, if◌then◌else◌}
+use Rattle.std.specs.Prelude.{if◌then◌else◌}
 use Rattle.std.specs.Option.{option_to_list, is_some}
-use Rattle.std.specs.List.{slice_get, cons_option, filter_map, AllByRecursion}
+use Rattle.std.specs.List.{cons_option, AllByRecursion}
 use Rattle.nb_book.specs.declared.entry.Entry.{Entry}
-use Rattle.nb_turns.specs.Turns.{Request, Ruling, House, State, Outcome, Decides, Fails, Refuses, Answered as Reply, Round, SettlesInto, Unsettled, Doubts, Turn, FitTurn, Run, answered, answered_in, alike, decided, recorded, with_entry, answer_over, last_state}
-use Rattle.nb_turns.specs.declared.mark.Mark.{Mark}
+use Rattle.nb_turns.specs.Turns.{Request, House, State, Outcome, Decides, Fails, Refuses, Answered as Reply, Round, SettlesInto, Unsettled, Doubts, Turn, Run, answered, answered_in, alike, decided, recorded, with_entry, last_state}
 use Rattle.nb_turns.specs.declared.mark.Mark.TheVariants as mark
 use Rattle.nb_world.specs.declared.event.Event.{Event}
 use Rattle.nb_world.specs.World.{Rules, World}
 use Rattle.nb_world.specs.Steps.{run}
 use Rattle.nb_world.specs.Laws.{Begins}
-use Rattle.nb_world.specs.Ties.{house_of, IsAt, IsPacketOf, Play, Answers, Stops, Played, asks, ends, behind, events_of, all_play, givers, Settling, PlaysTurn, PlaysRun, told_along, reply_with_place, told_by, Ties, HasPackets, RunIsEvents}
+use Rattle.nb_world.specs.Ties.{house_of, IsAt, IsPacketOf, Answers, Stops, Played, asks, ends, behind, events_of, all_play, givers, Settling, PlaysTurn, PlaysRun, reply_with_place, told_by, RunIsEvents}
 use Rattle.nb_world.proofs.Growing.{get_begins}
-use Rattle.nb_world.proofs.Lists.{begins_same, begins_then, all_weaker, all_append}
+use Rattle.nb_world.proofs.Lists.{begins_same, begins_then, all_weaker}
 use Rattle.nb_world.proofs.Tying.{Leads, leads_then, One, told_as, left_as}
 
 -- ---- requests that gave what is in doubt
@@ -90,8 +89,8 @@ events_append house number n over (x ∷ played) more =
     let front : List Event = asks number n x.request ++ ends n x.play (house.rules over x.request).entry in
     let over_next : List Entry = behind house over x.request x.play in
     let rest : events_of house number (n + 1) over_next (played ++ more)
-            ≡ events_of house number (n + 1) over_next played ++ events_of house number ((n + 1) + length played) (behind_all house over_next played) more =
-        events_append house number (n + 1) over_next played more in
+    ≡ events_of house number (n + 1) over_next played ++ events_of house number ((n + 1) + length played) (behind_all house over_next played) more =
+    events_append house number (n + 1) over_next played more in
     let same : (n + 1) + length played ≡ n + length (x ∷ played) = omega arith in
     ap (λ es. front ++ es) (rest ∙ ap (λ k. events_of house number (n + 1) over_next played ++ events_of house number k (behind_all house over_next played) more) same)
     ∙ sym (append_assoc front (events_of house number (n + 1) over_next played) (events_of house number (n + length (x ∷ played)) (behind_all house over_next played) more))
@@ -118,35 +117,35 @@ module _ {C M : Type 0} (p : Rules C M) (fault : ℕ → ℕ → List ℕ) (worn
   goes_first w over x played told others entries one rest =
       let over_next : List Entry = behind (house_of p fault worn) over x.request x.play in
       record {
-    end = rest.end;
-    leads = leads_then p w one.end rest.end (asks number (length w.calls) x.request ++ ends (length w.calls) x.play (p.verdict over x.request).entry)
-        (events_of (house_of p fault worn) number (length w.calls + 1) over_next played) told others one.leads
-        (subst (λ (k : ℕ). Leads p one.end (events_of (house_of p fault worn) number k over_next played) rest.end others) one.calls rest.leads);
-    at = rest.at;
-    calls = let h : length rest.end.calls ≡ length one.end.calls + length played = rest.calls in omega (arith, h, one.calls);
-    packets = begins_then w.packets one.end.packets rest.end.packets one.packets rest.packets;
-    over_is = rest.over_is;
-  }
+        end = rest.end;
+        leads = leads_then p w one.end rest.end (asks number (length w.calls) x.request ++ ends (length w.calls) x.play (p.verdict over x.request).entry)
+            (events_of (house_of p fault worn) number (length w.calls + 1) over_next played) told others one.leads
+            (subst (λ (k : ℕ). Leads p one.end (events_of (house_of p fault worn) number k over_next played) rest.end others) one.calls rest.leads);
+        at = rest.at;
+        calls = let h : length rest.end.calls ≡ length one.end.calls + length played = rest.calls in omega (arith, h, one.calls);
+        packets = begins_then w.packets one.end.packets rest.end.packets one.packets rest.packets;
+        over_is = rest.over_is;
+      }
 
   goes_then : (w : World C M) (over : List Entry) (played more : List Played) (told others : List (List ℕ)) (entries last : List Entry)
       → (first : Goes w over played told entries) → Goes first.end entries more others last → Goes w over (played ++ more) (told ++ others) last
   goes_then w over played more told others entries last first second =
       let then_is : events_of (house_of p fault worn) number (length first.end.calls) entries more
-              ≡ events_of (house_of p fault worn) number (length w.calls + length played) (behind_all (house_of p fault worn) over played) more =
-          ap (λ k. events_of (house_of p fault worn) number k entries more) first.calls
-          ∙ ap (λ es. events_of (house_of p fault worn) number (length w.calls + length played) es more) (sym first.over_is) in
+      ≡ events_of (house_of p fault worn) number (length w.calls + length played) (behind_all (house_of p fault worn) over played) more =
+      ap (λ k. events_of (house_of p fault worn) number k entries more) first.calls
+      ∙ ap (λ es. events_of (house_of p fault worn) number (length w.calls + length played) es more) (sym first.over_is) in
       let all_are = events_append (house_of p fault worn) number (length w.calls) over played more in
       let second_leads : Leads p first.end (events_of (house_of p fault worn) number (length w.calls + length played) (behind_all (house_of p fault worn) over played) more) second.end others =
-          subst (λ es. Leads p first.end es second.end others) then_is second.leads in
+      subst (λ es. Leads p first.end es second.end others) then_is second.leads in
       record {
-    end = second.end;
-    leads = subst (λ es. Leads p w es second.end (told ++ others)) (sym all_are)
-        (leads_then p w first.end second.end (events_of (house_of p fault worn) number (length w.calls) over played) _ told others first.leads second_leads);
-    at = second.at;
-    calls = let h : length second.end.calls ≡ length first.end.calls + length more = second.calls in omega (arith, h, first.calls, length-append played more);
-    packets = begins_then w.packets first.end.packets second.end.packets first.packets second.packets;
-    over_is = behind_append (house_of p fault worn) over played more ∙ ap (λ es. behind_all (house_of p fault worn) es more) first.over_is ∙ second.over_is;
-  }
+        end = second.end;
+        leads = subst (λ es. Leads p w es second.end (told ++ others)) (sym all_are)
+            (leads_then p w first.end second.end (events_of (house_of p fault worn) number (length w.calls) over played) _ told others first.leads second_leads);
+        at = second.at;
+        calls = let h : length second.end.calls ≡ length first.end.calls + length more = second.calls in omega (arith, h, first.calls, length-append played more);
+        packets = begins_then w.packets first.end.packets second.end.packets first.packets second.packets;
+        over_is = behind_append (house_of p fault worn) over played more ∙ ap (λ es. behind_all (house_of p fault worn) es more) first.over_is ∙ second.over_is;
+      }
 
   -- packets of requests stay those of a later world
   later_packets : (w v : World C M) → Begins v.packets w.packets → (requests : List Request)
@@ -163,9 +162,9 @@ module _ {C M : Type 0} (p : Rules C M) (fault : ℕ → ℕ → List ℕ) (worn
       let one = told_as p w over number request at packets.0 (p.verdict over request).entry refl in
       let over_next : List Entry = over ++ option_to_list (p.verdict over request).entry in
       let rest : Goes one.end over_next (all_play Answers requests) (told_by (decided (house_of p fault worn) over_next requests)) (over_next ++ recorded (house_of p fault worn) over_next requests) =
-          goes_told requests one.end over_next one.at (later_packets w one.end one.packets requests packets.1) in
+      goes_told requests one.end over_next one.at (later_packets w one.end one.packets requests packets.1) in
       let all : Goes w over (all_play Answers (request ∷ requests)) (told_by (decided (house_of p fault worn) over (request ∷ requests))) (over_next ++ recorded (house_of p fault worn) over_next requests) =
-          goes_first w over (record { request = request; play = Answers }) (all_play Answers requests) _ _ _ one rest in
+      goes_first w over (record { request = request; play = Answers }) (all_play Answers requests) _ _ _ one rest in
       subst (Goes w over (all_play Answers (request ∷ requests)) (told_by (decided (house_of p fault worn) over (request ∷ requests))))
       (append_assoc over (option_to_list (p.verdict over request).entry) (recorded (house_of p fault worn) over_next requests)) all
 
@@ -180,13 +179,13 @@ module _ {C M : Type 0} (p : Rules C M) (fault : ℕ → ℕ → List ℕ) (worn
       let one = left_as p w over number request at packets.0 true entry gives.0 in
       let same : over ++ entry ∷ [] ≡ with_entry (house_of p fault worn) over request = ap (λ o. over ++ option_to_list o) (sym gives.0) in
       let next_one : One p w (asks number (length w.calls) request ++ ends (length w.calls) (Stops true) (p.verdict over request).entry) [] (with_entry (house_of p fault worn) over request) =
-          record { end = one.end; leads = one.leads; at = subst (IsAt one.end) same one.at; calls = one.calls; packets = one.packets } in
+      record { end = one.end; leads = one.leads; at = subst (IsAt one.end) same one.at; calls = one.calls; packets = one.packets } in
       let rest : Goes one.end (over ++ entry ∷ []) (all_play (Stops true) gave) [] ((over ++ entry ∷ []) ++ doubt) =
-          goes_kept gave doubt one.end (over ++ entry ∷ []) one.at gives.1 (later_packets w one.end one.packets gave packets.1) in
+      goes_kept gave doubt one.end (over ++ entry ∷ []) one.at gives.1 (later_packets w one.end one.packets gave packets.1) in
       let there : Goes one.end (with_entry (house_of p fault worn) over request) (all_play (Stops true) gave) [] ((over ++ entry ∷ []) ++ doubt) =
-          subst (λ es. Goes one.end es (all_play (Stops true) gave) [] ((over ++ entry ∷ []) ++ doubt)) same rest in
+      subst (λ es. Goes one.end es (all_play (Stops true) gave) [] ((over ++ entry ∷ []) ++ doubt)) same rest in
       let all : Goes w over (all_play (Stops true) (request ∷ gave)) [] ((over ++ entry ∷ []) ++ doubt) =
-          goes_first w over (record { request = request; play = Stops true }) (all_play (Stops true) gave) [] [] ((over ++ entry ∷ []) ++ doubt) next_one there in
+      goes_first w over (record { request = request; play = Stops true }) (all_play (Stops true) gave) [] [] ((over ++ entry ∷ []) ++ doubt) next_one there in
       subst (Goes w over (all_play (Stops true) (request ∷ gave)) []) (append_assoc over (entry ∷ []) doubt) all
 
   -- the first of them is written, and a stop does not leave it
@@ -242,7 +241,7 @@ module _ {C M : Type 0} (p : Rules C M) (fault : ℕ → ℕ → List ℕ) (worn
     pub packets : AllByRecursion (λ (request : Request). IsPacketOf w (number request) request) gives
 
   module _ (old new : State) (gave requests : List Request) (w : World C M) (at : IsAt w old.entries) (gives : Gives (house_of p fault worn) old.entries gave old.doubt)
-    (packets : AllByRecursion (λ (request : Request). IsPacketOf w (number request) request) gave) (has : AllByRecursion (λ (request : Request). IsPacketOf w (number request) request) requests) where
+      (packets : AllByRecursion (λ (request : Request). IsPacketOf w (number request) request) gave) (has : AllByRecursion (λ (request : Request). IsPacketOf w (number request) request) requests) where
     turn_decides : (over : List Entry) → Turn (house_of p fault worn) old requests (Decides over) new → Turns old new gave requests (Decides over) w
     unfolding Gives
     turn_decides over turn =
@@ -250,58 +249,58 @@ module _ {C M : Type 0} (p : Rules C M) (fault : ℕ → ℕ → List ℕ) (worn
         let entries : new.entries ≡ over ++ recorded (house_of p fault worn) over requests = ap (λ (s : State). s.entries) turn.2 in
         let none : new.doubt ≡ [] = ap (λ (s : State). s.doubt) turn.2 in
         record {
-      here = first.settling ++ all_play Answers requests;
-      gives = [];
-      plays = (first.settling, first.so, refl, refl);
-      goes = subst (Goes w old.entries (first.settling ++ all_play Answers requests) (told_by (decided (house_of p fault worn) over requests))) (sym entries)
-          (goes_then w old.entries first.settling (all_play Answers requests) [] (told_by (decided (house_of p fault worn) over requests)) over (over ++ recorded (house_of p fault worn) over requests) first.goes
-          (goes_told requests first.goes.end over first.goes.at (later_packets w first.goes.end first.goes.packets requests has)));
-      give = subst (Gives (house_of p fault worn) new.entries []) (sym none) tt;
-      packets = tt;
-    }
+          here = first.settling ++ all_play Answers requests;
+          gives = [];
+          plays = (first.settling, first.so, refl, refl);
+          goes = subst (Goes w old.entries (first.settling ++ all_play Answers requests) (told_by (decided (house_of p fault worn) over requests))) (sym entries)
+              (goes_then w old.entries first.settling (all_play Answers requests) [] (told_by (decided (house_of p fault worn) over requests)) over (over ++ recorded (house_of p fault worn) over requests) first.goes
+              (goes_told requests first.goes.end over first.goes.at (later_packets w first.goes.end first.goes.packets requests has)));
+          give = subst (Gives (house_of p fault worn) new.entries []) (sym none) tt;
+          packets = tt;
+        }
 
     turn_fails : (before after : ℕ) → Unsettled old new ⊎ Doubts (house_of p fault worn) old requests new → Turns old new gave requests (Fails before after) w
     turn_fails before after (inl unsettled) =
         let entries : new.entries ≡ old.entries = ap (λ (s : State). s.entries) unsettled.1 in
         let doubt : new.doubt ≡ old.doubt = ap (λ (s : State). s.doubt) unsettled.1 in
         record {
-      here = [];
-      gives = gave;
-      plays = inl (entries, doubt, refl, refl);
-      goes = subst (λ told. Goes w old.entries [] told new.entries) (sym (failed_tell_nothing before after (fault before after) requests))
-          (subst (Goes w old.entries [] []) (sym entries) (goes_none w old.entries at));
-      give = subst (λ es. Gives (house_of p fault worn) es gave new.doubt) (sym entries) (subst (Gives (house_of p fault worn) old.entries gave) (sym doubt) gives);
-      packets = packets;
-    }
+          here = [];
+          gives = gave;
+          plays = inl (entries, doubt, refl, refl);
+          goes = subst (λ told. Goes w old.entries [] told new.entries) (sym (failed_tell_nothing before after (fault before after) requests))
+              (subst (Goes w old.entries [] []) (sym entries) (goes_none w old.entries at));
+          give = subst (λ es. Gives (house_of p fault worn) es gave new.doubt) (sym entries) (subst (Gives (house_of p fault worn) old.entries gave) (sym doubt) gives);
+          packets = packets;
+        }
     turn_fails before after (inr d) =
         let first : Settles old gave w d.over = settled old gave w d.over d.settled at gives packets in
         let entries : new.entries ≡ d.over = ap (λ (s : State). s.entries) d.left in
         let doubt : new.doubt ≡ recorded (house_of p fault worn) d.over requests = ap (λ (s : State). s.doubt) d.left in
         let given : Gives (house_of p fault worn) new.entries (givers (house_of p fault worn) new.entries requests) (recorded (house_of p fault worn) new.entries requests) =
-            givers_give (house_of p fault worn) new.entries requests in
+        givers_give (house_of p fault worn) new.entries requests in
         record {
-      here = first.settling;
-      gives = givers (house_of p fault worn) new.entries requests;
-      plays = inr (subst (λ es. Settling old gave es first.settling) (sym entries) first.so, refl);
-      goes = subst (λ told. Goes w old.entries first.settling told new.entries) (sym (failed_tell_nothing before after (fault before after) requests))
-          (subst (Goes w old.entries first.settling []) (sym entries) first.goes);
-      give = subst (Gives (house_of p fault worn) new.entries (givers (house_of p fault worn) new.entries requests))
-          (ap (λ es. recorded (house_of p fault worn) es requests) entries ∙ sym doubt) given;
-      packets = givers_among (λ (request : Request). IsPacketOf w (number request) request) (house_of p fault worn) new.entries requests has;
-    }
+          here = first.settling;
+          gives = givers (house_of p fault worn) new.entries requests;
+          plays = inr (subst (λ es. Settling old gave es first.settling) (sym entries) first.so, refl);
+          goes = subst (λ told. Goes w old.entries first.settling told new.entries) (sym (failed_tell_nothing before after (fault before after) requests))
+              (subst (Goes w old.entries first.settling []) (sym entries) first.goes);
+          give = subst (Gives (house_of p fault worn) new.entries (givers (house_of p fault worn) new.entries requests))
+              (ap (λ es. recorded (house_of p fault worn) es requests) entries ∙ sym doubt) given;
+          packets = givers_among (λ (request : Request). IsPacketOf w (number request) request) (house_of p fault worn) new.entries requests has;
+        }
 
     turn_refuses : new ≡ old → Turns old new gave requests Refuses w
     turn_refuses same =
         let entries : new.entries ≡ old.entries = ap (λ (s : State). s.entries) same in
         let doubt : new.doubt ≡ old.doubt = ap (λ (s : State). s.doubt) same in
         record {
-      here = [];
-      gives = gave;
-      plays = (refl, refl);
-      goes = subst (λ told. Goes w old.entries [] told new.entries) (sym (worn_tell_nothing worn requests)) (subst (Goes w old.entries [] []) (sym entries) (goes_none w old.entries at));
-      give = subst (λ es. Gives (house_of p fault worn) es gave new.doubt) (sym entries) (subst (Gives (house_of p fault worn) old.entries gave) (sym doubt) gives);
-      packets = packets;
-    }
+          here = [];
+          gives = gave;
+          plays = (refl, refl);
+          goes = subst (λ told. Goes w old.entries [] told new.entries) (sym (worn_tell_nothing worn requests)) (subst (Goes w old.entries [] []) (sym entries) (goes_none w old.entries at));
+          give = subst (λ es. Gives (house_of p fault worn) es gave new.doubt) (sym entries) (subst (Gives (house_of p fault worn) old.entries gave) (sym doubt) gives);
+          packets = packets;
+        }
 
     turn_goes : (outcome : Outcome) → Turn (house_of p fault worn) old requests outcome new → Turns old new gave requests outcome w
     turn_goes (Decides over) turn = turn_decides over turn
@@ -324,18 +323,18 @@ module _ {C M : Type 0} (p : Rules C M) (fault : ℕ → ℕ → List ℕ) (worn
       let here : Turns first next_one gave round.requests round.outcome w = turn_goes first next_one gave round.requests w at gives packets has.0 round.outcome run.1 in
       let v : World C M = here.goes.end in
       let later : AllByRecursion (λ (r : Round). AllByRecursion (λ (request : Request). IsPacketOf v (number request) request) r.requests) more =
-          all_weaker (λ (r : Round). AllByRecursion (λ (request : Request). IsPacketOf w (number request) request) r.requests)
-          (λ (r : Round). AllByRecursion (λ (request : Request). IsPacketOf v (number request) request) r.requests) more
-          (λ (r : Round) (all : AllByRecursion (λ (request : Request). IsPacketOf w (number request) request) r.requests). later_packets w v here.goes.packets r.requests all) has.1 in
+      all_weaker (λ (r : Round). AllByRecursion (λ (request : Request). IsPacketOf w (number request) request) r.requests)
+      (λ (r : Round). AllByRecursion (λ (request : Request). IsPacketOf v (number request) request) r.requests) more
+      (λ (r : Round) (all : AllByRecursion (λ (request : Request). IsPacketOf w (number request) request) r.requests). later_packets w v here.goes.packets r.requests all) has.1 in
       let rest : Runs next_one here.gives more states v =
-          run_goes next_one here.gives more states v here.goes.at here.give (later_packets w v here.goes.packets here.gives here.packets) later run.2 in
+      run_goes next_one here.gives more states v here.goes.at here.give (later_packets w v here.goes.packets here.gives here.packets) later run.2 in
       record {
-    played = here.here ++ rest.played;
-    plays = (here.here, rest.played, here.gives, refl, here.plays, rest.plays);
-    goes = subst (λ told. Goes w first.entries (here.here ++ rest.played) told (last_state next_one states).entries)
-        (sym (told_append (answered (house_of p fault worn) round.requests round.outcome) (answered_in (house_of p fault worn) more)))
-        (goes_then w first.entries here.here rest.played (told_by (answered (house_of p fault worn) round.requests round.outcome)) (told_by (answered_in (house_of p fault worn) more)) next_one.entries (last_state next_one states).entries here.goes rest.goes);
-  }
+        played = here.here ++ rest.played;
+        plays = (here.here, rest.played, here.gives, refl, here.plays, rest.plays);
+        goes = subst (λ told. Goes w first.entries (here.here ++ rest.played) told (last_state next_one states).entries)
+            (sym (told_append (answered (house_of p fault worn) round.requests round.outcome) (answered_in (house_of p fault worn) more)))
+            (goes_then w first.entries here.here rest.played (told_by (answered (house_of p fault worn) round.requests round.outcome)) (told_by (answered_in (house_of p fault worn) more)) next_one.entries (last_state next_one states).entries here.goes rest.goes);
+      }
   run_goes first gave [] (next_one ∷ states) w at gives packets has run = absurd run
   run_goes first gave (round ∷ more) [] w at gives packets has run = absurd run
 
@@ -343,10 +342,10 @@ pub run_is_events : {C M : Type 0} → RunIsEvents C M
 unfolding Gives
 run_is_events p fault worn w first number rounds states at none has run =
     let all : Runs p fault worn number first [] rounds states w =
-        run_goes p fault worn number first [] rounds states w at (subst (Gives (house_of p fault worn) first.entries []) (sym none) tt) tt has run in
+    run_goes p fault worn number first [] rounds states w at (subst (Gives (house_of p fault worn) first.entries []) (sym none) tt) tt has run in
     record {
-  played = all.played;
-  plays = all.plays;
-  ends_at = subst (λ end. IsAt end (last_state first states).entries) (sym all.goes.leads.to) all.goes.at;
-  told = all.goes.leads.tells;
-}
+      played = all.played;
+      plays = all.plays;
+      ends_at = subst (λ end. IsAt end (last_state first states).entries) (sym all.goes.leads.to) all.goes.at;
+      told = all.goes.leads.tells;
+    }

@@ -1,17 +1,17 @@
 -- The house's own events, and every list of events.
-use Rattle.std.proofs.Common.{◌≡◌, ◌≢◌, ◌⊎◌, inl, inr, ℕ, zero, suc, ◌+◌, ◌<◌, ◌≤◌, Bool, true, false, List, [], ◌∷◌, ◌++◌, length, take, Option, None, Some, refl, sym, ap, subst, ◌∙◌, arith, length-append}
+use Rattle.std.proofs.Common.{◌≡◌, ℕ, ◌≤◌, Bool, true, false, List, [], ◌∷◌, ◌++◌, length, take, Option, None, Some, refl, sym, ap, subst, ◌∙◌, arith, length-append}
 use Rattle.std.proofs.lemmas.List.{append-nil, take_at}
 use Rattle.std.proofs.lemmas.Bool.{eqb-true}
 use Rattle.std.specs.Prelude.{◌==◌, map}
 use Rattle.std.specs.Option.{option_to_list, option_map, is_none}
 use Rattle.std.specs.List.{slice_get, AllByRecursion}
 use Rattle.nb_book.specs.declared.entry.Entry.{Entry}
-use Rattle.nb_book.specs.Legal.{LegalAfter, Legal}
+use Rattle.nb_book.specs.Legal.{Legal}
 use Rattle.nb_book.specs.Laws.{StaysLegal}
 use Rattle.nb_turns.specs.Turns.{Request}
 use Rattle.nb_world.specs.declared.call.Call.{Call}
 use Rattle.nb_world.specs.declared.call.CallPhase.{CallPhase}
-use Rattle.nb_world.specs.declared.call.CallPhase.TheVariants.{Waiting, InTurn, Answered, Gone}
+use Rattle.nb_world.specs.declared.call.CallPhase.TheVariants.{InTurn, Answered}
 use Rattle.nb_world.specs.declared.event.Event.{Event}
 use Rattle.nb_world.specs.declared.event.Event.TheVariants as on
 use Rattle.nb_world.specs.declared.packet.Maker.{Maker}
@@ -25,12 +25,12 @@ use Rattle.nb_world.specs.declared.turning.Stage.{Stage}
 use Rattle.nb_world.specs.declared.turning.Stage.TheVariants as stage
 use Rattle.nb_world.specs.declared.turning.Turning.{Turning}
 use Rattle.nb_world.specs.declared.turning.Verdict.{Verdict}
-use Rattle.nb_world.specs.World.{Rules, World, request_of, is_decided, is_written, is_opened, written_at, entry_written}
-use Rattle.nb_world.specs.Steps.{◌>>=◌, where_so, is_waiting, in_phase, set_phase, stopped, may_answer, node_of, asker_of, reply_to, acknowledged_by, origin_of, left, origins_left, turn_of, write_of, open_of, answer_of, stop_of, step, next, or_same, run}
-use Rattle.nb_world.specs.Laws.{Asks, CallsHouse, CameBy, StandsDurable, IsAsker, IsReply, RepliesSo, IsLawfulWorld, RecordsLegal, IsSetUp, WorldLaw, GrowsInto, OnlyGrows}
+use Rattle.nb_world.specs.World.{Rules, World, request_of, is_decided, is_written, written_at}
+use Rattle.nb_world.specs.Steps.{where_so, is_waiting, in_phase, set_phase, stopped, may_answer, node_of, asker_of, reply_to, acknowledged_by, origin_of, left, origins_left, turn_of, write_of, open_of, answer_of, stop_of, step, next, or_same, run}
+use Rattle.nb_world.specs.Laws.{Asks, CallsHouse, CameBy, StandsDurable, IsAsker, RepliesSo, RecordsLegal, IsSetUp, WorldLaw, GrowsInto, OnlyGrows}
 use Rattle.nb_world.proofs.Chains.{inside, holds, same_some}
 use Rattle.nb_world.proofs.Lists.{get_last, begins_same, Remains, phase_remains, stopped_remains, all_phase, all_stopped}
-use Rattle.nb_world.proofs.Growing.{StageSo, TurnSo, TurnIs, Sound, grows_same, grows_then, lawful_later, called_later, turn_is_later, take_begins, get_begins, longer}
+use Rattle.nb_world.proofs.Growing.{StageSo, TurnSo, TurnIs, Sound, grows_same, grows_then, lawful_later, called_later, take_begins, get_begins}
 use Rattle.nb_world.proofs.Outside.{Kept, outside_kept, buy_outside, quiet_consumer_outside, quiet_merchant_outside, restart_consumer_outside, restart_merchant_outside, clock_outside, inject_outside, deliver_outside}
 
 -- ---- calls in another phase
@@ -40,11 +40,11 @@ module _ {C M : Type 0} (v w : World C M) (packets : (k : ℕ) (packet : Packet)
   asks_phase phase k calls c packet moment asks =
       let r : Remains (set_phase phase v.calls k) c asks.call = phase_remains phase v.calls k c asks.call asks.is in
       record {
-    call = r.now;
-    is = ap (λ all. slice_get all c) calls ∙ r.is;
-    of = ap (λ number. slice_get w.packets number) r.packet ∙ packets asks.call.packet packet asks.of;
-    at = r.moment ∙ asks.at;
-  }
+        call = r.now;
+        is = ap (λ all. slice_get all c) calls ∙ r.is;
+        of = ap (λ number. slice_get w.packets number) r.packet ∙ packets asks.call.packet packet asks.of;
+        at = r.moment ∙ asks.at;
+      }
 
   pub asks_stopped : w.calls ≡ map stopped v.calls → (c : ℕ) (packet : Packet) (moment : ℕ) → Asks v c packet moment → Asks w c packet moment
   asks_stopped calls c packet moment asks = record {
@@ -76,35 +76,38 @@ module _ {C M : Type 0} (stays : StaysLegal) (p : Rules C M) (records : RecordsL
     where
       taken : (call : Call) (packet : Packet) → slice_get v.calls c ≡ Some call → slice_get v.packets call.packet ≡ Some packet
           → Kept p.verdict v (record v {
-              turn = Some (record { call = c; at = length v.server; verdict = p.verdict v.server (request_of packet call.moment); stage = stage.Decided });
-              calls = set_phase InTurn v.calls c;
-            })
+            turn = Some (record { call = c; at = length v.server; verdict = p.verdict v.server (request_of packet call.moment); stage = stage.Decided });
+            calls = set_phase InTurn v.calls c;
+          })
       taken call packet there asks =
           let w : World C M = record v {
             turn = Some (record { call = c; at = length v.server; verdict = p.verdict v.server (request_of packet call.moment); stage = stage.Decided });
             calls = set_phase InTurn v.calls c;
           } in
           let grows : GrowsInto v w = record {
-            durable = begins_same v.durable; packets = begins_same v.packets; origins = begins_same v.origins; acknowledged = begins_same v.acknowledged;
+            durable = begins_same v.durable;
+            packets = begins_same v.packets;
+            origins = begins_same v.origins;
+            acknowledged = begins_same v.acknowledged;
             calls = asks_phase v w (λ k packet is. is) InTurn c refl;
           } in
           let all : take (length v.server) v.durable ≡ v.server =
-              ap (λ entries. take (length entries) v.durable) sound.lawful.same ∙ ap (take (length v.durable)) (sym (append-nil v.durable)) ∙ take_at v.durable [] (length v.durable) refl ∙ sym sound.lawful.same in
+          ap (λ entries. take (length entries) v.durable) sound.lawful.same ∙ ap (take (length v.durable)) (sym (append-nil v.durable)) ∙ take_at v.durable [] (length v.durable) refl ∙ sym sound.lawful.same in
           record {
-        sound = record {
-          lawful = lawful_later p.verdict v w grows sound.lawful sound.lawful.legal sound.lawful.same
-              (all_phase (CallsHouse w) (called_phase w) InTurn v.calls c (called_later p.verdict v w grows sound.lawful.called)) tt tt tt;
-          turn = record {
-            packet = packet;
-            moment = call.moment;
-            asks = grows.calls c packet call.moment (record { call = call; is = there; of = asks; at = refl });
-            within = omega (arith, ap length sound.lawful.same);
-            decided = ap (λ entries. p.verdict entries (request_of packet call.moment)) (sym all);
-            stage = ap length sound.lawful.same;
-          };
-        };
-        grows = grows;
-      }
+            sound = record {
+              lawful = lawful_later p.verdict v w grows sound.lawful sound.lawful.legal sound.lawful.same
+                  (all_phase (CallsHouse w) (called_phase w) InTurn v.calls c (called_later p.verdict v w grows sound.lawful.called)) tt tt tt;
+              turn = record {
+                packet = packet;
+                moment = call.moment;
+                asks = grows.calls c packet call.moment (record { call = call; is = there; of = asks; at = refl });
+                within = omega (arith, ap length sound.lawful.same);
+                decided = ap (λ entries. p.verdict entries (request_of packet call.moment)) (sym all);
+                stage = ap length sound.lawful.same;
+              };
+            };
+            grows = grows;
+          }
 
   -- a turn that comes to another stage
   staged : (t : Turning) (s : Stage) → TurnSo p.verdict v t → StageSo v t s
@@ -112,16 +115,19 @@ module _ {C M : Type 0} (stays : StaysLegal) (p : Rules C M) (records : RecordsL
   staged t s is so =
       let w : World C M = record v { turn = Some (record { call = t.call; at = t.at; verdict = t.verdict; stage = s }) } in
       let grows : GrowsInto v w = record {
-        durable = begins_same v.durable; packets = begins_same v.packets; origins = begins_same v.origins; acknowledged = begins_same v.acknowledged;
+        durable = begins_same v.durable;
+        packets = begins_same v.packets;
+        origins = begins_same v.origins;
+        acknowledged = begins_same v.acknowledged;
         calls = λ c packet moment asks. record { call = asks.call; is = asks.is; of = asks.of; at = asks.at };
       } in
       record {
-    sound = record {
-      lawful = lawful_later p.verdict v w grows sound.lawful sound.lawful.legal sound.lawful.same (called_later p.verdict v w grows sound.lawful.called) tt tt tt;
-      turn = record { packet = is.packet; moment = is.moment; asks = grows.calls t.call is.packet is.moment is.asks; within = is.within; decided = is.decided; stage = stage_so s so };
-    };
-    grows = grows;
-  }
+        sound = record {
+          lawful = lawful_later p.verdict v w grows sound.lawful sound.lawful.legal sound.lawful.same (called_later p.verdict v w grows sound.lawful.called) tt tt tt;
+          turn = record { packet = is.packet; moment = is.moment; asks = grows.calls t.call is.packet is.moment is.asks; within = is.within; decided = is.decided; stage = stage_so s so };
+        };
+        grows = grows;
+      }
     where
       stage_so : (s : Stage) → StageSo v t s
           → StageSo (let w : World C M = record v { turn = Some (record { call = t.call; at = t.at; verdict = t.verdict; stage = s }) } in w) (record { call = t.call; at = t.at; verdict = t.verdict; stage = s }) s
@@ -176,11 +182,11 @@ module _ {C M : Type 0} (stays : StaysLegal) (p : Rules C M) (records : RecordsL
 
   opened : (t : Turning) (c : ℕ) (entry : Entry) → TurnSo p.verdict v t → t.call ≡ c → t.at ≡ length v.durable → t.verdict.entry ≡ Some entry
       → Kept p.verdict v (record v {
-          turn = Some (record { call = t.call; at = t.at; verdict = t.verdict; stage = stage.Opened });
-          durable = v.durable ++ entry ∷ [];
-          server = v.server ++ entry ∷ [];
-          origins = v.origins ++ origin_of v.durable c ∷ [];
-        })
+        turn = Some (record { call = t.call; at = t.at; verdict = t.verdict; stage = stage.Opened });
+        durable = v.durable ++ entry ∷ [];
+        server = v.server ++ entry ∷ [];
+        origins = v.origins ++ origin_of v.durable c ∷ [];
+      })
   opened t c entry so its at is =
       let w : World C M = record v {
         turn = Some (record { call = t.call; at = t.at; verdict = t.verdict; stage = stage.Opened });
@@ -189,26 +195,29 @@ module _ {C M : Type 0} (stays : StaysLegal) (p : Rules C M) (records : RecordsL
         origins = v.origins ++ origin_of v.durable c ∷ [];
       } in
       let grows : GrowsInto v w = record {
-        durable = (entry ∷ [], refl); packets = begins_same v.packets; origins = (origin_of v.durable c ∷ [], refl); acknowledged = begins_same v.acknowledged;
+        durable = (entry ∷ [], refl);
+        packets = begins_same v.packets;
+        origins = (origin_of v.durable c ∷ [], refl);
+        acknowledged = begins_same v.acknowledged;
         calls = λ c packet moment asks. record { call = asks.call; is = asks.is; of = asks.of; at = asks.at };
       } in
       let ruled : (p.verdict v.durable (request_of so.packet so.moment)).entry ≡ Some entry = ruled_by t entry so at is in
       let asks : Asks w c so.packet so.moment = subst (λ n. Asks w n so.packet so.moment) its (grows.calls t.call so.packet so.moment so.asks) in
       record {
-    sound = record {
-      lawful = lawful_later p.verdict v w grows sound.lawful (legal_next so.packet so.moment entry ruled) (ap (λ entries. entries ++ entry ∷ []) sound.lawful.same)
-          (called_later p.verdict v w grows sound.lawful.called) (came_next w c so.packet so.moment entry refl asks ruled, tt) tt tt;
-      turn = record {
-        packet = so.packet;
-        moment = so.moment;
-        asks = grows.calls t.call so.packet so.moment so.asks;
-        within = omega (arith, so.within, length-append v.durable (entry ∷ []));
-        decided = so.decided ∙ ap (λ entries. p.verdict entries (request_of so.packet so.moment)) (sym (take_begins v.durable w.durable grows.durable t.at so.within));
-        stage = (entry, is, ap (slice_get (v.durable ++ entry ∷ [])) at ∙ get_last v.durable [] entry);
-      };
-    };
-    grows = grows;
-  }
+        sound = record {
+          lawful = lawful_later p.verdict v w grows sound.lawful (legal_next so.packet so.moment entry ruled) (ap (λ entries. entries ++ entry ∷ []) sound.lawful.same)
+              (called_later p.verdict v w grows sound.lawful.called) (came_next w c so.packet so.moment entry refl asks ruled, tt) tt tt;
+          turn = record {
+            packet = so.packet;
+            moment = so.moment;
+            asks = grows.calls t.call so.packet so.moment so.asks;
+            within = omega (arith, so.within, length-append v.durable (entry ∷ []));
+            decided = so.decided ∙ ap (λ entries. p.verdict entries (request_of so.packet so.moment)) (sym (take_begins v.durable w.durable grows.durable t.at so.within));
+            stage = (entry, is, ap (slice_get (v.durable ++ entry ∷ [])) at ∙ get_last v.durable [] entry);
+          };
+        };
+        grows = grows;
+      }
 
   open_kept : (w : World C M) (c : ℕ) → open_of v c ≡ Some w → Kept p.verdict v w
   unfolding open_of
@@ -248,11 +257,11 @@ module _ {C M : Type 0} (stays : StaysLegal) (p : Rules C M) (records : RecordsL
 
   answered : (t : Turning) (c : ℕ) → TurnSo p.verdict v t → t.call ≡ c → may_answer t.stage t.verdict.entry ≡ true
       → Kept p.verdict v (record v {
-          turn = None;
-          calls = set_phase Answered v.calls c;
-          packets = v.packets ++ option_to_list (option_map (reply_to t) (asker_of v c));
-          acknowledged = v.acknowledged ++ acknowledged_by t;
-        })
+        turn = None;
+        calls = set_phase Answered v.calls c;
+        packets = v.packets ++ option_to_list (option_map (reply_to t) (asker_of v c));
+        acknowledged = v.acknowledged ++ acknowledged_by t;
+      })
   answered t c so its ready =
       let w : World C M = record v {
         turn = None;
@@ -261,18 +270,21 @@ module _ {C M : Type 0} (stays : StaysLegal) (p : Rules C M) (records : RecordsL
         acknowledged = v.acknowledged ++ acknowledged_by t;
       } in
       let grows : GrowsInto v w = record {
-        durable = begins_same v.durable; packets = (option_to_list (option_map (reply_to t) (asker_of v c)), refl); origins = begins_same v.origins; acknowledged = (acknowledged_by t, refl);
+        durable = begins_same v.durable;
+        packets = (option_to_list (option_map (reply_to t) (asker_of v c)), refl);
+        origins = begins_same v.origins;
+        acknowledged = (acknowledged_by t, refl);
         calls = asks_phase v w (λ k packet is. get_begins v.packets w.packets (option_to_list (option_map (reply_to t) (asker_of v c)), refl) k packet is) Answered c refl;
       } in
       record {
-    sound = record {
-      lawful = lawful_later p.verdict v w grows sound.lawful sound.lawful.legal sound.lawful.same
-          (all_phase (CallsHouse w) (called_phase w) Answered v.calls c (called_later p.verdict v w grows sound.lawful.called)) tt
-          (acks w refl t.verdict.entry refl) (replies w grows refl (asker_of v c) refl);
-      turn = tt;
-    };
-    grows = grows;
-  }
+        sound = record {
+          lawful = lawful_later p.verdict v w grows sound.lawful sound.lawful.legal sound.lawful.same
+              (all_phase (CallsHouse w) (called_phase w) Answered v.calls c (called_later p.verdict v w grows sound.lawful.called)) tt
+              (acks w refl t.verdict.entry refl) (replies w grows refl (asker_of v c) refl);
+          turn = tt;
+        };
+        grows = grows;
+      }
     where
       acks : (w : World C M) → w.durable ≡ v.durable → (o : Option Entry) → t.verdict.entry ≡ o
           → AllByRecursion (StandsDurable w) (option_to_list (option_map (λ (entry : Entry). let a : Acknowledged = record { entry = entry; place = t.at } in a) o))
@@ -284,18 +296,20 @@ module _ {C M : Type 0} (stays : StaysLegal) (p : Rules C M) (records : RecordsL
       replies w grows same None is = tt
       replies w grows same (Some addressee) is =
           let decided : t.verdict ≡ p.verdict (take t.at w.durable) (request_of so.packet so.moment) =
-              so.decided ∙ ap (λ entries. p.verdict (take t.at entries) (request_of so.packet so.moment)) (sym same) in
-          (record {
-            packet = so.packet;
-            moment = so.moment;
-            asks = grows.calls t.call so.packet so.moment so.asks;
-            within = subst (λ (entries : List Entry). t.at ≤ length entries) (sym same) so.within;
-            kind = ap (λ (x : Verdict). x.kind) decided;
-            body = ap (λ (x : Verdict). x.body) decided;
-            recorded = λ entry has. ap (λ entries. slice_get entries t.at) same
-                ∙ entry_stands t t.stage t.verdict.entry refl ready so.stage entry (ap (λ (x : Verdict). x.entry) decided ∙ has);
-            for_asker = asker_is t.call so.packet so.moment addressee so.asks (ap (asker_of v) its ∙ is);
-          }, tt)
+          so.decided ∙ ap (λ entries. p.verdict (take t.at entries) (request_of so.packet so.moment)) (sym same) in (
+            record {
+              packet = so.packet;
+              moment = so.moment;
+              asks = grows.calls t.call so.packet so.moment so.asks;
+              within = subst (λ (entries : List Entry). t.at ≤ length entries) (sym same) so.within;
+              kind = ap (λ (x : Verdict). x.kind) decided;
+              body = ap (λ (x : Verdict). x.body) decided;
+              recorded = λ entry has. ap (λ entries. slice_get entries t.at) same
+                  ∙ entry_stands t t.stage t.verdict.entry refl ready so.stage entry (ap (λ (x : Verdict). x.entry) decided ∙ has);
+              for_asker = asker_is t.call so.packet so.moment addressee so.asks (ap (asker_of v) its ∙ is);
+            },
+            tt,
+          )
 
   answer_kept : (w : World C M) (c : ℕ) → answer_of v c ≡ Some w → Kept p.verdict v w
   unfolding answer_of
@@ -331,12 +345,12 @@ module _ {C M : Type 0} (stays : StaysLegal) (p : Rules C M) (records : RecordsL
 
   stopped_with : (o : Option Entry) (more : List Origin) → AddsSo o more
       → Kept p.verdict v (record v {
-          turn = None;
-          calls = map stopped v.calls;
-          durable = v.durable ++ option_to_list o;
-          server = v.durable ++ option_to_list o;
-          origins = v.origins ++ more;
-        })
+        turn = None;
+        calls = map stopped v.calls;
+        durable = v.durable ++ option_to_list o;
+        server = v.durable ++ option_to_list o;
+        origins = v.origins ++ more;
+      })
   unfolding AddsSo
   stopped_with o more adds =
       let w : World C M = record v {
@@ -347,17 +361,20 @@ module _ {C M : Type 0} (stays : StaysLegal) (p : Rules C M) (records : RecordsL
         origins = v.origins ++ more;
       } in
       let grows : GrowsInto v w = record {
-        durable = (option_to_list o, refl); packets = begins_same v.packets; origins = (more, refl); acknowledged = begins_same v.acknowledged;
+        durable = (option_to_list o, refl);
+        packets = begins_same v.packets;
+        origins = (more, refl);
+        acknowledged = begins_same v.acknowledged;
         calls = asks_stopped v w (λ k packet is. is) refl;
       } in
       record {
-    sound = record {
-      lawful = lawful_later p.verdict v w grows sound.lawful (legal o more adds) refl
-          (all_stopped (CallsHouse w) (called_phase w) v.calls (called_later p.verdict v w grows sound.lawful.called)) (came o more adds w refl grows) tt tt;
-      turn = tt;
-    };
-    grows = grows;
-  }
+        sound = record {
+          lawful = lawful_later p.verdict v w grows sound.lawful (legal o more adds) refl
+              (all_stopped (CallsHouse w) (called_phase w) v.calls (called_later p.verdict v w grows sound.lawful.called)) (came o more adds w refl grows) tt tt;
+          turn = tt;
+        };
+        grows = grows;
+      }
     where
       legal : (o : Option Entry) (more : List Origin) → AddsSo o more → Legal (v.durable ++ option_to_list o)
       legal None more adds = subst Legal (sym (append-nil v.durable)) sound.lawful.legal

@@ -1,8 +1,8 @@
 -- Orders, money and keys along every list of events.
-use Rattle.std.proofs.Common.{◌≡◌, ℕ, ◌+◌, ◌<◌, ◌≤◌, Bool, true, false, List, [], ◌∷◌, ◌++◌, length, take, Option, None, Some, refl, sym, ap, subst, ◌∙◌, arith}
+use Rattle.std.proofs.Common.{◌≡◌, ℕ, ◌+◌, true, List, [], ◌∷◌, ◌++◌, length, take, Option, None, Some, refl, sym, ap, subst, ◌∙◌}
 use Rattle.std.proofs.lemmas.List.{length-take-le}
-use Rattle.std.specs.Option.{option_or, option_to_list}
-use Rattle.std.specs.List.{slice_get, AllByRecursion}
+use Rattle.std.specs.Option.{option_or}
+use Rattle.std.specs.List.{slice_get}
 use Rattle.nb_units.specs.declared.epoid.Epoid.{Epoid}
 use Rattle.nb_units.specs.declared.frames.TheConstants.{STATUS_REQUEST}
 use Rattle.nb_units.specs.Frames.{Frame}
@@ -17,10 +17,8 @@ use Rattle.nb_book.proofs.Summing.{balances_make_total, none_overdrawn}
 use Rattle.nb_turns.specs.Turns.{Request}
 use Rattle.nb_turns.specs.Laws.{IsBalanced}
 use Rattle.nb_endorse.specs.declared.receipt.Receipt.{Receipt}
-use Rattle.nb_endorse.specs.declared.reply.Reply.{Reply}
 use Rattle.nb_endorse.specs.declared.reply.Reply.TheVariants.{Status}
 use Rattle.nb_escrow.specs.declared.decision.Decision.{Decision}
-use Rattle.nb_escrow.specs.declared.head.Head.{Head}
 use Rattle.nb_escrow.specs.Laws as escrow
 use Rattle.nb_escrow.specs.Laws.{KeyWherePaid, StatusTellsKey}
 use Rattle.nb_escrow.specs.Replies.{TellsStatus, StatusTellsTheOrder}
@@ -28,14 +26,13 @@ use Rattle.nb_escrow.specs.Verdict.{verdict}
 use Rattle.nb_world.specs.declared.call.Call.{Call}
 use Rattle.nb_world.specs.declared.event.Event.{Event}
 use Rattle.nb_world.specs.declared.event.Event.TheVariants as on
-use Rattle.nb_world.specs.declared.packet.Maker.{Maker}
 use Rattle.nb_world.specs.declared.packet.Maker.TheVariants as by
 use Rattle.nb_world.specs.declared.packet.Packet.{Packet}
 use Rattle.nb_world.specs.declared.turning.Verdict.{Verdict}
 use Rattle.nb_world.specs.World.{Rules, World, request_of, commits}
-use Rattle.nb_world.specs.Steps.{run, next, stop_of}
+use Rattle.nb_world.specs.Steps.{run, next}
 use Rattle.nb_world.specs.Laws.{RecordsLegal, IsSetUp, Asks, IsReply, RepliesSo, IsLawfulWorld, Begins}
-use Rattle.nb_world.specs.Headline.{OrderMovesOnce, MoneyIsConserved, verdict_shown, GoesByHouse, TellsKey, KeyWhereItStands}
+use Rattle.nb_world.specs.Headline.{OrderMovesOnce, MoneyIsConserved, verdict_shown, TellsKey, KeyWhereItStands}
 use Rattle.nb_world.proofs.Chains.{same_some}
 use Rattle.nb_world.proofs.Lists.{all_at}
 use Rattle.nb_world.proofs.Serving.{world_law, only_grows}
@@ -94,11 +91,10 @@ abbrev Decides : Type 0
 Decides = List Entry → ℕ → List ℕ → ℕ → Decision
 
 module _ {C M : Type 0} (stays : StaysLegal) (p : Rules C M) (shown : Decision → Frame) (decide : Decides)
-  (by_house : (entries : List Entry) (request : Request) → p.verdict entries request ≡ verdict_shown shown (decide entries request.kind request.body request.moment))
-  (legal : (entries : List Entry) (kind : ℕ) (body : List ℕ) (moment : ℕ) (entry : Entry) → (decide entries kind body moment).entry ≡ Some entry → LegalAfter entries entry)
-  (key : (entries : List Entry) → Legal entries → (body : List ℕ) (moment : ℕ) → KeyWherePaid entries body (decide entries STATUS_REQUEST body moment).reply)
-  (told : (entries : List Entry) (body : List ℕ) (moment : ℕ) → TellsStatus entries body (decide entries STATUS_REQUEST body moment).reply) where
-
+    (by_house : (entries : List Entry) (request : Request) → p.verdict entries request ≡ verdict_shown shown (decide entries request.kind request.body request.moment))
+    (legal : (entries : List Entry) (kind : ℕ) (body : List ℕ) (moment : ℕ) (entry : Entry) → (decide entries kind body moment).entry ≡ Some entry → LegalAfter entries entry)
+    (key : (entries : List Entry) → Legal entries → (body : List ℕ) (moment : ℕ) → KeyWherePaid entries body (decide entries STATUS_REQUEST body moment).reply)
+    (told : (entries : List Entry) (body : List ℕ) (moment : ℕ) → TellsStatus entries body (decide entries STATUS_REQUEST body moment).reply) where
   records : RecordsLegal p.verdict
   records entries request entry is has =
       legal entries request.kind request.body request.moment entry (ap (λ (x : Verdict). x.entry) (sym (by_house entries request)) ∙ has)
@@ -114,16 +110,16 @@ module _ {C M : Type 0} (stays : StaysLegal) (p : Rules C M) (shown : Decision �
   tells w lawful made packet c at moment is asks status =
       let same = same_call w c is.packet packet is.moment moment is.asks asks in
       let request : request_of is.packet is.moment ≡ record { kind = STATUS_REQUEST; body = packet.body; moment = moment } =
-          ap (λ (x : Packet). request_of x is.moment) same.0 ∙ ap (request_of packet) same.1 ∙ ap (λ (kind : ℕ). let r : Request = record { kind = kind; body = packet.body; moment = moment } in r) status in
+      ap (λ (x : Packet). request_of x is.moment) same.0 ∙ ap (request_of packet) same.1 ∙ ap (λ (kind : ℕ). let r : Request = record { kind = kind; body = packet.body; moment = moment } in r) status in
       let shows : p.verdict (take at w.durable) (request_of is.packet is.moment) ≡ verdict_shown shown (decide (take at w.durable) STATUS_REQUEST packet.body moment) =
-          ap (p.verdict (take at w.durable)) request ∙ by_house (take at w.durable) (record { kind = STATUS_REQUEST; body = packet.body; moment = moment }) in
+      ap (p.verdict (take at w.durable)) request ∙ by_house (take at w.durable) (record { kind = STATUS_REQUEST; body = packet.body; moment = moment }) in
       record {
-    kind = is.kind ∙ ap (λ (x : Verdict). x.kind) shows;
-    body_shown = is.body ∙ ap (λ (x : Verdict). x.body) shows;
-    within = is.within;
-    place = λ place order receipt tells_so. place_told (take at w.durable) packet.body moment place order receipt tells_so ∙ length-take-le at w.durable is.within;
-    key = key (take at w.durable) (front_legal w.durable at lawful.legal) packet.body moment;
-  }
+        kind = is.kind ∙ ap (λ (x : Verdict). x.kind) shows;
+        body_shown = is.body ∙ ap (λ (x : Verdict). x.body) shows;
+        within = is.within;
+        place = λ place order receipt tells_so. place_told (take at w.durable) packet.body moment place order receipt tells_so ∙ length-take-le at w.durable is.within;
+        key = key (take at w.durable) (front_legal w.durable at lawful.legal) packet.body moment;
+      }
 
   pub key_shown : (w : World C M) → IsSetUp w → (es : List Event) (k c at : ℕ) (made packet : Packet) (moment : ℕ)
       → slice_get (run p w es).packets k ≡ Some made → made.maker ≡ by.Server c at

@@ -1,11 +1,10 @@
 -- What a stop leaves, which events add an entry, what an answer acknowledges.
-use Rattle.std.proofs.Common.{◌≡◌, ◌≢◌, ◌⊎◌, inl, inr, ℕ, zero, suc, ◌+◌, Bool, true, false, List, [], ◌∷◌, ◌++◌, length, Option, None, Some, refl, sym, ap, subst, ◌∙◌, append_assoc, arith, length-append}
+use Rattle.std.proofs.Common.{◌≡◌, ◌≢◌, ◌⊎◌, inl, inr, ℕ, zero, suc, ◌+◌, Bool, true, false, List, [], ◌∷◌, ◌++◌, length, Option, None, Some, refl, sym, ap, subst, ◌∙◌, arith, length-append}
 use Rattle.std.proofs.lemmas.List.{append-nil}
 use Rattle.std.specs.Prelude.{◌==◌, map, if◌then◌else◌}
 use Rattle.std.specs.Option.{option_to_list, option_map, is_none}
 use Rattle.std.specs.List.{slice_get, AllByRecursion}
 use Rattle.nb_book.specs.declared.entry.Entry.{Entry}
-use Rattle.nb_book.specs.Laws.{StaysLegal}
 use Rattle.nb_world.specs.declared.call.Call.{Call}
 use Rattle.nb_world.specs.declared.call.CallPhase.{CallPhase}
 use Rattle.nb_world.specs.declared.call.CallPhase.TheVariants.{Waiting, InTurn, Answered, Gone}
@@ -13,13 +12,10 @@ use Rattle.nb_world.specs.declared.event.Event.{Event}
 use Rattle.nb_world.specs.declared.event.Event.TheVariants as on
 use Rattle.nb_world.specs.declared.turning.Acknowledged.{Acknowledged}
 use Rattle.nb_world.specs.declared.turning.Origin.{Origin}
-use Rattle.nb_world.specs.declared.turning.Stage.{Stage}
-use Rattle.nb_world.specs.declared.turning.Stage.TheVariants as stage
 use Rattle.nb_world.specs.declared.turning.Turning.{Turning}
-use Rattle.nb_world.specs.World.{Rules, World, request_of, is_decided, is_written, written_at, entry_written, commits}
-use Rattle.nb_world.specs.Steps.{◌>>=◌, where_so, is_waiting, stopped, phase_stopped, origin_of, left, origins_left, may_answer, acknowledged_by, turn_of, write_of, open_of, answer_of, stop_of, step, next, or_same, run}
-use Rattle.nb_world.specs.Fits.{HasTurn, Fits}
-use Rattle.nb_world.specs.Laws.{RecordsLegal, IsSetUp, Begins, RunThen, HasOrigins, EntriesHaveOrigins, IsOver, IsStopped, StopLeaves, StopKeepsPrefix, IsQuiet, OthersAddNothing, AnswerAcknowledges, IsAnswer, OthersAcknowledgeNothing}
+use Rattle.nb_world.specs.World.{Rules, World, is_decided, is_written, entry_written}
+use Rattle.nb_world.specs.Steps.{where_so, is_waiting, stopped, phase_stopped, origin_of, left, origins_left, may_answer, acknowledged_by, turn_of, write_of, open_of, answer_of, stop_of, step, next, or_same, run}
+use Rattle.nb_world.specs.Laws.{Begins, RunThen, HasOrigins, EntriesHaveOrigins, IsOver, StopLeaves, StopKeepsPrefix, IsQuiet, OthersAddNothing, AnswerAcknowledges, IsAnswer, OthersAcknowledgeNothing}
 use Rattle.nb_world.proofs.Chains.{inside, same_some, value}
 use Rattle.nb_world.proofs.Fitting.{fits_step}
 use Rattle.nb_world.proofs.Lists.{begins_same, stopped_remains}
@@ -228,9 +224,9 @@ answer_acknowledges {C} {M} p w c fits =
     let one : adds.0 ≡ fits.0.turn = same_some _ _ (sym adds.1 ∙ fits.0.is) in
     let now : next p w (on.Answer c) ≡ behind.0 = ap (or_same w) behind.1 in
     let acked : (next p w (on.Answer c)).acknowledged ≡ w.acknowledged ++ acknowledged_by fits.0.turn =
-        ap (λ (x : World C M). x.acknowledged) now ∙ adds.3 ∙ ap (λ (t : Turning). w.acknowledged ++ acknowledged_by t) one in
+    ap (λ (x : World C M). x.acknowledged) now ∙ adds.3 ∙ ap (λ (t : Turning). w.acknowledged ++ acknowledged_by t) one in
     let of_entry : Option Entry → List Acknowledged =
-        λ (o : Option Entry). w.acknowledged ++ option_to_list (option_map (λ (entry : Entry). let a : Acknowledged = record { entry = entry; place = fits.0.turn.at } in a) o) in
+    λ (o : Option Entry). w.acknowledged ++ option_to_list (option_map (λ (entry : Entry). let a : Acknowledged = record { entry = entry; place = fits.0.turn.at } in a) o) in
     (λ entry has. acked ∙ ap of_entry has, λ none. acked ∙ ap of_entry none ∙ append-nil w.acknowledged)
 
 -- ---- where entries came from
@@ -250,7 +246,7 @@ module _ {C M : Type 0} (first : World C M) where
   last_in_order before (o ∷ origins) last is each zero origin there = each zero origin there
   last_in_order before (o ∷ origins) last is each (suc k) origin there =
       let more : (j : ℕ) (x : Origin) → slice_get origins j ≡ Some x → x.place ≡ (before + 1) + j =
-          λ (j : ℕ) (x : Origin) (e : slice_get origins j ≡ Some x). let h : x.place ≡ before + suc j = each (suc j) x e in omega arith in
+      λ (j : ℕ) (x : Origin) (e : slice_get origins j ≡ Some x). let h : x.place ≡ before + suc j = each (suc j) x e in omega arith in
       let here : origin.place ≡ (before + 1) + k = last_in_order (before + 1) origins last (omega arith) more k origin there in
       omega arith
 

@@ -1,31 +1,26 @@
 -- What is played leads a world from entries to entries, and hands out replies.
-use Rattle.std.proofs.Common.{◌≡◌, ◌≢◌, ◌⊎◌, inl, inr, ℕ, zero, suc, ◌+◌, ◌<◌, ◌≤◌, Bool, true, false, List, [], ◌∷◌, ◌++◌, length, take, Option, None, Some, refl, sym, ap, subst, ◌∙◌, append_assoc, arith, length-append}
+use Rattle.std.proofs.Common.{◌≡◌, ℕ, zero, suc, ◌+◌, Bool, true, false, List, [], ◌∷◌, ◌++◌, length, Option, None, Some, refl, sym, ap, ◌∙◌, append_assoc, length-append}
 use Rattle.std.proofs.lemmas.List.{append-nil}
 use Rattle.std.proofs.lemmas.Bool.{eq-eqb}
-use Rattle.std.specs.Prelude.{◌==◌, map, if◌then◌else◌}
-use Rattle.std.specs.Option.{option_to_list, option_map, is_none, is_some}
-use Rattle.std.specs.List.{slice_get, filter_map, AllByRecursion}
-use Rattle.nb_units.specs.Frames.{frame}
+use Rattle.std.specs.Prelude.{map, if◌then◌else◌}
+use Rattle.std.specs.Option.{option_to_list, option_map, is_some}
+use Rattle.std.specs.List.{slice_get}
 use Rattle.nb_book.specs.declared.entry.Entry.{Entry}
-use Rattle.nb_turns.specs.Turns.{Request, Ruling, House, State, with_entry, recorded}
+use Rattle.nb_turns.specs.Turns.{Request}
 use Rattle.nb_world.specs.declared.call.Call.{Call}
 use Rattle.nb_world.specs.declared.call.CallPhase.{CallPhase}
-use Rattle.nb_world.specs.declared.call.CallPhase.TheVariants.{Waiting, InTurn, Answered, Gone}
+use Rattle.nb_world.specs.declared.call.CallPhase.TheVariants.{Waiting, InTurn, Answered}
 use Rattle.nb_world.specs.declared.event.Event.{Event}
 use Rattle.nb_world.specs.declared.event.Event.TheVariants as on
 use Rattle.nb_world.specs.declared.packet.Packet.{Packet}
-use Rattle.nb_world.specs.declared.packet.To.{To}
 use Rattle.nb_world.specs.declared.packet.To.TheVariants as to
 use Rattle.nb_world.specs.declared.turning.Stage.{Stage}
 use Rattle.nb_world.specs.declared.turning.Stage.TheVariants as stage
 use Rattle.nb_world.specs.declared.turning.Turning.{Turning}
-use Rattle.nb_world.specs.declared.turning.Verdict.{Verdict}
-use Rattle.nb_world.specs.World.{Rules, World, request_of, is_decided, is_written, entry_written}
-use Rattle.nb_world.specs.Steps.{◌>>=◌, where_so, is_waiting, in_phase, set_phase, stopped, may_answer, asker_of, reply_to, acknowledged_by, origin_of, left, origins_left, server_gets, delivered_to, deliver_of, turn_of, write_of, open_of, answer_of, stop_of, step, next, or_same, run}
+use Rattle.nb_world.specs.World.{Rules, World, request_of, is_decided, is_written}
+use Rattle.nb_world.specs.Steps.{is_waiting, set_phase, stopped, may_answer, asker_of, reply_to, acknowledged_by, origin_of, left, server_gets, delivered_to, deliver_of, turn_of, write_of, open_of, answer_of, stop_of, step, next, or_same, run}
 use Rattle.nb_world.specs.Laws.{Begins}
-use Rattle.nb_world.specs.Ties.{ruling_of, house_of, IsAt, IsPacketOf, Play, Answers, Stops, Played, asks, records, ends, behind, events_of, all_play, reply_of_turn, told_at, told_along}
-use Rattle.nb_world.proofs.Chains.{value}
-use Rattle.nb_world.proofs.Growing.{get_begins}
+use Rattle.nb_world.specs.Ties.{ruling_of, IsAt, IsPacketOf, Answers, asks, ends, reply_of_turn, told_at, told_along}
 use Rattle.nb_world.proofs.Lists.{get_last, begins_same, begins_then}
 use Rattle.nb_world.proofs.Stopping.{run_then}
 
@@ -85,9 +80,9 @@ module _ {C M : Type 0} (p : Rules C M) where
 
   turn_leads : (w : World C M) (n : ℕ) (call : Call) (packet : Packet) → w.turn ≡ None → slice_get w.calls n ≡ Some call → call.phase ≡ Waiting → slice_get w.packets call.packet ≡ Some packet
       → Leads p w (on.Turn n ∷ []) (record w {
-          turn = Some (record { call = n; at = length w.server; verdict = p.verdict w.server (request_of packet call.moment); stage = stage.Decided });
-          calls = set_phase InTurn w.calls n;
-        }) []
+        turn = Some (record { call = n; at = length w.server; verdict = p.verdict w.server (request_of packet call.moment); stage = stage.Decided });
+        calls = set_phase InTurn w.calls n;
+      }) []
   unfolding turn_of
   turn_leads w n call packet free there waits asks =
       let waiting : is_waiting call.phase ≡ true = ap is_waiting waits in
@@ -102,11 +97,11 @@ module _ {C M : Type 0} (p : Rules C M) where
 
   open_leads : (w : World C M) (n : ℕ) (t : Turning) (entry : Entry) → w.turn ≡ Some t → t.call ≡ n → t.stage ≡ stage.Written → t.verdict.entry ≡ Some entry
       → Leads p w (on.Open n ∷ []) (record w {
-          turn = Some (record { call = t.call; at = t.at; verdict = t.verdict; stage = stage.Opened });
-          durable = w.durable ++ entry ∷ [];
-          server = w.server ++ entry ∷ [];
-          origins = w.origins ++ origin_of w.durable n ∷ [];
-        }) []
+        turn = Some (record { call = t.call; at = t.at; verdict = t.verdict; stage = stage.Opened });
+        durable = w.durable ++ entry ∷ [];
+        server = w.server ++ entry ∷ [];
+        origins = w.origins ++ origin_of w.durable n ∷ [];
+      }) []
   unfolding open_of
   open_leads w n t entry turn its written has =
       let stage_is : is_written t.stage ≡ true = ap is_written written in
@@ -114,28 +109,28 @@ module _ {C M : Type 0} (p : Rules C M) where
 
   answer_step : (w : World C M) (n : ℕ) (t : Turning) → w.turn ≡ Some t → t.call ≡ n → may_answer t.stage t.verdict.entry ≡ true
       → answer_of w n ≡ Some (record w {
-          turn = None;
-          calls = set_phase Answered w.calls n;
-          packets = w.packets ++ option_to_list (option_map (reply_to t) (asker_of w n));
-          acknowledged = w.acknowledged ++ acknowledged_by t;
-        })
+        turn = None;
+        calls = set_phase Answered w.calls n;
+        packets = w.packets ++ option_to_list (option_map (reply_to t) (asker_of w n));
+        acknowledged = w.acknowledged ++ acknowledged_by t;
+      })
   unfolding answer_of
   answer_step w n t turn its ready = rw (turn, eq-eqb t.call n its, ready) refl
 
   answer_leads : (w : World C M) (n : ℕ) (t : Turning) → w.turn ≡ Some t → t.call ≡ n → may_answer t.stage t.verdict.entry ≡ true
       → Leads p w (on.Answer n ∷ []) (record w {
-          turn = None;
-          calls = set_phase Answered w.calls n;
-          packets = w.packets ++ option_to_list (option_map (reply_to t) (asker_of w n));
-          acknowledged = w.acknowledged ++ acknowledged_by t;
-        }) ((ruling_of t.verdict).reply ∷ [])
+        turn = None;
+        calls = set_phase Answered w.calls n;
+        packets = w.packets ++ option_to_list (option_map (reply_to t) (asker_of w n));
+        acknowledged = w.acknowledged ++ acknowledged_by t;
+      }) ((ruling_of t.verdict).reply ∷ [])
   answer_leads w n t turn its ready =
       let is = answer_step w n t turn its ready in
       let one = leads_step p w _ (on.Answer n) is in
       record {
-    to = one.to;
-    tells = one.tells ∙ ap (λ o. if is_some o then reply_of_turn w.turn else []) is ∙ ap reply_of_turn turn;
-  }
+        to = one.to;
+        tells = one.tells ∙ ap (λ o. if is_some o then reply_of_turn w.turn else []) is ∙ ap reply_of_turn turn;
+      }
 
   -- ---- one request
 
@@ -158,13 +153,12 @@ module _ {C M : Type 0} (p : Rules C M) where
         calls = set_phase InTurn w2.calls (length w.calls);
       } in
       let same : request_of is.packet request.moment ≡ request =
-          ap (λ (kind : ℕ). let r : Request = record { kind = kind; body = is.packet.body; moment = request.moment } in r) is.kind
-          ∙ ap (λ (body : List ℕ). let r : Request = record { kind = request.kind; body = body; moment = request.moment } in r) is.body in
-      (
+      ap (λ (kind : ℕ). let r : Request = record { kind = kind; body = is.packet.body; moment = request.moment } in r) is.kind
+      ∙ ap (λ (body : List ℕ). let r : Request = record { kind = request.kind; body = body; moment = request.moment } in r) is.body in (
         w3,
         leads_then p w w1 w3 (on.Clock request.moment ∷ []) (on.Deliver (number request) ∷ on.Turn (length w.calls) ∷ []) [] [] (clock_leads w request.moment)
-        (leads_then p w1 w2 w3 (on.Deliver (number request) ∷ []) (on.Turn (length w.calls) ∷ []) [] [] (deliver_leads w1 (number request) is.packet is.stands is.for_house)
-        (turn_leads w2 (length w.calls) call is.packet at.free (get_last w.calls [] call) refl is.stands)),
+            (leads_then p w1 w2 w3 (on.Deliver (number request) ∷ []) (on.Turn (length w.calls) ∷ []) [] [] (deliver_leads w1 (number request) is.packet is.stands is.for_house)
+            (turn_leads w2 (length w.calls) call is.packet at.free (get_last w.calls [] call) refl is.stands)),
         record {
           durable = at.durable;
           server = at.server;
@@ -189,17 +183,17 @@ module _ {C M : Type 0} (p : Rules C M) where
         let n : ℕ = length w.calls in
         let t : Turning = record { call = n; at = length entries; verdict = p.verdict entries request; stage = stage.Decided } in
         record {
-      end = record v {
-        turn = None;
-        calls = set_phase Answered v.calls n;
-        packets = v.packets ++ option_to_list (option_map (reply_to t) (asker_of v n));
-        acknowledged = v.acknowledged ++ acknowledged_by t;
-      };
-      leads = leads_then p w v _ (asks number n request) (on.Answer n ∷ []) [] ((ruling_of (p.verdict entries request)).reply ∷ []) first.1 (answer_leads v n t a.turn refl (ap (may_answer stage.Decided) has));
-      at = record { durable = a.durable ∙ sym (append-nil entries); server = a.server ∙ sym (append-nil entries); free = refl };
-      calls = length_phase Answered v.calls n ∙ a.calls;
-      packets = begins_then w.packets v.packets (v.packets ++ option_to_list (option_map (reply_to t) (asker_of v n))) a.packets (option_to_list (option_map (reply_to t) (asker_of v n)), refl);
-    }
+          end = record v {
+            turn = None;
+            calls = set_phase Answered v.calls n;
+            packets = v.packets ++ option_to_list (option_map (reply_to t) (asker_of v n));
+            acknowledged = v.acknowledged ++ acknowledged_by t;
+          };
+          leads = leads_then p w v _ (asks number n request) (on.Answer n ∷ []) [] ((ruling_of (p.verdict entries request)).reply ∷ []) first.1 (answer_leads v n t a.turn refl (ap (may_answer stage.Decided) has));
+          at = record { durable = a.durable ∙ sym (append-nil entries); server = a.server ∙ sym (append-nil entries); free = refl };
+          calls = length_phase Answered v.calls n ∙ a.calls;
+          packets = begins_then w.packets v.packets (v.packets ++ option_to_list (option_map (reply_to t) (asker_of v n))) a.packets (option_to_list (option_map (reply_to t) (asker_of v n)), refl);
+        }
     told_as (Some entry) has =
         let first = asked w entries number request at is in
         let v : World C M = first.0 in
@@ -223,15 +217,15 @@ module _ {C M : Type 0} (p : Rules C M) where
         } in
         let reply : List (List ℕ) = (ruling_of (p.verdict entries request)).reply ∷ [] in
         record {
-      end = v3;
-      leads = leads_then p w v v3 (asks number n request) (on.Write n ∷ on.Open n ∷ on.Answer n ∷ []) [] reply first.1
-          (leads_then p v v1 v3 (on.Write n ∷ []) (on.Open n ∷ on.Answer n ∷ []) [] reply (write_leads v n t entry a.turn refl refl has)
-          (leads_then p v1 v2 v3 (on.Open n ∷ []) (on.Answer n ∷ []) [] reply (open_leads v1 n t1 entry refl refl refl has)
-          (answer_leads v2 n t2 refl refl (ap (may_answer stage.Opened) has))));
-      at = record { durable = ap (λ (es : List Entry). es ++ entry ∷ []) a.durable; server = ap (λ (es : List Entry). es ++ entry ∷ []) a.server; free = refl };
-      calls = length_phase Answered v.calls n ∙ a.calls;
-      packets = begins_then w.packets v.packets v3.packets a.packets (option_to_list (option_map (reply_to t2) (asker_of v2 n)), refl);
-    }
+          end = v3;
+          leads = leads_then p w v v3 (asks number n request) (on.Write n ∷ on.Open n ∷ on.Answer n ∷ []) [] reply first.1
+              (leads_then p v v1 v3 (on.Write n ∷ []) (on.Open n ∷ on.Answer n ∷ []) [] reply (write_leads v n t entry a.turn refl refl has)
+              (leads_then p v1 v2 v3 (on.Open n ∷ []) (on.Answer n ∷ []) [] reply (open_leads v1 n t1 entry refl refl refl has)
+              (answer_leads v2 n t2 refl refl (ap (may_answer stage.Opened) has))));
+          at = record { durable = ap (λ (es : List Entry). es ++ entry ∷ []) a.durable; server = ap (λ (es : List Entry). es ++ entry ∷ []) a.server; free = refl };
+          calls = length_phase Answered v.calls n ∙ a.calls;
+          packets = begins_then w.packets v.packets v3.packets a.packets (option_to_list (option_map (reply_to t2) (asker_of v2 n)), refl);
+        }
 
     -- its entry is written, and a stop leaves it or not
     pub left_as : (keep : Bool) (entry : Entry) → (p.verdict entries request).entry ≡ Some entry
@@ -247,14 +241,14 @@ module _ {C M : Type 0} (p : Rules C M) where
         let v1 : World C M = record v { turn = Some t1 } in
         let stays : (b : Bool) → v.durable ++ option_to_list (left b (Some t1)) ≡ (if b then entries ++ entry ∷ [] else entries) = left_is v a entry has in
         record {
-      end = stop_of v1 keep;
-      leads = leads_then p w v (stop_of v1 keep) (asks number n request) (on.Write n ∷ on.Stop keep ∷ []) [] [] first.1
-          (leads_then p v v1 (stop_of v1 keep) (on.Write n ∷ []) (on.Stop keep ∷ []) [] [] (write_leads v n t entry a.turn refl refl has)
-          (leads_step p v1 (stop_of v1 keep) (on.Stop keep) refl));
-      at = record { durable = stays keep; server = stays keep; free = refl };
-      calls = length_stopped v.calls ∙ a.calls;
-      packets = a.packets;
-    }
+          end = stop_of v1 keep;
+          leads = leads_then p w v (stop_of v1 keep) (asks number n request) (on.Write n ∷ on.Stop keep ∷ []) [] [] first.1
+              (leads_then p v v1 (stop_of v1 keep) (on.Write n ∷ []) (on.Stop keep ∷ []) [] [] (write_leads v n t entry a.turn refl refl has)
+              (leads_step p v1 (stop_of v1 keep) (on.Stop keep) refl));
+          at = record { durable = stays keep; server = stays keep; free = refl };
+          calls = length_stopped v.calls ∙ a.calls;
+          packets = a.packets;
+        }
       where
         left_is : (v : World C M) → Asked p w request entries v → (entry : Entry) → (p.verdict entries request).entry ≡ Some entry → (b : Bool)
             → v.durable ++ option_to_list (left b (Some (record { call = length w.calls; at = length entries; verdict = p.verdict entries request; stage = stage.Written }))) ≡ (if b then entries ++ entry ∷ [] else entries)

@@ -1,5 +1,5 @@
 -- Which events fit a world, in words of what stands in it.
-use Rattle.std.specs.Prelude.{◌≡◌, ◌≢◌, ◌⊎◌, ℕ, ◌≤◌, List, length, Option, None, Some, IsSome, IsTrue}
+use Rattle.std.specs.Prelude.{◌≡◌, ◌≢◌, ◌⊎◌, ℕ, ◌≤◌, length, None, Some, IsSome, IsTrue}
 use Rattle.std.specs.List.{slice_get}
 use Rattle.nb_units.specs.declared.limits.TheConstants.{MAX_MEMO}
 use Rattle.nb_units.specs.declared.ids.PartyId.{PartyId}
@@ -11,8 +11,6 @@ use Rattle.nb_world.specs.declared.event.Event.TheVariants as on
 use Rattle.nb_world.specs.declared.packet.Packet.{Packet}
 use Rattle.nb_world.specs.declared.packet.To.{To}
 use Rattle.nb_world.specs.declared.packet.To.TheVariants as to
-use Rattle.nb_world.specs.declared.start.Start.{Start}
-use Rattle.nb_world.specs.declared.turning.Stage.{Stage}
 use Rattle.nb_world.specs.declared.turning.Stage.TheVariants as stage
 use Rattle.nb_world.specs.declared.turning.Turning.{Turning}
 use Rattle.nb_world.specs.World.{Stays, Rules, World}

@@ -1,12 +1,10 @@
 -- What holds of every list of events.
-use Rattle.std.specs.Prelude.{◌≡◌, ◌≢◌, ◌↔◌, ◌⊎◌, ℕ, ◌+◌, ◌<◌, ◌≤◌, Bool, true, false, List, [], ◌∷◌, ◌++◌, length, take, Option, None, Some, IsSome, if◌then◌else◌}
+use Rattle.std.specs.Prelude.{◌≡◌, ◌≢◌, ◌↔◌, ◌⊎◌, ℕ, ◌+◌, ◌≤◌, Bool, List, [], ◌∷◌, ◌++◌, length, take, None, Some, IsSome, if◌then◌else◌}
 use Rattle.std.specs.List.{slice_get, AllByRecursion}
-use Rattle.nb_units.specs.declared.ids.PartyId.{PartyId}
 use Rattle.nb_book.specs.declared.entry.Entry.{Entry}
 use Rattle.nb_book.specs.Legal.{LegalAfter, Legal}
 use Rattle.nb_turns.specs.Turns.{Request}
 use Rattle.nb_world.specs.declared.call.Call.{Call}
-use Rattle.nb_world.specs.declared.call.CallPhase.{CallPhase}
 use Rattle.nb_world.specs.declared.call.CallPhase.TheVariants.{Answered, Gone}
 use Rattle.nb_world.specs.declared.event.Event.{Event}
 use Rattle.nb_world.specs.declared.event.Event.TheVariants as on

@@ -1,5 +1,5 @@
 -- The step of a world: a row for each event, from a world to the next one, or to none where the event does not fit.
-use Rattle.std.specs.Prelude.{◌≡◌, ℕ, ◌==◌, ◌&&◌, ◌||◌, Bool, true, false, List, [], ◌∷◌, ◌++◌, length, map, set, nat_le, Option, None, Some, zero, suc, if◌then◌else◌}
+use Rattle.std.specs.Prelude.{ℕ, ◌==◌, ◌&&◌, Bool, true, false, List, [], ◌∷◌, ◌++◌, length, map, set, nat_le, Option, None, Some, zero, suc, if◌then◌else◌}
 use Rattle.std.specs.List.{position, slice_get}
 use Rattle.std.specs.Option.{option_to_list, option_map, is_none, is_some}
 use Rattle.nb_units.specs.declared.frames.TheConstants.{LAST_KIND, MAX_BODY}
@@ -23,13 +23,11 @@ use Rattle.nb_world.specs.declared.turning.Origin.{Origin}
 use Rattle.nb_world.specs.declared.turning.Stage.{Stage}
 use Rattle.nb_world.specs.declared.turning.Stage.TheVariants as stage
 use Rattle.nb_world.specs.declared.turning.Turning.{Turning}
-use Rattle.nb_world.specs.declared.turning.Verdict.{Verdict}
-use Rattle.nb_world.specs.World.{Going, Stays, Goes, Rules, World, request_of, is_decided, is_written, is_opened, entry_written}
+use Rattle.nb_world.specs.World.{Going, Stays, Goes, Rules, World, request_of, is_decided, is_written, entry_written}
 
 -- ---- a row is a chain of conditions
 
 infixl 10 ◌>>=◌
-
 -- what comes of a value, if there is one
 abbrev pub ◌>>=◌ : {A B : Type 0} → Option A → (A → Option B) → Option B
 (Some x) >>= next = next x

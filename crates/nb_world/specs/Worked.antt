@@ -3,19 +3,17 @@ use Rattle.std.specs.Prelude.{◌≡◌, ℕ, ◌+◌, ◌==◌, true, List, [],
 use Rattle.nb_units.specs.declared.frames.TheConstants.{DONE_REPLY, ENROL_REQUEST}
 use Rattle.nb_units.specs.declared.ids.PartyId.{PartyId}
 use Rattle.nb_book.specs.declared.entry.Entry.{Entry}
-use Rattle.nb_turns.specs.Turns.{Request, Ruling}
+use Rattle.nb_turns.specs.Turns.{Request}
 use Rattle.nb_turns.specs.Worked.{enrolment, small_rules}
-use Rattle.nb_world.specs.declared.call.Call.{Call}
 use Rattle.nb_world.specs.declared.call.CallPhase.TheVariants.{Answered, Gone}
 use Rattle.nb_world.specs.declared.event.Event.{Event}
 use Rattle.nb_world.specs.declared.event.Event.TheVariants as on
 use Rattle.nb_world.specs.declared.packet.Maker.TheVariants as by
 use Rattle.nb_world.specs.declared.packet.Packet.{Packet}
-use Rattle.nb_world.specs.declared.packet.Sending.{Sending}
 use Rattle.nb_world.specs.declared.packet.To.TheVariants as to
 use Rattle.nb_world.specs.declared.start.Start.{Start}
 use Rattle.nb_world.specs.declared.turning.Verdict.{Verdict}
-use Rattle.nb_world.specs.World.{Going, Stays, Goes, Rules, World}
+use Rattle.nb_world.specs.World.{Stays, Goes, Rules, World}
 use Rattle.nb_world.specs.Steps.{run, step}
 
 -- the party 1

@@ -1,6 +1,6 @@
 -- A world: nodes, packets, calls, two lists of entries, a clock; and what it goes by.
-use Rattle.std.specs.Prelude.{ℕ, Bool, true, false, List, [], ◌∷◌, ◌++◌, Option, None, Some}
-use Rattle.std.specs.Option.{option_to_list, option_map}
+use Rattle.std.specs.Prelude.{ℕ, Bool, true, false, List, ◌++◌, Option, None, Some}
+use Rattle.std.specs.Option.{option_to_list}
 use Rattle.nb_units.specs.declared.ids.PartyId.{PartyId}
 use Rattle.nb_book.specs.declared.entry.Entry.{Entry}
 use Rattle.nb_turns.specs.Turns.{Request}
