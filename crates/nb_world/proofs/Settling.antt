@@ -23,6 +23,7 @@ use Rattle.nb_escrow.specs.Laws as escrow
 use Rattle.nb_escrow.specs.Laws.{KeyWherePaid, StatusTellsKey}
 use Rattle.nb_escrow.specs.Replies.{TellsStatus, StatusTellsTheOrder}
 use Rattle.nb_escrow.specs.Verdict.{verdict}
+use Rattle.nb_escrow.proofs.Lasts.{order_stays}
 use Rattle.nb_world.specs.declared.call.Call.{Call}
 use Rattle.nb_world.specs.declared.event.Event.{Event}
 use Rattle.nb_world.specs.declared.event.Event.TheVariants as on
@@ -40,25 +41,13 @@ use Rattle.nb_world.proofs.Stopping.{run_then, stop_leaves}
 
 -- ---- orders
 
-first_stays : {A : Type 0} (answer : ℕ → Entry → Option A) (at : ℕ) (entries more : List Entry) (x : A)
-    → first_from answer at entries ≡ Some x → first_from answer at (entries ++ more) ≡ Some x
-first_stays answer at [] more x is = absurd cc
-first_stays answer at (e ∷ entries) more x is = either (answer at e) refl (first_stays answer (at + 1) entries more x)
-  where
-    either : (o : Option _) → answer at e ≡ o → (first_from answer (at + 1) entries ≡ Some x → first_from answer (at + 1) (entries ++ more) ≡ Some x)
-        → option_or (answer at e) (first_from answer (at + 1) (entries ++ more)) ≡ Some x
-    either (Some y) here rest =
-        ap (λ o. option_or o (first_from answer (at + 1) (entries ++ more))) here ∙ ap (λ o. option_or o (first_from answer (at + 1) entries)) (sym here) ∙ is
-    either None here rest =
-        ap (λ o. option_or o (first_from answer (at + 1) (entries ++ more))) here ∙ rest (ap (λ o. option_or o (first_from answer (at + 1) entries)) (sym here) ∙ is)
-
-order_stays : (entries later : List Entry) → Begins later entries → (order : Epoid) (kept : Kept) → order_in entries order ≡ Some kept → order_in later order ≡ Some kept
-order_stays entries later begins order kept is = ap (λ (all : List Entry). order_in all order) begins.1 ∙ first_stays (order_at order) 0 entries begins.0 kept is
+order_later : (entries later : List Entry) → Begins later entries → (order : Epoid) (kept : Kept) → order_in entries order ≡ Some kept → order_in later order ≡ Some kept
+order_later entries later begins order kept is = ap (λ (all : List Entry). order_in all order) begins.1 ∙ order_stays entries begins.0 order kept is
 
 pub order_moves_once : {C M : Type 0} → StaysLegal → OrderMovesOnce C M
 order_moves_once stays p w records setup order es more = (
   settled_once (run p w es).durable (world_law stays p w records setup es).legal order,
-  order_stays (run p w es).durable (run p (run p w es) more).durable (only_grows stays p w records setup es more).durable order,
+  order_later (run p w es).durable (run p (run p w es) more).durable (only_grows stays p w records setup es more).durable order,
 )
 
 -- ---- money

@@ -62,7 +62,7 @@ pub record World (C M : Type 0) : Type 0 where
 abbrev pub request_of : Packet → ℕ → Request
 request_of packet moment = record { kind = packet.kind; body = packet.body; moment = moment }
 
--- the stage of a turn is that the verdict is made, that its entry is written, that it is opened
+-- the stage of a turn is that the verdict is made, that its entry is written and not opened
 abbrev pub is_decided : Stage → Bool
 is_decided stage.Decided = true
 is_decided other = false
@@ -70,10 +70,6 @@ is_decided other = false
 abbrev pub is_written : Stage → Bool
 is_written stage.Written = true
 is_written other = false
-
-abbrev pub is_opened : Stage → Bool
-is_opened stage.Opened = true
-is_opened other = false
 
 -- the entry of a verdict that is written and not opened
 abbrev pub written_at : Stage → Option Entry → Option Entry
