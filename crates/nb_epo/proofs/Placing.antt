@@ -1,16 +1,15 @@
 -- The checksum at its place.
-use Rattle.std.proofs.Common.{◌≡◌, ℕ, ◌+◌, ◌<◌, ◌≤◌, Bool, true, false, List, ◌++◌, length, take, drop, Result, Ok, Err, refl, sym, ap, ◌∙◌, append_assoc, arith}
+use Rattle.std.proofs.Common.{◌≡◌, ℕ, ◌+◌, Bool, true, false, List, ◌++◌, length, take, drop, Result, Ok, Err, refl, sym, ap, ◌∙◌, append_assoc}
 use Rattle.std.proofs.lemmas.List.{take_at}
 use Rattle.std.specs.Prelude.{nat_lt, if◌then◌else◌}
-use Rattle.nb_units.specs.declared.cut.CutFault.{CutFault}
 use Rattle.nb_units.specs.declared.cut.CutFault.TheVariants.{Short}
 use Rattle.nb_units.specs.declared.limits.TheConstants.{MAX_HIDDEN}
 use Rattle.nb_units.specs.Epoid.{epoid_bytes}
 use Rattle.nb_units.specs.Fields.{◌>>=◌, u32_at, u64_at, raw_at, bytes_at, done_at, or_place, sized}
 use Rattle.nb_epo.specs.declared.order.Order.{Order}
-use Rattle.nb_epo.specs.Spelling.{untagged_bytes, order_bytes}
+use Rattle.nb_epo.specs.Spelling.{untagged_bytes}
 use Rattle.nb_epo.specs.Reading.{order_of}
-use Rattle.nb_epo.specs.Places.{checksum_in, ChecksumIsRead, ChecksumIsSpelled}
+use Rattle.nb_epo.specs.Places.{ChecksumIsRead, ChecksumIsSpelled}
 
 -- what a reading that led to a value went through
 inside : {A B E : Type 0} (r : Result A E) (f : A → Result B E) (b : B) → (r >>= f) ≡ Ok b → (x : A) × (r ≡ Ok x) × (f x ≡ Ok b)
@@ -49,7 +48,7 @@ pub checksum_is_spelled : ChecksumIsSpelled
 unfolding untagged_bytes epoid_bytes
 checksum_is_spelled o long =
     let behind : ((((o.checksum ++ o.request) ++ o.account) ++ sized o.hidden) ++ o.tag) ≡ o.checksum ++ (o.request ++ (o.account ++ (sized o.hidden ++ o.tag))) =
-        append_assoc ((o.checksum ++ o.request) ++ o.account) (sized o.hidden) o.tag
-        ∙ append_assoc (o.checksum ++ o.request) o.account (sized o.hidden ++ o.tag)
-        ∙ append_assoc o.checksum o.request (o.account ++ (sized o.hidden ++ o.tag)) in
+    append_assoc ((o.checksum ++ o.request) ++ o.account) (sized o.hidden) o.tag
+    ∙ append_assoc (o.checksum ++ o.request) o.account (sized o.hidden ++ o.tag)
+    ∙ append_assoc o.checksum o.request (o.account ++ (sized o.hidden ++ o.tag)) in
     ap (take 32) behind ∙ take_at o.checksum (o.request ++ (o.account ++ (sized o.hidden ++ o.tag))) 32 long

@@ -10,7 +10,7 @@ use Rattle.nb_book.specs.declared.entry.Entry.{Entry}
 use Rattle.nb_book.specs.declared.kept.Kept.{Kept}
 use Rattle.nb_book.specs.Laws.{StaysLegal}
 use Rattle.nb_book.specs.Legal.{LegalAfter, Legal}
-use Rattle.nb_book.specs.Searches.{first_from, order_at, order_in}
+use Rattle.nb_book.specs.Searches.{order_in}
 use Rattle.nb_book.proofs.Counting.{settled_once}
 use Rattle.nb_book.proofs.Growing.{front_legal}
 use Rattle.nb_book.proofs.Summing.{balances_make_total, none_overdrawn}
