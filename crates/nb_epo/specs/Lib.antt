@@ -3,3 +3,4 @@ pub mod Reading
 pub mod Tags
 pub mod Revealing
 pub mod Laws
+pub mod Places

@@ -14,6 +14,7 @@
 mod hidden;
 pub mod laws;
 mod order;
+pub mod places;
 
 pub use hidden::{Hidden, RevealFault, account_digest, hide, reveal, reveal_with};
 pub use nb_units::Malformed;

@@ -10,3 +10,4 @@ pub mod Judging
 pub mod Exactly
 pub mod Replying
 pub mod Granting
+pub mod Lasts

@@ -14,3 +14,4 @@ pub mod Payable
 pub mod Claims
 pub mod Laws
 pub mod Replies
+pub mod Lasting

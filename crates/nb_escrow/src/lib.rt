@@ -24,6 +24,7 @@ mod decision;
 mod enrolment;
 mod funding;
 mod head;
+pub mod lasting;
 pub mod laws;
 mod order;
 mod payment;

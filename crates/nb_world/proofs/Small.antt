@@ -1,0 +1,16 @@
+-- The small worlds.
+use Rattle.std.proofs.Common.{refl}
+use Rattle.nb_world.specs.Steps.{buy_of, deliver_of, turn_of, write_of, open_of, answer_of, stop_of, inject_of}
+use Rattle.nb_world.specs.Worked.{HeardOnce, LeftAndTold, InjectedIsRecorded}
+
+pub heard_once : HeardOnce
+unfolding buy_of deliver_of turn_of write_of open_of answer_of
+heard_once = refl
+
+pub left_and_told : LeftAndTold
+unfolding buy_of deliver_of turn_of write_of answer_of stop_of
+left_and_told = refl
+
+pub injected_is_recorded : InjectedIsRecorded
+unfolding inject_of deliver_of turn_of write_of open_of answer_of
+injected_is_recorded = (refl, refl)

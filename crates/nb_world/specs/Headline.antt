@@ -1,0 +1,66 @@
+-- What follows along every list of events for orders, for money, and for a consumer who asks for a key.
+use Rattle.std.specs.Prelude.{◌≡◌, ℕ, ◌≤◌, List, length, take, Option, Some}
+use Rattle.std.specs.List.{count_by, slice_get}
+use Rattle.nb_units.specs.declared.epoid.Epoid.{Epoid}
+use Rattle.nb_units.specs.declared.frames.TheConstants.{STATUS_REQUEST}
+use Rattle.nb_units.specs.Frames.{Frame}
+use Rattle.nb_book.specs.declared.entry.Entry.{Entry}
+use Rattle.nb_book.specs.declared.kept.Kept.{Kept}
+use Rattle.nb_book.specs.Searches.{order_in, settles}
+use Rattle.nb_turns.specs.Turns.{Request}
+use Rattle.nb_turns.specs.Laws.{IsBalanced}
+use Rattle.nb_endorse.specs.declared.receipt.Receipt.{Receipt}
+use Rattle.nb_endorse.specs.declared.reply.Reply.TheVariants.{Status}
+use Rattle.nb_escrow.specs.declared.decision.Decision.{Decision}
+use Rattle.nb_escrow.specs.declared.head.Head.{Head}
+use Rattle.nb_escrow.specs.Laws.{KeyWherePaid}
+use Rattle.nb_escrow.specs.Verdict.{verdict}
+use Rattle.nb_world.specs.declared.event.Event.{Event}
+use Rattle.nb_world.specs.declared.packet.Maker.TheVariants as by
+use Rattle.nb_world.specs.declared.packet.Packet.{Packet}
+use Rattle.nb_world.specs.declared.turning.Verdict.{Verdict}
+use Rattle.nb_world.specs.World.{Rules, World, commits}
+use Rattle.nb_world.specs.Steps.{run}
+use Rattle.nb_world.specs.Laws.{RecordsLegal, IsSetUp, Asks}
+
+-- an order moves its price at most once: at most one durable entry settles it, and the entry that settles it once does so in every
+-- later world
+abbrev pub OrderMovesOnce : Type 0 → Type 0 → Type 0
+OrderMovesOnce C M = (p : Rules C M) (w : World C M) → RecordsLegal p.verdict → IsSetUp w → (order : Epoid) (es more : List Event)
+    → (count_by (settles order) (run p w es).durable ≤ 1)
+    × ((kept : Kept) → order_in (run p w es).durable order ≡ Some kept → order_in (run p (run p w es) more).durable order ≡ Some kept)
+
+-- no money is made or lost: the balances of all accounts sum to the total of the funds, and no account is overdrawn; among the durable
+-- entries, and with the one that is written and not opened
+abbrev pub MoneyIsConserved : Type 0 → Type 0 → Type 0
+MoneyIsConserved C M = (p : Rules C M) (w : World C M) → RecordsLegal p.verdict → IsSetUp w → (es : List Event)
+    → IsBalanced (run p w es).durable × IsBalanced (commits (run p w es))
+
+-- ---- the key
+
+-- what a decision comes to, where its reply is shown as a frame in this way
+abbrev pub verdict_shown : (Decision → Frame) → Decision → Verdict
+verdict_shown shown decision = record { kind = (shown decision).kind; body = (shown decision).body; entry = decision.entry }
+
+-- the verdicts are those of the house with this head and cap, whose replies are shown in this way
+abbrev pub GoesByHouse : {C M : Type 0} → Rules C M → (Decision → Frame) → Head → ℕ → Type 0
+GoesByHouse p shown head cap = (entries : List Entry) (request : Request)
+    → p.verdict entries request ≡ verdict_shown shown (verdict entries head cap request.kind request.body request.moment)
+
+-- a packet shows the decision on a status query over the first so many entries: its number of entries is that, and, where as many are
+-- asked for, it has a receipt with a key exactly where one of them pays the order with that key and names who asks
+pub record TellsKey (decision : Decision) (shown : Decision → Frame) (entries : List Entry) (body : List ℕ) (at : ℕ) (made : Packet) : Type 0 where
+  pub kind : made.kind ≡ (shown decision).kind
+  pub body_shown : made.body ≡ (shown decision).body
+  pub within : at ≤ length entries
+  pub place : (place : ℕ) (order : Epoid) (receipt : Option Receipt) → decision.reply ≡ Status place order receipt → place ≡ at
+  pub key : KeyWherePaid (take at entries) body decision.reply
+
+-- a party of an order is given its key by status query exactly where the payment stands: whichever query was delivered, when it had its
+-- turn, and whatever else happened, the packet that the house made of it is so
+abbrev pub KeyWhereItStands : Type 0 → Type 0 → Type 0
+KeyWhereItStands C M = (p : Rules C M) (shown : Decision → Frame) (head : Head) (cap : ℕ) → GoesByHouse p shown head cap
+    → (w : World C M) → IsSetUp w → (es : List Event) (k c at : ℕ) (made packet : Packet) (moment : ℕ)
+    → slice_get (run p w es).packets k ≡ Some made → made.maker ≡ by.Server c at
+    → Asks (run p w es) c packet moment → packet.kind ≡ STATUS_REQUEST
+    → TellsKey (verdict (take at (run p w es).durable) head cap STATUS_REQUEST packet.body moment) shown (run p w es).durable packet.body at made

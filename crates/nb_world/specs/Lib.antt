@@ -1,0 +1,7 @@
+pub mod World
+pub mod Steps
+pub mod Fits
+pub mod Laws
+pub mod Headline
+pub mod Ties
+pub mod Worked

@@ -1,0 +1,122 @@
+-- Worlds in numbers: one consumer, which sends its enrolment where it starts a purchase, and a small house.
+use Rattle.std.specs.Prelude.{◌≡◌, ℕ, ◌+◌, ◌==◌, true, List, [], ◌∷◌, None, Some}
+use Rattle.nb_units.specs.declared.frames.TheConstants.{DONE_REPLY, ENROL_REQUEST}
+use Rattle.nb_units.specs.declared.ids.PartyId.{PartyId}
+use Rattle.nb_book.specs.declared.entry.Entry.{Entry}
+use Rattle.nb_turns.specs.Turns.{Request}
+use Rattle.nb_turns.specs.Worked.{enrolment, small_rules}
+use Rattle.nb_world.specs.declared.call.CallPhase.TheVariants.{Answered, Gone}
+use Rattle.nb_world.specs.declared.event.Event.{Event}
+use Rattle.nb_world.specs.declared.event.Event.TheVariants as on
+use Rattle.nb_world.specs.declared.packet.Maker.TheVariants as by
+use Rattle.nb_world.specs.declared.packet.Packet.{Packet}
+use Rattle.nb_world.specs.declared.packet.To.TheVariants as to
+use Rattle.nb_world.specs.declared.start.Start.{Start}
+use Rattle.nb_world.specs.declared.turning.Verdict.{Verdict}
+use Rattle.nb_world.specs.World.{Stays, Goes, Rules, World}
+use Rattle.nb_world.specs.Steps.{run, step}
+
+-- the party 1
+abbrev pub first_party : PartyId
+first_party = record { 0 = 1 }
+
+-- what a small house's ruling comes to in a world
+abbrev pub small_verdict : List Entry → Request → Verdict
+small_verdict entries request = record { kind = DONE_REPLY; body = (small_rules entries request).reply; entry = (small_rules entries request).entry }
+
+-- a consumer is how many replies it heard
+abbrev pub small_world_rules : Rules ℕ ℕ
+small_world_rules = record {
+  verdict = small_verdict;
+  is_body = λ kind body. true;
+  is_consumer = λ id heard. id.0 == 1;
+  has_purchase = λ tid heard. true;
+  consumer_starts = λ heard start. Goes heard (Some (record { to = to.Server; kind = ENROL_REQUEST; body = 1 ∷ [] }));
+  consumer_hears = λ heard kind body. Goes (heard + 1) None;
+  consumer_waited = λ heard tid. Stays;
+  consumer_again = λ heard. 0;
+  is_merchant = λ id m. id.0 == 2;
+  has_sale = λ id tid m. true;
+  merchant_hears = λ m kind body moment. Stays;
+  merchant_waited = λ m id tid. Stays;
+  merchant_again = λ m. m;
+}
+
+abbrev pub small_world : World ℕ ℕ
+small_world = record {
+  consumers = 0 ∷ [];
+  merchants = [];
+  packets = [];
+  calls = [];
+  turn = None;
+  durable = [];
+  server = [];
+  origins = [];
+  acknowledged = [];
+  moment = 0;
+}
+
+abbrev pub small_start : Start
+small_start = record { tid = 1; merchant = record { 0 = 2 }; product = 1; limit = 5; request = []; memo = [] }
+
+abbrev pub enrolling : Packet
+enrolling = record { kind = ENROL_REQUEST; body = 1 ∷ []; maker = by.Consumer first_party; to = to.Server }
+
+-- it sends, the house answers, and it hears the reply
+abbrev pub all_goes_well : List Event
+all_goes_well =
+    on.Clock 7 ∷ on.Buy first_party small_start ∷ on.Deliver 0 ∷ on.Turn 0 ∷ on.Write 0 ∷ on.Open 0 ∷ on.Answer 0 ∷ on.Deliver 1 ∷ []
+
+-- the entry stands at place 0, came by call 0 and is acknowledged; the reply is told at place 0, and was heard
+abbrev pub HeardOnce : Type 0
+HeardOnce = run small_world_rules small_world all_goes_well ≡ record {
+  consumers = 1 ∷ [];
+  merchants = [];
+  packets = enrolling ∷ record { kind = DONE_REPLY; body = 1 ∷ 0 ∷ 0 ∷ []; maker = by.Server 0 0; to = to.Consumer first_party } ∷ [];
+  calls = record { packet = 0; moment = 7; phase = Answered } ∷ [];
+  turn = None;
+  durable = enrolment 1 ∷ [];
+  server = enrolment 1 ∷ [];
+  origins = record { place = 0; call = 0 } ∷ [];
+  acknowledged = record { entry = enrolment 1; place = 0 } ∷ [];
+  moment = 7;
+}
+
+-- the house stops behind the writing and the entry is left; the packet comes again, is told what is held, and nothing is recorded
+abbrev pub stopped_and_again : List Event
+stopped_and_again =
+    on.Buy first_party small_start ∷ on.Deliver 0 ∷ on.Turn 0 ∷ on.Write 0 ∷ on.Stop true ∷ on.Deliver 0 ∷ on.Turn 1 ∷ on.Answer 1 ∷ []
+
+abbrev pub LeftAndTold : Type 0
+LeftAndTold = run small_world_rules small_world stopped_and_again ≡ record {
+  consumers = 0 ∷ [];
+  merchants = [];
+  packets = enrolling ∷ record { kind = DONE_REPLY; body = 1 ∷ 0 ∷ 0 ∷ []; maker = by.Server 1 1; to = to.Consumer first_party } ∷ [];
+  calls = record { packet = 0; moment = 0; phase = Gone } ∷ record { packet = 0; moment = 0; phase = Answered } ∷ [];
+  turn = None;
+  durable = enrolment 1 ∷ [];
+  server = enrolment 1 ∷ [];
+  origins = record { place = 0; call = 0 } ∷ [];
+  acknowledged = [];
+  moment = 0;
+}
+
+-- an injected request is recorded and acknowledged, and no packet is made of its reply; a packet that is not there is not delivered, and a
+-- call that was answered takes no turn again
+abbrev pub injected_and_unfit : List Event
+injected_and_unfit =
+    on.Inject to.Server ENROL_REQUEST (1 ∷ []) ∷ on.Deliver 0 ∷ on.Turn 0 ∷ on.Write 0 ∷ on.Open 0 ∷ on.Answer 0 ∷ on.Deliver 1 ∷ on.Turn 0 ∷ []
+
+abbrev pub InjectedIsRecorded : Type 0
+InjectedIsRecorded = (run small_world_rules small_world injected_and_unfit ≡ record {
+  consumers = 0 ∷ [];
+  merchants = [];
+  packets = record { kind = ENROL_REQUEST; body = 1 ∷ []; maker = by.Network; to = to.Server } ∷ [];
+  calls = record { packet = 0; moment = 0; phase = Answered } ∷ [];
+  turn = None;
+  durable = enrolment 1 ∷ [];
+  server = enrolment 1 ∷ [];
+  origins = record { place = 0; call = 0 } ∷ [];
+  acknowledged = record { entry = enrolment 1; place = 0 } ∷ [];
+  moment = 0;
+}) × (step small_world_rules small_world (on.Deliver 0) ≡ None)

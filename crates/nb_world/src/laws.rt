@@ -1,0 +1,118 @@
+//! What holds of every list of events, whatever nodes do and whatever the verdict is. Each function here does nothing but to cite
+//! laws of the book: its contract is the law. `C` and `M` are what consumers and merchants are.
+
+ghost use Rattle.nb_world.specs.Headline as headline;
+ghost use Rattle.nb_world.specs.Laws as law;
+ghost use Rattle.nb_world.specs.Ties as ties;
+ghost use Rattle.nb_world.specs.Worked as worked;
+
+/// An event leads to a world exactly where it fits: in words of what stands in the world, a row for each event.
+pub fn fits_exactly_where<C, M>()
+    ensures { law.FitsExactlyWhere C M }
+{}
+
+/// An event that does not fit changes nothing.
+pub fn unfit_changes_nothing<C, M>()
+    ensures { law.UnfitChangesNothing C M }
+{}
+
+/// Over every list of events from a set-up, injections among them: the durable entries are Legal and those that the house works
+/// on; each entry is what the verdict over those before it records for the call that it came by; each acknowledged entry stands at
+/// its place; and each packet that the house made is the verdict's reply over the first durable entries, as many as its place
+/// says, for the node that asked.
+pub fn world_law<C, M>()
+    ensures { law.WorldLaw C M }
+{
+    nb_book::laws::stays_legal();
+}
+
+/// Nothing is lost along a run: the durable entries, the packets and what was acknowledged are the first of the later ones.
+pub fn only_grows<C, M>()
+    ensures { law.OnlyGrows C M }
+{
+    nb_book::laws::stays_legal();
+}
+
+/// Events and then more of them are the events of one list.
+pub fn run_then<C, M>()
+    ensures { law.RunThen C M }
+{}
+
+/// Each entry behind those of the set-up has one call that it came by, in their order.
+pub fn entries_have_origins<C, M>()
+    ensures { law.EntriesHaveOrigins C M }
+{}
+
+/// A stop leaves the commit list, or the durable entries alone; the house is free and works on these; each call that was not answered is gone.
+pub fn stop_leaves<C, M>()
+    ensures { law.StopLeaves C M }
+{}
+
+/// What a stop leaves is a prefix of the commit list before it.
+pub fn stop_keeps_prefix<C, M>()
+    ensures { law.StopKeepsPrefix C M }
+{}
+
+/// No event but an opening and a stop changes the durable entries.
+pub fn others_add_nothing<C, M>()
+    ensures { law.OthersAddNothing C M }
+{}
+
+/// An answer acknowledges the entry of its turn, if there is one, at the place of its verdict, and nothing else.
+pub fn answer_acknowledges<C, M>()
+    ensures { law.AnswerAcknowledges C M }
+{}
+
+/// No event but an answer acknowledges anything.
+pub fn others_acknowledge_nothing<C, M>()
+    ensures { law.OthersAcknowledgeNothing C M }
+{}
+
+/// An order moves its price at most once along every run: at most one durable entry settles it, and stays the one that does.
+pub fn order_moves_once<C, M>()
+    ensures { headline.OrderMovesOnce C M }
+{
+    nb_book::laws::stays_legal();
+}
+
+/// No money is made or lost along any run: the balances sum to the total of the funds, and no account is overdrawn; also with an
+/// entry that is written and not opened.
+pub fn money_is_conserved<C, M>()
+    ensures { headline.MoneyIsConserved C M }
+{
+    nb_book::laws::stays_legal();
+}
+
+/// The consumer of an order, and its merchant, is given its key by status query exactly where the payment stands among the durable
+/// entries that the reply tells the number of: where the verdict is the house's, in whatever form its replies are shown.
+pub fn key_where_it_stands<C, M>()
+    ensures { headline.KeyWhereItStands C M }
+{
+    nb_book::laws::stays_legal();
+    nb_escrow::laws::records_legal();
+    nb_escrow::laws::status_tells_key();
+    nb_escrow::laws::status_tells_the_order();
+}
+
+/// Each run of turns of a house on a disk, whose verdicts are those of a world, is a list of events of each world that has its
+/// entries, a free house and packets of its requests: request by request, and before the requests of a turn those that gave what was
+/// in doubt, with a stop that keeps each, or with one that drops the first. Both lists are then the entries of the run's last state, and
+/// the answers hand out the replies of the requests that have a place, in order.
+pub fn run_is_events<C, M>()
+    ensures { ties.RunIsEvents C M }
+{}
+
+/// In numbers, of a small world: a consumer sends a request, the house answers, and the consumer hears the reply.
+pub fn heard_once()
+    ensures { worked.HeardOnce }
+{}
+
+/// The house stops behind the writing, and the entry is left; the request comes again and is told what is held.
+pub fn left_and_told()
+    ensures { worked.LeftAndTold }
+{}
+
+/// An injected request is recorded, and no packet is made of its reply.
+pub fn injected_is_recorded()
+    ensures { worked.InjectedIsRecorded }
+{}
