@@ -1,3 +1,5 @@
 pub mod Going
+pub mod Cutting
+pub mod Marking
 pub mod Turning
 pub mod Ending

@@ -4,11 +4,10 @@ use Rattle.std.specs.Prelude.{map, min}
 use Rattle.std.specs.List.{flat_map, AllByRecursion}
 use Rattle.std.specs.Io.KnownBytes.{Appends, Consumes}
 use Rattle.std.proofs.KnownBytes.{Appends-trans, Consumes-nil}
-use Rattle.std.proofs.lemmas.List.{map-append, length-append}
+use Rattle.std.proofs.lemmas.List.{length-map}
 use Rattle.std.proofs.lemmas.Grind.{flat_map-append}
 use Rattle.std.proofs.Math.Seq.{take-add}
 use Rattle.nb_port.specs.Tells.{DiskTells}
-use Rattle.nb_port.specs.Clock.{Gives}
 use Rattle.nb_link.specs.Link.{LinkSeen}
 use Rattle.nb_units.specs.Frames.{Frame, frame, IsFrame}
 use Rattle.nb_frame.specs.State.{Collected, waiting}
@@ -16,6 +15,13 @@ use Rattle.nb_frame.specs.Collected.{TakesFrame, frame_at}
 use Rattle.nb_frame.specs.declared.stream.FrameAt.{FrameAt}
 use Rattle.nb_book.specs.declared.entry.Entry.{Entry}
 use Rattle.nb_endorse.specs.declared.refusal.TheConstants.{DISK_FAULT, WORN}
+use Rattle.nb_endorse.specs.declared.refusal.Refusal.{Refusal}
+use Rattle.nb_endorse.specs.declared.reply.Reply.TheVariants.{Refused}
+use Rattle.nb_endorse.specs.Refusals.{refusal}
+use Rattle.nb_endorse.specs.Keys.{no_keys}
+use Rattle.nb_msgs.specs.ReplyBytes.{reply_bytes}
+use Rattle.nb_desk.specs.declared.asked.AskedAll.{AskedAll}
+use Rattle.nb_desk.specs.declared.asked.AskedAll.TheVariants as asked
 use Rattle.nb_turns.specs.declared.line.Line.{Line}
 use Rattle.nb_turns.specs.declared.mark.Mark.{Mark}
 use Rattle.nb_turns.specs.declared.mark.Mark.TheVariants.{At, Fault, Worn}
@@ -26,10 +32,10 @@ use Rattle.nb_turn.specs.declared.chronicle.View.{View}
 use Rattle.nb_vault.specs.declared.answer.AnswerAll.TheVariants as all
 use Rattle.nb_vault.specs.declared.answer.AskAt.{AskAt}
 use Rattle.nb_vault.specs.declared.origin.Origin.{Origin}
-use Rattle.nb_vault.specs.Asking.{request_of, requests_of}
+use Rattle.nb_vault.specs.Asking.{request_at, requests_of}
 use Rattle.nb_vault.specs.Rules.{refused}
 use Rattle.nb_vault.specs.Vaults.{house_in}
-use Rattle.nb_desk.specs.Asks.{Asks, GoesOnAtLast, turned}
+use Rattle.nb_desk.specs.Asks.{Asks, Gives, GoesOnAtLast, turned}
 use Rattle.nb_session.specs.Session.{TurnAt, frame_of, frames_of, moments_of, requests_in, frames_in, moments_in, marks_in, replies_in, replies_of, Gave}
 use Rattle.nb_session.specs.Steps.{Point, Went, AnswersTurn, Gathers, GathersTo, OnlyWrites, SentIs, SentPart, TurnIs, WroteAs, house_seen}
 use Rattle.nb_session.specs.declared.ended.TheConstants.{MOST_FRAMES}
@@ -38,42 +44,16 @@ use Rattle.nb_session.specs.declared.sending.Sent.{Sent}
 use Rattle.nb_session.specs.declared.sending.Sent.TheVariants as sends
 use Rattle.nb_session.proofs.Going.{all_both, gave_both, readings_none, one_turn, one_marks, one_replies, gave_none}
 
--- ---- gathering
-
-gave_one : (a b : Option (List ℕ)) (moment : ℕ) → Gives a b moment → Gave a b (moment ∷ [])
-gave_one a None moment gave = tt
-gave_one None (Some b) moment gave = absurd gave
-gave_one (Some a) (Some b) moment gave = gave
-
-pub gathers_none : (held : Collected) (clock : Option (List ℕ)) (moments : List ℕ) → Gathers held held clock clock moments moments []
-gathers_none held clock moments = record { is = refl; lawful = tt; taken = omega arith; asked = gave_none clock; moments_are = sym (append-nil moments) }
-
--- one frame more was given out, and the clock asked for it
-pub gathers_more : (old mid new : Collected) (clock between clock' : Option (List ℕ)) (moments so_far : List ℕ) (requests : List Request) (f : FrameAt) (moment : ℕ)
-    → Gathers old mid clock between moments so_far requests → TakesFrame mid new f → Gives between clock' moment
-    → Gathers old new clock clock' moments (so_far ++ moment ∷ []) (requests ++ request_of f.kind (take f.len (drop f.start mid.held)) moment ∷ [])
-gathers_more old mid new clock between clock' moments so_far requests f moment gathers takes gave =
-    let one : Request = request_of f.kind (take f.len (drop f.start mid.held)) moment in
-    let both : frames_of (requests ++ one ∷ []) ≡ frames_of requests ++ frame_at mid.held f ∷ [] = map-append frame_of requests (one ∷ []) in
-    let spelled : flat_map frame (frames_of (requests ++ one ∷ [])) ≡ flat_map frame (frames_of requests) ++ frame (frame_at mid.held f) =
-    ap (flat_map frame) both ∙ flat_map-append frame (frames_of requests) (frame_at mid.held f ∷ []) ∙ ap (λ (xs : List ℕ). flat_map frame (frames_of requests) ++ xs) (append-nil (frame (frame_at mid.held f))) in
-    let asked_both : moments_of (requests ++ one ∷ []) ≡ moments_of requests ++ moment ∷ [] = map-append (λ (r : Request). r.moment) requests (one ∷ []) in
-    record {
-      is = gathers.is ∙ ap (λ (xs : List ℕ). flat_map frame (frames_of requests) ++ xs) takes.is
-          ∙ sym (append_assoc (flat_map frame (frames_of requests)) (frame (frame_at mid.held f)) (waiting new))
-          ∙ ap (λ (xs : List ℕ). xs ++ waiting new) (sym spelled);
-      lawful = subst (AllByRecursion IsFrame) (sym both) (all_both IsFrame (frames_of requests) (frame_at mid.held f ∷ []) gathers.lawful (takes.lawful, tt));
-      taken = omega (arith, gathers.taken, takes.taken, ap length spelled, length-append (flat_map frame (frames_of requests)) (frame (frame_at mid.held f)));
-      asked = subst (Gave clock clock') (sym asked_both) (gave_both clock between clock' (moments_of requests) (moment ∷ []) gathers.asked (gave_one between clock' moment gave));
-      moments_are = ap (λ (xs : List ℕ). xs ++ moment ∷ []) gathers.moments_are ∙ append_assoc moments (moments_of requests) (moment ∷ []) ∙ ap (λ (xs : List ℕ). moments ++ xs) (sym asked_both);
-    }
-
 -- ---- answering
 
 -- requests that were decided are marked by their places
 marks_placed : (house : House) (over : List Entry) (requests : List Request) → map (λ (at : ℕ). At at) (places (decided house over requests)) ≡ marks (decided house over requests)
 marks_placed house over [] = refl
 marks_placed house over (r ∷ rs) = ap (λ (ms : List Mark). At (length over) ∷ ms) (marks_placed house (with_entry house over r) rs)
+
+places_count : (house : House) (over : List Entry) (requests : List Request) → length (places (decided house over requests)) ≡ length requests
+places_count house over [] = refl
+places_count house over (r ∷ rs) = omega (arith, places_count house (with_entry house over r) rs)
 
 -- others are marked alike, and refused alike
 marks_alike : (mark : Mark) (reply bytes : List ℕ) (asks : List AskAt) → map (λ (ask : AskAt). mark) asks ≡ marks (alike mark reply (requests_of bytes asks))
@@ -131,12 +111,48 @@ module _ {D : Type 0} (tells : DiskTells D) (by : ℕ) (v w : View Origin Line) 
             ∙ ap (λ (h : House). replies (answered h (requests_of bytes asks) Refuses)) house;
       }
 
--- ---- sending
+-- ---- by the answer of the desk
 
-pub sent_more : (s t u : Option (List ℕ)) (piece rest : List ℕ) (at n : ℕ) → Appends s t (take at piece) → rest ≡ drop at piece → Appends t u (take n rest) → Appends s u (take (at + n) piece)
-sent_more s t u piece rest at n before is more =
-    let P : List ℕ → Type 0 = λ bytes. Appends s u bytes in
-    subst P (ap (λ (xs : List ℕ). take at piece ++ take n xs) is ∙ sym (take-add at n piece)) (Appends-trans s t u (take at piece) (take n rest) before more)
+module _ {D : Type 0} (tells : DiskTells D) (by : ℕ) (v w : View Origin Line) (bytes : List ℕ) (asks : List AskAt) (out out' : List ℕ) (before behind : List Mark) (answer : AskedAll)
+    (none : out ≡ []) (goes_on : GoesOnAtLast v w) (ats' ats : List ℕ) (empty : ats ≡ [])
+    (gives : (found : List ℕ) × (ats' ≡ ats ++ found) × Gives tells by v w (requests_of bytes asks) found out out' answer) where
+  placed : ats' ≡ gives.0
+  placed = gives.1 ∙ ap (λ (xs : List ℕ). xs ++ gives.0) empty
+
+  pub served : answer ≡ asked.Served → behind ≡ before ++ map (λ (at : ℕ). At at) ats' → AnswersTurn tells by v w (requests_of bytes asks) before behind out'
+  served is marked =
+      let g = subst (λ (a : AskedAll). Gives tells by v w (requests_of bytes asks) gives.0 out out' a) is gives.2 in
+      decided_turn tells by v w bytes asks gives.0 out out' before behind g.0 ats' placed none g.1 goes_on marked
+
+  -- there are as many places as requests
+  pub as_many : answer ≡ asked.Served → length ats' ≡ length asks
+  as_many is =
+      let g = subst (λ (a : AskedAll). Gives tells by v w (requests_of bytes asks) gives.0 out out' a) is gives.2 in
+      ap length (placed ∙ g.1.went.found_is) ∙ places_count (house_in g.1.old) g.0 (requests_of bytes asks) ∙ length-map asks (λ (ask : AskAt). request_at bytes ask)
+
+  -- a turn that did not decide hands out no reply
+  pub refused_empty : (from to : ℕ) → answer ≡ asked.DiskFault from to → out' ≡ []
+  refused_empty from to is =
+      let g = subst (λ (a : AskedAll). Gives tells by v w (requests_of bytes asks) gives.0 out out' a) is gives.2 in
+      g.went.out_is ∙ append-nil out ∙ none
+
+  pub worn_empty : (count : ℕ) → answer ≡ asked.Worn count → out' ≡ []
+  worn_empty count is =
+      let g = subst (λ (a : AskedAll). Gives tells by v w (requests_of bytes asks) gives.0 out out' a) is gives.2 in
+      g.1.went.out_is ∙ append-nil out ∙ none
+
+  pub failed : (from to : ℕ) (sent : List ℕ) (told : Refusal) → answer ≡ asked.DiskFault from to → told ≡ refusal DISK_FAULT from to → behind ≡ before ++ map (λ (ask : AskAt). Fault from to) asks
+      → sent ≡ out' ++ flat_map (λ (ask : AskAt). reply_bytes no_keys (Refused told)) asks → AnswersTurn tells by v w (requests_of bytes asks) before behind sent
+  failed from to sent told is made marked put =
+      let g = subst (λ (a : AskedAll). Gives tells by v w (requests_of bytes asks) gives.0 out out' a) is gives.2 in
+      failed_turn tells by v w bytes asks gives.0 out out' before behind from to sent none g goes_on marked (put ∙ ap (λ (r : Refusal). out' ++ flat_map (λ (ask : AskAt). reply_bytes no_keys (Refused r)) asks) made)
+
+  pub worn : (count number : ℕ) (sent : List ℕ) (told : Refusal) → answer ≡ asked.Worn count → number ≡ count → told ≡ refusal WORN number 0 → behind ≡ before ++ map (λ (ask : AskAt). Worn) asks
+      → sent ≡ out' ++ flat_map (λ (ask : AskAt). reply_bytes no_keys (Refused told)) asks → AnswersTurn tells by v w (requests_of bytes asks) before behind sent
+  worn count number sent told is same made marked put =
+      let g = subst (λ (a : AskedAll). Gives tells by v w (requests_of bytes asks) gives.0 out out' a) is gives.2 in
+      worn_turn tells by v w bytes asks gives.0 out out' before behind count sent none g.0 g.1 goes_on marked
+      (put ∙ ap (λ (r : Refusal). out' ++ flat_map (λ (ask : AskAt). reply_bytes no_keys (Refused r)) asks) (made ∙ ap (λ (n : ℕ). refusal WORN n 0) same))
 
 -- ---- the turn
 
@@ -145,7 +161,7 @@ module _ {D : Type 0} (tells : DiskTells D) (by : ℕ) (p q : Point) (gathered :
   pub turn_none : (held : List ℕ) (asks : List AskAt) → asks ≡ [] → Gathers p.held q.held p.clock q.clock p.moments q.moments (requests_of held asks) → GathersTo q.held (length asks) (min (MOST_FRAMES - length p.moments) MAX_REQUESTS) gathered
       → q.view ≡ p.view → q.link ≡ p.link → q.marks ≡ p.marks → TurnIs tells by p q gathered sends.All
   turn_none held asks none gathers to view link marked =
-      let g = subst (λ (as : List AskAt). Gathers p.held q.held p.clock q.clock p.moments q.moments (requests_of held as)) none gathers in
+      let g = subst (λ (xs : List AskAt). Gathers p.held q.held p.clock q.clock p.moments q.moments (requests_of held xs)) none gathers in
       record {
         turns = [];
         one = omega arith;
@@ -163,7 +179,7 @@ module _ {D : Type 0} (tells : DiskTells D) (by : ℕ) (p q : Point) (gathered :
           read_count = omega (arith, ap (λ (l : LinkSeen). l.read_faults) link);
           write_count = omega (arith, ap (λ (l : LinkSeen). l.write_faults) link);
         };
-        to = subst (λ (as : List AskAt). GathersTo q.held (length as) (min (MOST_FRAMES - length p.moments) MAX_REQUESTS) gathered) none to;
+        to = subst (λ (xs : List AskAt). GathersTo q.held (length xs) (min (MOST_FRAMES - length p.moments) MAX_REQUESTS) gathered) none to;
         wrote = subst (λ (l : LinkSeen). Appends p.link.sent l.sent []) (sym link) (appends_none p.link.sent);
       }
     where
@@ -174,7 +190,7 @@ module _ {D : Type 0} (tells : DiskTells D) (by : ℕ) (p q : Point) (gathered :
   -- what was gathered was answered
   pub turn_some : (requests : List Request) (n : ℕ) (out : List ℕ) (sent : Sent) → n ≡ length requests → Gathers p.held q.held p.clock q.clock p.moments q.moments requests
       → GathersTo q.held n (min (MOST_FRAMES - length p.moments) MAX_REQUESTS) gathered → AnswersTurn tells by p.view q.view requests p.marks q.marks out → SentIs p.link q.link out sent → OnlyWrites p.link q.link → TurnIs tells by p q gathered sent
-  turn_some requests n out sent count g to a sends only =
+  turn_some requests n out sent count g to a sent_is only =
       let whole : requests_in (a.turn ∷ []) ≡ requests = one_turn a.turn ∙ a.requests_are in
       let house : House = house_seen p.view.origin in
       record {
@@ -195,7 +211,7 @@ module _ {D : Type 0} (tells : DiskTells D) (by : ℕ) (p q : Point) (gathered :
           write_count = only.count;
         };
         to = subst (λ (m : ℕ). GathersTo q.held m (min (MOST_FRAMES - length p.moments) MAX_REQUESTS) gathered) (count ∙ ap length (sym whole)) to;
-        wrote = wrote sent sends;
+        wrote = wrote sent sent_is;
       }
     where
       bytes_are : out ≡ replies_in (house_seen p.view.origin) (a.turn ∷ [])

@@ -1,4 +1,4 @@
-ghost use Rattle.std.specs.Prelude.{◌≡◌, ◌<◌, ◌+◌, ◌^◌, length, IfOk};
+ghost use Rattle.std.specs.Prelude.{◌≡◌, ◌<◌, ◌≤◌, ◌+◌, ◌^◌, length, IfOk};
 ghost use Rattle.nb_frame.specs.declared.stream.TheConstants.{MAX_PIECE};
 ghost use Rattle.nb_turn.specs.Passes.{sees};
 ghost use Rattle.nb_desk.specs.Desks.{IsAt};
@@ -118,10 +118,13 @@ fn serve<R: Wait, D: Disk + Drop, L: Link, C: Clock, G: Gate>(
     'serving: loop {
         let (next, gathered, sent) = turn(rt, desk, pass, work, link, clock, gate, worker, number);
         pass = next;
-        if let Sent::Failed = sent {
-            // What waits are bytes, so that it reads as frames and a rest.
-            let _waiting = work.frames.bytes();
-            return (pass, SessionEnd::WriteFault);
+        match sent {
+            Sent::Failed => {
+                // What waits are bytes, so that it reads as frames and a rest.
+                let _waiting = work.frames.bytes();
+                return (pass, SessionEnd::WriteFault);
+            }
+            Sent::All => {}
         }
         match gathered {
             Gathered::Full => {
@@ -167,6 +170,7 @@ fn turn<R: Wait, D: Disk + Drop, L: Link, C: Clock, G: Gate>(
         (point (sees pass) (L.seen link.old) (C.moments clock.old) work.old.frames work.old.moments.items work.old.marks.items)
         (point (sees result.0) (L.seen link.new) (C.moments clock.new) work.new.frames work.new.moments.items work.new.marks.items) result.1 result.2 }
     ensures room { HasRoom work.new }
+    ensures most { length work.new.moments.items ≤ MOST_FRAMES }
 {
     work.asks.clear();
     work.ats.clear();
