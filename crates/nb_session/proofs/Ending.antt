@@ -53,10 +53,10 @@ few_bytes [] lawful = omega arith
 few_bytes (f ∷ fs) lawful = omega (arith, few_bytes fs lawful.1, lawful.0.2, length-append (frame f) (flat_map frame fs))
 
 -- there are as many frames and moments as requests, and as many marks
-frames_count : (turns : List Turned) → length (frames_in turns) ≡ length (requests_in turns)
+pub frames_count : (turns : List Turned) → length (frames_in turns) ≡ length (requests_in turns)
 frames_count turns = length-map (requests_in turns) frame_of
 
-moments_count : (turns : List Turned) → length (moments_in turns) ≡ length (requests_in turns)
+pub moments_count : (turns : List Turned) → length (moments_in turns) ≡ length (requests_in turns)
 moments_count turns = length-map (requests_in turns) (λ (r : Request). r.moment)
 
 decided_count : (house : House) (over : List Entry) (requests : List Request) → length (decided house over requests) ≡ length requests
@@ -72,7 +72,7 @@ answers_count : (house : House) (turns : List Turned) → length (answers_in hou
 answers_count house [] = refl
 answers_count house (t ∷ turns) = omega (arith, answers_count house turns, answered_count house t.requests t.outcome, length-append (answered house t.requests t.outcome) (answers_in house turns), length-append t.requests (requests_in turns))
 
-marks_count : (house : House) (turns : List Turned) → length (marks_in house turns) ≡ length (requests_in turns)
+pub marks_count : (house : House) (turns : List Turned) → length (marks_in house turns) ≡ length (requests_in turns)
 marks_count house turns = length-map (answers_in house turns) (λ (a : Answered). a.mark) ∙ answers_count house turns
 
 -- ---- as long as may be

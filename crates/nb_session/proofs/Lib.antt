@@ -3,3 +3,4 @@ pub mod Cutting
 pub mod Marking
 pub mod Turning
 pub mod Ending
+pub mod Completing
