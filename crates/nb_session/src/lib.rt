@@ -1,0 +1,29 @@
+//! One session: the frames of one link are answered against one desk, in turns that frames already read share.
+//!
+//! [`session`] takes all its memory at its start. Then it gathers the frames that it has read, up to as many as a turn has requests,
+//! asks the clock once for each, has them answered in one turn of the desk, and sends the replies, each by writes of its own. Where no
+//! whole frame is left it reads on, a piece at a time. It ends where the link ends or fails, where what was read is no frame, or where
+//! as many frames were answered as one session answers.
+//!
+//! What is promised (`specs/Session.antt`, `Session`): the frames that were answered are the first of the bytes that were read; they
+//! fall into turns that are as long as the reading allowed; each turn was one of the desk's vault, and its marks and the replies that
+//! were sent are those of that turn; how the session ended says what is left of the link, how far it was read, and what failed.
+//! [`laws`] say what follows for the lines that the pass has seen, and that a session over a link that does not fail, of a vault whose
+//! disk does not, answers all of its frames.
+//!
+//! Left to others: where links come from, and several sessions, one after another and beside one another.
+#![tactic(auto)]
+
+mod answering;
+mod ended;
+mod gathering;
+pub mod laws;
+mod linked;
+mod reading;
+mod sending;
+
+pub use ended::{MOST_FRAMES, Record, SessionEnd};
+pub use linked::session;
+
+#[cfg(test)]
+mod tests;

@@ -1,0 +1,60 @@
+ghost use Rattle.std.specs.Prelude.{◌≤◌, ◌<◌, length};
+ghost use Rattle.nb_session.specs.Steps.{OnlyWrites, SentIs};
+
+use nb_link::Link;
+use nb_port::WriteOut;
+use nb_units::frames::HEADER;
+
+/// How sending went.
+#[derive(Clone, Copy, PartialEq, Eq, Debug)]
+pub enum Sent {
+    All,
+    Failed,
+}
+
+/// Sends replies that stand one behind another, each by writes of its own.
+pub fn send_each<L: Link>(link: &mut L, replies: &[u8]) -> Sent
+    ensures sent { SentIs (L.seen link.old) (L.seen link.new) replies.now result }
+    ensures only { OnlyWrites (L.seen link.old) (L.seen link.new) }
+{
+    let mut at = 0;
+    'sending: while at < replies.len() {
+        let rest = replies.split_at(at).1;
+        let reply = rest.split_at(first_len(rest)).0;
+        match send(link, reply) {
+            Sent::All => at += reply.len(),
+            Sent::Failed => return Sent::Failed,
+        }
+    }
+    Sent::All
+}
+
+// Sends all of a reply, in as many writes as the link wants.
+fn send<L: Link>(link: &mut L, reply: &[u8]) -> Sent
+    ensures sent { SentIs (L.seen link.old) (L.seen link.new) reply.now result }
+    ensures only { OnlyWrites (L.seen link.old) (L.seen link.new) }
+{
+    let mut at = 0;
+    'sending: while at < reply.len() {
+        match link.write(reply.split_at(at).1) {
+            WriteOut::Took(n) => at += n,
+            WriteOut::Failed => return Sent::Failed,
+        }
+    }
+    Sent::All
+}
+
+// How many bytes the first reply has: as many as its header says, and at most all.
+fn first_len(replies: &[u8]) -> usize
+    requires { 0 < length replies.now }
+    ensures least { 1 ≤ result }
+    ensures most { result ≤ length replies.now }
+{
+    match replies {
+        [_, _, _, _, a, b, c, d, ..] => {
+            let body = u32::from_be_bytes([*a, *b, *c, *d]) as usize;
+            (HEADER + body).min(replies.len())
+        }
+        _ => replies.len(),
+    }
+}
