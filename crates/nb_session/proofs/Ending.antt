@@ -84,6 +84,7 @@ long_later pieces later done (t ∷ turns) long = (one long.0, long_later pieces
   where
     read : EndsRead pieces (done ++ frames_of t.requests) → EndsRead (pieces ++ later) (done ++ frames_of t.requests)
     read e = record { first = e.first; later = e.later ++ later; rest = e.rest; pieces_are = ap (λ (ps : List (List ℕ)). ps ++ later) e.pieces_are ∙ append_assoc e.first e.later later; splits = e.splits }
+
     one : IsLong pieces (length t.requests) (done ++ frames_of t.requests) → IsLong (pieces ++ later) (length t.requests) (done ++ frames_of t.requests)
     one (inl full) = inl full
     one (inr (inl last)) = inr (inl last)
@@ -95,7 +96,7 @@ long_both pieces done [] more long then = subst (λ (fs : List Frame). AreLong p
 long_both pieces done (t ∷ turns) more long then = (
   long.0,
   long_both pieces (done ++ frames_of t.requests) turns more long.1
-  (subst (λ (fs : List Frame). AreLong pieces fs more) (ap (λ (fs : List Frame). done ++ fs) (map-append frame_of t.requests (requests_in turns)) ∙ sym (append_assoc done (frames_of t.requests) (frames_in turns))) then),
+      (subst (λ (fs : List Frame). AreLong pieces fs more) (ap (λ (fs : List Frame). done ++ fs) (map-append frame_of t.requests (requests_in turns)) ∙ sym (append_assoc done (frames_of t.requests) (frames_in turns))) then),
 )
 
 -- ---- the lines of the turns
@@ -324,8 +325,7 @@ module _ {D : Type 0} (tells : DiskTells D) (by : ℕ) (v : View Origin Line) (o
     pub ended_at : (end : SessionEnd) → IsAtEnd q.link.left → IsShort (front_of (waiting q.held)) → EndsAt q.held end → Session tells by v q.view old q.link clock q.clock q.moments q.marks end
     ended_at ends.Clean left short is = answered_all ends.Clean (short_not_whole (front_of (waiting q.held)) short) (nil_from_length (waiting q.held) is, left, below) ran.wrote
     ended_at (ends.Cut place) left short is =
-        answered_all (ends.Cut place) (short_not_whole (front_of (waiting q.held)) short)
-        (
+        answered_all (ends.Cut place) (short_not_whole (front_of (waiting q.held)) short) (
           some_waits (front_of (waiting q.held)) refl short is.0,
           left,
           omega (arith, is.1, ran.went.taken, ap length ran.went.is, length-append (flat_map frame (frames_in ran.turns)) (waiting q.held)),

@@ -216,6 +216,7 @@ module _ {D : Type 0} (tells : DiskTells D) (by : ℕ) (p q : Point) (gathered :
     where
       bytes_are : out ≡ replies_in (house_seen p.view.origin) (a.turn ∷ [])
       bytes_are = a.out_is ∙ sym (one_replies (house_seen p.view.origin) a.turn)
+
       wrote : (sent : Sent) → SentIs p.link q.link out sent → WroteAs (house_seen p.view.origin) p.link q.link (a.turn ∷ []) sent
       wrote sends.All is = subst (λ (bs : List ℕ). Appends p.link.sent q.link.sent bs) bytes_are is
       wrote sends.Failed is = (

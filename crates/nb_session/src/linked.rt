@@ -176,7 +176,13 @@ fn turn<R: Wait, D: Disk + Drop, L: Link, C: Clock, G: Gate>(
     work.ats.clear();
     work.out.clear();
     let most = (MOST_FRAMES - work.moments.len()).min(MAX_REQUESTS);
-    let gathered = gather(&mut work.frames, clock, &mut work.asks, &mut work.moments, most);
+    let gathered = gather(
+        &mut work.frames,
+        clock,
+        &mut work.asks,
+        &mut work.moments,
+        most,
+    );
     if work.asks.is_empty() {
         return (pass, gathered, Sent::All);
     }

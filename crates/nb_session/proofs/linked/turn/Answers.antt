@@ -23,7 +23,7 @@ pub returns-clause-turn : goal.returns-clause-turn
 returns-clause-turn g c =
     let most : c.min-most.result ≡ min (MOST_FRAMES - length c.args.work.now.moments.items) MAX_REQUESTS = omega (arith, c.min-most.ensures, c.len.ensures) in
     let answers = subst (λ (x : List ℕ × List AskAt). AnswersTurn g.D.Disk.tells c.args.pass.number (sees c.args.pass) (sees c.answer-pass.result) (requests_of x.0 x.1) c.args.work.now.marks.items c.answer-pass.new.marks.items c.answer-pass.new.out.items)
-        (λ i. (c.bytes.ensures.held i, c.as_slice.ensures.value i)) c.answer-pass.ensures.answers in
+    (λ i. (c.bytes.ensures.held i, c.as_slice.ensures.value i)) c.answer-pass.ensures.answers in
     turn_some g.D.Disk.tells c.args.pass.number
     (point (sees c.args.pass) (g.L.Link.seen c.args.link.now) (g.C.Clock.moments c.args.clock.now) c.args.work.now.frames c.args.work.now.moments.items c.args.work.now.marks.items)
     (point (sees c.answer-pass.result) (g.L.Link.seen c.send_each-sent.new.link) (g.C.Clock.moments c.gather-gathered.new.clock) c.gather-gathered.new.frames c.gather-gathered.new.moments.items c.answer-pass.new.marks.items)
