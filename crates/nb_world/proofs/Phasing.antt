@@ -3,7 +3,7 @@ use Rattle.std.proofs.Common.{◌≡◌, ◌≢◌, ◌⊎◌, inl, inr, ℕ, ze
 use Rattle.std.proofs.lemmas.Bool.{eqb-true}
 use Rattle.std.specs.Prelude.{◌==◌, map, if◌then◌else◌}
 use Rattle.std.specs.Option.{is_none}
-use Rattle.std.specs.List.{slice_get, AllByRecursion}
+use Rattle.std.specs.List.{slice_get}
 use Rattle.nb_units.specs.declared.ids.PartyId.{PartyId}
 use Rattle.nb_world.specs.declared.call.Call.{Call}
 use Rattle.nb_world.specs.declared.call.CallPhase.{CallPhase}
@@ -14,10 +14,10 @@ use Rattle.nb_world.specs.declared.packet.Packet.{Packet}
 use Rattle.nb_world.specs.declared.packet.To.{To}
 use Rattle.nb_world.specs.declared.packet.To.TheVariants as to
 use Rattle.nb_world.specs.declared.turning.Turning.{Turning}
-use Rattle.nb_world.specs.World.{Going, Stays, Goes, Rules, World, is_decided, is_written}
+use Rattle.nb_world.specs.World.{Going, Stays, Rules, World, is_decided, is_written}
 use Rattle.nb_world.specs.Steps.{◌>>=◌, where_so, is_waiting, in_phase, set_phase, stopped, phase_stopped, may_answer, consumer_goes, merchant_goes, consumer_at, merchant_at, delivered_to, deliver_of, quiet_consumer_of, quiet_merchant_of, turn_of, write_of, open_of, answer_of, stop_of, step, next, or_same, run}
 use Rattle.nb_world.specs.Fits.{IsConsumer, IsMerchant}
-use Rattle.nb_world.specs.Laws.{IsSetUp, OneHasTurn, TurnIsOfOneCall, UnreadChangesNothing, IgnoredChangesNothing}
+use Rattle.nb_world.specs.Laws.{OneHasTurn, TurnIsOfOneCall, UnreadChangesNothing, IgnoredChangesNothing}
 use Rattle.nb_world.proofs.Chains.{inside, holds, no_value, same_some}
 use Rattle.nb_world.proofs.Lists.{get_append, all_at, Remains, phase_remains}
 use Rattle.nb_world.proofs.Outside.{Outside, buy_outside, quiet_consumer_outside, quiet_merchant_outside, restart_consumer_outside, restart_merchant_outside, clock_outside, inject_outside, deliver_outside}
@@ -85,8 +85,7 @@ module _ {C M : Type 0} where
         (λ has. (so.one c call before).1 (has.0, sym out.turn ∙ has.1, has.2)),
       )
       cases c call (inr new) =
-          let waits : call.phase ≡ Waiting = all_at (λ (x : Call). x.phase ≡ Waiting) out.asked new.0 call new.1 out.waiting in
-          (
+          let waits : call.phase ≡ Waiting = all_at (λ (x : Call). x.phase ≡ Waiting) out.asked new.0 call new.1 out.waiting in (
             (λ in_turn. let e : Waiting ≡ InTurn = sym waits ∙ in_turn in absurd cc),
             (λ has. let found = so.there has.0 (sym out.turn ∙ has.1) in absurd (new.2 found.0 (ap (slice_get v.calls) (sym has.2) ∙ found.1))),
           )
@@ -95,8 +94,7 @@ module _ {C M : Type 0} where
   staged_so : (v w : World C M) (t u : Turning) → PhaseSo v → v.turn ≡ Some t → w.turn ≡ Some u → u.call ≡ t.call → w.calls ≡ v.calls → PhaseSo w
   staged_so v w t u so old new same calls = record {
     one = λ c call there.
-        let before : slice_get v.calls c ≡ Some call = ap (λ all. slice_get all c) (sym calls) ∙ there in
-        (
+        let before : slice_get v.calls c ≡ Some call = ap (λ all. slice_get all c) (sym calls) ∙ there in (
           (λ in_turn. let has = (so.one c call before).0 in_turn in let one : t ≡ has.0 = same_some t has.0 (sym old ∙ has.1) in (u, new, same ∙ ap (λ (x : Turning). x.call) one ∙ has.2)),
           (λ has. let one : u ≡ has.0 = same_some u has.0 (sym new ∙ has.1) in (so.one c call before).1 (t, old, sym same ∙ ap (λ (x : Turning). x.call) one ∙ has.2)),
         );
