@@ -9,3 +9,4 @@ pub mod Settling
 pub mod Tying
 pub mod Playing
 pub mod Small
+pub mod Phasing

@@ -43,6 +43,7 @@ pub record Outside {C M : Type 0} (v w : World C M) : Type 0 where
   pub calls : w.calls ≡ v.calls ++ asked
   pub not_by_house : AllByRecursion NotByHouse made
   pub of_house : AllByRecursion (CallsHouse v) asked
+  pub waiting : AllByRecursion (λ (call : Call). call.phase ≡ Waiting) asked
 
 -- a world is sound, and an earlier one grows into it
 pub record Kept {C M : Type 0} (verdict : List Entry → Request → Verdict) (v w : World C M) : Type 0 where
@@ -114,6 +115,7 @@ module _ {C M : Type 0} where
     calls = sym (append-nil v.calls);
     not_by_house = tt;
     of_house = tt;
+    waiting = tt;
   }
 
   -- consumers, merchants or the clock change
@@ -131,6 +133,7 @@ module _ {C M : Type 0} where
     calls = sym (append-nil v.calls);
     not_by_house = tt;
     of_house = tt;
+    waiting = tt;
   }
 
   -- and these packets are new
@@ -148,6 +151,7 @@ module _ {C M : Type 0} where
     calls = sym (append-nil v.calls);
     not_by_house = not;
     of_house = tt;
+    waiting = tt;
   }
 
   consumer_outside : (v : World C M) (i : ℕ) (id : PartyId) (g : Going C) → Outside v (consumer_goes v i id g)
@@ -179,6 +183,7 @@ module _ {C M : Type 0} where
     calls = refl;
     not_by_house = tt;
     of_house = (record { packet = packet; of = there; for_house = for_house }, tt);
+    waiting = (refl, tt);
   }
 
 module _ {C M : Type 0} (p : Rules C M) (v w : World C M) where

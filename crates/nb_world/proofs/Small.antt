@@ -1,7 +1,7 @@
 -- The small worlds.
 use Rattle.std.proofs.Common.{refl}
-use Rattle.nb_world.specs.Steps.{buy_of, deliver_of, turn_of, write_of, open_of, answer_of, stop_of, inject_of}
-use Rattle.nb_world.specs.Worked.{HeardOnce, LeftAndTold, InjectedIsRecorded}
+use Rattle.nb_world.specs.Steps.{buy_of, deliver_of, turn_of, write_of, open_of, answer_of, stop_of, inject_of, quiet_consumer_of, restart_merchant_of}
+use Rattle.nb_world.specs.Worked.{HeardOnce, LeftAndTold, InjectedIsRecorded, NodesHear}
 
 pub heard_once : HeardOnce
 unfolding buy_of deliver_of turn_of write_of open_of answer_of
@@ -14,3 +14,7 @@ left_and_told = refl
 pub injected_is_recorded : InjectedIsRecorded
 unfolding inject_of deliver_of turn_of write_of open_of answer_of
 injected_is_recorded = (refl, refl)
+
+pub nodes_hear : NodesHear
+unfolding inject_of deliver_of quiet_consumer_of restart_merchant_of
+nodes_hear = (refl, refl)

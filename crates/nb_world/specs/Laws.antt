@@ -1,11 +1,12 @@
 -- What holds of every list of events.
-use Rattle.std.specs.Prelude.{◌≡◌, ◌≢◌, ◌↔◌, ◌⊎◌, ℕ, ◌+◌, ◌≤◌, Bool, List, [], ◌∷◌, ◌++◌, length, take, None, Some, IsSome, if◌then◌else◌}
+use Rattle.std.specs.Prelude.{◌≡◌, ◌≢◌, ◌↔◌, ◌⊎◌, ℕ, ◌+◌, ◌≤◌, Bool, false, List, [], ◌∷◌, ◌++◌, length, take, None, Some, IsSome, if◌then◌else◌}
 use Rattle.std.specs.List.{slice_get, AllByRecursion}
+use Rattle.nb_units.specs.declared.ids.PartyId.{PartyId}
 use Rattle.nb_book.specs.declared.entry.Entry.{Entry}
 use Rattle.nb_book.specs.Legal.{LegalAfter, Legal}
 use Rattle.nb_turns.specs.Turns.{Request}
 use Rattle.nb_world.specs.declared.call.Call.{Call}
-use Rattle.nb_world.specs.declared.call.CallPhase.TheVariants.{Answered, Gone}
+use Rattle.nb_world.specs.declared.call.CallPhase.TheVariants.{InTurn, Answered, Gone}
 use Rattle.nb_world.specs.declared.event.Event.{Event}
 use Rattle.nb_world.specs.declared.event.Event.TheVariants as on
 use Rattle.nb_world.specs.declared.packet.Maker.{Maker}
@@ -15,10 +16,11 @@ use Rattle.nb_world.specs.declared.packet.To.{To}
 use Rattle.nb_world.specs.declared.packet.To.TheVariants as to
 use Rattle.nb_world.specs.declared.turning.Acknowledged.{Acknowledged}
 use Rattle.nb_world.specs.declared.turning.Origin.{Origin}
+use Rattle.nb_world.specs.declared.turning.Turning.{Turning}
 use Rattle.nb_world.specs.declared.turning.Verdict.{Verdict}
-use Rattle.nb_world.specs.World.{Rules, World, request_of, commits}
+use Rattle.nb_world.specs.World.{Stays, Rules, World, request_of, commits}
 use Rattle.nb_world.specs.Steps.{step, next, run}
-use Rattle.nb_world.specs.Fits.{Fits}
+use Rattle.nb_world.specs.Fits.{IsConsumer, IsMerchant, Fits}
 
 -- ---- which events fit
 
@@ -141,6 +143,31 @@ pub record HasOrigins {C M : Type 0} (first w : World C M) : Type 0 where
 
 abbrev pub EntriesHaveOrigins : Type 0 → Type 0 → Type 0
 EntriesHaveOrigins C M = (p : Rules C M) (w : World C M) → IsSetUp w → (es : List Event) → HasOrigins w (run p w es)
+
+-- ---- the turn
+
+-- a call has the phase of the turn exactly where the turn is its
+abbrev pub OneHasTurn : {C M : Type 0} → World C M → Type 0
+OneHasTurn w = (c : ℕ) (call : Call) → slice_get w.calls c ≡ Some call → (call.phase ≡ InTurn) ↔ ((t : Turning) × (w.turn ≡ Some t) × (t.call ≡ c))
+
+-- so it is in each world of a run, so that at most one call has the turn
+abbrev pub TurnIsOfOneCall : Type 0 → Type 0 → Type 0
+TurnIsOfOneCall C M = (p : Rules C M) (w : World C M) → IsSetUp w → (es : List Event) → OneHasTurn (run p w es)
+
+-- ---- nodes
+
+-- a packet for a node whose body is not spelled as those of its kind are changes nothing
+abbrev pub UnreadChangesNothing : Type 0 → Type 0 → Type 0
+UnreadChangesNothing C M = (p : Rules C M) (w : World C M) (k : ℕ) (packet : Packet) → slice_get w.packets k ≡ Some packet → packet.to ≢ to.Server
+    → p.is_body packet.kind packet.body ≡ false → next p w (on.Deliver k) ≡ w
+
+-- a packet that a node ignores changes nothing, and neither does one that heard nothing for long and ignores it
+abbrev pub IgnoredChangesNothing : Type 0 → Type 0 → Type 0
+IgnoredChangesNothing C M = (p : Rules C M) (w : World C M) (k : ℕ) (packet : Packet) (id : PartyId) → slice_get w.packets k ≡ Some packet
+    → ((c : C) → IsConsumer p w id c → packet.to ≡ to.Consumer id → p.consumer_hears c packet.kind packet.body ≡ Stays → next p w (on.Deliver k) ≡ w)
+    × ((m : M) → IsMerchant p w id m → packet.to ≡ to.Merchant id → p.merchant_hears m packet.kind packet.body w.moment ≡ Stays → next p w (on.Deliver k) ≡ w)
+    × ((c : C) (tid : ℕ) → IsConsumer p w id c → p.consumer_waited c tid ≡ Stays → next p w (on.QuietConsumer id tid) ≡ w)
+    × ((m : M) (buyer : PartyId) (tid : ℕ) → IsMerchant p w id m → p.merchant_waited m buyer tid ≡ Stays → next p w (on.QuietMerchant id buyer tid) ≡ w)
 
 -- ---- a stop
 

@@ -1,6 +1,6 @@
--- Worlds in numbers: one consumer, which sends its enrolment where it starts a purchase, and a small house.
-use Rattle.std.specs.Prelude.{◌≡◌, ℕ, ◌+◌, ◌==◌, true, List, [], ◌∷◌, None, Some}
-use Rattle.nb_units.specs.declared.frames.TheConstants.{DONE_REPLY, ENROL_REQUEST}
+-- Worlds in numbers: a consumer, which sends its enrolment where it starts a purchase, a merchant, and a small house.
+use Rattle.std.specs.Prelude.{◌≡◌, ℕ, ◌+◌, ◌==◌, true, List, [], ◌∷◌, ◌++◌, length, nat_lt, None, Some}
+use Rattle.nb_units.specs.declared.frames.TheConstants.{DONE_REPLY, ENROL_REQUEST, PRICE_REQUEST}
 use Rattle.nb_units.specs.declared.ids.PartyId.{PartyId}
 use Rattle.nb_book.specs.declared.entry.Entry.{Entry}
 use Rattle.nb_turns.specs.Turns.{Request}
@@ -10,6 +10,7 @@ use Rattle.nb_world.specs.declared.event.Event.{Event}
 use Rattle.nb_world.specs.declared.event.Event.TheVariants as on
 use Rattle.nb_world.specs.declared.packet.Maker.TheVariants as by
 use Rattle.nb_world.specs.declared.packet.Packet.{Packet}
+use Rattle.nb_world.specs.declared.packet.Sending.{Sending}
 use Rattle.nb_world.specs.declared.packet.To.TheVariants as to
 use Rattle.nb_world.specs.declared.start.Start.{Start}
 use Rattle.nb_world.specs.declared.turning.Verdict.{Verdict}
@@ -20,32 +21,40 @@ use Rattle.nb_world.specs.Steps.{run, step}
 abbrev pub first_party : PartyId
 first_party = record { 0 = 1 }
 
+-- the party 2
+abbrev pub second_party : PartyId
+second_party = record { 0 = 2 }
+
+-- what the consumer sends
+abbrev pub enrols_itself : Sending
+enrols_itself = record { to = to.Server; kind = ENROL_REQUEST; body = 1 ∷ [] }
+
 -- what a small house's ruling comes to in a world
 abbrev pub small_verdict : List Entry → Request → Verdict
 small_verdict entries request = record { kind = DONE_REPLY; body = (small_rules entries request).reply; entry = (small_rules entries request).entry }
 
--- a consumer is how many replies it heard
+-- a consumer is how many replies it heard, a merchant the sum of the moments at which it heard something; a body is spelled right where it has a byte
 abbrev pub small_world_rules : Rules ℕ ℕ
 small_world_rules = record {
   verdict = small_verdict;
-  is_body = λ kind body. true;
+  is_body = λ kind body. nat_lt 0 (length body);
   is_consumer = λ id heard. id.0 == 1;
-  has_purchase = λ tid heard. true;
-  consumer_starts = λ heard start. Goes heard (Some (record { to = to.Server; kind = ENROL_REQUEST; body = 1 ∷ [] }));
+  has_purchase = λ tid heard. tid == 1;
+  consumer_starts = λ heard start. Goes heard (Some enrols_itself);
   consumer_hears = λ heard kind body. Goes (heard + 1) None;
-  consumer_waited = λ heard tid. Stays;
+  consumer_waited = λ heard tid. Goes heard (Some enrols_itself);
   consumer_again = λ heard. 0;
   is_merchant = λ id m. id.0 == 2;
   has_sale = λ id tid m. true;
-  merchant_hears = λ m kind body moment. Stays;
+  merchant_hears = λ m kind body moment. Goes (m + moment) None;
   merchant_waited = λ m id tid. Stays;
-  merchant_again = λ m. m;
+  merchant_again = λ m. 0;
 }
 
 abbrev pub small_world : World ℕ ℕ
 small_world = record {
   consumers = 0 ∷ [];
-  merchants = [];
+  merchants = 0 ∷ [];
   packets = [];
   calls = [];
   turn = None;
@@ -57,7 +66,7 @@ small_world = record {
 }
 
 abbrev pub small_start : Start
-small_start = record { tid = 1; merchant = record { 0 = 2 }; product = 1; limit = 5; request = []; memo = [] }
+small_start = record { tid = 1; merchant = second_party; product = 1; limit = 5; request = []; memo = [] }
 
 abbrev pub enrolling : Packet
 enrolling = record { kind = ENROL_REQUEST; body = 1 ∷ []; maker = by.Consumer first_party; to = to.Server }
@@ -71,7 +80,7 @@ all_goes_well =
 abbrev pub HeardOnce : Type 0
 HeardOnce = run small_world_rules small_world all_goes_well ≡ record {
   consumers = 1 ∷ [];
-  merchants = [];
+  merchants = 0 ∷ [];
   packets = enrolling ∷ record { kind = DONE_REPLY; body = 1 ∷ 0 ∷ 0 ∷ []; maker = by.Server 0 0; to = to.Consumer first_party } ∷ [];
   calls = record { packet = 0; moment = 7; phase = Answered } ∷ [];
   turn = None;
@@ -90,7 +99,7 @@ stopped_and_again =
 abbrev pub LeftAndTold : Type 0
 LeftAndTold = run small_world_rules small_world stopped_and_again ≡ record {
   consumers = 0 ∷ [];
-  merchants = [];
+  merchants = 0 ∷ [];
   packets = enrolling ∷ record { kind = DONE_REPLY; body = 1 ∷ 0 ∷ 0 ∷ []; maker = by.Server 1 1; to = to.Consumer first_party } ∷ [];
   calls = record { packet = 0; moment = 0; phase = Gone } ∷ record { packet = 0; moment = 0; phase = Answered } ∷ [];
   turn = None;
@@ -110,7 +119,7 @@ injected_and_unfit =
 abbrev pub InjectedIsRecorded : Type 0
 InjectedIsRecorded = (run small_world_rules small_world injected_and_unfit ≡ record {
   consumers = 0 ∷ [];
-  merchants = [];
+  merchants = 0 ∷ [];
   packets = record { kind = ENROL_REQUEST; body = 1 ∷ []; maker = by.Network; to = to.Server } ∷ [];
   calls = record { packet = 0; moment = 0; phase = Answered } ∷ [];
   turn = None;
@@ -120,3 +129,26 @@ InjectedIsRecorded = (run small_world_rules small_world injected_and_unfit ≡ r
   acknowledged = record { entry = enrolment 1; place = 0 } ∷ [];
   moment = 0;
 }) × (step small_world_rules small_world (on.Deliver 0) ≡ None)
+
+-- the merchant hears an injected packet at the clock's moment, and not one without a byte; the consumer sends again where it knows the purchase,
+-- and the purchase 2 is none of its own
+abbrev pub heard_and_waited : List Event
+heard_and_waited =
+    on.Clock 7 ∷ on.Inject (to.Merchant second_party) PRICE_REQUEST (5 ∷ []) ∷ on.Deliver 0 ∷ on.Inject (to.Merchant second_party) PRICE_REQUEST [] ∷ on.Deliver 1
+    ∷ on.QuietConsumer first_party 1 ∷ on.QuietConsumer first_party 2 ∷ []
+
+-- behind its restart the merchant heard nothing
+abbrev pub NodesHear : Type 0
+NodesHear = (run small_world_rules small_world heard_and_waited ≡ record {
+  consumers = 0 ∷ [];
+  merchants = 7 ∷ [];
+  packets = record { kind = PRICE_REQUEST; body = 5 ∷ []; maker = by.Network; to = to.Merchant second_party }
+      ∷ record { kind = PRICE_REQUEST; body = []; maker = by.Network; to = to.Merchant second_party } ∷ enrolling ∷ [];
+  calls = [];
+  turn = None;
+  durable = [];
+  server = [];
+  origins = [];
+  acknowledged = [];
+  moment = 7;
+}) × ((run small_world_rules small_world (heard_and_waited ++ on.RestartMerchant second_party ∷ [])).merchants ≡ 0 ∷ [])

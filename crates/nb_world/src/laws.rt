@@ -43,6 +43,21 @@ pub fn entries_have_origins<C, M>()
     ensures { law.EntriesHaveOrigins C M }
 {}
 
+/// A call has the phase of the turn exactly where the turn is its: at most one call has the turn.
+pub fn turn_is_of_one_call<C, M>()
+    ensures { law.TurnIsOfOneCall C M }
+{}
+
+/// A packet for a node whose body is not spelled as those of its kind are changes nothing.
+pub fn unread_changes_nothing<C, M>()
+    ensures { law.UnreadChangesNothing C M }
+{}
+
+/// A packet that a node ignores changes nothing, and neither does a node that ignores that it heard nothing for long.
+pub fn ignored_changes_nothing<C, M>()
+    ensures { law.IgnoredChangesNothing C M }
+{}
+
 /// A stop leaves the commit list, or the durable entries alone; the house is free and works on these; each call that was not answered is gone.
 pub fn stop_leaves<C, M>()
     ensures { law.StopLeaves C M }
@@ -115,4 +130,10 @@ pub fn left_and_told()
 /// An injected request is recorded, and no packet is made of its reply.
 pub fn injected_is_recorded()
     ensures { worked.InjectedIsRecorded }
+{}
+
+/// Nodes hear what is for them and spelled as it should be, at the clock's moment; one that waited sends again where it knows the purchase; a
+/// restart leaves what a node kept.
+pub fn nodes_hear()
+    ensures { worked.NodesHear }
 {}
