@@ -100,22 +100,6 @@ fn lines(rt: HostRuntime) -> Result<(), Fail> {
             "283fee256eef3e784fd703dea49e4fb85ec5454f91489388020a05a4eb662e99",
         ),
         (
-            "writegoods 0 2",
-            "0484e17a4efefa95d82fc39c4077833073d78a362a9cb8daac09e6e83a4225bd",
-        ),
-        (
-            "writegoods 1000000 3",
-            "2f1c1ac36864595435b80793e4330a01ce61882dc8aa2dc0f4951e5118e5e6cc",
-        ),
-        (
-            "readgoods 0 2",
-            "707d56f1f282aee234577e650bea2e7b18bb6131a499582be18876aba99d4b60",
-        ),
-        (
-            "readgoods 1000000 3",
-            "e5f4a68fe3f1e0c896b7d843e0b15d9a8ca71b34334f25db329336ec1c82d158",
-        ),
-        (
             "lookup 5 12",
             "dd0a14a0323ff6f5f6b50a1c8929e9128a9ef605218db1bed816d4e0358ddcad",
         ),
