@@ -16,6 +16,7 @@ mod goods;
 mod hashing;
 mod indexing;
 mod keystream;
+mod messages;
 mod pattern;
 mod sealing;
 mod shelves;
@@ -34,6 +35,7 @@ use std::thread::Threads;
 const USAGE: &str =
     "usage: bench sha|hmac|seal|unseal|stream|parts|openparts|lookup|shelf SIZE TIMES
        bench frames1|frames100|frames65536|copy SIZE TIMES
+       bench writegoods|readgoods SIZE TIMES
        bench turn|lock THREADS TIMES
        bench answer JOURNAL REQUESTS
        bench ask JOURNAL REQUESTS THREADS";
@@ -118,6 +120,10 @@ fn run<R: Threads + Wait + Sync>(
         Made::Unknown => {}
     }
     match goods::run(alloc, row, size, times)? {
+        Made::Bytes(bytes) => return Ok(Made::Bytes(bytes)),
+        Made::Unknown => {}
+    }
+    match messages::run(alloc, row, size, times)? {
         Made::Bytes(bytes) => return Ok(Made::Bytes(bytes)),
         Made::Unknown => {}
     }

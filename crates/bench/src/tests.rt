@@ -100,6 +100,22 @@ fn lines(rt: HostRuntime) -> Result<(), Fail> {
             "283fee256eef3e784fd703dea49e4fb85ec5454f91489388020a05a4eb662e99",
         ),
         (
+            "writegoods 0 2",
+            "d8174c334a19def272b3e950211b8a7254d16daaaf0ad13f06a05d5773e18fd1",
+        ),
+        (
+            "writegoods 1000000 3",
+            "aa1b76dbc13728ef6ea2383ec85b83b049e255e247d48e2caf43d1d754aa5a6f",
+        ),
+        (
+            "readgoods 0 2",
+            "707d56f1f282aee234577e650bea2e7b18bb6131a499582be18876aba99d4b60",
+        ),
+        (
+            "readgoods 1000000 3",
+            "e5f4a68fe3f1e0c896b7d843e0b15d9a8ca71b34334f25db329336ec1c82d158",
+        ),
+        (
             "lookup 5 12",
             "dd0a14a0323ff6f5f6b50a1c8929e9128a9ef605218db1bed816d4e0358ddcad",
         ),

@@ -1,0 +1,81 @@
+// Messages with a part of goods: each round of `writegoods` writes the frame of one, each round of `readgoods` reads its body, and a number
+// is made of what came of all rounds.
+
+ghost use Rattle.std.specs.Prelude.{◌≡◌, ◌≤◌, length, IfOk};
+ghost use Rattle.nb_msgs.specs.declared.lengths.TheConstants.{MAX_SEALED_HEAD};
+ghost use Rattle.nb_goods.specs.declared.limits.TheConstants.{PART_BYTES};
+
+use crate::Made;
+use crate::pattern::pattern;
+use nb_goods::PART_BYTES;
+use nb_msgs::{BodyFault, MAX_SEALED_HEAD, Message, read_body, write_message};
+use nb_seal::NoMemory;
+use nb_units::Blob;
+use nb_units::frames::{GOODS_REPLY, HEADER};
+use std::alloc::Global;
+
+/// The rows `writegoods` and `readgoods`, of a part of at most 1,000,000 bytes.
+pub fn run(alloc: Global, row: &str, size: u32, times: u32) -> Result<Made, NoMemory> {
+    match row {
+        "writegoods" => written(alloc, size, times),
+        "readgoods" => read(alloc, size, times),
+        _ => Ok(Made::Unknown),
+    }
+}
+
+// The frame that was written last, and behind it the number.
+fn written(alloc: Global, size: u32, times: u32) -> Result<Made, NoMemory> {
+    let head = pattern(alloc, MAX_SEALED_HEAD as u32)?;
+    let part = pattern(alloc, size)?;
+    if part.len() > PART_BYTES {
+        return Ok(Made::Unknown);
+    }
+    let mut frame = Vec::new(alloc);
+    let head = Blob::from_vec(head);
+    let part = Blob::from_vec(part);
+    let message = Message::Goods {
+        transaction: 0,
+        head,
+        part,
+    };
+    let mut made = 0;
+    for _ in 0..times {
+        frame.clear();
+        write_message(&message, &mut frame).map_err(|_| NoMemory)?;
+        made = mixed(made, frame.as_slice());
+    }
+    frame
+        .extend_from_slice(&made.to_be_bytes())
+        .map_err(|_| NoMemory)?;
+    Ok(Made::Bytes(frame))
+}
+
+// The number alone.
+fn read(alloc: Global, size: u32, times: u32) -> Result<Made, NoMemory> {
+    let Made::Bytes(frame) = written(alloc, size, 1)? else {
+        return Ok(Made::Unknown);
+    };
+    if frame.len() < HEADER + 8 {
+        return Ok(Made::Unknown);
+    }
+    let (front, _) = frame.as_slice().split_at(frame.len() - 8);
+    let (_, body) = front.split_at(HEADER);
+    let mut made = 0;
+    for _ in 0..times {
+        match read_body(alloc, GOODS_REPLY, body) {
+            Ok(Message::Goods { part, .. }) => made = mixed(made, part.as_slice()),
+            Ok(_) | Err(BodyFault::Malformed { .. }) => return Ok(Made::Unknown),
+            Err(BodyFault::NoMemory) => return Err(NoMemory),
+        }
+    }
+    Ok(Made::Bytes(Vec::from_slice(alloc, &made.to_be_bytes())?))
+}
+
+// The next number, of the last of these bytes.
+fn mixed(number: u64, bytes: &[u8]) -> u64 {
+    let last = bytes.last().copied().unwrap_or(0);
+    number
+        .wrapping_mul(31)
+        .wrapping_add(u64::from(last))
+        .wrapping_add(1)
+}
