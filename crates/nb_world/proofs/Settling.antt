@@ -35,7 +35,8 @@ use Rattle.nb_world.specs.Laws.{RecordsLegal, IsSetUp, Asks, IsReply, RepliesSo,
 use Rattle.nb_world.specs.Headline.{OrderMovesOnce, MoneyIsConserved, verdict_shown, TellsKey, KeyWhereItStands}
 use Rattle.nb_world.proofs.Chains.{same_some}
 use Rattle.nb_world.proofs.Lists.{all_at}
-use Rattle.nb_world.proofs.Serving.{world_law, only_grows}
+use Rattle.nb_world.proofs.Moving.{only_grows}
+use Rattle.nb_world.proofs.Serving.{world_law}
 use Rattle.nb_world.proofs.Stopping.{run_then, stop_leaves}
 
 -- ---- orders
@@ -46,7 +47,7 @@ order_later entries later begins order kept is = ap (λ (all : List Entry). orde
 pub order_moves_once : {C M : Type 0} → StaysLegal → OrderMovesOnce C M
 order_moves_once stays p w records setup order es more = (
   settled_once (run p w es).durable (world_law stays p w records setup es).legal order,
-  order_later (run p w es).durable (run p (run p w es) more).durable (only_grows stays p w records setup es more).durable order,
+  order_later (run p w es).durable (run p (run p w es) more).durable (only_grows p (run p w es) more).durable order,
 )
 
 -- ---- money

@@ -3,6 +3,7 @@
 
 ghost use Rattle.nb_world.specs.Headline as headline;
 ghost use Rattle.nb_world.specs.Laws as law;
+ghost use Rattle.nb_world.specs.Nodes as nodes;
 ghost use Rattle.nb_world.specs.Ties as ties;
 ghost use Rattle.nb_world.specs.Worked as worked;
 
@@ -26,12 +27,10 @@ pub fn world_law<C, M>()
     nb_book::laws::stays_legal();
 }
 
-/// Nothing is lost along a run: the durable entries, the packets and what was acknowledged are the first of the later ones.
+/// Nothing is lost along a run, from whatever world: the durable entries, the packets and what was acknowledged are the first of the later ones.
 pub fn only_grows<C, M>()
     ensures { law.OnlyGrows C M }
-{
-    nb_book::laws::stays_legal();
-}
+{}
 
 /// Events and then more of them are the events of one list.
 pub fn run_then<C, M>()
@@ -46,6 +45,29 @@ pub fn entries_have_origins<C, M>()
 /// A call has the phase of the turn exactly where the turn is its: at most one call has the turn.
 pub fn turn_is_of_one_call<C, M>()
     ensures { law.TurnIsOfOneCall C M }
+{}
+
+/// A turn is of a call that has its phase, and its verdict is that on what the call asks over the first durable entries, as many as its
+/// place says; before it is opened these are all of them, and one that is written has an entry.
+pub fn turn_is_of_its_call<C, M>()
+    ensures { law.TurnIsOfItsCall C M }
+{
+    nb_book::laws::stays_legal();
+}
+
+/// The reply to a call that was delivered behind some events was read over at least the entries that were durable by then.
+pub fn replies_read_all<C, M>()
+    ensures { law.RepliesReadAll C M }
+{}
+
+/// What the events of a consumer do: it becomes what its step says and sends that in its own name, and all else is as before.
+pub fn consumer_steps<C, M>()
+    ensures { nodes.ConsumerSteps C M }
+{}
+
+/// What the events of a merchant do: it becomes what its step says and sends that in its own name, and all else is as before.
+pub fn merchant_steps<C, M>()
+    ensures { nodes.MerchantSteps C M }
 {}
 
 /// A packet for a node whose body is not spelled as those of its kind are changes nothing.
@@ -76,6 +98,12 @@ pub fn others_add_nothing<C, M>()
 /// An answer acknowledges the entry of its turn, if there is one, at the place of its verdict, and nothing else.
 pub fn answer_acknowledges<C, M>()
     ensures { law.AnswerAcknowledges C M }
+{}
+
+/// An answer puts one packet more on the network, the reply of its turn, where a node made the packet of the call; where the house or the
+/// network made it, none.
+pub fn answer_replies<C, M>()
+    ensures { law.AnswerReplies C M }
 {}
 
 /// No event but an answer acknowledges anything.
