@@ -13,3 +13,4 @@ pub mod Phasing
 pub mod Answering
 pub mod Going
 pub mod Moving
+pub mod Receipting

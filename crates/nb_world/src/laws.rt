@@ -18,8 +18,8 @@ pub fn unfit_changes_nothing<C, M>()
 {}
 
 /// Over every list of events from a set-up, injections among them: the durable entries are Legal and those that the house works
-/// on; each entry is what the verdict over those before it records for the call that it came by; each acknowledged entry stands at
-/// its place; and each packet that the house made is the verdict's reply over the first durable entries, as many as its place
+/// on; each entry behind the set-up's is what the verdict over those before it records for the call that it came by; each acknowledged
+/// entry stands at its place; and each packet that the house made is the verdict's reply over the first durable entries, as many as its place
 /// says, for the node that asked.
 pub fn world_law<C, M>()
     ensures { law.WorldLaw C M }
@@ -126,8 +126,16 @@ pub fn money_is_conserved<C, M>()
     nb_book::laws::stays_legal();
 }
 
-/// The consumer of an order, and its merchant, is given its key by status query exactly where the payment stands among the durable
-/// entries that the reply tells the number of: where the verdict is the house's, in whatever form its replies are shown.
+/// The house records only what may come next: where the verdict is the house's, in whatever form its replies are shown.
+pub fn house_records_legal<C, M>()
+    ensures { headline.HouseRecordsLegal C M }
+{
+    nb_escrow::laws::records_legal();
+}
+
+/// Each packet that the house made of a status query shows the decision over the durable entries that it tells the number of: to an authentic query
+/// that asks for no more entries than these, the decision's reply gives the key exactly where one of them pays the order and names who asks. So it
+/// is where the verdict is the house's, in whatever form its decisions are shown.
 pub fn key_where_it_stands<C, M>()
     ensures { headline.KeyWhereItStands C M }
 {
@@ -137,7 +145,12 @@ pub fn key_where_it_stands<C, M>()
     nb_escrow::laws::status_tells_the_order();
 }
 
-/// Each run of turns of a house on a disk, whose verdicts are those of a world, is a list of events of each world that has its
+/// Where an order is found, the receipt that its entry tells the consumer, or the merchant, is that of the order's settlement.
+pub fn receipts_of_settlements()
+    ensures { headline.ReceiptsOfSettlements }
+{}
+
+/// Each run of turns, from entries with nothing in doubt, of a house on a disk, whose verdicts are those of a world, is a list of events of each world that has its
 /// entries, a free house and packets of its requests: request by request, and before the requests of a turn those that gave what was
 /// in doubt, with a stop that keeps each, or with one that drops the first. Both lists are then the entries of the run's last state, and
 /// the answers hand out the replies of the requests that have a place, in order.
@@ -160,8 +173,8 @@ pub fn injected_is_recorded()
     ensures { worked.InjectedIsRecorded }
 {}
 
-/// Nodes hear what is for them and spelled as it should be, at the clock's moment; one that waited sends again where it knows the purchase; a
-/// restart leaves what a node kept.
+/// Nodes hear what is for them and spelled as it should be, at the clock's moment; one that waited sends again where it knows the purchase;
+/// behind its restart a merchant is what `merchant_again` says.
 pub fn nodes_hear()
     ensures { worked.NodesHear }
 {}
