@@ -190,9 +190,9 @@ UnreadChangesNothing C M = (p : Rules C M) (w : World C M) (k : ℕ) (packet : P
 abbrev pub IgnoredChangesNothing : Type 0 → Type 0 → Type 0
 IgnoredChangesNothing C M = (p : Rules C M) (w : World C M) (id : PartyId)
     → ((k : ℕ) (packet : Packet) (c : C) → slice_get w.packets k ≡ Some packet → IsConsumer p w id c → packet.to ≡ to.Consumer id
-        → p.consumer_hears c packet.kind packet.body ≡ Stays → next p w (on.Deliver k) ≡ w)
+    → p.consumer_hears c packet.kind packet.body ≡ Stays → next p w (on.Deliver k) ≡ w)
     × ((k : ℕ) (packet : Packet) (m : M) → slice_get w.packets k ≡ Some packet → IsMerchant p w id m → packet.to ≡ to.Merchant id
-        → p.merchant_hears m packet.kind packet.body w.moment ≡ Stays → next p w (on.Deliver k) ≡ w)
+    → p.merchant_hears m packet.kind packet.body w.moment ≡ Stays → next p w (on.Deliver k) ≡ w)
     × ((c : C) (tid : ℕ) → IsConsumer p w id c → p.consumer_waited c tid ≡ Stays → next p w (on.QuietConsumer id tid) ≡ w)
     × ((m : M) (buyer : PartyId) (tid : ℕ) → IsMerchant p w id m → p.merchant_waited m buyer tid ≡ Stays → next p w (on.QuietMerchant id buyer tid) ≡ w)
 

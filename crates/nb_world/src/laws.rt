@@ -178,3 +178,13 @@ pub fn injected_is_recorded()
 pub fn nodes_hear()
     ensures { worked.NodesHear }
 {}
+
+/// Of two consumers the second hears a packet and starts again; a merchant sends, is answered, and hears the reply.
+pub fn each_node_its_own()
+    ensures { worked.EachNodeItsOwn }
+{}
+
+/// Two entries in doubt are kept by two stops that leave each, and dropped by one that does not leave the first.
+pub fn doubt_of_two()
+    ensures { worked.DoubtOfTwo }
+{}
