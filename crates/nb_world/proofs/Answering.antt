@@ -1,7 +1,6 @@
 -- What an answer hands out.
-use Rattle.std.proofs.Common.{◌≡◌, ℕ, List, [], ◌∷◌, ◌++◌, Option, None, Some, refl, sym, ap, ◌∙◌}
+use Rattle.std.proofs.Common.{◌≡◌, ℕ, ◌++◌, Option, Some, refl, sym, ap, ◌∙◌}
 use Rattle.std.proofs.lemmas.List.{append-nil}
-use Rattle.std.proofs.lemmas.Bool.{eqb-true}
 use Rattle.std.specs.Prelude.{◌==◌}
 use Rattle.std.specs.Option.{option_to_list, option_map}
 use Rattle.nb_world.specs.declared.event.Event.TheVariants as on
@@ -11,10 +10,10 @@ use Rattle.nb_world.specs.declared.packet.Packet.{Packet}
 use Rattle.nb_world.specs.declared.packet.To.{To}
 use Rattle.nb_world.specs.declared.packet.To.TheVariants as to
 use Rattle.nb_world.specs.declared.turning.Turning.{Turning}
-use Rattle.nb_world.specs.World.{Rules, World}
+use Rattle.nb_world.specs.World.{World}
 use Rattle.nb_world.specs.Steps.{where_so, may_answer, node_of, asker_of, reply_to, answer_of, step, next, or_same}
 use Rattle.nb_world.specs.Laws.{Asks, RepliesTo, AnswerReplies}
-use Rattle.nb_world.proofs.Chains.{inside, holds, same_some, value}
+use Rattle.nb_world.proofs.Chains.{inside, same_some, value}
 use Rattle.nb_world.proofs.Fitting.{fits_step}
 
 made_by : (t : Turning) (c : ℕ) → t.call ≡ c → ◌≡◌ {A = Maker} (by.Server t.call t.at) (by.Server c t.at)

@@ -1,8 +1,8 @@
 -- What the steps of nodes do to a world.
-use Rattle.std.proofs.Common.{◌≡◌, ◌≢◌, ℕ, zero, suc, Bool, true, false, List, [], ◌∷◌, ◌++◌, length, ◌≤◌, Option, None, Some, refl, sym, ap, subst, ◌∙◌}
+use Rattle.std.proofs.Common.{◌≡◌, ◌≢◌, ℕ, zero, suc, List, [], ◌∷◌, ◌++◌, length, ◌≤◌, Option, None, Some, refl, sym, ap, subst, ◌∙◌}
 use Rattle.std.proofs.lemmas.List.{append-nil, length-set}
 use Rattle.std.proofs.lemmas.Bool.{le-leb}
-use Rattle.std.specs.Prelude.{set, nat_le, IsTrue, if◌then◌else◌}
+use Rattle.std.specs.Prelude.{set, IsTrue}
 use Rattle.std.specs.List.{slice_get}
 use Rattle.nb_units.specs.declared.limits.TheConstants.{MAX_MEMO}
 use Rattle.nb_units.specs.declared.ids.PartyId.{PartyId}
@@ -14,7 +14,7 @@ use Rattle.nb_world.specs.declared.packet.Sending.{Sending}
 use Rattle.nb_world.specs.declared.packet.To.TheVariants as to
 use Rattle.nb_world.specs.declared.start.Start.{Start}
 use Rattle.nb_world.specs.World.{Going, Stays, Goes, Rules, World}
-use Rattle.nb_world.specs.Steps.{where_so, packets_of, consumer_goes, merchant_goes, started, buy_of, quiet_consumer_of, quiet_merchant_of, restart_consumer_of, restart_merchant_of, deliver_of, next, or_same}
+use Rattle.nb_world.specs.Steps.{packets_of, consumer_goes, merchant_goes, started, buy_of, quiet_consumer_of, quiet_merchant_of, restart_consumer_of, restart_merchant_of, deliver_of, next, or_same}
 use Rattle.nb_world.specs.Fits.{IsConsumer, IsMerchant}
 use Rattle.nb_world.specs.Nodes.{Became, IsSameHouse, HasSent, ConsumerWent, MerchantWent, ConsumerGoes, MerchantGoes, ConsumerSteps, MerchantSteps}
 use Rattle.nb_world.proofs.Chains.{so}

@@ -1,7 +1,7 @@
 -- What each event does to calls, packets and entries, in every world.
-use Rattle.std.proofs.Common.{◌≡◌, ◌⊎◌, inl, inr, ℕ, ◌<◌, ◌≤◌, Bool, true, false, List, [], ◌∷◌, ◌++◌, length, Option, None, Some, refl, sym, ap, subst, ◌∙◌, arith, length-append}
+use Rattle.std.proofs.Common.{◌≡◌, ◌⊎◌, inl, inr, ℕ, ◌<◌, ◌≤◌, Bool, List, [], ◌∷◌, ◌++◌, length, Option, None, Some, refl, sym, ap, subst, ◌∙◌, arith, length-append}
 use Rattle.std.proofs.lemmas.Option.{slice_get_within}
-use Rattle.std.specs.Prelude.{◌==◌, map}
+use Rattle.std.specs.Prelude.{◌==◌}
 use Rattle.std.specs.Option.{option_to_list, option_map, is_none}
 use Rattle.std.specs.List.{slice_get, AllByRecursion}
 use Rattle.nb_book.specs.declared.entry.Entry.{Entry}
@@ -15,7 +15,7 @@ use Rattle.nb_world.specs.declared.packet.To.{To}
 use Rattle.nb_world.specs.declared.turning.Stage.TheVariants as stage
 use Rattle.nb_world.specs.declared.turning.Turning.{Turning}
 use Rattle.nb_world.specs.World.{Rules, World, request_of, is_decided, is_written}
-use Rattle.nb_world.specs.Steps.{where_so, is_waiting, set_phase, stopped, may_answer, asker_of, reply_to, acknowledged_by, origin_of, left, origins_left, turn_of, write_of, open_of, answer_of, stop_of, step, next, or_same, run}
+use Rattle.nb_world.specs.Steps.{where_so, is_waiting, set_phase, may_answer, asker_of, reply_to, acknowledged_by, origin_of, left, origins_left, turn_of, write_of, open_of, answer_of, stop_of, step, next, or_same, run}
 use Rattle.nb_world.specs.Laws.{GrowsInto, OnlyGrows, RepliesReadAll}
 use Rattle.nb_world.proofs.Chains.{inside, same_some}
 use Rattle.nb_world.proofs.Lists.{begins_same, all_append, all_weaker, all_at}
