@@ -10,3 +10,7 @@ pub mod Tying
 pub mod Playing
 pub mod Small
 pub mod Phasing
+pub mod Answering
+pub mod Going
+pub mod Moving
+pub mod Receipting

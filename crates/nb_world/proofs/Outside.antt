@@ -50,7 +50,7 @@ pub record Kept {C M : Type 0} (verdict : List Entry → Request → Verdict) (v
   pub sound : Sound verdict w
   pub grows : GrowsInto v w
 
-abbrev outside_grows : {C M : Type 0} (v w : World C M) → Outside v w → GrowsInto v w
+abbrev pub outside_grows : {C M : Type 0} (v w : World C M) → Outside v w → GrowsInto v w
 outside_grows v w out = record {
   durable = ([], out.durable ∙ sym (append-nil v.durable));
   packets = (out.made, out.packets);

@@ -1,10 +1,11 @@
 -- A call has the phase of the turn exactly where the turn is its; what nodes ignore changes nothing.
-use Rattle.std.proofs.Common.{◌≡◌, ◌≢◌, ◌⊎◌, inl, inr, ℕ, zero, suc, Bool, true, false, List, [], ◌∷◌, ◌++◌, Option, None, Some, refl, sym, ap, subst, ◌∙◌, arith}
+use Rattle.std.proofs.Common.{◌≡◌, ◌≢◌, ◌⊎◌, inl, inr, ℕ, zero, suc, Bool, true, false, List, [], ◌∷◌, ◌++◌, length, take, Option, None, Some, refl, sym, ap, subst, ◌∙◌, arith}
 use Rattle.std.proofs.lemmas.Bool.{eqb-true}
-use Rattle.std.specs.Prelude.{◌==◌, map, if◌then◌else◌}
+use Rattle.std.specs.Prelude.{◌==◌, map, IsSome, if◌then◌else◌}
 use Rattle.std.specs.Option.{is_none}
 use Rattle.std.specs.List.{slice_get}
 use Rattle.nb_units.specs.declared.ids.PartyId.{PartyId}
+use Rattle.nb_book.specs.Laws.{StaysLegal}
 use Rattle.nb_world.specs.declared.call.Call.{Call}
 use Rattle.nb_world.specs.declared.call.CallPhase.{CallPhase}
 use Rattle.nb_world.specs.declared.call.CallPhase.TheVariants.{Waiting, InTurn, Answered, Gone}
@@ -13,13 +14,17 @@ use Rattle.nb_world.specs.declared.event.Event.TheVariants as on
 use Rattle.nb_world.specs.declared.packet.Packet.{Packet}
 use Rattle.nb_world.specs.declared.packet.To.{To}
 use Rattle.nb_world.specs.declared.packet.To.TheVariants as to
+use Rattle.nb_world.specs.declared.turning.Stage.{Stage}
+use Rattle.nb_world.specs.declared.turning.Stage.TheVariants as stage
 use Rattle.nb_world.specs.declared.turning.Turning.{Turning}
-use Rattle.nb_world.specs.World.{Going, Stays, Rules, World, is_decided, is_written}
+use Rattle.nb_world.specs.World.{Going, Stays, Rules, World, request_of, is_decided, is_written}
 use Rattle.nb_world.specs.Steps.{◌>>=◌, where_so, is_waiting, in_phase, set_phase, stopped, phase_stopped, may_answer, consumer_goes, merchant_goes, consumer_at, merchant_at, delivered_to, deliver_of, quiet_consumer_of, quiet_merchant_of, turn_of, write_of, open_of, answer_of, stop_of, step, next, or_same, run}
 use Rattle.nb_world.specs.Fits.{IsConsumer, IsMerchant}
-use Rattle.nb_world.specs.Laws.{OneHasTurn, TurnIsOfOneCall, UnreadChangesNothing, IgnoredChangesNothing}
+use Rattle.nb_world.specs.Laws.{OneHasTurn, TurnIsOfOneCall, TurnIsOfItsCall, UnreadChangesNothing, IgnoredChangesNothing}
 use Rattle.nb_world.proofs.Chains.{inside, holds, no_value, same_some}
 use Rattle.nb_world.proofs.Lists.{get_append, all_at, Remains, phase_remains}
+use Rattle.nb_world.proofs.Growing.{StageSo, TurnSo, TurnIs}
+use Rattle.nb_world.proofs.Serving.{run_kept, setup_sound}
 use Rattle.nb_world.proofs.Outside.{Outside, buy_outside, quiet_consumer_outside, quiet_merchant_outside, restart_consumer_outside, restart_merchant_outside, clock_outside, inject_outside, deliver_outside}
 
 -- ---- calls
@@ -60,12 +65,18 @@ stopped_get (x ∷ calls) (suc c) call is same = stopped_get calls c call is sam
 record PhaseSo {C M : Type 0} (w : World C M) : Type 0 where
   pub one : OneHasTurn w
   pub there : (t : Turning) → w.turn ≡ Some t → (call : Call) × (slice_get w.calls t.call ≡ Some call)
+  pub written : (t : Turning) → w.turn ≡ Some t → t.stage ≡ stage.Written → IsSome t.verdict.entry
+
+some_is : {A : Type 0} (o : Option A) (x : A) → o ≡ Some x → IsSome o
+some_is (Some y) x is = refl
+some_is None x is = absurd cc
 
 module _ {C M : Type 0} where
   free_so : (w : World C M) → w.turn ≡ None → ((c : ℕ) (call : Call) → slice_get w.calls c ≡ Some call → call.phase ≢ InTurn) → PhaseSo w
   free_so w free none = record {
     one = λ c call there. ((λ in_turn. absurd (none c call there in_turn)), (λ has. let e : None ≡ Some has.0 = sym free ∙ has.1 in absurd cc));
     there = λ t is. let e : None ≡ Some t = sym free ∙ is in absurd cc;
+    written = λ t is. let e : None ≡ Some t = sym free ∙ is in absurd cc;
   }
 
   -- where the turn is free no call has its phase
@@ -76,6 +87,7 @@ module _ {C M : Type 0} where
   outside_so v w so out = record {
     one = λ c call there. cases c call (append_get v.calls out.asked c call (ap (λ calls. slice_get calls c) (sym out.calls) ∙ there));
     there = λ t is. let found = so.there t (sym out.turn ∙ is) in (found.0, ap (λ calls. slice_get calls t.call) out.calls ∙ get_append v.calls out.asked t.call found.0 found.1);
+    written = λ t is. so.written t (sym out.turn ∙ is);
   }
     where
       cases : (c : ℕ) (call : Call) → (slice_get v.calls c ≡ Some call) ⊎ ((k : ℕ) × (slice_get out.asked k ≡ Some call) × ((other : Call) → slice_get v.calls c ≢ Some other))
@@ -91,8 +103,8 @@ module _ {C M : Type 0} where
           )
 
   -- the turn comes to another stage, of the same call, and calls are as they were
-  staged_so : (v w : World C M) (t u : Turning) → PhaseSo v → v.turn ≡ Some t → w.turn ≡ Some u → u.call ≡ t.call → w.calls ≡ v.calls → PhaseSo w
-  staged_so v w t u so old new same calls = record {
+  staged_so : (v w : World C M) (t u : Turning) → PhaseSo v → v.turn ≡ Some t → w.turn ≡ Some u → u.call ≡ t.call → w.calls ≡ v.calls → (u.stage ≡ stage.Written → IsSome u.verdict.entry) → PhaseSo w
+  staged_so v w t u so old new same calls has = record {
     one = λ c call there.
         let before : slice_get v.calls c ≡ Some call = ap (λ all. slice_get all c) (sym calls) ∙ there in (
           (λ in_turn. let has = (so.one c call before).0 in_turn in let one : t ≡ has.0 = same_some t has.0 (sym old ∙ has.1) in (u, new, same ∙ ap (λ (x : Turning). x.call) one ∙ has.2)),
@@ -102,6 +114,7 @@ module _ {C M : Type 0} where
         let one : u ≡ x = same_some u x (sym new ∙ is) in
         let found = so.there t old in
         (found.0, ap (λ all. slice_get all x.call) calls ∙ ap (slice_get v.calls) (sym (ap (λ (y : Turning). y.call) one) ∙ same) ∙ found.1);
+    written = λ x is. subst (λ (y : Turning). y.stage ≡ stage.Written → IsSome y.verdict.entry) (same_some u x (sym new ∙ is)) has;
   }
 
   turn_so : (p : Rules C M) (v w : World C M) (n : ℕ) → PhaseSo v → turn_of p v n ≡ Some w → PhaseSo w
@@ -113,10 +126,11 @@ module _ {C M : Type 0} where
       let packet = inside (slice_get v.packets call.0.packet) _ w waits.2 in
       let none : v.turn ≡ None = no_value v.turn (holds _ free.0 free.1) in
       let same = same_some _ w packet.2 in
-      taken (no_value v.turn (holds _ free.0 free.1)) call.0 call.1 _ (sym (ap (λ (x : World C M). x.turn) same)) refl (sym (ap (λ (x : World C M). x.calls) same))
+      taken (no_value v.turn (holds _ free.0 free.1)) call.0 call.1 _ (sym (ap (λ (x : World C M). x.turn) same)) refl (sym (ap (λ (x : World C M). x.calls) same)) refl
     where
-      taken : v.turn ≡ None → (found : Call) → slice_get v.calls n ≡ Some found → (t : Turning) → w.turn ≡ Some t → t.call ≡ n → w.calls ≡ set_phase InTurn v.calls n → PhaseSo w
-      taken none found stands t now its calls = record {
+      taken : v.turn ≡ None → (found : Call) → slice_get v.calls n ≡ Some found → (t : Turning) → w.turn ≡ Some t → t.call ≡ n → w.calls ≡ set_phase InTurn v.calls n → t.stage ≡ stage.Decided → PhaseSo w
+      taken none found stands t now its calls decided = record {
+        written = λ x is written. let e : stage.Decided ≡ stage.Written = sym decided ∙ ap (λ (y : Turning). y.stage) (same_some t x (sym now ∙ is)) ∙ written in absurd cc;
         one = λ c call there. cases c call (phase_get InTurn v.calls n c call (ap (λ all. slice_get all c) (sym calls) ∙ there));
         there = λ x is.
             let one : t ≡ x = same_some t x (sym now ∙ is) in
@@ -140,7 +154,7 @@ module _ {C M : Type 0} where
       let decided = inside (where_so (is_decided t.0.stage)) _ w its.2 in
       let entry = inside t.0.verdict.entry _ w decided.2 in
       let same = sym (same_some _ w entry.2) in
-      staged_so v w t.0 _ so t.1 (ap (λ (x : World C M). x.turn) same) refl (ap (λ (x : World C M). x.calls) same)
+      staged_so v w t.0 _ so t.1 (ap (λ (x : World C M). x.turn) same) refl (ap (λ (x : World C M). x.calls) same) (λ written. some_is t.0.verdict.entry entry.0 entry.1)
 
   open_so : (v w : World C M) (n : ℕ) → PhaseSo v → open_of v n ≡ Some w → PhaseSo w
   unfolding open_of
@@ -150,7 +164,7 @@ module _ {C M : Type 0} where
       let written = inside (where_so (is_written t.0.stage)) _ w its.2 in
       let entry = inside t.0.verdict.entry _ w written.2 in
       let same = sym (same_some _ w entry.2) in
-      staged_so v w t.0 _ so t.1 (ap (λ (x : World C M). x.turn) same) refl (ap (λ (x : World C M). x.calls) same)
+      staged_so v w t.0 _ so t.1 (ap (λ (x : World C M). x.turn) same) refl (ap (λ (x : World C M). x.calls) same) (λ written. absurd cc)
 
   answer_so : (v w : World C M) (n : ℕ) → PhaseSo v → answer_of v n ≡ Some w → PhaseSo w
   unfolding answer_of
@@ -198,9 +212,34 @@ module _ {C M : Type 0} where
   run_so p v [] so = so
   run_so p v (e ∷ es) so = run_so p (next p v e) es (next_so p v e so)
 
+first_so : {C M : Type 0} (w : World C M) → w.turn ≡ None → w.calls ≡ [] → PhaseSo w
+first_so w no_turn no_calls = free_so w no_turn (λ c call there. let e : slice_get [] c ≡ Some call = ap (λ calls. slice_get calls c) (sym no_calls) ∙ there in absurd cc)
+
 pub turn_is_of_one_call : {C M : Type 0} → TurnIsOfOneCall C M
-turn_is_of_one_call p w setup es =
-    (run_so p w es (free_so w setup.no_turn (λ c call there. let e : slice_get [] c ≡ Some call = ap (λ calls. slice_get calls c) (sym setup.no_calls) ∙ there in absurd cc))).one
+turn_is_of_one_call p w no_turn no_calls es = (run_so p w es (first_so w no_turn no_calls)).one
+
+-- and it is what its call has, on what that asks
+pub turn_is_of_its_call : {C M : Type 0} → StaysLegal → TurnIsOfItsCall C M
+turn_is_of_its_call {C} {M} stays p w records setup es t is =
+    let so : PhaseSo (run p w es) = run_so p w es (first_so w setup.no_turn setup.no_calls) in
+    let sound : TurnSo p.verdict (run p w es) t = subst (TurnIs p.verdict (run p w es)) is (run_kept stays p records w (setup_sound p.verdict w setup) es).sound.turn in
+    record {
+      call = sound.asks.call;
+      packet = sound.packet;
+      stands = sound.asks.is;
+      in_turn = (so.one t.call sound.asks.call sound.asks.is).1 (t, is, refl);
+      of = sound.asks.of;
+      within = sound.within;
+      decided = sound.decided ∙ ap (λ (moment : ℕ). p.verdict (take t.at (run p w es).durable) (request_of sound.packet moment)) (sym sound.asks.at);
+      written = so.written t is;
+      unopened = unopened (run p w es) t t.stage sound.stage;
+      opened = λ opened. subst (StageSo (run p w es) t) opened sound.stage;
+    }
+  where
+    unopened : (v : World C M) (t : Turning) (s : Stage) → StageSo v t s → s ≢ stage.Opened → t.at ≡ length v.durable
+    unopened v t stage.Decided so not = so
+    unopened v t stage.Written so not = so
+    unopened v t stage.Opened so not = absurd (not refl)
 
 -- ---- nodes
 
@@ -281,9 +320,9 @@ pub unread_changes_nothing : {C M : Type 0} → UnreadChangesNothing C M
 unread_changes_nothing p w k packet stands node is = unread p w k packet stands node is
 
 pub ignored_changes_nothing : {C M : Type 0} → IgnoredChangesNothing C M
-ignored_changes_nothing p w k packet id stands = (
-  consumer_ignores p w k packet id stands,
-  merchant_ignores p w k packet id stands,
+ignored_changes_nothing p w id = (
+  (λ k packet c stands. consumer_ignores p w k packet id stands c),
+  (λ k packet m stands. merchant_ignores p w k packet id stands m),
   (λ c tid is ignored. quiet_consumer_ignores p w id c tid is ignored),
   (λ m buyer tid is ignored. quiet_merchant_ignores p w id m buyer tid is ignored),
 )

@@ -266,7 +266,7 @@ module _ {C M : Type 0} (p : Rules C M) (fault : ℕ → ℕ → List ℕ) (worn
         record {
           here = [];
           gives = gave;
-          plays = inl (entries, doubt, refl, refl);
+          plays = inl (unsettled.0, entries, doubt, refl, refl);
           goes = subst (λ told. Goes w old.entries [] told new.entries) (sym (failed_tell_nothing before after (fault before after) requests))
               (subst (Goes w old.entries [] []) (sym entries) (goes_none w old.entries at));
           give = subst (λ es. Gives (house_of p fault worn) es gave new.doubt) (sym entries) (subst (Gives (house_of p fault worn) old.entries gave) (sym doubt) gives);
@@ -281,7 +281,12 @@ module _ {C M : Type 0} (p : Rules C M) (fault : ℕ → ℕ → List ℕ) (worn
         record {
           here = first.settling;
           gives = givers (house_of p fault worn) new.entries requests;
-          plays = inr (subst (λ es. Settling old gave es first.settling) (sym entries) first.so, refl);
+          plays = inr (
+            subst (λ es. Settling old gave es first.settling) (sym entries) first.so,
+            (λ none. d.some (sym doubt ∙ none)),
+            doubt ∙ ap (λ es. recorded (house_of p fault worn) es requests) (sym entries),
+            refl,
+          );
           goes = subst (λ told. Goes w old.entries first.settling told new.entries) (sym (failed_tell_nothing before after (fault before after) requests))
               (subst (Goes w old.entries first.settling []) (sym entries) first.goes);
           give = subst (Gives (house_of p fault worn) new.entries (givers (house_of p fault worn) new.entries requests))

@@ -27,7 +27,7 @@ use Rattle.nb_world.specs.declared.turning.Turning.{Turning}
 use Rattle.nb_world.specs.declared.turning.Verdict.{Verdict}
 use Rattle.nb_world.specs.World.{Rules, World, request_of, is_decided, is_written, written_at}
 use Rattle.nb_world.specs.Steps.{where_so, is_waiting, in_phase, set_phase, stopped, may_answer, node_of, asker_of, reply_to, acknowledged_by, origin_of, left, origins_left, turn_of, write_of, open_of, answer_of, stop_of, step, next, or_same, run}
-use Rattle.nb_world.specs.Laws.{Asks, CallsHouse, CameBy, StandsDurable, IsAsker, RepliesSo, RecordsLegal, IsSetUp, WorldLaw, GrowsInto, OnlyGrows}
+use Rattle.nb_world.specs.Laws.{Asks, CallsHouse, CameBy, StandsDurable, IsAsker, RepliesSo, RecordsLegal, IsSetUp, WorldLaw, GrowsInto}
 use Rattle.nb_world.proofs.Chains.{inside, holds, same_some}
 use Rattle.nb_world.proofs.Lists.{get_last, begins_same, Remains, phase_remains, stopped_remains, all_phase, all_stopped}
 use Rattle.nb_world.proofs.Growing.{StageSo, TurnSo, TurnIs, Sound, grows_same, grows_then, lawful_later, called_later, take_begins, get_begins}
@@ -437,7 +437,3 @@ setup_sound verdict w is = record {
 
 pub world_law : {C M : Type 0} → StaysLegal → WorldLaw C M
 world_law stays p w records setup es = (run_kept stays p records w (setup_sound p.verdict w setup) es).sound.lawful
-
-pub only_grows : {C M : Type 0} → StaysLegal → OnlyGrows C M
-only_grows stays p w records setup es more =
-    (run_kept stays p records (run p w es) (run_kept stays p records w (setup_sound p.verdict w setup) es).sound more).grows

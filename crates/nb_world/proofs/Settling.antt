@@ -32,10 +32,11 @@ use Rattle.nb_world.specs.declared.turning.Verdict.{Verdict}
 use Rattle.nb_world.specs.World.{Rules, World, request_of, commits}
 use Rattle.nb_world.specs.Steps.{run, next}
 use Rattle.nb_world.specs.Laws.{RecordsLegal, IsSetUp, Asks, IsReply, RepliesSo, IsLawfulWorld, Begins}
-use Rattle.nb_world.specs.Headline.{OrderMovesOnce, MoneyIsConserved, verdict_shown, TellsKey, KeyWhereItStands}
+use Rattle.nb_world.specs.Headline.{OrderMovesOnce, MoneyIsConserved, verdict_shown, HouseRecordsLegal, TellsKey, KeyWhereItStands}
 use Rattle.nb_world.proofs.Chains.{same_some}
 use Rattle.nb_world.proofs.Lists.{all_at}
-use Rattle.nb_world.proofs.Serving.{world_law, only_grows}
+use Rattle.nb_world.proofs.Moving.{only_grows}
+use Rattle.nb_world.proofs.Serving.{world_law}
 use Rattle.nb_world.proofs.Stopping.{run_then, stop_leaves}
 
 -- ---- orders
@@ -46,7 +47,7 @@ order_later entries later begins order kept is = ap (λ (all : List Entry). orde
 pub order_moves_once : {C M : Type 0} → StaysLegal → OrderMovesOnce C M
 order_moves_once stays p w records setup order es more = (
   settled_once (run p w es).durable (world_law stays p w records setup es).legal order,
-  order_later (run p w es).durable (run p (run p w es) more).durable (only_grows stays p w records setup es more).durable order,
+  order_later (run p w es).durable (run p (run p w es) more).durable (only_grows p (run p w es) more).durable order,
 )
 
 -- ---- money
@@ -78,14 +79,20 @@ same_call w c one other first second a b =
 abbrev Decides : Type 0
 Decides = List Entry → ℕ → List ℕ → ℕ → Decision
 
+legal_by : {C M : Type 0} (p : Rules C M) (shown : Decision → Frame) (decide : Decides)
+    → ((entries : List Entry) (request : Request) → p.verdict entries request ≡ verdict_shown shown (decide entries request.kind request.body request.moment))
+    → ((entries : List Entry) (kind : ℕ) (body : List ℕ) (moment : ℕ) (entry : Entry) → (decide entries kind body moment).entry ≡ Some entry → LegalAfter entries entry)
+    → RecordsLegal p.verdict
+legal_by p shown decide by_house legal entries request entry is has =
+    legal entries request.kind request.body request.moment entry (ap (λ (x : Verdict). x.entry) (sym (by_house entries request)) ∙ has)
+
 module _ {C M : Type 0} (stays : StaysLegal) (p : Rules C M) (shown : Decision → Frame) (decide : Decides)
     (by_house : (entries : List Entry) (request : Request) → p.verdict entries request ≡ verdict_shown shown (decide entries request.kind request.body request.moment))
     (legal : (entries : List Entry) (kind : ℕ) (body : List ℕ) (moment : ℕ) (entry : Entry) → (decide entries kind body moment).entry ≡ Some entry → LegalAfter entries entry)
     (key : (entries : List Entry) → Legal entries → (body : List ℕ) (moment : ℕ) → KeyWherePaid entries body (decide entries STATUS_REQUEST body moment).reply)
     (told : (entries : List Entry) (body : List ℕ) (moment : ℕ) → TellsStatus entries body (decide entries STATUS_REQUEST body moment).reply) where
   records : RecordsLegal p.verdict
-  records entries request entry is has =
-      legal entries request.kind request.body request.moment entry (ap (λ (x : Verdict). x.entry) (sym (by_house entries request)) ∙ has)
+  records = legal_by p shown decide by_house legal
 
   place_told : (entries : List Entry) (body : List ℕ) (moment place : ℕ) (order : Epoid) (receipt : Option Receipt)
       → (decide entries STATUS_REQUEST body moment).reply ≡ Status place order receipt → place ≡ length entries
@@ -117,6 +124,11 @@ module _ {C M : Type 0} (stays : StaysLegal) (p : Rules C M) (shown : Decision �
       let lawful : IsLawfulWorld p.verdict (run p w es) = world_law stays p w records setup es in
       let so : RepliesSo p.verdict (run p w es) made made.maker = all_at (λ (x : Packet). RepliesSo p.verdict (run p w es) x x.maker) (run p w es).packets k made there lawful.replies in
       tells (run p w es) lawful made packet c at moment (subst (RepliesSo p.verdict (run p w es) made) maker so) asks status
+
+pub house_records_legal : {C M : Type 0} → escrow.RecordsLegal → HouseRecordsLegal C M
+house_records_legal legal p shown head cap by_house =
+    legal_by p shown (λ entries kind body moment. verdict entries head cap kind body moment) by_house
+    (λ entries kind body moment entry has. (legal entries head cap kind body moment entry has).0)
 
 pub key_where_it_stands : {C M : Type 0} → StaysLegal → escrow.RecordsLegal → StatusTellsKey → StatusTellsTheOrder → KeyWhereItStands C M
 key_where_it_stands stays legal key told p shown head cap by_house =

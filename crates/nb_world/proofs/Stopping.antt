@@ -54,6 +54,10 @@ left_is entries false turn = append-nil entries
 pub stop_leaves : {C M : Type 0} → StopLeaves C M
 unfolding stop_of
 stop_leaves p w keep = record {
+  consumers = refl;
+  merchants = refl;
+  packets = refl;
+  moment = refl;
   durable = left_is w.durable keep w.turn;
   server = refl;
   free = refl;
@@ -266,7 +270,7 @@ module _ {C M : Type 0} (first : World C M) where
   run_origins p v has (e ∷ es) = run_origins p (next p v e) (adds_origins v (next p v e) has (next_adds p v e)) es
 
 pub entries_have_origins : {C M : Type 0} → EntriesHaveOrigins C M
-entries_have_origins p w setup es = run_origins w p w (record {
-  as_many = omega (arith, ap length setup.no_origins);
-  in_order = λ k origin there. let e : slice_get [] k ≡ Some origin = ap (λ all. slice_get all k) (sym setup.no_origins) ∙ there in absurd cc;
+entries_have_origins p w none es = run_origins w p w (record {
+  as_many = omega (arith, ap length none);
+  in_order = λ k origin there. let e : slice_get [] k ≡ Some origin = ap (λ all. slice_get all k) (sym none) ∙ there in absurd cc;
 }) es

@@ -57,12 +57,12 @@ pub record Asked {C M : Type 0} (p : Rules C M) (w : World C M) (request : Reque
   pub calls : length end.calls ≡ length w.calls + 1
   pub packets : Begins end.packets w.packets
 
-length_phase : (phase : CallPhase) (calls : List Call) (k : ℕ) → length (set_phase phase calls k) ≡ length calls
+pub length_phase : (phase : CallPhase) (calls : List Call) (k : ℕ) → length (set_phase phase calls k) ≡ length calls
 length_phase phase [] k = refl
 length_phase phase (x ∷ calls) zero = refl
 length_phase phase (x ∷ calls) (suc k) = ap suc (length_phase phase calls k)
 
-length_stopped : (calls : List Call) → length (map stopped calls) ≡ length calls
+pub length_stopped : (calls : List Call) → length (map stopped calls) ≡ length calls
 length_stopped [] = refl
 length_stopped (x ∷ calls) = ap suc (length_stopped calls)
 

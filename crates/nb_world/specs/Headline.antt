@@ -5,6 +5,7 @@ use Rattle.nb_units.specs.declared.epoid.Epoid.{Epoid}
 use Rattle.nb_units.specs.declared.frames.TheConstants.{STATUS_REQUEST}
 use Rattle.nb_units.specs.Frames.{Frame}
 use Rattle.nb_book.specs.declared.entry.Entry.{Entry}
+use Rattle.nb_book.specs.declared.entry.TheConstants.{CONSUMER, MERCHANT}
 use Rattle.nb_book.specs.declared.kept.Kept.{Kept}
 use Rattle.nb_book.specs.Searches.{order_in, settles}
 use Rattle.nb_turns.specs.Turns.{Request}
@@ -13,7 +14,10 @@ use Rattle.nb_endorse.specs.declared.receipt.Receipt.{Receipt}
 use Rattle.nb_endorse.specs.declared.reply.Reply.TheVariants.{Status}
 use Rattle.nb_escrow.specs.declared.decision.Decision.{Decision}
 use Rattle.nb_escrow.specs.declared.head.Head.{Head}
+use Rattle.nb_escrow.specs.declared.settlement.Settlement.{Settlement}
 use Rattle.nb_escrow.specs.Laws.{KeyWherePaid}
+use Rattle.nb_escrow.specs.Replies.{merchant_receipt, consumer_receipt}
+use Rattle.nb_escrow.specs.Settlements.{settlement_in, receipt_in_role}
 use Rattle.nb_escrow.specs.Verdict.{verdict}
 use Rattle.nb_world.specs.declared.event.Event.{Event}
 use Rattle.nb_world.specs.declared.packet.Maker.TheVariants as by
@@ -42,7 +46,8 @@ MoneyIsConserved C M = (p : Rules C M) (w : World C M) → RecordsLegal p.verdic
 abbrev pub verdict_shown : (Decision → Frame) → Decision → Verdict
 verdict_shown shown decision = record { kind = (shown decision).kind; body = (shown decision).body; entry = decision.entry }
 
--- the verdicts are those of the house with this head and cap, whose replies are shown in this way
+-- the verdicts are those of the house with this head and cap, whose decisions are shown as frames in this way, whichever it is: what is said of
+-- such a world speaks of the decision's reply, and of a frame only that it shows the decision so
 abbrev pub GoesByHouse : {C M : Type 0} → Rules C M → (Decision → Frame) → Head → ℕ → Type 0
 GoesByHouse p shown head cap = (entries : List Entry) (request : Request)
     → p.verdict entries request ≡ verdict_shown shown (verdict entries head cap request.kind request.body request.moment)
@@ -56,11 +61,24 @@ pub record TellsKey (decision : Decision) (shown : Decision → Frame) (entries 
   pub place : (place : ℕ) (order : Epoid) (receipt : Option Receipt) → decision.reply ≡ Status place order receipt → place ≡ at
   pub key : KeyWherePaid (take at entries) body decision.reply
 
--- a party of an order is given its key by status query exactly where the payment stands: whichever query was delivered, when it had its
--- turn, and whatever else happened, the packet that the house made of it is so
+-- the verdicts of such a world record only what may come next
+abbrev pub HouseRecordsLegal : Type 0 → Type 0 → Type 0
+HouseRecordsLegal C M = (p : Rules C M) (shown : Decision → Frame) (head : Head) (cap : ℕ) → GoesByHouse p shown head cap → RecordsLegal p.verdict
+
+-- each packet that the house made of a status query tells how many entries it was read over; and where the query is authentic and asks for no more
+-- than these, it gives the key exactly where one of them pays the order and names who asks: whenever the query was delivered, when it had its turn,
+-- and whatever else happened
 abbrev pub KeyWhereItStands : Type 0 → Type 0 → Type 0
 KeyWhereItStands C M = (p : Rules C M) (shown : Decision → Frame) (head : Head) (cap : ℕ) → GoesByHouse p shown head cap
     → (w : World C M) → IsSetUp w → (es : List Event) (k c at : ℕ) (made packet : Packet) (moment : ℕ)
     → slice_get (run p w es).packets k ≡ Some made → made.maker ≡ by.Server c at
     → Asks (run p w es) c packet moment → packet.kind ≡ STATUS_REQUEST
     → TellsKey (verdict (take at (run p w es).durable) head cap STATUS_REQUEST packet.body moment) shown (run p w es).durable packet.body at made
+
+-- ---- receipts
+
+-- where an order is found, the receipt that its entry tells the consumer, or the merchant, is that of the order's settlement for this role
+abbrev pub ReceiptsOfSettlements : Type 0
+ReceiptsOfSettlements = (entries : List Entry) (order : Epoid) (kept : Kept) (receipt : Receipt) → order_in entries order ≡ Some kept
+    → (consumer_receipt kept ≡ Some receipt → (s : Settlement) × (settlement_in entries order ≡ Some s) × (receipt ≡ receipt_in_role CONSUMER s))
+    × (merchant_receipt kept ≡ Some receipt → (s : Settlement) × (settlement_in entries order ≡ Some s) × (receipt ≡ receipt_in_role MERCHANT s))

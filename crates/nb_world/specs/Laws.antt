@@ -16,6 +16,7 @@ use Rattle.nb_world.specs.declared.packet.To.{To}
 use Rattle.nb_world.specs.declared.packet.To.TheVariants as to
 use Rattle.nb_world.specs.declared.turning.Acknowledged.{Acknowledged}
 use Rattle.nb_world.specs.declared.turning.Origin.{Origin}
+use Rattle.nb_world.specs.declared.turning.Stage.TheVariants as stage
 use Rattle.nb_world.specs.declared.turning.Turning.{Turning}
 use Rattle.nb_world.specs.declared.turning.Verdict.{Verdict}
 use Rattle.nb_world.specs.World.{Stays, Rules, World, request_of, commits}
@@ -127,22 +128,21 @@ pub record GrowsInto {C M : Type 0} (w later : World C M) : Type 0 where
   pub acknowledged : Begins later.acknowledged w.acknowledged
   pub calls : (c : ℕ) (packet : Packet) (moment : ℕ) → Asks w c packet moment → Asks later c packet moment
 
--- a world of a run grows into each later one
+-- every world grows into each later one
 abbrev pub OnlyGrows : Type 0 → Type 0 → Type 0
-OnlyGrows C M = (p : Rules C M) (w : World C M) → RecordsLegal p.verdict → IsSetUp w → (es more : List Event)
-    → GrowsInto (run p w es) (run p (run p w es) more)
+OnlyGrows C M = (p : Rules C M) (w : World C M) (es : List Event) → GrowsInto w (run p w es)
 
 -- behind a list of events and more of them stands what stands behind the more of them from there
 abbrev pub RunThen : Type 0 → Type 0 → Type 0
 RunThen C M = (p : Rules C M) (w : World C M) (es more : List Event) → run p w (es ++ more) ≡ run p (run p w es) more
 
--- the entries behind those at the set-up have each a call that they came by, in their order
+-- the entries behind those of a first world have each a call that they came by, in their order
 pub record HasOrigins {C M : Type 0} (first w : World C M) : Type 0 where
   pub as_many : length w.durable ≡ length first.durable + length w.origins
   pub in_order : (k : ℕ) (origin : Origin) → slice_get w.origins k ≡ Some origin → origin.place ≡ length first.durable + k
 
 abbrev pub EntriesHaveOrigins : Type 0 → Type 0 → Type 0
-EntriesHaveOrigins C M = (p : Rules C M) (w : World C M) → IsSetUp w → (es : List Event) → HasOrigins w (run p w es)
+EntriesHaveOrigins C M = (p : Rules C M) (w : World C M) → w.origins ≡ [] → (es : List Event) → HasOrigins w (run p w es)
 
 -- ---- the turn
 
@@ -150,9 +150,34 @@ EntriesHaveOrigins C M = (p : Rules C M) (w : World C M) → IsSetUp w → (es :
 abbrev pub OneHasTurn : {C M : Type 0} → World C M → Type 0
 OneHasTurn w = (c : ℕ) (call : Call) → slice_get w.calls c ≡ Some call → (call.phase ≡ InTurn) ↔ ((t : Turning) × (w.turn ≡ Some t) × (t.call ≡ c))
 
--- so it is in each world of a run, so that at most one call has the turn
+-- so it is in each world of a run from one without turn and call, so that at most one call has the turn
 abbrev pub TurnIsOfOneCall : Type 0 → Type 0 → Type 0
-TurnIsOfOneCall C M = (p : Rules C M) (w : World C M) → IsSetUp w → (es : List Event) → OneHasTurn (run p w es)
+TurnIsOfOneCall C M = (p : Rules C M) (w : World C M) → w.turn ≡ None → w.calls ≡ [] → (es : List Event) → OneHasTurn (run p w es)
+
+-- a turn is of a call that has its phase, and its verdict is that on what the call asks over the first entries, as many as its place says. Before
+-- it is opened these are all entries, and behind that its own is the next; and one that is written has an entry
+pub record IsTurnOf {C M : Type 0} (verdict : List Entry → Request → Verdict) (w : World C M) (t : Turning) : Type 0 where
+  pub call : Call
+  pub packet : Packet
+  pub stands : slice_get w.calls t.call ≡ Some call
+  pub in_turn : call.phase ≡ InTurn
+  pub of : slice_get w.packets call.packet ≡ Some packet
+  pub within : t.at ≤ length w.durable
+  pub decided : t.verdict ≡ verdict (take t.at w.durable) (request_of packet call.moment)
+  pub written : t.stage ≡ stage.Written → IsSome t.verdict.entry
+  pub unopened : t.stage ≢ stage.Opened → t.at ≡ length w.durable
+  pub opened : t.stage ≡ stage.Opened → (entry : Entry) × (t.verdict.entry ≡ Some entry) × (slice_get w.durable t.at ≡ Some entry)
+
+-- so is the turn of each world of a run from a set-up, where it has one
+abbrev pub TurnIsOfItsCall : Type 0 → Type 0 → Type 0
+TurnIsOfItsCall C M = (p : Rules C M) (w : World C M) → RecordsLegal p.verdict → IsSetUp w → (es : List Event) (t : Turning)
+    → (run p w es).turn ≡ Some t → IsTurnOf p.verdict (run p w es) t
+
+-- a reply to a call that was delivered behind some events says a place at which none of the entries durable by then stands: it was read over all of them
+abbrev pub RepliesReadAll : Type 0 → Type 0 → Type 0
+RepliesReadAll C M = (p : Rules C M) (w : World C M) → w.server ≡ w.durable → w.packets ≡ [] → w.turn ≡ None → (before more : List Event) (k c at : ℕ) (made : Packet)
+    → slice_get (run p w (before ++ more)).packets k ≡ Some made → made.maker ≡ by.Server c at
+    → length (run p w before).calls ≤ c → length (run p w before).durable ≤ at
 
 -- ---- nodes
 
@@ -163,9 +188,11 @@ UnreadChangesNothing C M = (p : Rules C M) (w : World C M) (k : ℕ) (packet : P
 
 -- a packet that a node ignores changes nothing, and neither does one that heard nothing for long and ignores it
 abbrev pub IgnoredChangesNothing : Type 0 → Type 0 → Type 0
-IgnoredChangesNothing C M = (p : Rules C M) (w : World C M) (k : ℕ) (packet : Packet) (id : PartyId) → slice_get w.packets k ≡ Some packet
-    → ((c : C) → IsConsumer p w id c → packet.to ≡ to.Consumer id → p.consumer_hears c packet.kind packet.body ≡ Stays → next p w (on.Deliver k) ≡ w)
-    × ((m : M) → IsMerchant p w id m → packet.to ≡ to.Merchant id → p.merchant_hears m packet.kind packet.body w.moment ≡ Stays → next p w (on.Deliver k) ≡ w)
+IgnoredChangesNothing C M = (p : Rules C M) (w : World C M) (id : PartyId)
+    → ((k : ℕ) (packet : Packet) (c : C) → slice_get w.packets k ≡ Some packet → IsConsumer p w id c → packet.to ≡ to.Consumer id
+    → p.consumer_hears c packet.kind packet.body ≡ Stays → next p w (on.Deliver k) ≡ w)
+    × ((k : ℕ) (packet : Packet) (m : M) → slice_get w.packets k ≡ Some packet → IsMerchant p w id m → packet.to ≡ to.Merchant id
+    → p.merchant_hears m packet.kind packet.body w.moment ≡ Stays → next p w (on.Deliver k) ≡ w)
     × ((c : C) (tid : ℕ) → IsConsumer p w id c → p.consumer_waited c tid ≡ Stays → next p w (on.QuietConsumer id tid) ≡ w)
     × ((m : M) (buyer : PartyId) (tid : ℕ) → IsMerchant p w id m → p.merchant_waited m buyer tid ≡ Stays → next p w (on.QuietMerchant id buyer tid) ≡ w)
 
@@ -175,9 +202,13 @@ IgnoredChangesNothing C M = (p : Rules C M) (w : World C M) (k : ℕ) (packet : 
 abbrev pub IsOver : Call → Type 0
 IsOver call = (call.phase ≡ Answered) ⊎ (call.phase ≡ Gone)
 
--- what is behind a stop: the commit list, or the durable entries alone; a house without a turn that works on these; no call that is
--- neither answered nor gone
+-- what is behind a stop: nodes, packets and the clock as before; the commit list, or the durable entries alone; a house without a turn that
+-- works on these; no call that is neither answered nor gone
 pub record IsStopped {C M : Type 0} (w : World C M) (keep : Bool) (behind : World C M) : Type 0 where
+  pub consumers : behind.consumers ≡ w.consumers
+  pub merchants : behind.merchants ≡ w.merchants
+  pub packets : behind.packets ≡ w.packets
+  pub moment : behind.moment ≡ w.moment
   pub durable : behind.durable ≡ (if keep then commits w else w.durable)
   pub server : behind.server ≡ behind.durable
   pub free : behind.turn ≡ None
@@ -208,6 +239,26 @@ abbrev pub AnswerAcknowledges : Type 0 → Type 0 → Type 0
 AnswerAcknowledges C M = (p : Rules C M) (w : World C M) (c : ℕ) (fits : Fits p w (on.Answer c))
     → ((entry : Entry) → fits.0.turn.verdict.entry ≡ Some entry → (next p w (on.Answer c)).acknowledged ≡ w.acknowledged ++ record { entry = entry; place = fits.0.turn.at } ∷ [])
     × (fits.0.turn.verdict.entry ≡ None → (next p w (on.Answer c)).acknowledged ≡ w.acknowledged)
+
+-- one packet more: the reply of the turn, made by the house in answer to this call, for whoever made its packet
+pub record HandsOut {C M : Type 0} (w : World C M) (turn : Turning) (c : ℕ) (asker : Maker) (behind : World C M) : Type 0 where
+  pub made : Packet
+  pub packets : behind.packets ≡ w.packets ++ made ∷ []
+  pub kind : made.kind ≡ turn.verdict.kind
+  pub body : made.body ≡ turn.verdict.body
+  pub maker : made.maker ≡ by.Server c turn.at
+  pub for_asker : IsAsker asker made.to
+
+-- a node that asked is handed out its reply; where the house or the network made what asked, there is no packet more
+abbrev pub RepliesTo : {C M : Type 0} → World C M → Turning → ℕ → Maker → World C M → Type 0
+RepliesTo w turn c (by.Consumer id) behind = HandsOut w turn c (by.Consumer id) behind
+RepliesTo w turn c (by.Merchant id) behind = HandsOut w turn c (by.Merchant id) behind
+RepliesTo w turn c other behind = behind.packets ≡ w.packets
+
+-- an answer does so
+abbrev pub AnswerReplies : Type 0 → Type 0 → Type 0
+AnswerReplies C M = (p : Rules C M) (w : World C M) (c : ℕ) (fits : Fits p w (on.Answer c)) (packet : Packet) (moment : ℕ)
+    → Asks w c packet moment → RepliesTo w fits.0.turn c packet.maker (next p w (on.Answer c))
 
 abbrev pub IsAnswer : Event → Type 0
 IsAnswer (on.Answer c) = Unit {0}

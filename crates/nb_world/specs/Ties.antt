@@ -4,7 +4,7 @@ use Rattle.std.specs.Option.{is_some, option_map}
 use Rattle.std.specs.List.{slice_get, filter_map, AllByRecursion}
 use Rattle.nb_units.specs.Frames.{frame}
 use Rattle.nb_book.specs.declared.entry.Entry.{Entry}
-use Rattle.nb_turns.specs.Turns.{Request, Ruling, House, State, Outcome, Decides, Fails, Refuses, Answered as Reply, Round, Run, answered_in, last_state, place_of, with_entry}
+use Rattle.nb_turns.specs.Turns.{Request, Ruling, House, State, Outcome, Decides, Fails, Refuses, Answered as Reply, Round, Run, answered_in, last_state, place_of, recorded, with_entry}
 use Rattle.nb_world.specs.declared.event.Event.{Event}
 use Rattle.nb_world.specs.declared.event.Event.TheVariants as on
 use Rattle.nb_world.specs.declared.packet.Packet.{Packet}
@@ -96,14 +96,14 @@ Settling old gave over played =
     ⊎ ((old.doubt ≢ []) × (over ≡ old.entries) × (played ≡ all_play (Stops false) (take 1 gave)))
 
 -- what a turn plays that goes so, where these requests gave what was in doubt before it; and those that gave what is in doubt behind it. One that
--- decides plays what settling does and answers each request; one that fails plays what settling does, or nothing where that failed; one that is
--- refused plays nothing
+-- decides plays what settling does and answers each request; one that fails plays nothing where settling a doubt failed and that stays, or else what
+-- settling does, and what its requests record is in doubt; one that is refused plays nothing
 abbrev pub PlaysTurn : House → State → List Request → List Request → Outcome → State → List Played → List Request → Type 0
 PlaysTurn house old gave requests (Decides over) new played gives =
     (settling : List Played) × Settling old gave over settling × (played ≡ settling ++ all_play Answers requests) × (gives ≡ [])
 PlaysTurn house old gave requests (Fails before after) new played gives =
-    ((new.entries ≡ old.entries) × (new.doubt ≡ old.doubt) × (played ≡ []) × (gives ≡ gave))
-    ⊎ (Settling old gave new.entries played × (gives ≡ givers house new.entries requests))
+    ((old.doubt ≢ []) × (new.entries ≡ old.entries) × (new.doubt ≡ old.doubt) × (played ≡ []) × (gives ≡ gave))
+    ⊎ (Settling old gave new.entries played × (new.doubt ≢ []) × (new.doubt ≡ recorded house new.entries requests) × (gives ≡ givers house new.entries requests))
 PlaysTurn house old gave requests Refuses new played gives = (played ≡ []) × (gives ≡ gave)
 
 -- what a run plays, turn by turn

@@ -1,10 +1,10 @@
 -- Worlds in numbers: a consumer, which sends its enrolment where it starts a purchase, a merchant, and a small house.
-use Rattle.std.specs.Prelude.{◌≡◌, ℕ, ◌+◌, ◌==◌, true, List, [], ◌∷◌, ◌++◌, length, nat_lt, None, Some}
+use Rattle.std.specs.Prelude.{◌≡◌, ℕ, ◌+◌, ◌==◌, true, false, List, [], ◌∷◌, ◌++◌, length, take, nat_lt, slice_index_or, None, Some, if◌then◌else◌}
 use Rattle.nb_units.specs.declared.frames.TheConstants.{DONE_REPLY, ENROL_REQUEST, PRICE_REQUEST}
 use Rattle.nb_units.specs.declared.ids.PartyId.{PartyId}
 use Rattle.nb_book.specs.declared.entry.Entry.{Entry}
 use Rattle.nb_turns.specs.Turns.{Request}
-use Rattle.nb_turns.specs.Worked.{enrolment, small_rules}
+use Rattle.nb_turns.specs.Worked.{enrolment, small_rules, small_house, enrol_one, enrol_two}
 use Rattle.nb_world.specs.declared.call.CallPhase.TheVariants.{Answered, Gone}
 use Rattle.nb_world.specs.declared.event.Event.{Event}
 use Rattle.nb_world.specs.declared.event.Event.TheVariants as on
@@ -16,6 +16,7 @@ use Rattle.nb_world.specs.declared.start.Start.{Start}
 use Rattle.nb_world.specs.declared.turning.Verdict.{Verdict}
 use Rattle.nb_world.specs.World.{Stays, Goes, Rules, World}
 use Rattle.nb_world.specs.Steps.{run, step}
+use Rattle.nb_world.specs.Ties.{Stops, events_of, all_play}
 
 -- the party 1
 abbrev pub first_party : PartyId
@@ -152,3 +153,67 @@ NodesHear = (run small_world_rules small_world heard_and_waited ≡ record {
   acknowledged = [];
   moment = 7;
 }) × ((run small_world_rules small_world (heard_and_waited ++ on.RestartMerchant second_party ∷ [])).merchants ≡ 0 ∷ [])
+
+-- ---- two consumers, and a merchant that sends
+
+-- the party 3
+abbrev pub third_party : PartyId
+third_party = record { 0 = 3 }
+
+-- a consumer below 10 is the party 1, any other the party 3, and starts again as 100 more; a merchant that waited counts that, and enrols itself
+abbrev pub two_consumers_rules : Rules ℕ ℕ
+two_consumers_rules = record small_world_rules {
+  is_consumer = λ id heard. if nat_lt heard 10 then id.0 == 1 else id.0 == 3;
+  consumer_again = λ heard. heard + 100;
+  merchant_waited = λ m id tid. Goes (m + 1) (Some enrols_itself);
+}
+
+abbrev pub two_consumers : World ℕ ℕ
+two_consumers = record small_world { consumers = 0 ∷ 10 ∷ [] }
+
+-- the second consumer hears a packet and starts again; the merchant sends, is answered, and hears the reply
+abbrev pub merchant_is_answered : List Event
+merchant_is_answered =
+    on.Clock 3 ∷ on.Inject (to.Consumer third_party) DONE_REPLY (1 ∷ []) ∷ on.Deliver 0 ∷ on.RestartConsumer third_party
+    ∷ on.QuietMerchant second_party first_party 1 ∷ on.Deliver 1 ∷ on.Turn 0 ∷ on.Write 0 ∷ on.Open 0 ∷ on.Answer 0 ∷ on.Deliver 2 ∷ []
+
+abbrev pub EachNodeItsOwn : Type 0
+EachNodeItsOwn = run two_consumers_rules two_consumers merchant_is_answered ≡ record {
+  consumers = 0 ∷ 111 ∷ [];
+  merchants = 4 ∷ [];
+  packets = record { kind = DONE_REPLY; body = 1 ∷ []; maker = by.Network; to = to.Consumer third_party }
+      ∷ record { kind = ENROL_REQUEST; body = 1 ∷ []; maker = by.Merchant second_party; to = to.Server }
+      ∷ record { kind = DONE_REPLY; body = 1 ∷ 0 ∷ 0 ∷ []; maker = by.Server 0 0; to = to.Merchant second_party } ∷ [];
+  calls = record { packet = 1; moment = 3; phase = Answered } ∷ [];
+  turn = None;
+  durable = enrolment 1 ∷ [];
+  server = enrolment 1 ∷ [];
+  origins = record { place = 0; call = 0 } ∷ [];
+  acknowledged = record { entry = enrolment 1; place = 0 } ∷ [];
+  moment = 3;
+}
+
+-- ---- two entries in doubt
+
+-- packet 0 asks to enrol 1, and packet 1 to enrol 2
+abbrev pub two_asked : World ℕ ℕ
+two_asked = record small_world { packets = enrolling ∷ record { kind = ENROL_REQUEST; body = 2 ∷ []; maker = by.Network; to = to.Server } ∷ [] }
+
+abbrev pub packet_of : Request → ℕ
+packet_of request = if slice_index_or request.body 0 0 == 1 then 0 else 1
+
+-- both are kept: each is written, and a stop leaves it
+abbrev pub both_kept : List Event
+both_kept =
+    on.Clock 0 ∷ on.Deliver 0 ∷ on.Turn 0 ∷ on.Write 0 ∷ on.Stop true ∷ on.Clock 0 ∷ on.Deliver 1 ∷ on.Turn 1 ∷ on.Write 1 ∷ on.Stop true ∷ []
+
+-- both are dropped: the first is written, and a stop does not leave it
+abbrev pub both_dropped : List Event
+both_dropped = on.Clock 0 ∷ on.Deliver 0 ∷ on.Turn 0 ∷ on.Write 0 ∷ on.Stop false ∷ []
+
+-- these are the events of it, and what they lead to
+abbrev pub DoubtOfTwo : Type 0
+DoubtOfTwo = (events_of small_house packet_of 0 [] (all_play (Stops true) (enrol_one ∷ enrol_two ∷ [])) ≡ both_kept)
+    × ((run small_world_rules two_asked both_kept).durable ≡ enrolment 1 ∷ enrolment 2 ∷ [])
+    × (events_of small_house packet_of 0 [] (all_play (Stops false) (take 1 (enrol_one ∷ enrol_two ∷ []))) ≡ both_dropped)
+    × ((run small_world_rules two_asked both_dropped).durable ≡ [])

@@ -40,7 +40,7 @@ pub enum Event {
         consumer: PartyId,
         tid: u64,
     },
-    /// The house stops and starts again. An entry that is written and not opened is there then, or is not.
+    /// The house stops and starts again. An entry that is written and not opened is there then exactly where `with` says so.
     Stop {
         with: bool,
     },

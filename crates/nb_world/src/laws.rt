@@ -3,6 +3,7 @@
 
 ghost use Rattle.nb_world.specs.Headline as headline;
 ghost use Rattle.nb_world.specs.Laws as law;
+ghost use Rattle.nb_world.specs.Nodes as nodes;
 ghost use Rattle.nb_world.specs.Ties as ties;
 ghost use Rattle.nb_world.specs.Worked as worked;
 
@@ -17,8 +18,8 @@ pub fn unfit_changes_nothing<C, M>()
 {}
 
 /// Over every list of events from a set-up, injections among them: the durable entries are Legal and those that the house works
-/// on; each entry is what the verdict over those before it records for the call that it came by; each acknowledged entry stands at
-/// its place; and each packet that the house made is the verdict's reply over the first durable entries, as many as its place
+/// on; each entry behind the set-up's is what the verdict over those before it records for the call that it came by; each acknowledged
+/// entry stands at its place; and each packet that the house made is the verdict's reply over the first durable entries, as many as its place
 /// says, for the node that asked.
 pub fn world_law<C, M>()
     ensures { law.WorldLaw C M }
@@ -26,12 +27,10 @@ pub fn world_law<C, M>()
     nb_book::laws::stays_legal();
 }
 
-/// Nothing is lost along a run: the durable entries, the packets and what was acknowledged are the first of the later ones.
+/// Nothing is lost along a run, from whatever world: the durable entries, the packets and what was acknowledged are the first of the later ones.
 pub fn only_grows<C, M>()
     ensures { law.OnlyGrows C M }
-{
-    nb_book::laws::stays_legal();
-}
+{}
 
 /// Events and then more of them are the events of one list.
 pub fn run_then<C, M>()
@@ -46,6 +45,29 @@ pub fn entries_have_origins<C, M>()
 /// A call has the phase of the turn exactly where the turn is its: at most one call has the turn.
 pub fn turn_is_of_one_call<C, M>()
     ensures { law.TurnIsOfOneCall C M }
+{}
+
+/// A turn is of a call that has its phase, and its verdict is that on what the call asks over the first durable entries, as many as its
+/// place says; before it is opened these are all of them, and one that is written has an entry.
+pub fn turn_is_of_its_call<C, M>()
+    ensures { law.TurnIsOfItsCall C M }
+{
+    nb_book::laws::stays_legal();
+}
+
+/// The reply to a call that was delivered behind some events was read over at least the entries that were durable by then.
+pub fn replies_read_all<C, M>()
+    ensures { law.RepliesReadAll C M }
+{}
+
+/// What the events of a consumer do: it becomes what its step says and sends that in its own name, and all else is as before.
+pub fn consumer_steps<C, M>()
+    ensures { nodes.ConsumerSteps C M }
+{}
+
+/// What the events of a merchant do: it becomes what its step says and sends that in its own name, and all else is as before.
+pub fn merchant_steps<C, M>()
+    ensures { nodes.MerchantSteps C M }
 {}
 
 /// A packet for a node whose body is not spelled as those of its kind are changes nothing.
@@ -78,6 +100,12 @@ pub fn answer_acknowledges<C, M>()
     ensures { law.AnswerAcknowledges C M }
 {}
 
+/// An answer puts one packet more on the network, the reply of its turn, where a node made the packet of the call; where the house or the
+/// network made it, none.
+pub fn answer_replies<C, M>()
+    ensures { law.AnswerReplies C M }
+{}
+
 /// No event but an answer acknowledges anything.
 pub fn others_acknowledge_nothing<C, M>()
     ensures { law.OthersAcknowledgeNothing C M }
@@ -98,8 +126,16 @@ pub fn money_is_conserved<C, M>()
     nb_book::laws::stays_legal();
 }
 
-/// The consumer of an order, and its merchant, is given its key by status query exactly where the payment stands among the durable
-/// entries that the reply tells the number of: where the verdict is the house's, in whatever form its replies are shown.
+/// The house records only what may come next: where the verdict is the house's, in whatever form its replies are shown.
+pub fn house_records_legal<C, M>()
+    ensures { headline.HouseRecordsLegal C M }
+{
+    nb_escrow::laws::records_legal();
+}
+
+/// Each packet that the house made of a status query shows the decision over the durable entries that it tells the number of: to an authentic query
+/// that asks for no more entries than these, the decision's reply gives the key exactly where one of them pays the order and names who asks. So it
+/// is where the verdict is the house's, in whatever form its decisions are shown.
 pub fn key_where_it_stands<C, M>()
     ensures { headline.KeyWhereItStands C M }
 {
@@ -109,7 +145,12 @@ pub fn key_where_it_stands<C, M>()
     nb_escrow::laws::status_tells_the_order();
 }
 
-/// Each run of turns of a house on a disk, whose verdicts are those of a world, is a list of events of each world that has its
+/// Where an order is found, the receipt that its entry tells the consumer, or the merchant, is that of the order's settlement.
+pub fn receipts_of_settlements()
+    ensures { headline.ReceiptsOfSettlements }
+{}
+
+/// Each run of turns, from entries with nothing in doubt, of a house on a disk, whose verdicts are those of a world, is a list of events of each world that has its
 /// entries, a free house and packets of its requests: request by request, and before the requests of a turn those that gave what was
 /// in doubt, with a stop that keeps each, or with one that drops the first. Both lists are then the entries of the run's last state, and
 /// the answers hand out the replies of the requests that have a place, in order.
@@ -132,8 +173,18 @@ pub fn injected_is_recorded()
     ensures { worked.InjectedIsRecorded }
 {}
 
-/// Nodes hear what is for them and spelled as it should be, at the clock's moment; one that waited sends again where it knows the purchase; a
-/// restart leaves what a node kept.
+/// Nodes hear what is for them and spelled as it should be, at the clock's moment; one that waited sends again where it knows the purchase;
+/// behind its restart a merchant is what `merchant_again` says.
 pub fn nodes_hear()
     ensures { worked.NodesHear }
+{}
+
+/// Of two consumers the second hears a packet and starts again; a merchant sends, is answered, and hears the reply.
+pub fn each_node_its_own()
+    ensures { worked.EachNodeItsOwn }
+{}
+
+/// Two entries in doubt are kept by two stops that leave each, and dropped by one that does not leave the first.
+pub fn doubt_of_two()
+    ensures { worked.DoubtOfTwo }
 {}
