@@ -1,13 +1,12 @@
 -- What the lines tell of a session, and that one over a link that does not fail answers all.
-use Rattle.std.proofs.Common.{◌≡◌, ◌⊎◌, inl, inr, ⊎_elim, ℕ, ◌+◌, ◌<◌, ◌≤◌, List, [], ◌∷◌, ◌++◌, length, Option, None, Some, refl, sym, ap, subst, ◌∙◌, append_assoc, append-nil, arith}
+use Rattle.std.proofs.Common.{◌≡◌, ◌⊎◌, inl, inr, ⊎_elim, ℕ, ◌<◌, ◌≤◌, List, [], ◌∷◌, ◌++◌, length, Option, None, Some, refl, sym, ap, subst, ◌∙◌, append_assoc, append-nil, arith}
 use Rattle.std.specs.List.{flat_map, AllByRecursion}
 use Rattle.std.specs.Io.KnownBytes.{Consumes, IsAtEnd}
 use Rattle.std.proofs.lemmas.List.{map-append, length-append}
 use Rattle.std.proofs.lemmas.Option.{same_Some}
 use Rattle.nb_port.specs.Tells.{DiskTells}
-use Rattle.nb_port.specs.Faults.{Rose}
 use Rattle.nb_link.specs.Link.{LinkSeen}
-use Rattle.nb_units.specs.Frames.{Frame, frame, IsFrame, Front, Partial, Bad, HeaderFault, front_of, IsWhole, IsBad, Splits}
+use Rattle.nb_units.specs.Frames.{Frame, frame, IsFrame, Partial, Bad, HeaderFault, front_of, IsWhole, IsBad, Splits}
 use Rattle.nb_units.proofs.FrameLaws.{bad_stays, longest, one_reading}
 use Rattle.nb_frame.specs.declared.fault.FrameFault.{FrameFault}
 use Rattle.nb_frame.proofs.Shortness.{bad_not_whole, nothing_bad, nothing_short, short_not_whole}
@@ -29,7 +28,7 @@ use Rattle.nb_vault.specs.Vaults.{house_in, state_of}
 use Rattle.nb_session.specs.declared.ended.TheConstants.{MOST_FRAMES}
 use Rattle.nb_session.specs.declared.ended.SessionEnd.{SessionEnd}
 use Rattle.nb_session.specs.declared.ended.SessionEnd.TheVariants as ends
-use Rattle.nb_session.specs.Session.{Session, TurnAt, TurnsAt, EndsAs, frame_of, frames_in, house_at, joined, marks_in, requests_in}
+use Rattle.nb_session.specs.Session.{Session, TurnAt, TurnsAt, EndsAs, frames_in, house_at, joined, marks_in}
 use Rattle.nb_session.specs.Laws.{AsManyMarks, LinesTell, Completes, GivesFrames, NoFaults, AnswersEach, IsDecided}
 use Rattle.nb_session.proofs.Going.{all_both}
 use Rattle.nb_session.proofs.Ending.{frames_count, marks_count, moments_count}
