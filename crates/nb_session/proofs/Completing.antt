@@ -6,15 +6,15 @@ use Rattle.std.proofs.lemmas.List.{map-append, length-append, take-append-le, ta
 use Rattle.std.proofs.lemmas.Option.{same_Some}
 use Rattle.nb_port.specs.Tells.{DiskTells}
 use Rattle.nb_link.specs.Link.{LinkSeen}
-use Rattle.nb_units.specs.Frames.{Frame, frame, IsFrame, Partial, Bad, HeaderFault, front_of, IsWhole, IsBad, Splits, Front, Empty}
-use Rattle.nb_units.proofs.FrameLaws.{bad_stays, longest, one_reading, longest_in}
+use Rattle.nb_units.specs.Frames.{Frame, frame, IsFrame, Bad, front_of, IsWhole, Splits, Front, Empty}
+use Rattle.nb_units.proofs.FrameLaws.{bad_stays, one_reading, longest_in}
 use Rattle.nb_frame.specs.declared.fault.FrameFault.{FrameFault}
-use Rattle.nb_frame.proofs.Shortness.{bad_not_whole, nothing_bad, nothing_short, short_not_whole}
+use Rattle.nb_frame.proofs.Shortness.{bad_not_whole, nothing_short, short_not_whole}
 use Rattle.nb_book.specs.declared.entry.Entry.{Entry}
 use Rattle.nb_turns.specs.declared.limits.TheConstants.{MAX_FAULTS}
 use Rattle.nb_turns.specs.declared.line.Line.{Line}
 use Rattle.nb_turns.specs.declared.mark.Mark.{Mark}
-use Rattle.nb_turns.specs.Turns.{Request, House, Answered, Outcome, Decides, Fails, Refuses, State, Turn, Doubts, Unsettled, answered, decided, marks, with_entry, recorded}
+use Rattle.nb_turns.specs.Turns.{Request, House, Answered, Outcome, Decides, Fails, Refuses, answered, decided, marks, with_entry, recorded}
 use Rattle.nb_turns.specs.Lines.{faults_of, lines_by, maker_of, AddsLines, DoubtedLines, UnsettledLines, adopts, doubts, next_turn}
 use Rattle.nb_turns.specs.Laws.{IsWorn}
 use Rattle.nb_turns.specs.Callers.{Turned, answers_in, lines_since, own_lines}
@@ -24,12 +24,12 @@ use Rattle.nb_turn.specs.declared.chronicle.View.{View}
 use Rattle.nb_turn.specs.Views.{first_sees}
 use Rattle.nb_turn.proofs.Lists.{by-append, first_again}
 use Rattle.nb_vault.specs.declared.origin.Origin.{Origin}
-use Rattle.nb_vault.specs.Vaults.{house_in, state_of}
+use Rattle.nb_vault.specs.Vaults.{house_in}
 use Rattle.nb_session.specs.declared.ended.TheConstants.{MOST_FRAMES}
 use Rattle.nb_session.specs.declared.ended.SessionEnd.{SessionEnd}
 use Rattle.nb_session.specs.declared.ended.SessionEnd.TheVariants as ends
-use Rattle.nb_session.specs.Session.{Session, TurnAt, TurnsAt, EndsAs, frames_in, house_at, joined, marks_in}
-use Rattle.nb_session.specs.Laws.{AsManyMarks, LinesTell, Completes, GivesFrames, NoFaults, AnswersEach, IsDecided, EndsBy, EndsExactly, EndsOver, GivesBytes}
+use Rattle.nb_session.specs.Session.{Session, TurnsAt, EndsAs, frames_in, house_at, joined, marks_in}
+use Rattle.nb_session.specs.Laws.{AsManyMarks, LinesTell, Completes, AnswersEach, IsDecided, EndsBy, EndsExactly, EndsOver, GivesBytes}
 use Rattle.nb_session.proofs.Going.{all_both}
 use Rattle.nb_session.proofs.Ending.{frames_count, marks_count, moments_count}
 use Rattle.nb_frame.specs.Faults.{placed}

@@ -51,7 +51,7 @@ pub record SeenAs {D : Type 0} (tells : DiskTells D) (by : ℕ) (v w : View Orig
   pub places_stand : AreTaken (house_at s.origin) (entries_of s.origin.entries w.seen) (length (entries_of s.origin.entries v.seen)) (answers_in (house_at s.origin) s.turns)
   -- where a mark says that too many turns failed, exactly so many faults are told
   pub worn_stands : AllByRecursion (λ (mark : Mark). IsWorn mark → faults_of w.seen ≡ MAX_FAULTS) marks
-  -- the lines of one turn have one number, and those of different turns have different ones
+  -- the lines of one turn have one number, and those of different turns, where both have lines, different ones
   pub turns_apart : AreApart by s.turns
   -- where the pass was the last to see all its lines, it is so again, and the passes joined into it are as they were
   pub parts_stand : v.parts ≡ first_sees v.seen v.parts → w.parts ≡ first_sees w.seen v.parts
@@ -105,7 +105,7 @@ pub record NoFaults (turns : List Turned) (last : List Line) : Type 0 where
   pub none : faults_of (own_lines turns) ≡ 0
   pub few : faults_of last < MAX_FAULTS
 
--- the session ended with the link, and all these frames were decided
+-- the session ended with the link, and these frames, no fewer and no more, were answered, each by a verdict
 pub record AnswersEach (answered frames : List Frame) (marks : List Mark) (end : SessionEnd) : Type 0 where
   pub clean : end ≡ Clean
   pub all : answered ≡ frames
