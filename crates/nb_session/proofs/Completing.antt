@@ -1,38 +1,39 @@
 -- What the lines tell of a session, and that one over a link that does not fail answers all.
-use Rattle.std.proofs.Common.{◌≡◌, ◌⊎◌, inl, inr, ⊎_elim, ℕ, ◌+◌, ◌<◌, ◌≤◌, List, [], ◌∷◌, ◌++◌, length, Option, None, Some, refl, sym, ap, subst, ◌∙◌, append_assoc, append-nil, arith}
+use Rattle.std.proofs.Common.{◌+◌, ◌≡◌, ◌⊎◌, inl, inr, ⊎_elim, ℕ, ◌<◌, ◌≤◌, List, [], ◌∷◌, ◌++◌, length, Option, None, Some, refl, sym, ap, subst, ◌∙◌, append_assoc, append-nil, arith, take}
 use Rattle.std.specs.List.{flat_map, AllByRecursion}
 use Rattle.std.specs.Io.KnownBytes.{Consumes, IsAtEnd}
-use Rattle.std.proofs.lemmas.List.{map-append, length-append}
+use Rattle.std.proofs.lemmas.List.{map-append, length-append, take-append-le, take_all}
 use Rattle.std.proofs.lemmas.Option.{same_Some}
 use Rattle.nb_port.specs.Tells.{DiskTells}
-use Rattle.nb_port.specs.Faults.{Rose}
 use Rattle.nb_link.specs.Link.{LinkSeen}
-use Rattle.nb_units.specs.Frames.{Frame, frame, IsFrame, Front, Partial, Bad, HeaderFault, front_of, IsWhole, IsBad, Splits}
-use Rattle.nb_units.proofs.FrameLaws.{bad_stays, longest, one_reading}
+use Rattle.nb_units.specs.Frames.{Frame, frame, IsFrame, Bad, front_of, IsWhole, Splits, Front, Empty}
+use Rattle.nb_units.proofs.FrameLaws.{bad_stays, one_reading, longest_in}
 use Rattle.nb_frame.specs.declared.fault.FrameFault.{FrameFault}
-use Rattle.nb_frame.proofs.Shortness.{bad_not_whole, nothing_bad, nothing_short, short_not_whole}
+use Rattle.nb_frame.proofs.Shortness.{bad_not_whole, nothing_short, short_not_whole}
 use Rattle.nb_book.specs.declared.entry.Entry.{Entry}
 use Rattle.nb_turns.specs.declared.limits.TheConstants.{MAX_FAULTS}
 use Rattle.nb_turns.specs.declared.line.Line.{Line}
 use Rattle.nb_turns.specs.declared.mark.Mark.{Mark}
-use Rattle.nb_turns.specs.Turns.{Request, House, Answered, Outcome, Decides, Fails, Refuses, State, Turn, Doubts, Unsettled, answered, decided, marks, with_entry}
-use Rattle.nb_turns.specs.Lines.{faults_of, lines_by, maker_of}
+use Rattle.nb_turns.specs.Turns.{Request, House, Answered, Outcome, Decides, Fails, Refuses, answered, decided, marks, with_entry, recorded}
+use Rattle.nb_turns.specs.Lines.{faults_of, lines_by, maker_of, AddsLines, DoubtedLines, UnsettledLines, adopts, doubts, next_turn}
 use Rattle.nb_turns.specs.Laws.{IsWorn}
 use Rattle.nb_turns.specs.Callers.{Turned, answers_in, lines_since, own_lines}
-use Rattle.nb_turns.proofs.Lining.{faults_append}
+use Rattle.nb_turns.proofs.Lining.{faults_append, no_faults, one_fault}
 use Rattle.nb_turns.proofs.Following.{own_lines_alone, places_stand, seen_grows, turns_apart, worn_stands}
 use Rattle.nb_turn.specs.declared.chronicle.View.{View}
 use Rattle.nb_turn.specs.Views.{first_sees}
 use Rattle.nb_turn.proofs.Lists.{by-append, first_again}
 use Rattle.nb_vault.specs.declared.origin.Origin.{Origin}
-use Rattle.nb_vault.specs.Vaults.{house_in, state_of}
+use Rattle.nb_vault.specs.Vaults.{house_in}
 use Rattle.nb_session.specs.declared.ended.TheConstants.{MOST_FRAMES}
 use Rattle.nb_session.specs.declared.ended.SessionEnd.{SessionEnd}
 use Rattle.nb_session.specs.declared.ended.SessionEnd.TheVariants as ends
-use Rattle.nb_session.specs.Session.{Session, TurnAt, TurnsAt, EndsAs, frame_of, frames_in, house_at, joined, marks_in, requests_in}
-use Rattle.nb_session.specs.Laws.{AsManyMarks, LinesTell, Completes, GivesFrames, NoFaults, AnswersEach, IsDecided}
+use Rattle.nb_session.specs.Session.{Session, TurnsAt, EndsAs, frames_in, house_at, joined, marks_in}
+use Rattle.nb_session.specs.Laws.{AsManyMarks, LinesTell, Completes, AnswersEach, IsDecided, EndsBy, EndsExactly, EndsOver, GivesBytes}
 use Rattle.nb_session.proofs.Going.{all_both}
 use Rattle.nb_session.proofs.Ending.{frames_count, marks_count, moments_count}
+use Rattle.nb_frame.specs.Faults.{placed}
+use Rattle.nb_turns.specs.declared.line.Line.TheVariants.{Fault}
 
 -- ---- counts
 
@@ -62,6 +63,22 @@ parts_after tells by v w (t ∷ turns) at own =
     let again : at.0.parts ≡ first_sees at.0.seen at.0.parts = now ∙ sym (first_again at.0.seen at.0.seen v.parts) ∙ ap (first_sees at.0.seen) (sym now) in
     parts_after tells by at.0 w turns at.2 again ∙ ap (first_sees w.seen) now ∙ first_again w.seen at.0.seen v.parts
 
+-- behind a turn no more faults are told than a vault has
+few_faults : {D : Type 0} (tells : DiskTells D) (by : ℕ) (v w : View Origin Line) (t : Turned) (turns : List Turned) → TurnsAt tells by v (t ∷ turns) w → faults_of w.seen ≤ MAX_FAULTS
+few_faults tells by v w t [] at = omega (arith, ap (λ (x : View Origin Line). faults_of x.seen) at.2, ap faults_of at.1.asks.seen_is, at.1.asks.keeps.few)
+few_faults tells by v w t (u ∷ turns) at = few_faults tells by at.0 w u turns at.2
+
+worn_exactly : {D : Type 0} (tells : DiskTells D) (by : ℕ) (house : House) (v w : View Origin Line) (turns : List Turned) → TurnsAt tells by v turns w
+    → AllByRecursion (λ (mark : Mark). IsWorn mark → MAX_FAULTS ≤ faults_of w.seen) (marks_in house turns) → AllByRecursion (λ (mark : Mark). IsWorn mark → faults_of w.seen ≡ MAX_FAULTS) (marks_in house turns)
+worn_exactly tells by house v w [] at all = tt
+worn_exactly tells by house v w (t ∷ turns) at all =
+    let most : faults_of w.seen ≤ MAX_FAULTS = few_faults tells by v w t turns at in
+    each (marks_in house (t ∷ turns)) most all
+  where
+    each : (told : List Mark) → faults_of w.seen ≤ MAX_FAULTS → AllByRecursion (λ (mark : Mark). IsWorn mark → MAX_FAULTS ≤ faults_of w.seen) told → AllByRecursion (λ (mark : Mark). IsWorn mark → faults_of w.seen ≡ MAX_FAULTS) told
+    each [] most least = tt
+    each (mark ∷ told) most least = ((λ (worn : IsWorn mark). omega (arith, most, least.0 worn)), each told most least.1)
+
 pub lines_tell : {D : Type 0} (tells : DiskTells D) → LinesTell tells
 lines_tell tells by v w old new clock clock' moments told end s =
     let house : House = house_at s.origin in
@@ -73,31 +90,35 @@ lines_tell tells by v w old new clock clock' moments told end s =
       own_alone = own;
       own_grow = ap (lines_by by) grows ∙ by-append maker_of by v.seen (lines_since s.turns) ∙ ap (λ (ls : List Line). lines_by by v.seen ++ ls) own;
       places_stand = places_stand house s.origin.entries by v.seen s.turns w.seen s.answered;
-      worn_stands = subst (AllByRecursion (λ (mark : Mark). IsWorn mark → MAX_FAULTS ≤ faults_of w.seen)) (sym s.marks_are) (worn_stands house s.origin.entries by v.seen s.turns w.seen s.answered);
+      worn_stands = subst (AllByRecursion (λ (mark : Mark). IsWorn mark → faults_of w.seen ≡ MAX_FAULTS)) (sym s.marks_are)
+          (worn_exactly tells by house v w s.turns s.at_desk (worn_stands house s.origin.entries by v.seen s.turns w.seen s.answered));
       turns_apart = turns_apart house s.origin.entries by v.seen s.turns w.seen s.answered;
       parts_stand = parts_after tells by v w s.turns s.at_desk;
     }
 
 -- ---- where no turn fails
 
+-- each turn that fails tells a fault
+one_told : (house : House) (opening : List Entry) (by turn : ℕ) (before : List Line) (requests : List Request) (from to : ℕ) (added : List Line) → AddsLines house opening by turn before requests (Fails from to) added → faults_of added ≡ 1
+one_told house opening by turn before requests from to added is =
+    let alone : faults_of [] + faults_of (Fault by turn from to ∷ []) ≡ 1 = one_fault by turn [] [] from to in
+    ⊎_elim
+    (λ (u : UnsettledLines by turn before from to added). omega (arith, ap faults_of u.lines, alone, no_faults [] tt))
+    (λ (d : DoubtedLines house opening by turn before requests from to added).
+    omega (arith, ap faults_of d.lines, faults_append (adopts by turn d.kept) (doubts by turn (recorded house d.over requests) ++ Fault by turn from to ∷ []), one_fault by turn d.kept (recorded house d.over requests) from to))
+    is.1
+
 decided_marks : (house : House) (over : List Entry) (requests : List Request) → AllByRecursion IsDecided (marks (decided house over requests))
 decided_marks house over [] = tt
 decided_marks house over (r ∷ rs) = (tt, decided_marks house (with_entry house over r) rs)
 
-decides : (least most : ℕ) (told house : House) (requests : List Request) (outcome : Outcome) (from to : State) → least ≤ from.faults → to.faults ≡ most → most ≤ least → least < MAX_FAULTS → Turn house from requests outcome to
-    → AllByRecursion IsDecided (marks (answered told requests outcome))
-decides least most told house requests (Decides over) from to above is same few turn = decided_marks told over requests
-decides least most told house requests (Fails before after) from to above is same few turn = absurd (⊎_elim
-    (λ (u : Unsettled from to). omega (arith, above, is, same, ap (λ (s : State). s.faults) u.1))
-    (λ (d : Doubts house from requests to). omega (arith, above, is, same, ap (λ (s : State). s.faults) d.left))
-    turn.1)
-decides least most told house requests Refuses from to above is same few turn = absurd (omega (arith, is, same, few, turn.0, ap (λ (s : State). s.faults) turn.1))
+decides : (told house : House) (opening : List Entry) (by turn : ℕ) (before : List Line) (requests : List Request) (outcome : Outcome) (added : List Line) → faults_of added ≡ 0 → faults_of before < MAX_FAULTS
+    → AddsLines house opening by turn before requests outcome added → AllByRecursion IsDecided (marks (answered told requests outcome))
+decides told house opening by turn before requests (Decides over) added none few adds = decided_marks told over requests
+decides told house opening by turn before requests (Fails from to) added none few adds = absurd (omega (arith, none, one_told house opening by turn before requests from to added adds))
+decides told house opening by turn before requests Refuses added none few adds = absurd (omega (arith, few, adds.0))
 
 module _ {D : Type 0} (tells : DiskTells D) (by : ℕ) where
-  -- the faults before a turn, and behind it
-  faults_then : (v w : View Origin Line) (t : Turned) (at : TurnAt tells by v w t) → (faults_of v.seen ≤ (state_of at.asks.old).faults) × ((state_of at.asks.new).faults ≡ faults_of w.seen)
-  faults_then v w t at = (omega (arith, ap faults_of at.asks.meets.begins, faults_append v.seen at.asks.meets.others), at.asks.over_behind.faults)
-
   faults_grow : (v w : View Origin Line) (turns : List Turned) → TurnsAt tells by v turns w → faults_of v.seen ≤ faults_of w.seen
   faults_grow v w [] at = omega (arith, ap (λ (x : View Origin Line). faults_of x.seen) at)
   faults_grow v w (t ∷ turns) at =
@@ -105,27 +126,28 @@ module _ {D : Type 0} (tells : DiskTells D) (by : ℕ) where
       let one : faults_of v.seen ≤ faults_of at.0.seen = omega (arith, ap faults_of a.seen, faults_append (v.seen ++ a.meets.others) a.went.added, faults_append v.seen a.meets.others) in
       omega (arith, one, faults_grow at.0 w turns at.2)
 
-  -- where no more faults are told behind some turns, each decided its requests
-  pub no_faults : (house : House) (v w : View Origin Line) (turns : List Turned) → TurnsAt tells by v turns w → faults_of w.seen ≡ faults_of v.seen → faults_of v.seen < MAX_FAULTS → AllByRecursion IsDecided (marks_in house turns)
-  no_faults house v w [] at same few = tt
-  no_faults house v w (t ∷ turns) at same few =
+  -- where none of some turns tells a fault, and not too many are told behind them, each decided its requests
+  pub all_decided : (house : House) (v w : View Origin Line) (turns : List Turned) → TurnsAt tells by v turns w → faults_of (own_lines turns) ≡ 0 → faults_of w.seen < MAX_FAULTS → AllByRecursion IsDecided (marks_in house turns)
+  all_decided house v w [] at none few = tt
+  all_decided house v w (t ∷ turns) at none few =
       let a = at.1.asks in
-      let f = faults_then v at.0 t at.1 in
-      let one : faults_of v.seen ≤ faults_of at.0.seen = faults_grow v at.0 (t ∷ []) (at.0, at.1, refl) in
-      let rest : faults_of at.0.seen ≤ faults_of w.seen = faults_grow at.0 w turns at.2 in
+      let before : List Line = v.seen ++ a.meets.others in
+      let own : faults_of t.added + faults_of (own_lines turns) ≡ 0 = omega (arith, none, faults_append t.added (own_lines turns)) in
+      let quiet : faults_of a.went.added ≡ 0 = omega (arith, own, ap (λ (x : Turned). faults_of x.added) at.1.turn_is) in
+      let fewer : faults_of before < MAX_FAULTS = omega (arith, few, faults_grow at.0 w turns at.2, ap faults_of a.seen, faults_append before a.went.added) in
       subst (AllByRecursion IsDecided) (sym (map-append (λ (x : Answered). x.mark) (answered house t.requests t.outcome) (answers_in house turns)))
       (all_both IsDecided (marks (answered house t.requests t.outcome)) (marks_in house turns)
-      (decides (faults_of v.seen) (faults_of at.0.seen) house (house_in a.old) t.requests t.outcome (state_of a.old) (state_of a.new) f.0 f.1 (omega (arith, same, rest)) few a.went.turn)
-      (no_faults house at.0 w turns at.2 (omega (arith, same, one, rest)) (omega (arith, same, one, rest, few))))
+      (decides house (house_in a.old) a.old.origin.entries by (next_turn before) before t.requests t.outcome a.went.added quiet fewer a.follows.lines)
+      (all_decided house at.0 w turns at.2 (omega (arith, own)) few))
 
 -- ---- where the link does not fail
 
-not_partial : front_of [] ≡ Partial → ⊥
-unfolding front_of
-not_partial is = cc
-
 nothing_whole : IsWhole (front_of []) → ⊥
 nothing_whole = short_not_whole (front_of []) nothing_short
+
+nothing_is : front_of [] ≡ Empty
+unfolding front_of
+nothing_is = refl
 
 -- what was read of a link that tells, and what is left of it
 left_over : (bytes read : List ℕ) (old new : Option (List ℕ)) → old ≡ Some bytes → Consumes old new read → (rest : List ℕ) × (new ≡ Some rest) × (bytes ≡ read ++ rest)
@@ -137,68 +159,82 @@ at_end : (rest : List ℕ) (left : Option (List ℕ)) → left ≡ Some rest →
 at_end rest None is end = absurd cc
 at_end rest (Some xs) is end = sym (same_Some xs rest is) ∙ end
 
--- how what was read of these frames stands to them: by what was read and what is left, the frames that were answered and those that
--- were not, and what follows
-module _ (frames done others : List Frame) (read left rest : List ℕ) (lawful : AllByRecursion IsFrame frames) (all : flat_map frame frames ≡ read ++ left) (splits : Splits read (done ++ others) rest) where
-  whole : Splits (flat_map frame frames) frames []
-  whole = record { bytes = sym (append-nil (flat_map frame frames)); lawful = lawful; ends = nothing_whole }
+module _ {D : Type 0} (tells : DiskTells D) (by : ℕ) (v w : View Origin Line) (old new : LinkSeen) (clock clock' : Option (List ℕ)) (moments : List ℕ) (told : List Mark) (bytes : List ℕ) (frames : List Frame) (rest : List ℕ) (gives : GivesBytes old new bytes) (splits : Splits bytes frames rest) where
+  -- where all frames that were read are answered, and none begins behind them, they are all frames of the link
+  whole_read : (end : SessionEnd) (s : Session tells by v w old new clock clock' moments told end) (left : List ℕ) → bytes ≡ joined s.pieces ++ left → s.unanswered ≡ [] → (IsWhole (front_of (s.rest ++ left)) → ⊥)
+      → (frames_in s.turns ≡ frames) × (s.rest ++ left ≡ rest)
+  whole_read end s left is none ends =
+      let answered : frames_in s.turns ++ s.unanswered ≡ frames_in s.turns = ap (λ (fs : List Frame). frames_in s.turns ++ fs) none ∙ append-nil (frames_in s.turns) in
+      let read : joined s.pieces ≡ flat_map frame (frames_in s.turns) ++ s.rest = s.frames.bytes ∙ ap (λ (fs : List Frame). flat_map frame fs ++ s.rest) answered in
+      one_reading bytes (s.rest ++ left) rest (frames_in s.turns) frames
+      (record { bytes = is ∙ ap (λ (bs : List ℕ). bs ++ left) read ∙ append_assoc (flat_map frame (frames_in s.turns)) s.rest left; lawful = subst (AllByRecursion IsFrame) answered s.frames.lawful; ends = ends }) splits
 
-  -- where all was read, all frames are there and nothing follows
-  all_read : left ≡ [] → (done ++ others ≡ frames) × (rest ≡ [])
-  all_read none =
-      let same : flat_map frame frames ≡ read = all ∙ ap (λ (bs : List ℕ). read ++ bs) none ∙ append-nil read in
-      one_reading (flat_map frame frames) rest [] (done ++ others) frames (subst (λ (bs : List ℕ). Splits bs (done ++ others) rest) (sym same) splits) whole
+  -- so it is where nothing is left of it
+  at_last : (end : SessionEnd) (s : Session tells by v w old new clock clock' moments told end) → IsAtEnd new.left → s.unanswered ≡ [] → length (frames_in s.turns) < MOST_FRAMES
+      → (length frames < MOST_FRAMES) × (frames_in s.turns ≡ frames) × (s.rest ≡ rest) × (joined s.pieces ≡ bytes)
+  at_last end s last none few =
+      let l = left_over bytes (joined s.pieces) old.left new.left gives.left s.took in
+      let nothing : l.0 ≡ [] = at_end l.0 new.left l.1 last in
+      let same : s.rest ++ l.0 ≡ s.rest = ap (λ (bs : List ℕ). s.rest ++ bs) nothing ∙ append-nil s.rest in
+      let all = whole_read end s l.0 l.2 none (λ (whole : IsWhole (front_of (s.rest ++ l.0))). s.frames.ends (subst (λ (bs : List ℕ). IsWhole (front_of bs)) same whole)) in
+      (omega (arith, few, ap length all.0), all.0, sym same ∙ all.1, sym (l.2 ∙ ap (λ (bs : List ℕ). joined s.pieces ++ bs) nothing ∙ append-nil (joined s.pieces)))
 
-  further : flat_map frame frames ≡ flat_map frame (done ++ others) ++ (rest ++ left)
-  further = all ∙ ap (λ (bs : List ℕ). bs ++ left) splits.bytes ∙ append_assoc (flat_map frame (done ++ others)) rest left
+  abbrev ends_by : Front → SessionEnd → Type 0
+  ends_by front end = EndsBy (length bytes) (length (flat_map frame frames)) front end
 
-  -- what was read holds no fault
-  none_bad : (fault : HeaderFault) → front_of rest ≡ Bad fault → ⊥
-  none_bad fault is =
-      let stays : front_of (rest ++ left) ≡ Bad fault = bad_stays rest left fault is in
-      let ends = one_reading (flat_map frame frames) (rest ++ left) [] (done ++ others) frames (record { bytes = further; lawful = splits.lawful; ends = bad_not_whole fault (front_of (rest ++ left)) stays }) whole in
-      nothing_bad (rest ++ left) ends.1 (subst IsBad (sym stays) tt)
-
-  -- no more frames were read than there are
-  no_more : length (done ++ others) ≤ length frames
-  no_more = let l = longest frames (done ++ others) [] (rest ++ left) (append-nil (flat_map frame frames) ∙ further) lawful splits.lawful nothing_whole in omega (arith, ap length l.1, length-append (done ++ others) l.0)
-
-module _ {D : Type 0} (tells : DiskTells D) (by : ℕ) (v w : View Origin Line) (old new : LinkSeen) (clock clock' : Option (List ℕ)) (moments : List ℕ) (told : List Mark) (frames : List Frame) (gives : GivesFrames old new frames) (quiet : NoFaults v.seen w.seen) where
-  clean : (s : Session tells by v w old new clock clock' moments told ends.Clean) → AnswersEach (frames_in s.turns) frames told ends.Clean
+  clean : (s : Session tells by v w old new clock clock' moments told ends.Clean) → (length frames < MOST_FRAMES) × (frames_in s.turns ≡ frames) × ends_by (front_of rest) ends.Clean
   clean s =
-      let l = left_over (flat_map frame frames) (joined s.pieces) old.left new.left gives.bytes s.took in
-      let none : l.0 ≡ [] = at_end l.0 new.left l.1 s.ends.1 in
-      let all = all_read frames (frames_in s.turns) s.unanswered (joined s.pieces) l.0 s.rest gives.lawful l.2 s.frames none in
-      record {
-        clean = refl;
-        all = sym (append-nil (frames_in s.turns)) ∙ ap (λ (fs : List Frame). frames_in s.turns ++ fs) (sym (s.all tt)) ∙ all.0;
-        decided = subst (AllByRecursion IsDecided) (sym s.marks_are) (no_faults tells by (house_at s.origin) v w s.turns s.at_desk quiet.none quiet.few);
-      }
+      let a = at_last ends.Clean s s.ends.1 (s.all tt) s.ends.2 in
+      (a.0, a.1, subst (λ (front : Front). ends_by front ends.Clean) (sym nothing_is ∙ ap front_of (sym s.ends.0 ∙ a.2)) refl)
 
-  not_cut : (place : ℕ) → Session tells by v w old new clock clock' moments told (ends.Cut place) → ⊥
-  not_cut place s =
-      let l = left_over (flat_map frame frames) (joined s.pieces) old.left new.left gives.bytes s.took in
-      let all = all_read frames (frames_in s.turns) s.unanswered (joined s.pieces) l.0 s.rest gives.lawful l.2 s.frames (at_end l.0 new.left l.1 s.ends.1) in
-      not_partial (subst (λ (bs : List ℕ). front_of bs ≡ Partial) all.1 s.ends.0)
+  cut : (place : ℕ) (s : Session tells by v w old new clock clock' moments told (ends.Cut place)) → (length frames < MOST_FRAMES) × (frames_in s.turns ≡ frames) × ends_by (front_of rest) (ends.Cut place)
+  cut place s =
+      let a = at_last (ends.Cut place) s s.ends.1 (s.all tt) s.ends.3 in
+      (a.0, a.1, subst (λ (front : Front). ends_by front (ends.Cut place)) (sym s.ends.0 ∙ ap front_of a.2) (ap (λ (n : ℕ). ends.Cut n) (s.ends.2 ∙ ap length a.3)))
 
-  not_bad : (fault : FrameFault) → Session tells by v w old new clock clock' moments told (ends.BadFrame fault) → ⊥
-  not_bad fault s =
-      let l = left_over (flat_map frame frames) (joined s.pieces) old.left new.left gives.bytes s.took in
-      none_bad frames (frames_in s.turns) s.unanswered (joined s.pieces) l.0 s.rest gives.lawful l.2 s.frames s.ends.0.0 s.ends.0.1
+  bad : (fault : FrameFault) (s : Session tells by v w old new clock clock' moments told (ends.BadFrame fault)) → (length frames < MOST_FRAMES) × (frames_in s.turns ≡ frames) × ends_by (front_of rest) (ends.BadFrame fault)
+  bad fault s =
+      let l = left_over bytes (joined s.pieces) old.left new.left gives.left s.took in
+      let stays : front_of (s.rest ++ l.0) ≡ Bad s.ends.0.0 = bad_stays s.rest l.0 s.ends.0.0 s.ends.0.1 in
+      let all = whole_read (ends.BadFrame fault) s l.0 l.2 (s.all tt) (bad_not_whole s.ends.0.0 (front_of (s.rest ++ l.0)) stays) in (
+        omega (arith, s.ends.1, ap length all.0),
+        all.0,
+        subst (λ (front : Front). ends_by front (ends.BadFrame fault)) (sym stays ∙ ap front_of all.1) (ap (λ (f : FrameFault). ends.BadFrame f) (s.ends.0.2 ∙ ap (λ (fs : List Frame). placed (length (flat_map frame fs)) s.ends.0.0) all.0)),
+      )
 
-  not_spent : Session tells by v w old new clock clock' moments told ends.Spent → ⊥
-  not_spent s =
-      let l = left_over (flat_map frame frames) (joined s.pieces) old.left new.left gives.bytes s.took in
-      omega (arith, gives.few, s.ends, no_more frames (frames_in s.turns) s.unanswered (joined s.pieces) l.0 s.rest gives.lawful l.2 s.frames, length-append (frames_in s.turns) s.unanswered)
+  spent : (s : Session tells by v w old new clock clock' moments told ends.Spent) → (MOST_FRAMES ≤ length frames) × (frames_in s.turns ≡ take MOST_FRAMES frames)
+  spent s =
+      let l = left_over bytes (joined s.pieces) old.left new.left gives.left s.took in
+      let further : bytes ≡ flat_map frame (frames_in s.turns ++ s.unanswered) ++ (s.rest ++ l.0) = l.2 ∙ ap (λ (bs : List ℕ). bs ++ l.0) s.frames.bytes ∙ append_assoc (flat_map frame (frames_in s.turns ++ s.unanswered)) s.rest l.0 in
+      let m = longest_in bytes rest (s.rest ++ l.0) frames (frames_in s.turns ++ s.unanswered) splits s.frames.lawful further in
+      let whole : frames ≡ frames_in s.turns ++ (s.unanswered ++ m.0) = m.1 ∙ append_assoc (frames_in s.turns) s.unanswered m.0 in (
+        omega (arith, s.ends, ap length whole, length-append (frames_in s.turns) (s.unanswered ++ m.0)),
+        sym (ap (take MOST_FRAMES) whole ∙ take-append-le MOST_FRAMES (frames_in s.turns) (s.unanswered ++ m.0) (omega (arith, s.ends)) ∙ take_all MOST_FRAMES (frames_in s.turns) (omega (arith, s.ends))),
+      )
 
-  by_end : (end : SessionEnd) (s : Session tells by v w old new clock clock' moments told end) → (end ≡ ends.NoMemory) ⊎ AnswersEach (frames_in s.turns) frames told end
-  by_end ends.Clean s = inr (clean s)
-  by_end (ends.Cut place) s = absurd (not_cut place s)
-  by_end (ends.BadFrame fault) s = absurd (not_bad fault s)
+  by_end : (end : SessionEnd) (s : Session tells by v w old new clock clock' moments told end) → EndsOver bytes frames rest (frames_in s.turns) end
+  by_end ends.Clean s = inr (inr (clean s))
+  by_end (ends.Cut place) s = inr (inr (cut place s))
+  by_end (ends.BadFrame fault) s = inr (inr (bad fault s))
   by_end ends.ReadFault s = absurd (gives.reads s.ends.0)
   by_end ends.WriteFault s = absurd (gives.writes s.ends.0)
-  by_end ends.Spent s = absurd (not_spent s)
+  by_end ends.Spent s = let e = spent s in inr (inl (e.0, e.1, refl))
   by_end ends.NoMemory s = inl refl
 
+pub exactly : {D : Type 0} (tells : DiskTells D) → EndsExactly tells
+exactly tells by v w old new clock clock' moments told end bytes frames rest s gives splits = by_end tells by v w old new clock clock' moments told bytes frames rest gives splits end s
+
 pub complete : {D : Type 0} (tells : DiskTells D) → Completes tells
-complete tells by v w old new clock clock' moments told end frames s gives quiet = by_end tells by v w old new clock clock' moments told frames gives quiet end s
+complete tells by v w old new clock clock' moments told end frames s gives quiet = which (exactly tells by v w old new clock clock' moments told end (flat_map frame frames) frames [] s gives.gives whole)
+  where
+    whole : Splits (flat_map frame frames) frames []
+    whole = record { bytes = sym (append-nil (flat_map frame frames)); lawful = gives.lawful; ends = nothing_whole }
+
+    which : EndsOver (flat_map frame frames) frames [] (frames_in s.turns) end → (end ≡ ends.NoMemory) ⊎ AnswersEach (frames_in s.turns) frames told end
+    which (inl none) = inl none
+    which (inr (inl spent)) = absurd (omega (arith, gives.few, spent.0))
+    which (inr (inr ended)) = inr (record {
+      clean = subst (λ (front : Front). EndsBy (length (flat_map frame frames)) (length (flat_map frame frames)) front end) nothing_is ended.2;
+      all = ended.1;
+      decided = subst (AllByRecursion IsDecided) (sym s.marks_are) (all_decided tells by (house_at s.origin) v w s.turns s.at_desk quiet.none quiet.few);
+    })

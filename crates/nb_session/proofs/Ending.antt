@@ -1,10 +1,10 @@
 -- A session from its start: it goes on turn by turn and piece by piece, and ends.
 use Rattle.std.proofs.Common.{◌≡◌, ◌⊎◌, inl, inr, ⊎_elim, ℕ, zero, suc, ◌+◌, ◌-◌, ◌*◌, ◌<◌, ◌≤◌, List, [], ◌∷◌, ◌++◌, length, take, true, is_some, Option, None, Some, refl, sym, ap, subst, ◌∙◌, append_assoc, append-nil, true≢false, arith}
-use Rattle.std.specs.Prelude.{map, min, ◌≢◌}
+use Rattle.std.specs.Prelude.{min, ◌≢◌}
 use Rattle.std.specs.List.{flat_map, AllByRecursion}
-use Rattle.std.specs.Io.KnownBytes.{Appends, Consumes, IsAtEnd}
+use Rattle.std.specs.Io.KnownBytes.{Appends, IsAtEnd}
 use Rattle.std.proofs.KnownBytes.{Appends-nil, Appends-trans}
-use Rattle.std.proofs.lemmas.List.{map-append, length-append, length-map, nil_from_length}
+use Rattle.std.proofs.lemmas.List.{map-append, length-append, length-map, nil_from_length, take-append-le, take_all}
 use Rattle.std.proofs.lemmas.Option.{same_Some}
 use Rattle.nb_port.specs.Tells.{DiskTells}
 use Rattle.nb_port.specs.Faults.{Rose}
@@ -22,22 +22,19 @@ use Rattle.nb_frame.proofs.Shortness.{short_not_whole, bad_not_whole, nothing_sh
 use Rattle.nb_book.specs.declared.entry.Entry.{Entry}
 use Rattle.nb_turns.specs.declared.limits.TheConstants.{MAX_REQUESTS}
 use Rattle.nb_turns.specs.declared.line.Line.{Line}
-use Rattle.nb_turns.specs.declared.mark.Mark.{Mark}
-use Rattle.nb_turns.specs.Turns.{Request, House, Answered, Outcome, Decides, Fails, Refuses, answered, decided, alike, marks, with_entry}
+use Rattle.nb_turns.specs.Turns.{Request, House, Answered, Outcome, Decides, Fails, Refuses, answered, decided, with_entry}
 use Rattle.nb_turns.specs.Callers.{Turned, Follows, AnsweredTurns, answers_in, behind}
 use Rattle.nb_turn.specs.declared.chronicle.View.{View}
 use Rattle.nb_vault.specs.declared.origin.Origin.{Origin}
-use Rattle.nb_vault.specs.Rules.{house_of}
-use Rattle.nb_vault.specs.Vaults.{house_in}
 use Rattle.nb_session.specs.declared.ended.TheConstants.{MOST_FRAMES}
 use Rattle.nb_session.specs.declared.ended.SessionEnd.{SessionEnd}
 use Rattle.nb_session.specs.declared.ended.SessionEnd.TheVariants as ends
 use Rattle.nb_session.specs.declared.gathering.Gathered.{Gathered}
 use Rattle.nb_session.specs.declared.gathering.Gathered.TheVariants as gathered
 use Rattle.nb_session.specs.declared.sending.Sent.TheVariants as sends
-use Rattle.nb_session.specs.Session.{TurnAt, TurnsAt, AnswersAll, AreLong, EndsAs, EndsRead, Gave, IsLong, Session, Wrote, WroteShort, frame_of, frames_of, frames_in, house_at, joined, marks_in, moments_in, replies_in, replies_of, requests_in, with_readings}
+use Rattle.nb_session.specs.Session.{TurnsAt, AnswersAll, AreAnswered, AreLong, EndsAs, EndsRead, Gave, IsLong, IsPrompt, Session, Wrote, frame_of, frames_of, frames_in, house_at, joined, marks_in, moments_in, replies_in, replies_of, requests_in}
 use Rattle.nb_session.specs.Steps.{EndsAt, GathersTo, OnlyReads, Point, TurnIs, Went, WroteAs, house_seen, point}
-use Rattle.nb_session.proofs.Going.{all_both, frames_both, gave_none, one_turn, spelled_both, replies_both, requests_both, went_both, went_none}
+use Rattle.nb_session.proofs.Going.{all_both, frames_both, gave_none, one_turn, spelled_both, replies_both, went_both, went_none}
 use Rattle.nb_session.proofs.Cutting.{rose_from}
 
 -- ---- lists
@@ -99,6 +96,43 @@ long_both pieces done (t ∷ turns) more long then = (
       (subst (λ (fs : List Frame). AreLong pieces fs more) (ap (λ (fs : List Frame). done ++ fs) (map-append frame_of t.requests (requests_in turns)) ∙ sym (append_assoc done (frames_of t.requests) (frames_in turns))) then),
 )
 
+-- ---- before more is read
+
+-- more turns take nothing from that
+prompt_on : (pieces : List (List ℕ)) (turns more : List Turned) → IsPrompt pieces turns → IsPrompt (pieces ++ []) (turns ++ more)
+prompt_on pieces turns more prompt n within =
+    let a : AreAnswered (take n pieces) turns = prompt n (omega (arith, within, ap length (append-nil pieces))) in
+    record {
+      done = a.done;
+      more = a.more ++ more;
+      rest = a.rest;
+      turns_are = ap (λ (ts : List Turned). ts ++ more) a.turns_are ∙ append_assoc a.done a.more more;
+      splits = subst (λ (ps : List (List ℕ)). Splits (joined (take n ps)) (frames_in a.done) a.rest) (sym (append-nil pieces)) a.splits;
+    }
+
+-- nor does a piece behind those that were answered
+prompt_fed : (pieces : List (List ℕ)) (turns : List Turned) (piece rest : List ℕ) → IsPrompt pieces turns → Splits (joined pieces) (frames_in turns) rest → IsPrompt (pieces ++ piece ∷ []) (turns ++ [])
+prompt_fed pieces turns piece rest prompt splits n within = elim (order n (length pieces)) [ inl below ↦ before (prompt n below) below | inr above ↦ last above ]
+  where
+    before : AreAnswered (take n pieces) turns → n < length pieces → AreAnswered (take n (pieces ++ piece ∷ [])) (turns ++ [])
+    before a below = record {
+      done = a.done;
+      more = a.more;
+      rest = a.rest;
+      turns_are = append-nil turns ∙ a.turns_are;
+      splits = subst (λ (ps : List (List ℕ)). Splits (joined ps) (frames_in a.done) a.rest) (sym (take-append-le n pieces (piece ∷ []) (omega (arith, below)))) a.splits;
+    }
+
+    last : length pieces ≤ n → AreAnswered (take n (pieces ++ piece ∷ [])) (turns ++ [])
+    last above = record {
+      done = turns;
+      more = [];
+      rest = rest;
+      turns_are = refl;
+      splits = subst (λ (ps : List (List ℕ)). Splits (joined ps) (frames_in turns) rest)
+          (sym (take-append-le n pieces (piece ∷ []) (omega (arith, within, length-append pieces (piece ∷ []))) ∙ take_all n pieces above)) splits;
+    }
+
 -- ---- the lines of the turns
 
 some_origin : (o : Option Origin) → is_some o ≡ true → (origin : Origin) × (o ≡ Some origin)
@@ -126,6 +160,7 @@ pub record Ran {D : Type 0} (tells : DiskTells D) (by : ℕ) (p q : Point) : Typ
   pub went : Went tells by p q turns pieces
   pub wrote : Appends p.link.sent q.link.sent (replies_in (house_seen p.view.origin) turns)
   pub long : AreLong pieces [] turns
+  pub prompt : IsPrompt pieces turns
 
 -- where it starts
 abbrev pub begin : View Origin Line → LinkSeen → Option (List ℕ) → Point
@@ -133,7 +168,7 @@ begin v old clock = point v old clock unfed [] []
 
 module _ {D : Type 0} (tells : DiskTells D) (by : ℕ) (v : View Origin Line) (old : LinkSeen) (clock : Option (List ℕ)) where
   pub ran_none : Ran tells by (begin v old clock) (begin v old clock)
-  ran_none = record { turns = []; pieces = []; went = went_none tells by (begin v old clock); wrote = Appends-nil old.sent; long = tt }
+  ran_none = record { turns = []; pieces = []; went = went_none tells by (begin v old clock); wrote = Appends-nil old.sent; long = tt; prompt = λ n within. absurd (omega (arith, within)) }
 
   -- so many requests were taken so far
   counted : (q : Point) (turns : List Turned) (pieces : List (List ℕ)) → Went tells by (begin v old clock) q turns pieces → length (requests_in turns) ≡ length q.moments
@@ -192,6 +227,7 @@ module _ {D : Type 0} (tells : DiskTells D) (by : ℕ) (v : View Origin Line) (o
       went = went_both tells by (begin v old clock) q r ran.turns t.turns ran.pieces [] ran.went t.went;
       wrote = sent_then q r ran.turns t.turns ran.wrote (subst (λ (o : Option Origin). Appends q.link.sent r.link.sent (replies_in (house_seen o) t.turns)) ran.went.origin t.wrote);
       long = whole_long t.turns [] (turn_long t.turns gathered t.one few t.went t.to);
+      prompt = prompt_on ran.pieces ran.turns t.turns ran.prompt;
     }
 
   -- ---- one read more
@@ -213,9 +249,9 @@ module _ {D : Type 0} (tells : DiskTells D) (by : ℕ) (v : View Origin Line) (o
     write_count = omega (arith, reads.write_faults);
   }
 
-  ran_reads : (q : Point) (link : LinkSeen) (held : Collected) (pieces : List (List ℕ)) → Ran tells by (begin v old clock) q → OnlyReads q.link link pieces → waiting q.held ++ joined pieces ≡ waiting held → held.taken ≡ q.held.taken
-      → Ran tells by (begin v old clock) (record q { link = link; held = held })
-  ran_reads q link held pieces ran reads is taken =
+  ran_reads : (q : Point) (link : LinkSeen) (held : Collected) (pieces : List (List ℕ)) → (ran : Ran tells by (begin v old clock) q) → OnlyReads q.link link pieces → waiting q.held ++ joined pieces ≡ waiting held → held.taken ≡ q.held.taken
+      → IsPrompt (ran.pieces ++ pieces) (ran.turns ++ []) → Ran tells by (begin v old clock) (record q { link = link; held = held })
+  ran_reads q link held pieces ran reads is taken prompt =
       let r : Point = record q { link = link; held = held } in
       record {
         turns = ran.turns ++ [];
@@ -223,14 +259,16 @@ module _ {D : Type 0} (tells : DiskTells D) (by : ℕ) (v : View Origin Line) (o
         went = went_both tells by (begin v old clock) q r ran.turns [] ran.pieces pieces ran.went (read_went q link held pieces reads is taken);
         wrote = sent_then q r ran.turns [] ran.wrote (subst (λ (sent : Option (List ℕ)). Appends q.link.sent sent []) (sym reads.sent) (Appends-nil q.link.sent));
         long = whole_long q r ran [] pieces tt;
+        prompt = prompt;
       }
 
-  pub ran_fed : (q : Point) (link : LinkSeen) (held : Collected) (piece : List ℕ) → Ran tells by (begin v old clock) q → OnlyReads q.link link (piece ∷ []) → held ≡ fed q.held piece → Ran tells by (begin v old clock) (record q { link = link; held = held })
-  ran_fed q link held piece ran reads is =
+  pub ran_fed : (q : Point) (link : LinkSeen) (held : Collected) (piece : List ℕ) → Ran tells by (begin v old clock) q → OnlyReads q.link link (piece ∷ []) → held ≡ fed q.held piece → IsShort (front_of (waiting q.held)) → Ran tells by (begin v old clock) (record q { link = link; held = held })
+  ran_fed q link held piece ran reads is short =
       ran_reads q link held (piece ∷ []) ran reads (ap (λ (bs : List ℕ). waiting q.held ++ bs) (append-nil piece) ∙ sym (ap waiting is)) (ap (λ (c : Collected). c.taken) is)
+      (prompt_fed ran.pieces ran.turns piece (waiting q.held) ran.prompt (record { bytes = ran.went.is; lawful = ran.went.lawful; ends = short_not_whole (front_of (waiting q.held)) short }))
 
   pub ran_kept : (q : Point) (link : LinkSeen) (held : Collected) → Ran tells by (begin v old clock) q → OnlyReads q.link link [] → held ≡ q.held → Ran tells by (begin v old clock) (record q { link = link; held = held })
-  ran_kept q link held ran reads is = ran_reads q link held [] ran reads (append-nil (waiting q.held) ∙ sym (ap waiting is)) (ap (λ (c : Collected). c.taken) is)
+  ran_kept q link held ran reads is = ran_reads q link held [] ran reads (append-nil (waiting q.held) ∙ sym (ap waiting is)) (ap (λ (c : Collected). c.taken) is) (prompt_on ran.pieces ran.turns [] ran.prompt)
 
   -- ---- counts and room
 
@@ -266,8 +304,8 @@ module _ {D : Type 0} (tells : DiskTells D) (by : ℕ) (v : View Origin Line) (o
 
   finish : (q : Point) (turns : List Turned) (pieces : List (List ℕ)) (unanswered : List Frame) (rest : List ℕ) (end : SessionEnd) → is_some v.origin ≡ true → Went tells by (begin v old clock) q turns pieces → Splits (waiting q.held) unanswered rest
       → (AnswersAll end → unanswered ≡ []) → EndsAs (joined pieces) (length (flat_map frame (frames_in turns))) rest (length (frames_in turns)) old q.link end
-      → Wrote (house_seen v.origin) old.sent q.link.sent turns end → AreLong pieces [] turns → Session tells by v q.view old q.link clock q.clock q.moments q.marks end
-  finish q turns pieces unanswered rest end some went splits all ends wrote long =
+      → Wrote (house_seen v.origin) old.sent q.link.sent turns end → AreLong pieces [] turns → IsPrompt pieces turns → Session tells by v q.view old q.link clock q.clock q.moments q.marks end
+  finish q turns pieces unanswered rest end some went splits all ends wrote long prompt =
       let o = some_origin v.origin some in
       let house : house_seen v.origin ≡ house_at o.0 = ap house_seen o.1 in
       record {
@@ -295,6 +333,7 @@ module _ {D : Type 0} (tells : DiskTells D) (by : ℕ) (v : View Origin Line) (o
         wrote = subst (λ (h : House). Wrote h old.sent q.link.sent turns end) house wrote;
         reads = went.reads;
         long = long;
+        prompt = prompt;
         read_count = went.read_count;
         write_count = went.write_count;
       }
@@ -306,7 +345,7 @@ module _ {D : Type 0} (tells : DiskTells D) (by : ℕ) (v : View Origin Line) (o
 
     answered_all : (end : SessionEnd) → (IsWhole (front_of (waiting q.held)) → ⊥) → EndsAs (joined ran.pieces) (length (flat_map frame (frames_in ran.turns))) (waiting q.held) (length (frames_in ran.turns)) old q.link end
         → Wrote (house_seen v.origin) old.sent q.link.sent ran.turns end → Session tells by v q.view old q.link clock q.clock q.moments q.marks end
-    answered_all end none ends wrote = finish q ran.turns ran.pieces [] (waiting q.held) end some ran.went (record { bytes = refl; lawful = tt; ends = none }) (λ all. refl) ends wrote ran.long
+    answered_all end none ends wrote = finish q ran.turns ran.pieces [] (waiting q.held) end some ran.went (record { bytes = refl; lawful = tt; ends = none }) (λ all. refl) ends wrote ran.long ran.prompt
 
     pub ended_bad : (fault : FrameFault) → EndsIn q.held.taken (waiting q.held) (next.Bad fault) → Session tells by v q.view old q.link clock q.clock q.moments q.marks (ends.BadFrame fault)
     ended_bad fault is =
@@ -342,7 +381,7 @@ module _ {D : Type 0} (tells : DiskTells D) (by : ℕ) (v : View Origin Line) (o
   pub ended_spent : (q : Point) → is_some v.origin ≡ true → Ran tells by (begin v old clock) q → AreBytes q.held.held → length q.moments ≡ MOST_FRAMES → Session tells by v q.view old q.link clock q.clock q.moments q.marks ends.Spent
   ended_spent q some ran fits all =
       let reading = has_reading (waiting q.held) (AreBytes-drop q.held.at q.held.held fits) in
-      finish q ran.turns ran.pieces reading.0 reading.1 ends.Spent some ran.went reading.2 (λ none. absurd none) (frames_count ran.turns ∙ counted q ran.turns ran.pieces ran.went ∙ all) ran.wrote ran.long
+      finish q ran.turns ran.pieces reading.0 reading.1 ends.Spent some ran.went reading.2 (λ none. absurd none) (frames_count ran.turns ∙ counted q ran.turns ran.pieces ran.went ∙ all) ran.wrote ran.long ran.prompt
 
   -- a write failed
   pub ended_short : (q r : Point) (gathered : Gathered) → is_some v.origin ≡ true → (ran : Ran tells by (begin v old clock) q) → length q.moments < MOST_FRAMES → TurnIs tells by q r gathered sends.Failed → AreBytes r.held.held → length r.moments ≤ MOST_FRAMES
@@ -365,9 +404,9 @@ module _ {D : Type 0} (tells : DiskTells D) (by : ℕ) (v : View Origin Line) (o
             (sym (append_assoc (replies_in house ran.turns) (replies_in house w.1.whole) last) ∙ ap (λ (bs : List ℕ). bs ++ last) (sym (replies_both house ran.turns w.1.whole)))
             (Appends-trans old.sent q.link.sent r.link.sent (replies_in house ran.turns) (replies_in house w.1.whole ++ last) ran.wrote w.1.appends);
       })
-      (whole_long q r ran t.turns [] (turn_long q r ran t.turns gathered t.one few t.went t.to))
+      (whole_long q r ran t.turns [] (turn_long q r ran t.turns gathered t.one few t.went t.to)) (prompt_on ran.pieces ran.turns t.turns ran.prompt)
 
   -- nothing was begun
   pub unbegun : is_some v.origin ≡ true → Session tells by v v old old clock clock [] [] ends.NoMemory
   unbegun some =
-      finish (begin v old clock) [] [] [] [] ends.NoMemory some (went_none tells by (begin v old clock)) (record { bytes = refl; lawful = tt; ends = short_not_whole (front_of []) nothing_short }) (λ all. refl) (refl, refl, refl) (Appends-nil old.sent) tt
+      finish (begin v old clock) [] [] [] [] ends.NoMemory some (went_none tells by (begin v old clock)) (record { bytes = refl; lawful = tt; ends = short_not_whole (front_of []) nothing_short }) (λ all. refl) (refl, refl, refl) (Appends-nil old.sent) tt (λ n within. absurd (omega (arith, within)))

@@ -1,23 +1,21 @@
 -- A session goes on: what was done so far, and then some more, is what was done.
-use Rattle.std.proofs.Common.{◌≡◌, ◌⊎◌, inl, inr, ℕ, ◌+◌, ◌≤◌, List, [], ◌∷◌, ◌++◌, length, Option, None, Some, refl, sym, ap, subst, ◌∙◌, append_assoc, append-nil, arith}
-use Rattle.std.specs.Prelude.{map, ⊤}
+use Rattle.std.proofs.Common.{◌≡◌, ℕ, List, [], ◌∷◌, ◌++◌, length, Option, None, Some, refl, sym, ap, subst, ◌∙◌, append_assoc, append-nil, arith}
 use Rattle.std.specs.List.{flat_map, AllByRecursion}
 use Rattle.std.specs.Io.KnownBytes.{Consumes}
 use Rattle.std.proofs.KnownBytes.{Consumes-nil, Consumes-trans}
 use Rattle.std.proofs.lemmas.List.{map-append, length-append}
 use Rattle.std.proofs.lemmas.Grind.{flat_map-append}
 use Rattle.nb_port.specs.Tells.{DiskTells}
-use Rattle.nb_link.specs.Link.{LinkSeen}
 use Rattle.nb_link.specs.declared.link.Reading.{Reading}
 use Rattle.nb_units.specs.Frames.{Frame, frame, IsFrame}
-use Rattle.nb_frame.specs.State.{Collected, waiting}
+use Rattle.nb_frame.specs.State.{waiting}
 use Rattle.nb_turns.specs.declared.line.Line.{Line}
 use Rattle.nb_turns.specs.declared.mark.Mark.{Mark}
 use Rattle.nb_turns.specs.Turns.{Request, House, Answered, answered, marks, replies}
 use Rattle.nb_turns.specs.Callers.{Turned, answers_in}
 use Rattle.nb_turn.specs.declared.chronicle.View.{View}
 use Rattle.nb_vault.specs.declared.origin.Origin.{Origin}
-use Rattle.nb_session.specs.Session.{TurnAt, TurnsAt, frame_of, frames_of, moments_of, requests_in, frames_in, moments_in, marks_in, replies_in, replies_of, Gave, joined, readings_of, with_readings}
+use Rattle.nb_session.specs.Session.{TurnsAt, frame_of, frames_of, moments_of, requests_in, frames_in, moments_in, marks_in, replies_in, replies_of, Gave, joined, readings_of, with_readings}
 use Rattle.nb_session.specs.Steps.{Point, Went, house_seen}
 
 -- ---- lists of turns

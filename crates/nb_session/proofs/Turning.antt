@@ -1,18 +1,14 @@
 -- One turn: frames are gathered, answered, and their replies sent.
-use Rattle.std.proofs.Common.{◌≡◌, ◌⊎◌, inl, inr, ℕ, ◌+◌, ◌-◌, ◌<◌, ◌≤◌, List, [], ◌∷◌, ◌++◌, length, take, drop, Option, None, Some, refl, sym, ap, subst, ◌∙◌, append_assoc, append-nil, arith}
+use Rattle.std.proofs.Common.{◌≡◌, ℕ, ◌+◌, ◌-◌, List, [], ◌∷◌, ◌++◌, length, take, Option, None, Some, refl, sym, ap, subst, ◌∙◌, append-nil, arith}
 use Rattle.std.specs.Prelude.{map, min}
 use Rattle.std.specs.List.{flat_map, AllByRecursion}
 use Rattle.std.specs.Io.KnownBytes.{Appends, Consumes}
-use Rattle.std.proofs.KnownBytes.{Appends-trans, Consumes-nil}
+use Rattle.std.proofs.KnownBytes.{Consumes-nil}
 use Rattle.std.proofs.lemmas.List.{length-map}
-use Rattle.std.proofs.lemmas.Grind.{flat_map-append}
-use Rattle.std.proofs.Math.Seq.{take-add}
 use Rattle.nb_port.specs.Tells.{DiskTells}
 use Rattle.nb_link.specs.Link.{LinkSeen}
-use Rattle.nb_units.specs.Frames.{Frame, frame, IsFrame}
-use Rattle.nb_frame.specs.State.{Collected, waiting}
-use Rattle.nb_frame.specs.Collected.{TakesFrame, frame_at}
-use Rattle.nb_frame.specs.declared.stream.FrameAt.{FrameAt}
+use Rattle.nb_units.specs.Frames.{frame, IsFrame}
+use Rattle.nb_frame.specs.State.{waiting}
 use Rattle.nb_book.specs.declared.entry.Entry.{Entry}
 use Rattle.nb_endorse.specs.declared.refusal.TheConstants.{DISK_FAULT, WORN}
 use Rattle.nb_endorse.specs.declared.refusal.Refusal.{Refusal}
@@ -27,7 +23,6 @@ use Rattle.nb_turns.specs.declared.mark.Mark.{Mark}
 use Rattle.nb_turns.specs.declared.mark.Mark.TheVariants.{At, Fault, Worn}
 use Rattle.nb_turns.specs.declared.limits.TheConstants.{MAX_FAULTS, MAX_REQUESTS}
 use Rattle.nb_turns.specs.Turns.{Request, House, Answered, Decides, Fails, Refuses, alike, answered, decided, marks, places, replies, with_entry}
-use Rattle.nb_turns.specs.Callers.{Turned}
 use Rattle.nb_turn.specs.declared.chronicle.View.{View}
 use Rattle.nb_vault.specs.declared.answer.AnswerAll.TheVariants as all
 use Rattle.nb_vault.specs.declared.answer.AskAt.{AskAt}
@@ -36,13 +31,13 @@ use Rattle.nb_vault.specs.Asking.{request_at, requests_of}
 use Rattle.nb_vault.specs.Rules.{refused}
 use Rattle.nb_vault.specs.Vaults.{house_in}
 use Rattle.nb_desk.specs.Asks.{Asks, Gives, GoesOnAtLast, turned}
-use Rattle.nb_session.specs.Session.{TurnAt, frame_of, frames_of, moments_of, requests_in, frames_in, moments_in, marks_in, replies_in, replies_of, Gave}
-use Rattle.nb_session.specs.Steps.{Point, Went, AnswersTurn, Gathers, GathersTo, OnlyWrites, SentIs, SentPart, TurnIs, WroteAs, house_seen}
+use Rattle.nb_session.specs.Session.{frames_of, moments_of, requests_in, replies_in, Gave}
+use Rattle.nb_session.specs.Steps.{Point, AnswersTurn, Gathers, GathersTo, OnlyWrites, SentIs, TurnIs, WroteAs, house_seen}
 use Rattle.nb_session.specs.declared.ended.TheConstants.{MOST_FRAMES}
 use Rattle.nb_session.specs.declared.gathering.Gathered.{Gathered}
 use Rattle.nb_session.specs.declared.sending.Sent.{Sent}
 use Rattle.nb_session.specs.declared.sending.Sent.TheVariants as sends
-use Rattle.nb_session.proofs.Going.{all_both, gave_both, readings_none, one_turn, one_marks, one_replies, gave_none}
+use Rattle.nb_session.proofs.Going.{readings_none, one_turn, one_marks, one_replies}
 
 -- ---- answering
 
@@ -73,7 +68,7 @@ module _ {D : Type 0} (tells : DiskTells D) (by : ℕ) (v w : View Origin Line) 
       record {
         turn = turned (requests_of bytes asks) (Decides over) a.meets.others a.went.added;
         requests_are = refl;
-        at_desk = record { found = found; out = out; given = out'; told = all.Answered; asks = a; turn_is = refl; goes_on = goes_on };
+        at_desk = record { found = found; out = out; given = out'; asks = a; turn_is = refl; goes_on = goes_on };
         marks_are = marked ∙ ap (λ (ns : List ℕ). before ++ map (λ (at : ℕ). At at) ns) (placed ∙ a.went.found_is)
             ∙ ap (λ (ms : List Mark). before ++ ms) (marks_placed (house_in a.old) over (requests_of bytes asks))
             ∙ ap (λ (h : House). before ++ marks (decided h over (requests_of bytes asks))) house;
@@ -87,7 +82,7 @@ module _ {D : Type 0} (tells : DiskTells D) (by : ℕ) (v w : View Origin Line) 
       record {
         turn = turned (requests_of bytes asks) (Fails from to) a.meets.others a.went.added;
         requests_are = refl;
-        at_desk = record { found = found; out = out; given = out'; told = all.DiskFault from to; asks = a; turn_is = refl; goes_on = goes_on };
+        at_desk = record { found = found; out = out; given = out'; asks = a; turn_is = refl; goes_on = goes_on };
         marks_are = marked ∙ ap (λ (ms : List Mark). before ++ ms) (marks_alike (Fault from to) (refused DISK_FAULT from to) bytes asks)
             ∙ ap (λ (h : House). before ++ marks (answered h (requests_of bytes asks) (Fails from to))) house;
         out_is = put ∙ ap (λ (bs : List ℕ). bs ++ flat_map (λ (ask : AskAt). refused DISK_FAULT from to) asks) (a.went.out_is ∙ append-nil out ∙ none)
@@ -95,14 +90,14 @@ module _ {D : Type 0} (tells : DiskTells D) (by : ℕ) (v w : View Origin Line) 
             ∙ ap (λ (h : House). replies (answered h (requests_of bytes asks) (Fails from to))) house;
       }
 
-  pub worn_turn : (count : ℕ) (sent : List ℕ) → out ≡ [] → count ≡ MAX_FAULTS → Asks tells by v w (requests_of bytes asks) Refuses found out out' (all.Worn count) → GoesOnAtLast v w
+  pub worn_turn : (count : ℕ) (sent : List ℕ) → out ≡ [] → count ≡ MAX_FAULTS → Asks tells by v w (requests_of bytes asks) Refuses found out out' (all.Worn MAX_FAULTS) → GoesOnAtLast v w
       → behind ≡ before ++ map (λ (ask : AskAt). Worn) asks → sent ≡ out' ++ flat_map (λ (ask : AskAt). refused WORN count 0) asks → AnswersTurn tells by v w (requests_of bytes asks) before behind sent
   worn_turn count sent none most a goes_on marked put =
       let house : house_in a.old ≡ house_seen v.origin = ap house_seen (sym a.meets.origin_is) in
       record {
         turn = turned (requests_of bytes asks) Refuses a.meets.others a.went.added;
         requests_are = refl;
-        at_desk = record { found = found; out = out; given = out'; told = all.Worn count; asks = a; turn_is = refl; goes_on = goes_on };
+        at_desk = record { found = found; out = out; given = out'; asks = a; turn_is = refl; goes_on = goes_on };
         marks_are = marked ∙ ap (λ (ms : List Mark). before ++ ms) (marks_alike Worn (refused WORN MAX_FAULTS 0) bytes asks)
             ∙ ap (λ (h : House). before ++ marks (answered h (requests_of bytes asks) Refuses)) house;
         out_is = put ∙ ap (λ (bs : List ℕ). bs ++ flat_map (λ (ask : AskAt). refused WORN count 0) asks) (a.went.out_is ∙ append-nil out ∙ none)
@@ -151,7 +146,7 @@ module _ {D : Type 0} (tells : DiskTells D) (by : ℕ) (v w : View Origin Line) 
       → sent ≡ out' ++ flat_map (λ (ask : AskAt). reply_bytes no_keys (Refused told)) asks → AnswersTurn tells by v w (requests_of bytes asks) before behind sent
   worn count number sent told is same made marked put =
       let g = subst (λ (a : AskedAll). Gives tells by v w (requests_of bytes asks) gives.0 out out' a) is gives.2 in
-      worn_turn tells by v w bytes asks gives.0 out out' before behind count sent none g.0 g.1 goes_on marked
+      worn_turn tells by v w bytes asks gives.0 out out' before behind count sent none g.0 (subst (λ (n : ℕ). Asks tells by v w (requests_of bytes asks) Refuses gives.0 out out' (all.Worn n)) g.0 g.1) goes_on marked
       (put ∙ ap (λ (r : Refusal). out' ++ flat_map (λ (ask : AskAt). reply_bytes no_keys (Refused r)) asks) (made ∙ ap (λ (n : ℕ). refusal WORN n 0) same))
 
 -- ---- the turn

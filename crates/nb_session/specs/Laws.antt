@@ -1,25 +1,26 @@
 -- What holds of every session.
-use Rattle.std.specs.Prelude.{◌≡◌, ◌⊎◌, ℕ, ◌<◌, ◌≤◌, List, ◌++◌, Option, Some, IsSome, length}
+use Rattle.std.specs.Prelude.{◌≡◌, ◌⊎◌, ℕ, ◌<◌, ◌≤◌, List, ◌++◌, Option, Some, length, take}
 use Rattle.std.specs.List.{flat_map, AllByRecursion}
 use Rattle.nb_port.specs.Tells.{DiskTells}
 use Rattle.nb_port.specs.Faults.{Rose}
 use Rattle.nb_link.specs.Link.{LinkSeen}
-use Rattle.nb_units.specs.Frames.{Frame, frame, IsFrame}
+use Rattle.nb_units.specs.Frames.{Frame, frame, IsFrame, Front, Empty, Partial, Whole, Bad, front_of, Splits}
 use Rattle.nb_frame.specs.declared.stream.TheConstants.{MAX_PIECE}
 use Rattle.nb_turns.specs.declared.limits.TheConstants.{MAX_FAULTS}
 use Rattle.nb_turns.specs.declared.line.Line.{Line}
 use Rattle.nb_turns.specs.declared.mark.Mark.{Mark}
 use Rattle.nb_turns.specs.declared.mark.Mark.TheVariants.{At}
 use Rattle.nb_turns.specs.Lines.{entries_of, faults_of, lines_by}
-use Rattle.nb_turns.specs.Callers.{AreTaken, answers_in, lines_since, own_lines}
+use Rattle.nb_turns.specs.Callers.{AreTaken, answers_in, lines_since, own_lines, Turned}
 use Rattle.nb_turns.specs.Laws.{AreApart, IsWorn}
 use Rattle.nb_turn.specs.declared.chronicle.View.{View}
 use Rattle.nb_turn.specs.Views.{first_sees}
 use Rattle.nb_vault.specs.declared.origin.Origin.{Origin}
 use Rattle.nb_session.specs.declared.ended.TheConstants.{MOST_FRAMES}
 use Rattle.nb_session.specs.declared.ended.SessionEnd.{SessionEnd}
-use Rattle.nb_session.specs.declared.ended.SessionEnd.TheVariants.{Clean, NoMemory}
+use Rattle.nb_session.specs.declared.ended.SessionEnd.TheVariants.{Clean, NoMemory, Cut, BadFrame, Spent}
 use Rattle.nb_session.specs.Session.{Session, frames_in, house_at}
+use Rattle.nb_frame.specs.Faults.{placed}
 
 -- the limit of a session in numbers, and how many bytes each of its reads asks for
 abbrev pub LimitsAre : Type 0
@@ -48,9 +49,9 @@ pub record SeenAs {D : Type 0} (tells : DiskTells D) (by : ℕ) (v w : View Orig
   -- each verdict was taken over the first entries of those that the pass has seen, as many as the place that its mark tells and no fewer
   -- than the pass had seen before; its entry is the next one there; and places never fall, and are above it behind an entry
   pub places_stand : AreTaken (house_at s.origin) (entries_of s.origin.entries w.seen) (length (entries_of s.origin.entries v.seen)) (answers_in (house_at s.origin) s.turns)
-  -- where a mark says that too many turns failed, so many faults are told
-  pub worn_stands : AllByRecursion (λ (mark : Mark). IsWorn mark → MAX_FAULTS ≤ faults_of w.seen) marks
-  -- the lines of one turn have one number, and those of different turns have different ones
+  -- where a mark says that too many turns failed, exactly so many faults are told
+  pub worn_stands : AllByRecursion (λ (mark : Mark). IsWorn mark → faults_of w.seen ≡ MAX_FAULTS) marks
+  -- the lines of one turn have one number, and those of different turns, where both have lines, different ones
   pub turns_apart : AreApart by s.turns
   -- where the pass was the last to see all its lines, it is so again, and the passes joined into it are as they were
   pub parts_stand : v.parts ≡ first_sees v.seen v.parts → w.parts ≡ first_sees w.seen v.parts
@@ -66,28 +67,53 @@ abbrev pub IsDecided : Mark → Type 0
 IsDecided (At place) = Unit {0}
 IsDecided other = ⊥
 
--- the link gives these frames, fewer than a session answers, and then ends; it does not fail, and tells to the end
-pub record GivesFrames (old new : LinkSeen) (frames : List Frame) : Type 0 where
-  pub bytes : old.left ≡ Some (flat_map frame frames)
-  pub lawful : AllByRecursion IsFrame frames
-  pub few : length frames < MOST_FRAMES
+-- the link gives these bytes, and then ends; it does not fail, and tells to the end
+pub record GivesBytes (old new : LinkSeen) (bytes : List ℕ) : Type 0 where
+  pub left : old.left ≡ Some bytes
   pub reads : Rose old.read_faults new.read_faults → ⊥
   pub writes : Rose old.write_faults new.write_faults → ⊥
 
--- the disk fails in no turn that the pass saw since, and did not fail in too many before
-pub record NoFaults (first last : List Line) : Type 0 where
-  pub few : faults_of first < MAX_FAULTS
-  pub none : faults_of last ≡ faults_of first
+-- the end of a session by the number of all bytes, by that of the bytes of their frames, and by what stands behind these
+abbrev pub EndsBy : ℕ → ℕ → Front → SessionEnd → Type 0
+EndsBy count taken Empty end = end ≡ Clean
+EndsBy count taken Partial end = end ≡ Cut count
+EndsBy count taken (Bad fault) end = end ≡ BadFrame (placed taken fault)
+EndsBy count taken (Whole f rest) end = ⊥
 
--- the session ended with the link, and all these frames were decided
+-- these bytes are these frames and this rest, the first of them were answered, and the session ended so: there was no memory; or there
+-- were at least as many frames as a session answers, and as many were answered; or there were fewer, and all were answered
+abbrev pub EndsOver : List ℕ → List Frame → List ℕ → List Frame → SessionEnd → Type 0
+EndsOver bytes frames rest answered end =
+    (end ≡ NoMemory)
+    ⊎ (((MOST_FRAMES ≤ length frames) × (answered ≡ take MOST_FRAMES frames) × (end ≡ Spent))
+    ⊎ ((length frames < MOST_FRAMES) × (answered ≡ frames) × EndsBy (length bytes) (length (flat_map frame frames)) (front_of rest) end))
+
+-- so ends every session over such a link
+abbrev pub EndsExactly : {D : Type 0} → DiskTells D → Type 0
+EndsExactly {D} tells =
+    (by : ℕ) (v w : View Origin Line) (old new : LinkSeen) (clock clock' : Option (List ℕ)) (moments : List ℕ) (marks : List Mark) (end : SessionEnd) (bytes : List ℕ) (frames : List Frame) (rest : List ℕ)
+    → (s : Session tells by v w old new clock clock' moments marks end) → GivesBytes old new bytes → Splits bytes frames rest → EndsOver bytes frames rest (frames_in s.turns) end
+
+-- the link gives these frames, fewer than a session answers, and then ends
+pub record GivesFrames (old new : LinkSeen) (frames : List Frame) : Type 0 where
+  pub gives : GivesBytes old new (flat_map frame frames)
+  pub lawful : AllByRecursion IsFrame frames
+  pub few : length frames < MOST_FRAMES
+
+-- none of these turns failed, and the lines that were seen last do not tell so many faults that no turn is taken any more
+pub record NoFaults (turns : List Turned) (last : List Line) : Type 0 where
+  pub none : faults_of (own_lines turns) ≡ 0
+  pub few : faults_of last < MAX_FAULTS
+
+-- the session ended with the link, and these frames, no fewer and no more, were answered, each by a verdict
 pub record AnswersEach (answered frames : List Frame) (marks : List Mark) (end : SessionEnd) : Type 0 where
   pub clean : end ≡ Clean
   pub all : answered ≡ frames
   pub decided : AllByRecursion IsDecided marks
 
--- a session over such a link, where no turn fails, answers all its frames, or had no memory to begin with
+-- a session over such a link, where none of its turns fails and the vault is not worn, answers all its frames, or had no memory to begin with
 abbrev pub Completes : {D : Type 0} → DiskTells D → Type 0
 Completes {D} tells =
     (by : ℕ) (v w : View Origin Line) (old new : LinkSeen) (clock clock' : Option (List ℕ)) (moments : List ℕ) (marks : List Mark) (end : SessionEnd) (frames : List Frame)
-    → (s : Session tells by v w old new clock clock' moments marks end) → GivesFrames old new frames → NoFaults v.seen w.seen
+    → (s : Session tells by v w old new clock clock' moments marks end) → GivesFrames old new frames → NoFaults s.turns w.seen
     → (end ≡ NoMemory) ⊎ AnswersEach (frames_in s.turns) frames marks end

@@ -11,15 +11,15 @@ use Rattle.nb_frame.specs.Looks.{IsShort}
 use Rattle.nb_frame.specs.Cuts.{EndsIn}
 use Rattle.nb_frame.specs.declared.stream.TheConstants.{MAX_PIECE}
 use Rattle.nb_frame.specs.declared.stream.Next.TheVariants as next
-use Rattle.nb_book.specs.declared.entry.Entry.{Entry}
 use Rattle.nb_escrow.specs.Head.{head_of}
-use Rattle.nb_turns.specs.declared.limits.TheConstants.{MAX_REQUESTS}
+use Rattle.nb_turns.specs.declared.limits.TheConstants.{MAX_FAULTS, MAX_REQUESTS}
 use Rattle.nb_turns.specs.declared.line.Line.{Line}
 use Rattle.nb_turns.specs.declared.mark.Mark.{Mark}
-use Rattle.nb_turns.specs.Turns.{Request, House, answered, marks, replies}
+use Rattle.nb_turns.specs.Turns.{Request, House, Outcome, Decides, Fails, Refuses, answered, marks, replies}
 use Rattle.nb_turns.specs.Callers.{Turned, AnsweredTurns, answers_in}
 use Rattle.nb_turn.specs.declared.chronicle.View.{View}
 use Rattle.nb_vault.specs.declared.answer.AnswerAll.{AnswerAll}
+use Rattle.nb_vault.specs.declared.answer.AnswerAll.TheVariants as all
 use Rattle.nb_vault.specs.declared.origin.Origin.{Origin}
 use Rattle.nb_vault.specs.Rules.{house_of}
 use Rattle.nb_desk.specs.Asks.{Asks, GoesOnAtLast, turned}
@@ -34,13 +34,18 @@ use Rattle.nb_session.specs.declared.ended.Record.{Record}
 abbrev pub house_at : Origin → House
 house_at origin = house_of (head_of origin.head) origin.cap
 
--- a turn that a pass took at its desk: it knew v before and w behind it, and the desk's vault answered it so
+-- what a vault answers where a turn went so
+abbrev pub answer_of : Outcome → AnswerAll
+answer_of (Decides over) = all.Answered
+answer_of (Fails before after) = all.DiskFault before after
+answer_of Refuses = all.Worn MAX_FAULTS
+
+-- a turn that a pass took at its desk: it knew v before and w behind it, and the desk's vault answered it as it went
 pub record TurnAt {D : Type 0} (tells : DiskTells D) (by : ℕ) (v w : View Origin Line) (turn : Turned) : Type 0 where
   pub found : List ℕ
   pub out : List ℕ
   pub given : List ℕ
-  pub told : AnswerAll
-  pub asks : Asks tells by v w turn.requests turn.outcome found out given told
+  pub asks : Asks tells by v w turn.requests turn.outcome found out given (answer_of turn.outcome)
   pub turn_is : turn ≡ turned turn.requests turn.outcome asks.meets.others asks.went.added
   pub goes_on : GoesOnAtLast v w
 
@@ -112,6 +117,18 @@ pub record EndsRead (pieces : List (List ℕ)) (frames : List Frame) : Type 0 wh
   pub rest : List ℕ
   pub pieces_are : pieces ≡ first ++ later
   pub splits : Splits (joined first) frames rest
+
+-- the first of these turns answered all whole frames of these pieces, and nothing else
+pub record AreAnswered (pieces : List (List ℕ)) (turns : List Turned) : Type 0 where
+  pub done : List Turned
+  pub more : List Turned
+  pub rest : List ℕ
+  pub turns_are : turns ≡ done ++ more
+  pub splits : Splits (joined pieces) (frames_in done) rest
+
+-- each piece was read only where all whole frames of those before it were answered
+abbrev pub IsPrompt : List (List ℕ) → List Turned → Type 0
+IsPrompt pieces turns = (n : ℕ) → n < length pieces → AreAnswered (take n pieces) turns
 
 -- a turn of so many requests, with which these frames were answered, is as long as it may be: it has as many requests as a turn may have,
 -- or ends with the last frame of the session, or with the last one that had been read
@@ -187,9 +204,10 @@ pub record Session {D : Type 0} (tells : DiskTells D) (by : ℕ) (v w : View Ori
   pub answered : AnsweredTurns (house_at origin) origin.entries by v.seen turns w.seen
   -- the replies were sent
   pub wrote : Wrote (house_at origin) old.sent new.sent turns end
-  -- the turns are as long as the reading allowed, and each read asked for a whole piece
+  -- the turns are as long as the reading allowed, what was read was answered before more was read, and each read asked for a whole piece
   pub reads : new.reads ≡ with_readings old.reads pieces
   pub long : AreLong pieces [] turns
+  pub prompt : IsPrompt pieces turns
   -- no count of the link fell
   pub read_count : old.read_faults ≤ new.read_faults
   pub write_count : old.write_faults ≤ new.write_faults

@@ -1,7 +1,7 @@
 -- The steps of a session, for the contracts of private functions.
 use Rattle.std.specs.Prelude.{◌≡◌, ℕ, ◌+◌, ◌-◌, ◌*◌, ◌<◌, ◌≤◌, List, [], ◌∷◌, ◌++◌, Option, None, Some, length, min, take, vec_capacity, ◌≢◌}
 use Rattle.std.specs.List.{flat_map, AllByRecursion}
-use Rattle.std.specs.Io.KnownBytes.{Consumes, Appends, Keeps, IsAtEnd}
+use Rattle.std.specs.Io.KnownBytes.{Consumes, Appends, IsAtEnd}
 use Rattle.nb_port.specs.Tells.{DiskTells}
 use Rattle.nb_port.specs.Faults.{Rose}
 use Rattle.nb_link.specs.Link.{LinkSeen}
@@ -12,7 +12,6 @@ use Rattle.nb_frame.specs.Looks.{IsShort}
 use Rattle.nb_frame.specs.Cuts.{EndsIn}
 use Rattle.nb_frame.specs.declared.stream.TheConstants.{MAX_PIECE}
 use Rattle.nb_frame.specs.declared.stream.Next.TheVariants as next
-use Rattle.nb_book.specs.declared.entry.Entry.{Entry}
 use Rattle.nb_msgs.specs.declared.reply.TheConstants.{REPLY_ROOM}
 use Rattle.nb_turns.specs.declared.limits.TheConstants.{MAX_REQUESTS}
 use Rattle.nb_turns.specs.declared.line.Line.{Line}

@@ -26,12 +26,12 @@ pub enum SessionEnd {
 /// What is kept of a session.
 #[derive(Drop)]
 pub struct Record {
-    /// Its number among the sessions of its worker, 4 bytes wide.
+    /// The number that it was given, 4 bytes wide.
     pub number: u32,
     /// How many lines of the vault its pass had seen before it, and how many behind it, 8 bytes wide each.
     pub seen_before: u64,
     pub seen_after: u64,
-    /// The moment at which each frame was taken that was answered, in seconds since 1970-01-01 00:00 UTC.
+    /// What the clock gave for each frame that was answered, in seconds since 1970-01-01 00:00 UTC, 8 bytes wide each.
     pub moments: Vec<u64>,
     /// How each of them was answered.
     pub marks: Vec<Mark>,

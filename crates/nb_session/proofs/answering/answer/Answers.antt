@@ -2,7 +2,7 @@ use Rattle.std.proofs.Common.{ℕ, List, ◌++◌, ◌∙◌, length, ap, arith}
 use Rattle.std.specs.Prelude.{map}
 use Rattle.nb_turns.specs.declared.mark.Mark.TheVariants.{At}
 use Rattle.nb_turn.specs.Passes.{sees}
-use Rattle.nb_session.proofs.Turning.{as_many, failed, refused_empty, served, worn, worn_empty}
+use Rattle.nb_session.proofs.Turning.{as_many, failed, served, worn}
 use Rattle.nb_session.proofs.answering.answer.Goals as goal
 
 pub mark_places-requires : goal.mark_places-requires

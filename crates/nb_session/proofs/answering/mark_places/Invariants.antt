@@ -1,4 +1,4 @@
-use Rattle.std.proofs.Common.{◌≡◌, ℕ, ◌+◌, ◌++◌, length, take}
+use Rattle.std.proofs.Common.{◌≡◌, ℕ, ◌+◌, ◌++◌, take}
 use Rattle.std.specs.Prelude.{map, vec_capacity, vec_len}
 use Rattle.nb_turns.specs.declared.mark.Mark.TheVariants.{At}
 use Rattle.nb_session.proofs.answering.mark_places.Given as goal

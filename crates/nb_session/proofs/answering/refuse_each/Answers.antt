@@ -1,6 +1,4 @@
-use Rattle.std.proofs.Common.{◌≡◌, ◌++◌, [], ◌∷◌, List, ℕ, length, take, ap, sym, ◌∙◌, append_assoc, length-append, arith}
-use Rattle.std.specs.Prelude.{map}
-use Rattle.std.specs.List.{flat_map}
+use Rattle.std.proofs.Common.{◌++◌, [], ◌∷◌, List, ℕ, length, ap, ◌∙◌, length-append, arith}
 use Rattle.nb_endorse.specs.declared.reply.Reply.TheVariants.{Refused}
 use Rattle.nb_endorse.specs.Keys.{no_keys}
 use Rattle.nb_msgs.specs.ReplyBytes.{reply_bytes}

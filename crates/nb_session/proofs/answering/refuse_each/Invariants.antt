@@ -1,4 +1,4 @@
-use Rattle.std.proofs.Common.{◌≡◌, ◌≤◌, ℕ, ◌+◌, ◌-◌, ◌*◌, ◌++◌, length, take}
+use Rattle.std.proofs.Common.{◌≡◌, ◌≤◌, ◌+◌, ◌-◌, ◌*◌, ◌++◌, length, take}
 use Rattle.std.specs.Prelude.{map, vec_capacity, vec_len}
 use Rattle.std.specs.List.{flat_map}
 use Rattle.nb_endorse.specs.declared.reply.Reply.TheVariants.{Refused}

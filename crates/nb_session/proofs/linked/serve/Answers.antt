@@ -3,11 +3,11 @@ use Rattle.nb_frame.specs.State.{Collected, waiting}
 use Rattle.nb_turns.specs.declared.mark.Mark.{Mark}
 use Rattle.nb_frame.specs.Looks.{IsShort}
 use Rattle.nb_turn.specs.Passes.{sees}
-use Rattle.nb_units.specs.Frames.{AreBytes, front_of}
+use Rattle.nb_units.specs.Frames.{front_of}
 use Rattle.nb_session.specs.declared.gathering.Gathered.{Gathered}
 use Rattle.nb_session.specs.declared.sending.Sent.{Sent}
 use Rattle.nb_session.specs.Steps.{Point, TurnIs, point}
-use Rattle.nb_session.proofs.Ending.{as_many_marks, ended_at, ended_bad, ended_fault, ended_short, ended_spent, few_bad, few_more, few_taken, near_fed, near_full, ran_fed, ran_kept, ran_none, ran_turn}
+use Rattle.nb_session.proofs.Ending.{as_many_marks, ended_at, ended_bad, ended_fault, ended_short, ended_spent, few_bad, few_more, few_taken, ran_fed, ran_kept, ran_none, ran_turn}
 use Rattle.nb_session.proofs.Ending.{Ran, begin}
 use Rattle.nb_session.proofs.Cutting.{rose_from}
 use Rattle.nb_session.proofs.linked.serve.Goals as goal
@@ -72,7 +72,7 @@ serving-preserved g c =
     let r : Point = point (sees c.turn-next.result.0) (g.L.Link.seen c.turn-next.new.link) (g.C.Clock.moments c.turn-next.new.clock) c.turn-next.new.work.frames c.turn-next.new.work.moments.items c.turn-next.new.work.marks.items in
     let t = subst (λ (x : ℕ × Gathered × Sent). TurnIs g.D.Disk.tells x.0 q r x.1 x.2) (λ i. (c.serving.invariant.number i, c.in-More.is i, c.in-All.is i)) c.turn-next.ensures.turn in
     record {
-      ran = ran_fed g.D.Disk.tells c.args.pass.number (sees c.args.pass) (g.L.Link.seen c.args.link.now) (g.C.Clock.moments c.args.clock.now) r (g.L.Link.seen c.read_on.new.link) c.read_on.new.frames c.in-Fed.ensures.0 (ran_turn g.D.Disk.tells c.args.pass.number (sees c.args.pass) (g.L.Link.seen c.args.link.now) (g.C.Clock.moments c.args.clock.now) q r c.serving.invariant.ran _ c.serving.invariant.few t) c.in-Fed.ensures.3 c.in-Fed.ensures.4;
+      ran = ran_fed g.D.Disk.tells c.args.pass.number (sees c.args.pass) (g.L.Link.seen c.args.link.now) (g.C.Clock.moments c.args.clock.now) r (g.L.Link.seen c.read_on.new.link) c.read_on.new.frames c.in-Fed.ensures.0 (ran_turn g.D.Disk.tells c.args.pass.number (sees c.args.pass) (g.L.Link.seen c.args.link.now) (g.C.Clock.moments c.args.clock.now) q r c.serving.invariant.ran _ c.serving.invariant.few t) c.in-Fed.ensures.3 c.in-Fed.ensures.4 t.to.1;
       desk = c.turn-next.ensures.desk;
       number = c.turn-next.ensures.pass ∙ c.serving.invariant.number;
       room = record { asks = c.turn-next.ensures.room.asks; ats = c.turn-next.ensures.room.ats; out = c.turn-next.ensures.room.out; moments = c.turn-next.ensures.room.moments; marks = c.turn-next.ensures.room.marks };

@@ -1,4 +1,4 @@
-use Rattle.std.proofs.Common.{◌≡◌, ℕ, ◌+◌, ◌-◌, ◌*◌, ◌<◌, length}
+use Rattle.std.proofs.Common.{◌≡◌, ◌+◌, ◌-◌, ◌*◌, ◌<◌, length}
 use Rattle.nb_frame.specs.State.{waiting}
 use Rattle.nb_turn.specs.Passes.{sees}
 use Rattle.nb_desk.specs.Desks.{IsAt}

@@ -1,4 +1,3 @@
-use Rattle.std.proofs.Common.{arith}
 use Rattle.nb_session.proofs.Cutting.{rose_from, sent_part}
 use Rattle.nb_session.proofs.sending.send_each.Goals as goal
 
