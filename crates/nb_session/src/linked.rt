@@ -53,9 +53,9 @@ impl Work {
 /// All memory is taken at its start; where there is none nothing is done. Each frame that is answered asks the clock once. What was read
 /// is answered before more is read.
 ///
-/// No clause speaks of the gate, nor of how the replies are cut into writes, nor of when they are sent. Each turn passes
-/// [`Point::BeforeTurn`], is taken at the desk, has its replies sent, and passes [`Point::AfterReply`], also where a write failed. Tests
-/// count the points and the writes, of which each reply has its own, and show that no call of the link is tried again where it failed.
+/// No clause speaks of the gate, nor of how the replies are cut into writes, nor of when they are sent. Tests show that each turn passes
+/// [`Point::BeforeTurn`], is taken at the desk, has its replies sent, each by writes of its own, and passes [`Point::AfterReply`], also
+/// where a write failed, before more is read; and that no call of the link is tried again where it failed.
 pub fn session<R: Wait, D: Disk + Drop, L: Link, C: Clock, G: Gate>(
     rt: &R,
     alloc: Global,
