@@ -1,9 +1,8 @@
 // Messages with a part of goods: each round of `writegoods` writes the frame of one, each round of `readgoods` reads its body, and a number
 // is made of what came of all rounds.
 
-ghost use Rattle.std.specs.Prelude.{◌≡◌, ◌≤◌, length, IfOk};
-ghost use Rattle.nb_msgs.specs.declared.lengths.TheConstants.{MAX_SEALED_HEAD};
-ghost use Rattle.nb_goods.specs.declared.limits.TheConstants.{PART_BYTES};
+ghost use Rattle.std.specs.Prelude.{IsTrue};
+ghost use Rattle.nb_msgs.specs.Bodies.{MessageKeepsRules};
 
 use crate::Made;
 use crate::pattern::pattern;
@@ -27,9 +26,6 @@ pub fn run(alloc: Global, row: &str, size: u32, times: u32) -> Result<Made, NoMe
 fn written(alloc: Global, size: u32, times: u32) -> Result<Made, NoMemory> {
     let head = pattern(alloc, MAX_SEALED_HEAD as u32)?;
     let part = pattern(alloc, size)?;
-    if part.len() > PART_BYTES {
-        return Ok(Made::Unknown);
-    }
     let mut frame = Vec::new(alloc);
     let head = Blob::from_vec(head);
     let part = Blob::from_vec(part);
@@ -40,6 +36,9 @@ fn written(alloc: Global, size: u32, times: u32) -> Result<Made, NoMemory> {
     };
     let mut made = 0;
     for _ in 0..times {
+        if !is_lawful(&message) {
+            return Ok(Made::Unknown);
+        }
         frame.clear();
         write_message(&message, &mut frame).map_err(|_| NoMemory)?;
         made = mixed(made, frame.as_slice());
@@ -69,6 +68,18 @@ fn read(alloc: Global, size: u32, times: u32) -> Result<Made, NoMemory> {
         }
     }
     Ok(Made::Bytes(Vec::from_slice(alloc, &made.to_be_bytes())?))
+}
+
+// Whether it can be written.
+fn is_lawful(message: &Message) -> bool
+    ensures { IsTrue result → MessageKeepsRules message.now }
+{
+    match message {
+        Message::Goods { head, part, .. } => {
+            head.as_slice().len() <= MAX_SEALED_HEAD && part.as_slice().len() <= PART_BYTES
+        }
+        _ => false,
+    }
 }
 
 // The next number, of the last of these bytes.
