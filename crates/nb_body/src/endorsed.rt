@@ -17,8 +17,8 @@ pub struct EndorsedOrder {
 }
 
 impl EndorsedOrder {
-    /// The endorsed order that the bytes spell, or the place of the first field that fails, in bytes from their front. A bad sealed
-    /// endorsement is told at the place of its length, 4.
+    /// The endorsed order that the bytes spell, or the place of the first field that fails, in bytes from their front. Where the sealed
+    /// endorsement is too long, or not all there, that is the place of its length, 4. It is not opened.
     pub fn read(bytes: &[u8]) -> Result<EndorsedOrder, Malformed>
         // The fields in their order, and the first that fails.
         ensures reads { Reads result (endorsed_of bytes.now) }

@@ -19,7 +19,8 @@ pub struct Enrolment {
     pub nonce: u64,
     /// The key that it shares with the house, 32 bytes.
     pub key: Secret,
-    /// The HMAC-SHA-256 (RFC 2104) of "enro" and the body before the tag, under the operator's key.
+    /// What should be the HMAC-SHA-256 (RFC 2104) of "enro" and the body before the tag, under the operator's key: 32 bytes. Reading
+    /// does not test it.
     pub tag: Tag,
 }
 

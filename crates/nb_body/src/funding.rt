@@ -16,7 +16,8 @@ pub struct Funding {
     pub amount: u64,
     /// The name of the payment outside, 16 bytes.
     pub reference: [u8; 16],
-    /// The HMAC-SHA-256 (RFC 2104) of "fund" and the body before the tag, under the operator's key.
+    /// What should be the HMAC-SHA-256 (RFC 2104) of "fund" and the body before the tag, under the operator's key: 32 bytes. Reading
+    /// does not test it.
     pub tag: Tag,
 }
 

@@ -16,7 +16,7 @@ pub struct GoodsHead {
     pub total: u64,
     /// The place of the part in them, in bytes from their front, 8 bytes wide.
     pub place: u64,
-    /// The SHA-256 (FIPS 180-4) of all the sealed goods, 32 bytes wide.
+    /// What should be the SHA-256 (FIPS 180-4) of all the sealed goods, 32 bytes wide. Reading does not test it.
     pub checksum: Digest,
 }
 

@@ -15,8 +15,8 @@ pub struct PaymentRequest {
 }
 
 impl PaymentRequest {
-    /// The order that the bytes spell, or the place of the first field that fails, in bytes from their front. A bad order is told at the
-    /// place of its length, 8.
+    /// The request that the bytes spell, or the place of the first field that fails, in bytes from their front. Where the order is too
+    /// long, or not all there, that is the place of its length, 8. What the order says is not read.
     pub fn read(bytes: &[u8]) -> Result<PaymentRequest, Malformed>
         // The fields in their order, and the first that fails.
         ensures reads { Reads result (payment_request_of bytes.now) }

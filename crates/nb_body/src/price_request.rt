@@ -19,8 +19,8 @@ pub struct PriceRequest {
 }
 
 impl PriceRequest {
-    /// The request that the bytes spell, or the place of the first field that fails, in bytes from their front. A bad text is told at the
-    /// place of its length, 12.
+    /// The request that the bytes spell, or the place of the first field that fails, in bytes from their front. Where the text is too
+    /// long, or not all there, that is the place of its length, 12.
     pub fn read(bytes: &[u8]) -> Result<PriceRequest, Malformed>
         // The fields in their order, and the first that fails.
         ensures reads { Reads result (price_request_of bytes.now) }

@@ -14,7 +14,8 @@ pub struct StatusQuery {
     pub epoid: Epoid,
     /// How many entries the house has to hold at least, 8 bytes wide.
     pub least: u64,
-    /// The HMAC-SHA-256 (RFC 2104) of "stat" and the body before the tag, under the key of who asks.
+    /// What should be the HMAC-SHA-256 (RFC 2104) of "stat" and the body before the tag, under the key of who asks: 32 bytes. Reading
+    /// does not test it.
     pub tag: Tag,
 }
 

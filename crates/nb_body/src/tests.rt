@@ -30,7 +30,8 @@ fn is_spelled_back(name: &str, bytes: &[u8]) -> Result<bool, Malformed> {
     Ok(spelled.as_slice() == bytes)
 }
 
-// A record is read and spelled again; cut before a field's front, or before its last byte, it fails at that field.
+// A record is read and spelled again; cut at a field's front, within a text's length, behind it, or before the field's last byte, it
+// fails at that field.
 #[test]
 fn cuts(rt: HostRuntime) -> Result<(), Fail> {
     let alloc: Global = rt.alloc();
@@ -38,7 +39,7 @@ fn cuts(rt: HostRuntime) -> Result<(), Fail> {
         (
             "endorsed order",
             "0101010100000003020202",
-            "0:0 3:0 4:4 10:4",
+            "0:0 3:0 4:4 6:4 8:4 10:4",
         ),
         (
             "status query",
@@ -58,7 +59,7 @@ fn cuts(rt: HostRuntime) -> Result<(), Fail> {
         (
             "price request",
             "01010101010101010202020200000003030303",
-            "0:0 7:0 8:8 11:8 12:12 18:12",
+            "0:0 7:0 8:8 11:8 12:12 14:12 16:12 18:12",
         ),
         (
             "quote",
@@ -78,7 +79,7 @@ fn cuts(rt: HostRuntime) -> Result<(), Fail> {
         (
             "payment request",
             "010101010101010100000003020202",
-            "0:0 7:0 8:8 14:8",
+            "0:0 7:0 8:8 10:8 12:8 14:8",
         ),
     ];
     for (name, text, cuts) in rows {
@@ -95,7 +96,8 @@ fn cuts(rt: HostRuntime) -> Result<(), Fail> {
     Ok(())
 }
 
-// Each length above its limit, each value that is not allowed, and a byte behind the record.
+// Each length above its limit, each value that is not allowed, with what follows it and with nothing behind it, and a byte behind the
+// record.
 #[test]
 fn faults(rt: HostRuntime) -> Result<(), Fail> {
     let alloc: Global = rt.alloc();
@@ -112,11 +114,13 @@ fn faults(rt: HostRuntime) -> Result<(), Fail> {
             "010101010003030303040404040404040405050505050505050505050505050505050505050505050505050505050505050606060606060606060606060606060606060606060606060606060606060606",
             4,
         ),
+        ("enrolment", "0101010100", 4),
         (
             "enrolment",
             "010101010303030303040404040404040405050505050505050505050505050505050505050505050505050505050505050606060606060606060606060606060606060606060606060606060606060606",
             4,
         ),
+        ("enrolment", "0101010103", 4),
         (
             "enrolment",
             "01010101020303030304040404040404040505050505050505050505050505050505050505050505050505050505050505060606060606060606060606060606060606060606060606060606060606060600",
@@ -127,11 +131,13 @@ fn faults(rt: HostRuntime) -> Result<(), Fail> {
             "010101010000000000000000030303030303030303030303030303030404040404040404040404040404040404040404040404040404040404040404",
             4,
         ),
+        ("funding", "010101010000000000000000", 4),
         (
             "funding",
             "010101010de0b6b3a7640001030303030303030303030303030303030404040404040404040404040404040404040404040404040404040404040404",
             4,
         ),
+        ("funding", "010101010de0b6b3a7640001", 4),
         (
             "funding",
             "010101010de0b6b3a764000003030303030303030303030303030303040404040404040404040404040404040404040404040404040404040404040400",

@@ -3,7 +3,7 @@ ghost use Rattle.nb_seal.specs.declared.limits.TheConstants.{CODE_BYTES, MAX_TEX
 ghost use Rattle.nb_seal.specs.Seal.{seal_of};
 ghost use Rattle.nb_endorse.specs.Keys.{key_in, no_keys};
 ghost use Rattle.nb_endorse.specs.Replies.{ReceiptKeepsRules};
-ghost use Rattle.nb_endorse.specs.Spelling.{signed_bytes};
+ghost use Rattle.nb_endorse.specs.Spelling.{IsSigned, signed_bytes};
 ghost use Rattle.nb_endorse.specs.Tags.{signed_receipt};
 
 use crate::receipt::{
@@ -146,7 +146,8 @@ impl ReplyStates {
     /// The receipt and its tag, sealed under the first key.
     pub fn seal_first(&self, s: &Signed) -> [u8; RECEIPT_BYTES]
         requires lawful { ReceiptKeepsRules s.now.receipt }
-        ensures { result ≡ seal_of self.now.first (codes "rcpt") (signed_bytes s.now) }
+        ensures sealed { result ≡ seal_of self.now.first (codes "rcpt") (signed_bytes s.now) }
+        ensures fits { IsSigned s.now }
     {
         match &self.first {
             Some(key) => seal_receipt_with(s, key),
@@ -157,7 +158,8 @@ impl ReplyStates {
     /// The receipt and its tag, sealed under the second key.
     pub fn seal_second(&self, s: &Signed) -> [u8; RECEIPT_BYTES]
         requires lawful { ReceiptKeepsRules s.now.receipt }
-        ensures { result ≡ seal_of self.now.second (codes "rcpt") (signed_bytes s.now) }
+        ensures sealed { result ≡ seal_of self.now.second (codes "rcpt") (signed_bytes s.now) }
+        ensures fits { IsSigned s.now }
     {
         match &self.second {
             Some(key) => seal_receipt_with(s, key),

@@ -17,7 +17,7 @@ use Rattle.nb_endorse.specs.Reading.{signed_of}
 use Rattle.nb_endorse.proofs.Receipts.{receipt_reads_back, receipt_spells_back, receipt_is_as_long}
 use Rattle.nb_msgs.specs.declared.status.StatusText.{StatusText}
 use Rattle.nb_msgs.specs.StatusText.{IsStatusText, told_bytes, text_bytes, told_from, told_of, text_of}
-use Rattle.nb_msgs.specs.Laws.{StatusReadsBack, StatusSpellsBack, OneStatus}
+use Rattle.nb_msgs.specs.Laws.{StatusReadsBack, StatusSpellsBack, OneStatus, status_length, StatusIsAsLong}
 
 -- what stands before the receipt
 abbrev Front : Type 0
@@ -149,12 +149,11 @@ status_spells_back bytes t are e =
 pub one_status : OneStatus
 one_status a b first second same = ok_is a b (sym (status_reads_back a first) ∙ ap text_of same ∙ status_reads_back b second)
 
-rest_short : (o : Option Signed) → IfSome o IsSigned → length (rest_of o) ≤ 135
-rest_short None is = omega arith
-rest_short (Some s) is = omega (arith, receipt_is_as_long s is)
+rest_long : (o : Option Signed) → IfSome o IsSigned → 25 + length (rest_of o) ≡ status_length o
+rest_long None is = refl
+rest_long (Some s) is = omega (arith, receipt_is_as_long s is)
 
--- no status has more bytes than this
-pub status_short : (t : StatusText) → IsStatusText t → length (text_bytes t) ≤ 160
-status_short t is =
+pub status_is_as_long : StatusIsAsLong
+status_is_as_long t is =
     let f : Front = ((t.place, t.epoid), flag_of t.receipt) in
-    omega (arith, ap length (bytes_so t), length-append (front_row.spelled f) (rest_of t.receipt), front_long f ((is.place, is.epoid), flag_fits t.receipt), rest_short t.receipt is.receipt)
+    omega (arith, ap length (bytes_so t), length-append (front_row.spelled f) (rest_of t.receipt), front_long f ((is.place, is.epoid), flag_fits t.receipt), rest_long t.receipt is.receipt)

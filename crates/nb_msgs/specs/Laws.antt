@@ -1,5 +1,6 @@
 -- What a message is written as and what is read are the two sides of one thing.
-use Rattle.std.specs.Prelude.{◌≡◌, ℕ, List, ◌++◌, Ok}
+use Rattle.std.specs.Prelude.{◌≡◌, ℕ, List, ◌++◌, length, Option, Some, None, Ok}
+use Rattle.nb_endorse.specs.declared.receipt.Signed.{Signed}
 use Rattle.nb_units.specs.Frames.{AreBytes, IsFrame, Front, Whole, front_of}
 use Rattle.nb_msgs.specs.declared.lengths.TheConstants as limit
 use Rattle.nb_msgs.specs.declared.status.TheConstants.{MOST_STATUS}
@@ -36,6 +37,14 @@ StatusSpellsBack = (bytes : List ℕ) (t : StatusText) → AreBytes bytes → te
 -- two statuses with one spelling are one
 abbrev pub OneStatus : Type 0
 OneStatus = (a b : StatusText) → IsStatusText a → IsStatusText b → text_bytes a ≡ text_bytes b → a ≡ b
+
+-- a status before it is sealed has 25 bytes, and 135 more where there is a receipt in it
+abbrev pub status_length : Option Signed → ℕ
+status_length None = 25
+status_length (Some s) = 160
+
+abbrev pub StatusIsAsLong : Type 0
+StatusIsAsLong = (t : StatusText) → IsStatusText t → length (text_bytes t) ≡ status_length t.receipt
 
 -- the limits in numbers
 abbrev pub MessageLimitsAre : Type 0

@@ -1,7 +1,8 @@
-ghost use Rattle.std.specs.Prelude.{◌≡◌, length};
+ghost use Rattle.std.specs.Prelude.{◌≡◌, ◌<◌, ◌^◌, length};
 ghost use Rattle.nb_ticket.specs.declared.granted.TheConstants.{GRANT_BYTES};
 ghost use Rattle.nb_ticket.specs.declared.ticket.TheConstants.{TICKET_BYTES};
 ghost use Rattle.nb_ticket.specs.Sealed.{sealed_ticket};
+ghost use Rattle.nb_ticket.specs.Spelling.{IsTicket};
 ghost use Rattle.nb_msgs.specs.ReplyBytes.{grant_frame};
 
 use nb_endorse::ReplyStates;
@@ -18,6 +19,7 @@ pub(crate) fn grant_body(
     keys: &ReplyStates,
 ) -> Buffer
     ensures bytes { result ≡ (grant_frame keys.now consumer merchant nonce until session.now).body }
+    ensures fits { IsTicket (record { consumer = consumer; merchant = merchant; until = until; session = session.now }) × (nonce < 2 ^ 64) }
     ensures long { length result ≡ GRANT_BYTES }
 {
     let ticket = Ticket {

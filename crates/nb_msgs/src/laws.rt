@@ -1,7 +1,7 @@
 //! What holds of every message. Each function here does nothing: its contract is the law.
 
 ghost use Rattle.nb_msgs.specs.Laws as law;
-ghost use Rattle.nb_msgs.specs.ReplyMessages.{ReplyIsMessage};
+ghost use Rattle.nb_msgs.specs.ReplyMessages.{ReplyIsMessage, ReplyIsAsLong};
 
 /// A law: what was spelled of a message is read as that message.
 pub fn message_reads_back()
@@ -41,6 +41,16 @@ pub fn one_status()
 /// A law: a reply whose fields are within their limits is a message within its limits, and its frame is that message's.
 pub fn reply_is_message()
     ensures { ReplyIsMessage }
+{}
+
+/// A law: how many bytes the frame of each reply has.
+pub fn reply_is_as_long()
+    ensures { ReplyIsAsLong }
+{}
+
+/// A law: how many bytes a status has before it is sealed.
+pub fn status_is_as_long()
+    ensures { law.StatusIsAsLong }
 {}
 
 /// A law: the limits of messages in numbers.

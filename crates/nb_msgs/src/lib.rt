@@ -1,7 +1,7 @@
 //! Messages: what one frame says, for each kind, and the house's replies, as bytes.
 //!
-//! A [`Message`] has a variant for each of the sixteen kinds. [`read_body`] gives the message that a body spells, or the place of the first
-//! field that fails; [`write_message`] appends the one frame of a message. The layouts stand in `specs/Bodies.antt`, as a function of the
+//! A [`Message`] has a variant for each of the sixteen kinds. [`read_body`] gives the message that a body spells, the place of the first
+//! field that fails, or says that there was no memory; [`write_message`] appends the one frame of a message. The layouts stand in `specs/Bodies.antt`, as a function of the
 //! message, and in `specs/Reading.antt`, field by field with the place of each. That they are the two sides of one thing, for every kind,
 //! is proved by the functions of [`laws`].
 //!
@@ -18,6 +18,7 @@ mod grant;
 pub mod laws;
 mod lengths;
 mod message;
+mod node;
 mod reading;
 mod reply;
 mod status;
@@ -29,6 +30,7 @@ pub use lengths::{
     MAX_SEALED_QUOTE,
 };
 pub use message::Message;
+pub use node::{End, Reason, RestartFault, Step, To};
 pub use reading::read_body;
 pub use reply::{LONGEST_REPLY, REPLY_ROOM, limits, write_reply, write_reply_with};
 pub use status::{MOST_STATUS, StatusText};

@@ -13,7 +13,7 @@ use nb_units::frames::{
 use nb_units::{AcctId, Blob, PartyId};
 
 /// What one frame says: a variant for each kind, in the order of the kinds. What is sealed is told as it stands, sealed; how long it
-/// may be at most is said by the constants of this crate, of `nb_ticket`, of `nb_endorse` and of `nb_goods`.
+/// may be at most is said by the constants of this crate, of `nb_body`, of `nb_ticket`, of `nb_endorse` and of `nb_goods`.
 #[derive(Debug, Drop)]
 pub enum Message {
     /// A consumer asks a merchant for a price.

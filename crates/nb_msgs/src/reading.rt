@@ -24,7 +24,7 @@ use nb_units::{AcctId, Blob, Cut};
 use std::alloc::Global;
 
 /// The message that a body of this kind spells. It answers [`BodyFault::Malformed`] exactly where the body spells none, with the place
-/// of the first field that fails. Each text is copied once.
+/// of the first field that fails. A part of goods is copied once.
 pub fn read_body(alloc: Global, kind: u8, body: &[u8]) -> Result<Message, BodyFault>
     requires least { 1 ≤ kind }
     requires most { kind ≤ LAST_KIND }

@@ -2,16 +2,20 @@ ghost use Rattle.std.specs.Prelude.{◌≡◌, ◌≤◌, ◌<◌, ◌^◌, ◌+
 ghost use Rattle.nb_seal.specs.Seal.{seal_of};
 ghost use Rattle.nb_units.specs.Room.{spare_of};
 ghost use Rattle.nb_units.specs.declared.frames.TheConstants.{LAST_KIND};
+ghost use Rattle.nb_units.specs.Epoid.{IsEpoid};
 ghost use Rattle.nb_endorse.specs.Replies.{HasLawfulReceipts, ReceiptKeepsRules};
+ghost use Rattle.nb_endorse.specs.Spelling.{IsReceipt};
+ghost use Rattle.nb_endorse.specs.Tags.{signed_receipt};
 ghost use Rattle.nb_msgs.specs.Bodies.{IsRefusal};
 ghost use Rattle.nb_msgs.specs.Limits.{ReplyLimitsAre};
 ghost use Rattle.nb_msgs.specs.ReplyBytes as layout;
+ghost use Rattle.nb_msgs.specs.ReplyMessages.{IsReply};
 ghost use Rattle.nb_msgs.specs.declared.reply.TheConstants.{MOST_BODY, REPLY_ROOM, LONGEST_REPLY};
 ghost use Rattle.nb_msgs.specs.declared.status.TheConstants.{MOST_STATUS};
 
 use crate::grant::grant_body;
 use crate::status::{MOST_STATUS, StatusText};
-use nb_endorse::{RECEIPT_BYTES, Receipt, Refusal, Reply, ReplyKeys, ReplyStates};
+use nb_endorse::{RECEIPT_BYTES, Receipt, Refusal, Reply, ReplyKeys, ReplyStates, Signed};
 use nb_frame::write_frame;
 use nb_units::frames::{
     DONE_REPLY, GRANT_REPLY, HEADER, REFUSED_REPLY, RESULT_REPLY, STATUS_REPLY,
@@ -38,6 +42,7 @@ pub fn write_reply(reply: &Reply, keys: &ReplyKeys, out: &mut Vec<u8>)
     requires lawful { HasLawfulReceipts reply.now }
     requires room { REPLY_ROOM ≤ spare_of out.old }
     ensures bytes { out.new.items ≡ out.old.items ++ layout.reply_bytes keys.now reply.now }
+    ensures fits { IsReply reply.now }
     ensures short { length (layout.reply_bytes keys.now reply.now) ≤ LONGEST_REPLY }
     ensures room { vec_capacity out.new ≡ vec_capacity out.old }
 {
@@ -49,6 +54,7 @@ pub fn write_reply_with(reply: &Reply, keys: &ReplyStates, out: &mut Vec<u8>)
     requires lawful { HasLawfulReceipts reply.now }
     requires room { REPLY_ROOM ≤ spare_of out.old }
     ensures bytes { out.new.items ≡ out.old.items ++ layout.reply_bytes keys.now reply.now }
+    ensures fits { IsReply reply.now }
     ensures short { length (layout.reply_bytes keys.now reply.now) ≤ LONGEST_REPLY }
     ensures room { vec_capacity out.new ≡ vec_capacity out.old }
 {
@@ -74,6 +80,7 @@ fn kind_of(reply: &Reply) -> u8
 fn body_of(reply: &Reply, keys: &ReplyStates) -> Buffer
     requires { HasLawfulReceipts reply.now }
     ensures bytes { result ≡ (layout.reply_frame keys.now reply.now).body }
+    ensures fits { IsReply reply.now }
     ensures short { length result ≤ MOST_BODY }
 {
     match reply {
@@ -101,23 +108,54 @@ fn result_body(merchant: &Receipt, consumer: &Receipt, keys: &ReplyStates) -> Bu
     requires merchant { ReceiptKeepsRules merchant.now }
     requires consumer { ReceiptKeepsRules consumer.now }
     ensures bytes { result ≡ (layout.result_frame keys.now merchant.now consumer.now).body }
+    ensures fits { IsReceipt merchant.now × IsReceipt consumer.now }
     ensures short { length result ≤ MOST_BODY }
 {
+    let first = keys.sign(merchant);
+    let second = sign_again(&first, consumer, keys);
     let mut body = Buffer::new();
-    let signed = keys.sign(merchant);
-    body.bytes(&keys.seal_first(&signed));
-    if consumer == merchant {
-        body.bytes(&keys.seal_second(&signed));
-    } else {
-        body.bytes(&keys.seal_second(&keys.sign(consumer)));
-    }
+    body.bytes(&seal_first(&first, merchant, keys));
+    body.bytes(&seal_second(&second, consumer, keys));
     body
+}
+
+// The receipt with its tag under the house's key, beside another one that was signed so.
+fn sign_again(first: &Signed, receipt: &Receipt, keys: &ReplyStates) -> Signed
+    requires { first.now ≡ signed_receipt keys.now.house first.now.receipt }
+    ensures { result ≡ signed_receipt keys.now.house receipt.now }
+{
+    if *receipt == first.receipt {
+        *first
+    } else {
+        keys.sign(receipt)
+    }
+}
+
+// A receipt that was signed, sealed for who asked.
+fn seal_first(signed: &Signed, receipt: &Receipt, keys: &ReplyStates) -> [u8; RECEIPT_BYTES]
+    requires lawful { ReceiptKeepsRules receipt.now }
+    requires signed { signed.now ≡ signed_receipt keys.now.house receipt.now }
+    ensures sealed { result ≡ layout.sealed_receipt keys.now.house keys.now.first receipt.now }
+    ensures fits { IsReceipt receipt.now }
+{
+    keys.seal_first(signed)
+}
+
+// A receipt that was signed, sealed for the other party.
+fn seal_second(signed: &Signed, receipt: &Receipt, keys: &ReplyStates) -> [u8; RECEIPT_BYTES]
+    requires lawful { ReceiptKeepsRules receipt.now }
+    requires signed { signed.now ≡ signed_receipt keys.now.house receipt.now }
+    ensures sealed { result ≡ layout.sealed_receipt keys.now.house keys.now.second receipt.now }
+    ensures fits { IsReceipt receipt.now }
+{
+    keys.seal_second(signed)
 }
 
 // The body that gives the status of an order, sealed for who asked.
 fn status_body(place: u64, epoid: &Epoid, receipt: &Option<Receipt>, keys: &ReplyStates) -> Buffer
     requires { IfSome receipt.now ReceiptKeepsRules }
     ensures bytes { result ≡ (layout.status_frame keys.now place epoid.now receipt.now).body }
+    ensures fits { (place < 2 ^ 64) × IsEpoid epoid.now × IfSome receipt.now IsReceipt }
     ensures short { length result ≤ MOST_STATUS }
 {
     let plain = told(place, epoid, receipt, keys).spelled();

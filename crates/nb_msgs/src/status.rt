@@ -30,8 +30,8 @@ pub struct StatusText {
 
 impl StatusText {
     /// The status that the bytes spell, or the place of the first field that fails, in bytes from their front: a field of which bytes
-    /// are missing, a byte before the receipt that is neither 0 nor 1, in the receipt as
-    /// [`read_receipt`](nb_endorse::read_receipt) tells it, or the first byte behind the last field.
+    /// are missing, a byte before the receipt that is neither 0 nor 1, in the receipt and its tag the place that
+    /// [`read_signed`](nb_endorse::read_signed) tells and 25 before it, or the first byte behind the last field.
     pub fn read(bytes: &[u8]) -> Result<StatusText, Malformed>
         // The fields in their order, and the first that fails.
         ensures reads { Reads result (texts.text_of bytes.now) }

@@ -6,7 +6,7 @@ ghost use Rattle.nb_endorse.specs.Replies.{HasLawfulReceipts, ReceiptKeepsRules}
 
 use super::*;
 use nb_endorse::{Receipt, Refusal, Reply, ReplyKeys};
-use nb_units::{AcctId, Epoid, PartyId, Price};
+use nb_units::{AcctId, Epoid, Malformed, PartyId, Price};
 use std::alloc::Global;
 use std::test::Fail;
 
@@ -157,6 +157,80 @@ fn replies_are_written(rt: HostRuntime) -> Result<(), Fail> {
             NONE,
             "4e4201100000003128000000000000000500000000000000060000000000000000000000000000000000000000000000000000000000000000"
         )?
+    );
+    Ok(())
+}
+
+// The status of that order over five entries before it is sealed, for the consumer: made by another program, examples/formats.py.
+const STATUS: &str =
+    "00000000000000050000000200000000000003e800000001010000000001000000020000000700000000000001f40000000200000000000003e800000001000000000000000300000000000003e80177777777777777777777777777777777777777777777777777777777777777770000000000000000000000000000000000151084845cb2a97f2488aedd273b23a9e561ecfb5d64e85244dfb24605e7e44b";
+
+// A status is read; one that is cut, or in which one byte is not allowed, fails at the field of that byte.
+#[test]
+fn statuses_are_read(rt: HostRuntime) -> Result<(), Fail> {
+    let mut whole = [0u8; 161];
+    hex::decode_to_slice(STATUS, whole.split_at_mut(160).0)?;
+    let (status, _) = whole.split_at(160);
+    let read = StatusText::read(status)?;
+    assert_eq!(rt; (read.place, read.epoid), (5, EPOID));
+    assert_eq!(rt; read.receipt.map(|signed| signed.receipt), Some(PAID));
+    assert_eq!(rt; read.spelled().as_slice(), status);
+    let cuts = [
+        (0usize, 0usize),
+        (7, 0),
+        (8, 8),
+        (23, 8),
+        (24, 24),
+        (25, 25),
+        (26, 26),
+        (159, 128),
+    ];
+    for (left, place) in cuts {
+        let cut = status.get(..left).ok_or("too long")?;
+        assert_eq!(rt;
+            StatusText::read(cut),
+            Err(Malformed { place }),
+            "{left} bytes"
+        );
+    }
+    assert_eq!(rt; StatusText::read(&whole), Err(Malformed { place: 160 }));
+    // The byte at a place, and the field that fails: whether there is a receipt, its code, whether there is a key, and the key; whether
+    // numbers are shown, and the numbers.
+    let turned = [
+        (24usize, 2u8, 24usize),
+        (24, 0xFF, 24),
+        (25, 1, 25),
+        (78, 0, 78),
+        (78, 2, 78),
+        (111, 1, 111),
+        (111, 2, 111),
+        (119, 1, 112),
+        (127, 1, 120),
+    ];
+    for (at, byte, place) in turned {
+        let mut other = whole;
+        *other.get_mut(at).ok_or("too long")? = byte;
+        let (other, _) = other.split_at(160);
+        assert_eq!(rt;
+            StatusText::read(other),
+            Err(Malformed { place }),
+            "{byte} at {at}"
+        );
+    }
+    // A refusal has no key.
+    let mut refused = whole;
+    refused[25] = 36;
+    refused[78] = 0;
+    let (refused, _) = refused.split_at(160);
+    assert_eq!(rt; StatusText::read(refused), Err(Malformed { place: 79 }));
+    // With no receipt there is nothing behind that byte.
+    whole[24] = 0;
+    let (none, _) = whole.split_at(25);
+    assert_eq!(rt; StatusText::read(none)?.receipt, None);
+    assert_eq!(rt; StatusText::read(none)?.spelled().as_slice(), none);
+    assert_eq!(rt;
+        StatusText::read(whole.split_at(26).0),
+        Err(Malformed { place: 25 })
     );
     Ok(())
 }

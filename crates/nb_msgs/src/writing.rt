@@ -1,4 +1,5 @@
-ghost use Rattle.std.specs.Prelude.{◌≡◌, ◌≤◌, ◌<◌, ◌+◌, ◌^◌, ◌++◌, ◌∷◌, [], length, OnOk, OnErr};
+ghost use Rattle.std.specs.Prelude.{◌≡◌, ◌≤◌, ◌<◌, ◌+◌, ◌^◌, ◌++◌, ◌∷◌, [], length, vec_capacity, IsOk, OnOk, OnErr};
+ghost use Rattle.nb_units.specs.Room.{spare_of};
 ghost use Rattle.nb_units.specs.Fields.{be4, be8, sized};
 ghost use Rattle.nb_units.specs.declared.frames.TheConstants.{FIRST_MAGIC, SECOND_MAGIC, VERSION, HEADER};
 ghost use Rattle.nb_body.specs.declared.limits.TheConstants.{MAX_ENDORSED};
@@ -14,12 +15,15 @@ use nb_units::frames::{FIRST_MAGIC, SECOND_MAGIC, VERSION};
 use nb_units::{Blob, Buffer, NoMemory, PartyId};
 
 /// Appends the frame of a message. No text in it may be longer than its limit, a role must be one of the two, and an amount in its
-/// range. Where there is no memory for the frame, nothing is appended. A part of goods is copied once.
+/// range. Where there is no memory for the frame, nothing is appended and no room is taken. A part of goods is copied once.
 pub fn write_message(m: &Message, out: &mut Vec<u8>) -> Result<(), NoMemory>
     requires lawful { bodies.MessageKeepsRules m.now }
     ensures ok { OnOk result (out.new.items ≡ out.old.items ++ bodies.message_bytes m.now) }
-    ensures err { OnErr result (out.new.items ≡ out.old.items) }
     ensures fits { bodies.IsMessage m.now }
+
+    // Where it fails all is as before, and it fails only where the room for the frame was missing.
+    ensures err { OnErr result ((out.new.items ≡ out.old.items) × (vec_capacity out.new ≡ vec_capacity out.old)) }
+    ensures had { length (bodies.message_bytes m.now) ≤ spare_of out.old → IsOk result }
 {
     let front = front_of(m);
     let front = front.as_slice();
