@@ -1,0 +1,7 @@
+mod Working
+mod Threading
+mod Splitting
+mod Gathering
+mod Joining
+mod Telling
+mod Resting

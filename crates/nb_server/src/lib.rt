@@ -1,0 +1,27 @@
+//! The server: workers side by side, each of which serves the links of its port, one session after another, all against one vault.
+//!
+//! [`serve_all`] opens a desk over the vault, splits a pass off for each worker, and runs each worker in a thread of its own. Behind the
+//! threads the passes are joined and the desk is closed. What came of it is told by the vault, the workers and a [`WorkerEnd`] for each:
+//! the number of the pass that it asked with, the record of each session, and why it stopped.
+//!
+//! What is promised (`specs/Served.antt`, `AllSessions`): there is one chronicle, the vault's lines; each session of each worker meets
+//! what `session` of nb_session promises, over first lines of the chronicle; the records of one number follow one another without a gap,
+//! and each line of that number stands within one of them; each link that was given was taken back. [`laws`] say what follows where
+//! nothing fails.
+//!
+//! That the workers run side by side, and that each line has the number of a pass that a worker asked with, is shown by tests alone.
+//!
+//! Left to others: words, files and sockets.
+#![tactic(auto)]
+
+mod job;
+pub mod laws;
+mod running;
+mod server;
+mod worker;
+
+pub use server::{MAX_WORKERS, Served, serve_all};
+pub use worker::{How, Worker, WorkerEnd};
+
+#[cfg(test)]
+mod tests;
