@@ -92,18 +92,8 @@ def moment_of(entry):
 
 def read_journal(path):
     """The entries of a journal, and the place of the gate behind them."""
-    image = path.read_bytes()
-    front = formats.journal(HEAD, FRAMES, [])[:-1]
-    if not image.startswith(front):
-        fail("the front of the journal has changed")
-    entries, gate = [], len(front)
-    while image[gate : gate + 1] == formats.OPEN:
-        size = formats.number(image[gate + 1 : gate + 5])
-        entries.append(image[gate + 5 : gate + 5 + size])
-        gate += 5 + size
-        if gate >= len(image):
-            fail(f"the journal ends within item {len(entries) - 1}")
-    return entries, gate
+    read = formats.read_journal(path.read_bytes(), formats.journal(HEAD, FRAMES, [])[:-1])
+    return read or fail("the front of the journal has changed, or it ends within an item")
 
 
 def start(words, **streams):

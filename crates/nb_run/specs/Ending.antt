@@ -1,28 +1,25 @@
 -- How a run of the program ends.
-use Rattle.std.specs.Prelude.{ℕ}
+use Rattle.std.specs.Prelude.{◌≡◌, ℕ}
 use Rattle.nb_frame.specs.Faults.{place_of}
 use Rattle.nb_batch.specs.declared.batch.BatchEnd.{BatchEnd}
 use Rattle.nb_batch.specs.declared.batch.BatchEnd.TheVariants.{Clean, Cut, BadFrame, ReadFault, WriteFault, NoMemory, FrameLimit}
 use Rattle.nb_run.specs.declared.ending.Ending.{Ending}
 use Rattle.nb_run.specs.declared.ending.TheConstants.{CLEAN, SOURCE_FAILED, SINK_FAILED, BAD_INPUT, OUT_OF_MEMORY, FRAME_LIMIT}
 use Rattle.nb_run.specs.declared.ending.Outcome.{Outcome}
-use Rattle.nb_run.specs.declared.ending.Outcome.TheVariants.{Done}
+use Rattle.nb_run.specs.declared.ending.Outcome.TheVariants.{Done, Work}
 
 -- the ending with this status, at place 0
 abbrev pub at_no_place : ℕ → Ending
 at_no_place status = record { status = status; place = 0 }
 
--- the ending of an outcome
-abbrev pub ending : Outcome → Ending
-ending (Done how) = how
+-- the run is over, and this is true of its ending
+abbrev pub Ends : Outcome → (Ending → Type 0) → Type 0
+Ends (Done ending) P = P ending
+Ends (Work job) P = ⊥
 
--- the status of an outcome
-abbrev pub status : Outcome → ℕ
-status (Done how) = how.status
-
--- the place of an outcome
-abbrev pub place : Outcome → ℕ
-place (Done how) = how.place
+-- it is over with this status
+abbrev pub EndsWith : Outcome → ℕ → Type 0
+EndsWith outcome status = Ends outcome (λ ending. ending.status ≡ status)
 
 -- how a batch ends the program
 abbrev pub ended : BatchEnd → Ending

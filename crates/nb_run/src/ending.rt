@@ -2,7 +2,10 @@
 
 ghost use Rattle.std.specs.Prelude.{◌≡◌};
 ghost use Rattle.nb_run.specs.Ending.{at_no_place};
-ghost use Rattle.nb_run.specs.Numbers.{StatusesAre};
+ghost use Rattle.nb_run.specs.Run.{unopened};
+ghost use Rattle.nb_run.specs.Numbers.{LimitsAre, StatusesAre};
+
+use nb_vault::VaultFault;
 
 /// All was done.
 pub const CLEAN: u8 = 0;
@@ -34,6 +37,9 @@ pub const NOT_MADE: u8 = 9;
 /// As many frames were answered as one run answers, 10,000,000.
 pub const FRAME_LIMIT: u8 = 11;
 
+/// A port failed, with links left.
+pub const PORT_FAILED: u8 = 13;
+
 /// A status, and the place that it speaks of: 0 where there is none.
 #[derive(Clone, Copy, PartialEq, Eq, Debug)]
 pub struct Ending {
@@ -48,15 +54,51 @@ impl Ending {
     {
         Ending { status, place: 0 }
     }
+
+    /// How a run ends where the house was not opened. A place is told of damage alone.
+    pub fn unopened(fault: VaultFault) -> Ending
+        ensures { result ≡ unopened fault }
+    {
+        match fault {
+            VaultFault::Unborn { .. } => Ending::at_no_place(NO_JOURNAL),
+            VaultFault::Damaged { place, .. } => Ending {
+                status: NO_JOURNAL,
+                place,
+            },
+            VaultFault::BadEntry { .. } => Ending::at_no_place(NO_JOURNAL),
+            VaultFault::DiskFault { .. } => Ending::at_no_place(DISK_FAILED),
+            VaultFault::NoMemory => Ending::at_no_place(OUT_OF_MEMORY),
+        }
+    }
+}
+
+/// What is left to do over links, which a run does not have.
+#[derive(Clone, Copy, PartialEq, Eq, Debug)]
+pub enum Job {
+    /// `serve JOURNAL ADDRESS WORKERS SESSIONS`: answer the links of so many workers, so many of each.
+    Serve {
+        /// From 1 to [`MAX_WORKERS`](crate::MAX_WORKERS).
+        workers: u32,
+        /// The links of each worker, at least 1: over all workers at most [`MAX_LINKS`](crate::MAX_LINKS).
+        sessions: u32,
+    },
 }
 
 /// What a run of the program came to.
 #[derive(Clone, Copy, PartialEq, Eq, Debug)]
 pub enum Outcome {
+    /// It is over.
     Done(Ending),
+    /// A job is left to do, and nothing was touched.
+    Work(Job),
 }
 
 /// A law: the statuses in numbers.
 pub fn statuses()
     ensures { StatusesAre }
+{}
+
+/// A law: the limits of a server in numbers.
+pub fn limits()
+    ensures { LimitsAre }
 {}

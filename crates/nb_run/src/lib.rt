@@ -1,5 +1,5 @@
 //! What the program does, on its words: `init JOURNAL CAP` makes a journal whose head is the input, `batch JOURNAL` answers the
-//! frames of the input, in order, over the house that the journal holds.
+//! frames of the input, in order, over the house that the journal holds, and `serve JOURNAL ADDRESS WORKERS SESSIONS` is told as a [`Job`].
 //!
 //! [`command_of`] reads the words. For `init` the head is read and the journal made; for `batch` the vault is opened, and
 //! [`nb_batch::serve`] answers. [`run`] is all of it over any source, sink, disk and clock. Its contract says how it ends and why
@@ -15,8 +15,8 @@ mod program;
 mod words;
 
 pub use ending::{
-    BAD_INPUT, BAD_WORDS, CLEAN, DISK_FAILED, Ending, FRAME_LIMIT, NO_JOURNAL, NOT_MADE,
-    OUT_OF_MEMORY, Outcome, SINK_FAILED, SOURCE_FAILED, statuses,
+    BAD_INPUT, BAD_WORDS, CLEAN, DISK_FAILED, Ending, FRAME_LIMIT, Job, NO_JOURNAL, NOT_MADE,
+    OUT_OF_MEMORY, Outcome, PORT_FAILED, SINK_FAILED, SOURCE_FAILED, limits, statuses,
 };
 pub use program::run;
-pub use words::{Command, command_of, journal_of};
+pub use words::{Command, MAX_LINKS, MAX_WORKERS, command_of, journal_of};

@@ -2,26 +2,29 @@ ghost use Rattle.std.specs.Prelude.{◌≡◌, ◌≢◌, ◌≤◌, ◌↔◌, 
 ghost use Rattle.nb_port.specs.Faults.{Rose};
 ghost use Rattle.nb_journal.specs.Making.{SparesJournal, IsCap};
 ghost use Rattle.nb_run.specs.declared.ending.TheConstants.{CLEAN, BAD_WORDS, SOURCE_FAILED, SINK_FAILED, OUT_OF_MEMORY, DISK_FAILED, NO_JOURNAL};
-ghost use Rattle.nb_run.specs.Ending.{ending, status, place};
+ghost use Rattle.nb_run.specs.Ending.{Ends, EndsWith};
+ghost use Rattle.nb_run.specs.declared.ending.Outcome.TheVariants as outcomes;
+ghost use Rattle.nb_run.specs.declared.ending.Job.{Job};
+ghost use Rattle.nb_run.specs.declared.ending.Job.TheVariants as jobs;
 ghost use Rattle.nb_run.specs.Ending as endings;
-ghost use Rattle.nb_run.specs.Words.{IsBatch, IsInit, IsCommand};
+ghost use Rattle.nb_run.specs.Words.{IsBatch, IsInit, IsServe, IsCommand};
 ghost use Rattle.nb_run.specs.Init.{IsHeadInput, HasNoJournal};
 ghost use Rattle.nb_run.specs.Run as runs;
 
 use crate::ending::{
-    BAD_INPUT, BAD_WORDS, CLEAN, DISK_FAILED, Ending, FRAME_LIMIT, NO_JOURNAL, OUT_OF_MEMORY,
-    Outcome, SINK_FAILED, SOURCE_FAILED,
+    BAD_INPUT, BAD_WORDS, CLEAN, Ending, FRAME_LIMIT, Job, OUT_OF_MEMORY, Outcome, SINK_FAILED,
+    SOURCE_FAILED,
 };
 use crate::init::make_journal;
 use crate::words::{Command, command_of};
 use nb_batch::{BatchEnd, serve};
 use nb_port::{Clock, Disk, Sink, Source};
-use nb_vault::{Vault, VaultFault};
+use nb_vault::Vault;
 use std::alloc::Global;
 
 /// Runs the program on its words, over the input, the output, the journal's disk and the clock. The disk is handed
 /// back. `init JOURNAL CAP` makes a journal without entries, whose head is the input; `batch JOURNAL` answers the frames of the
-/// input in order.
+/// input in order; `serve JOURNAL ADDRESS WORKERS SESSIONS` is work over links, which is left to do.
 pub fn run<S: Source, K: Sink, D: Disk, C: Clock>(
     alloc: Global,
     words: &[String],
@@ -30,45 +33,48 @@ pub fn run<S: Source, K: Sink, D: Disk, C: Clock>(
     disk: D,
     clock: &mut C,
 ) -> (Outcome, D)
-    ensures status { runs.IsStatus (status result.0) }
+    // Where it ends, with one of these statuses; else a server's work is left to do, exactly at a server's words.
+    ensures status { (status : ℕ) → EndsWith result.0 status → runs.IsStatus status }
+    ensures work { (workers sessions : ℕ) → (result.0 ≡ outcomes.Work (jobs.Serve workers sessions)) ↔ IsServe (map string_bytes words.now) workers sessions }
 
-    // Status 2: the words, and nothing else; nothing is touched.
-    ensures words { (status result.0 ≡ BAD_WORDS) ↔ (IsCommand (map string_bytes words.now) → ⊥) }
-    ensures untouched { status result.0 ≡ BAD_WORDS → (place result.0 ≡ 0) × (result.1 ≡ disk) }
+    // Status 2: the words, and nothing else. Nothing is touched then, and where work is left to do.
+    ensures words { EndsWith result.0 BAD_WORDS ↔ (IsCommand (map string_bytes words.now) → ⊥) }
+    ensures nowhere { EndsWith result.0 BAD_WORDS → Ends result.0 (λ ending. ending.place ≡ 0) }
+    ensures untouched { EndsWith result.0 BAD_WORDS ⊎ ((job : Job) × (result.0 ≡ outcomes.Work job)) → result.1 ≡ disk }
 
     // No count of faults falls.
     ensures counts { (S.faults source.old ≤ S.faults source.new) × (K.faults sink.old ≤ K.faults sink.new) × (D.tells.faults disk ≤ D.tells.faults result.1) }
 
     // A fault is answered only where the count of that object rose.
-    ensures source { status result.0 ≡ SOURCE_FAILED → Rose (S.faults source.old) (S.faults source.new) }
-    ensures sink { status result.0 ≡ SINK_FAILED → Rose (K.faults sink.old) (K.faults sink.new) }
-    ensures fault { status result.0 ≡ DISK_FAILED → Rose (D.tells.faults disk) (D.tells.faults result.1) }
+    ensures source { EndsWith result.0 SOURCE_FAILED → Rose (S.faults source.old) (S.faults source.new) }
+    ensures sink { EndsWith result.0 SINK_FAILED → Rose (K.faults sink.old) (K.faults sink.new) }
+    ensures fault { EndsWith result.0 DISK_FAILED → Rose (D.tells.faults disk) (D.tells.faults result.1) }
 
     // What making a journal comes to. It sends nothing and asks for no moment, and nothing is written over a journal that is there.
     ensures init { (cap : ℕ) → IsInit (map string_bytes words.now) cap
-        → runs.InitIs D.tells (S.left source.old) (S.left source.new) (S.faults source.old) (S.faults source.new) disk result.1 cap (ending result.0) }
+        → Ends result.0 (runs.InitIs D.tells (S.left source.old) (S.left source.new) (S.faults source.old) (S.faults source.new) disk result.1 cap) }
     ensures silent { (cap : ℕ) → IsInit (map string_bytes words.now) cap
         → (sink.new ≡ sink.old) × (clock.new ≡ clock.old) × SparesJournal D.tells disk result.1 }
 
     // A head alone, a cap in its range, a disk without a journal, and nothing that fails: a journal is made.
     ensures makes { (cap : ℕ) → IsInit (map string_bytes words.now) cap → IsCap cap → IsHeadInput (S.left source.old) → HasNoJournal (D.tells.content disk)
         → (Rose (S.faults source.old) (S.faults source.new) → ⊥) → (Rose (D.tells.faults disk) (D.tells.faults result.1) → ⊥)
-        → status result.0 ≡ CLEAN }
+        → EndsWith result.0 CLEAN }
 
     // What a batch comes to.
     ensures batch { IsBatch (map string_bytes words.now)
-        → runs.BatchIs D.tells disk result.1
+        → Ends result.0 (runs.BatchIs D.tells disk result.1
         (record { left = S.left source.old; sent = K.sent sink.old; moments = C.moments clock.old })
-        (record { left = S.left source.new; sent = K.sent sink.new; moments = C.moments clock.new }) (ending result.0) }
+        (record { left = S.left source.new; sent = K.sent sink.new; moments = C.moments clock.new })) }
 
-    // Nothing is taken, sent or asked for where the words are bad or a batch ends with 7 or 8.
-    ensures closed { (status result.0 ≡ BAD_WORDS) ⊎ (status result.0 ≡ NO_JOURNAL) ⊎ ((status result.0 ≡ DISK_FAILED) × IsBatch (map string_bytes words.now))
+    // Nothing is taken, sent or asked for where the words are bad, work is left to do, or a batch ends with 7 or 8.
+    ensures closed { EndsWith result.0 BAD_WORDS ⊎ EndsWith result.0 NO_JOURNAL ⊎ (EndsWith result.0 DISK_FAILED × IsBatch (map string_bytes words.now)) ⊎ ((job : Job) × (result.0 ≡ outcomes.Work job))
         → (source.new ≡ source.old) × (sink.new ≡ sink.old) × (clock.new ≡ clock.old) }
 
     // Whole frames alone over a journal, and nothing that fails: all is done, unless memory is wanting.
     ensures complete { IsBatch (map string_bytes words.now) → runs.IsJournal (D.tells.content disk) → runs.IsWholeInput (S.left source.old)
         → (Rose (S.faults source.old) (S.faults source.new) → ⊥) → (Rose (K.faults sink.old) (K.faults sink.new) → ⊥) → (Rose (D.tells.faults disk) (D.tells.faults result.1) → ⊥)
-        → (status result.0 ≡ CLEAN) ⊎ (status result.0 ≡ OUT_OF_MEMORY) }
+        → EndsWith result.0 CLEAN ⊎ EndsWith result.0 OUT_OF_MEMORY }
 {
     match command_of(words) {
         Some(Command::Init { cap }) => {
@@ -79,6 +85,9 @@ pub fn run<S: Source, K: Sink, D: Disk, C: Clock>(
         Some(Command::Batch) => {
             let (ending, disk) = answer_batch(alloc, source, sink, disk, clock);
             (Outcome::Done(ending), disk)
+        }
+        Some(Command::Serve { workers, sessions }) => {
+            (Outcome::Work(Job::Serve { workers, sessions }), disk)
         }
         None => (Outcome::Done(Ending::at_no_place(BAD_WORDS)), disk),
     }
@@ -106,28 +115,12 @@ fn answer_batch<S: Source, K: Sink, D: Disk, C: Clock>(
 {
     let mut house = match Vault::open(alloc, disk) {
         Ok(house) => house,
-        Err((fault, disk)) => return (unopened(fault), disk),
+        Err((fault, disk)) => return (Ending::unopened(fault), disk),
     };
     let end = serve(alloc, &mut house, source, sink, clock);
     // What the disk is at rest in is what every vault keeps.
     house.witness();
     (ended(end), house.into_disk())
-}
-
-// How the run ends where the house was not opened.
-fn unopened(fault: VaultFault) -> Ending
-    ensures { result ≡ runs.unopened fault }
-{
-    match fault {
-        VaultFault::Unborn { .. } => Ending::at_no_place(NO_JOURNAL),
-        VaultFault::Damaged { place, .. } => Ending {
-            status: NO_JOURNAL,
-            place,
-        },
-        VaultFault::BadEntry { .. } => Ending::at_no_place(NO_JOURNAL),
-        VaultFault::DiskFault { .. } => Ending::at_no_place(DISK_FAILED),
-        VaultFault::NoMemory => Ending::at_no_place(OUT_OF_MEMORY),
-    }
 }
 
 // How a batch ends the program.

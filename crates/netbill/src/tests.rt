@@ -12,7 +12,7 @@ mod syncs;
 use nb_port::{
     Clock, Disk, Fill, MemClock, MemDisk, MemSink, MemSource, ReadOut, Sink, Source, WriteOut,
 };
-use nb_run::{Ending, Outcome, run};
+use nb_run::{Ending, Job, Outcome, run};
 use nb_samples::*;
 use nb_units::Blob;
 use std::alloc::Global;
@@ -347,7 +347,7 @@ static FAULTS: [Case<'static>; 3] = [
 ];
 
 // Words that are no command.
-static WORDS: [&'static [&'static str]; 16] = [
+static WORDS: [&'static [&'static str]; 29] = [
     &[],
     &["fly"],
     &["fly", "house.journal"],
@@ -364,6 +364,19 @@ static WORDS: [&'static [&'static str]; 16] = [
     &["init", "-j", "4"],
     &["init", "4", "house.journal"],
     &["init", "house.journal", "4", "x"],
+    &["serve", "house.journal", "[::1]:7000", "1"],
+    &["serve", "house.journal", "[::1]:7000", "1", "1", "1"],
+    &["serve", "-", "[::1]:7000", "1", "1"],
+    &["serve", "house.journal", "", "1", "1"],
+    &["serve", "house.journal", "-1:7000", "1", "1"],
+    &["serve", "house.journal", "[::1]:7000", "0", "1"],
+    &["serve", "house.journal", "[::1]:7000", "65", "1"],
+    &["serve", "house.journal", "[::1]:7000", "01", "1"],
+    &["serve", "house.journal", "[::1]:7000", "1", "0"],
+    &["serve", "house.journal", "[::1]:7000", "1", "+1"],
+    &["serve", "house.journal", "[::1]:7000", "1", "10001"],
+    &["serve", "house.journal", "[::1]:7000", "64", "157"],
+    &["serve", "house.journal", "[::1]:7000", "1", "4294967297"],
 ];
 
 // The bytes of these pieces, one behind the other.
@@ -389,8 +402,10 @@ fn run_on<S: Source, K: Sink, D: Disk + Drop, C: Clock>(
     for word in words {
         spelled.push(String::from_str(alloc, *word)?)?;
     }
-    let (Outcome::Done(ending), disk) = run(alloc, spelled.as_slice(), source, sink, disk, clock);
-    Ok((ending, disk))
+    match run(alloc, spelled.as_slice(), source, sink, disk, clock) {
+        (Outcome::Done(ending), disk) => Ok((ending, disk)),
+        (Outcome::Work(_), _) => Err("work is left to do".into()),
+    }
 }
 
 // The words of a batch.
@@ -645,6 +660,36 @@ fn inputs_end(rt: HostRuntime) -> Result<(), Fail> {
 #[test]
 fn faults_end_a_batch(rt: HostRuntime) -> Result<(), Fail> {
     hold(&rt, rt.alloc(), &FAULTS)
+}
+
+// A server's words are work that is left to do, with their numbers, and nothing is read, written or asked for.
+#[test]
+fn a_servers_words_are_work(rt: HostRuntime) -> Result<(), Fail> {
+    let alloc = rt.alloc();
+    for (workers, sessions) in [(1u32, 1u32), (2, 3), (1, 10000), (64, 156), (50, 200)] {
+        let mut words = Vec::new(alloc);
+        for word in ["serve", "house.journal", "[::1]:7000"] {
+            words.push(String::from_str(alloc, word)?)?;
+        }
+        words.push(format!(in alloc; "{workers}")?)?;
+        words.push(format!(in alloc; "{sessions}")?)?;
+        let mut source = MemSource::new(alloc, b"x", 1, &[1])?;
+        let mut sink = MemSink::new(alloc, &[])?;
+        let mut clock = MemClock::new(alloc, &[])?;
+        let disk = MemDisk::new(alloc, &[], &[])?;
+        let (outcome, disk) = run(
+            alloc,
+            words.as_slice(),
+            &mut source,
+            &mut sink,
+            disk,
+            &mut clock,
+        );
+        assert_eq!(rt; outcome, Outcome::Work(Job::Serve { workers, sessions }));
+        assert_eq!(rt; disk.calls(), 0);
+        assert_eq!(rt; source.read(&mut [0]), ReadOut::Failed);
+    }
+    Ok(())
 }
 
 // Nothing is read, written or asked for.

@@ -3,7 +3,7 @@ use Rattle.std.specs.Prelude.{map, string_bytes}
 use Rattle.nb_run.specs.declared.words.Command.{Command}
 use Rattle.nb_run.specs.Words.{CommandIs}
 use Rattle.nb_run.specs.Run.{InitIs}
-use Rattle.nb_run.proofs.Numerals.{one_number}
+use Rattle.nb_run.proofs.Numerals.{one_number, one_job}
 use Rattle.nb_run.proofs.Making.{makes_clean}
 use Rattle.nb_run.specs.Init.{MakesAs}
 use Rattle.nb_run.proofs.program.run.Goals as goal
@@ -26,3 +26,9 @@ returns-in-Some-Init-clause-makes g c = λ cap is range input none no_source no_
     (subst (λ (n : ℕ). MakesAs g.D.Disk.tells (g.S.Source.left c.args.source.now) (g.S.Source.left c.make_journal-end.new.source) (g.S.Source.faults c.args.source.now)
     (g.S.Source.faults c.make_journal-end.new.source) c.args.disk c.make_journal-end.new.disk n c.make_journal-end.result) same c.make_journal-end.ensures.made)
     range input none no_source no_disk
+
+pub returns-in-Some-Serve-clause-work : goal.returns-in-Some-Serve-clause-work
+returns-in-Some-Serve-clause-work g c = λ workers sessions.
+    let words : List (List ℕ) = map string_bytes c.args.words.now in
+    one_job words c.in-Some-Serve.workers c.in-Some-Serve.sessions workers sessions
+    (subst (λ (command : Command). CommandIs words (Some command)) c.in-Some-Serve.field-0-is c.in-Some-Serve.ensures)

@@ -1,0 +1,184 @@
+ghost use Rattle.std.specs.Prelude.{◌≡◌, ◌≤◌, [], None, vec_len};
+ghost use Rattle.nb_run.specs.declared.words.TheConstants.{MAX_WORKERS};
+ghost use Rattle.nb_work.specs.Work.{IsStaffed, ServesAs, StoppedAs, workers_seen};
+
+use nb_link::{Gate, Link, Port};
+use nb_port::{Clock, Disk, Sink};
+use nb_run::{CLEAN, Ending, Job, OUT_OF_MEMORY, PORT_FAILED};
+use nb_server::{How, Served, Worker, WorkerEnd, serve_all};
+use nb_turns::Line;
+use nb_vault::Vault;
+use std::alloc::Global;
+use std::sync::Wait;
+use std::thread::Threads;
+
+/// The links that were dialled for a job, where it needs them.
+#[derive(Drop)]
+pub struct Dials<L> {
+    /// To the house.
+    pub server: Option<L>,
+    /// To a merchant.
+    pub seller: Option<L>,
+}
+
+impl<L: Drop> Dials<L> {
+    /// No link was dialled.
+    pub fn none() -> Dials<L>
+        ensures { result ≡ record { server = None; seller = None } }
+    {
+        Dials {
+            server: None,
+            seller: None,
+        }
+    }
+}
+
+/// What a job came to. All that was handed in is handed back.
+#[derive(Drop)]
+pub struct Worked<D, P, L, C> {
+    /// The disk.
+    pub disk: D,
+    /// The workers, in their order.
+    pub workers: Vec<Worker<P, C>>,
+    /// The dialled links.
+    pub dials: Dials<L>,
+    /// How it ended.
+    pub ending: Ending,
+    /// The lines of the vault, where it was served.
+    pub lines: Vec<Line>,
+    /// What came of each worker, where it was served.
+    pub ends: Vec<WorkerEnd>,
+}
+
+/// Does a job over the disk, the workers, the dialled links and the output.
+///
+/// `Serve`: opens the house on the disk, and serves the links of all workers by [`serve_all`]. There are as many workers as the job says;
+/// how many links each of their ports gives is the ports' own matter. The status is that of a journal that was not opened, 7, 8 or 6; or 6,
+/// with nothing begun, which is for want of memory and which no clause bounds; else 13 where a port failed, 6 where links were left, and 0
+/// where each port gave all its links. Where nothing was begun no byte was written, and the workers are those handed in. The dialled links
+/// and the output are not touched. No clause speaks of the gate, nor of threads.
+pub fn work<
+    R: Threads + Wait + Sync,
+    D: Disk + Drop + Send,
+    P: Port,
+    L: Link + Drop,
+    C: Clock + Send + Drop,
+    G: Gate,
+    K: Sink,
+>(
+    rt: &R,
+    alloc: Global,
+    job: Job,
+    disk: D,
+    workers: Vec<Worker<P, C>>,
+    dials: Dials<L>,
+    gate: &G,
+    _sink: &mut K,
+) -> Worked<D, P, L, C>
+    requires staffed { IsStaffed job (vec_len workers) }
+    ensures serves { ServesAs D.tells (workers_seen P.seen C.moments) disk result.disk workers.items result.workers.items result.lines.items result.ends.items result.ending }
+    ensures dials { result.dials ≡ dials }
+    ensures sink { _sink.new ≡ _sink.old }
+{
+    match job {
+        Job::Serve { .. } => serve(rt, alloc, disk, workers, dials, gate),
+    }
+}
+
+// Serves the links of all workers over the house on the disk.
+fn serve<
+    R: Threads + Wait + Sync,
+    D: Disk + Drop + Send,
+    P: Port,
+    L: Link + Drop,
+    C: Clock + Send + Drop,
+    G: Gate,
+>(
+    rt: &R,
+    alloc: Global,
+    disk: D,
+    workers: Vec<Worker<P, C>>,
+    dials: Dials<L>,
+    gate: &G,
+) -> Worked<D, P, L, C>
+    requires some { 1 ≤ vec_len workers }
+    requires few { vec_len workers ≤ MAX_WORKERS }
+    ensures serves { ServesAs D.tells (workers_seen P.seen C.moments) disk result.disk workers.items result.workers.items result.lines.items result.ends.items result.ending }
+    ensures dials { result.dials ≡ dials }
+{
+    let vault = match Vault::open(alloc, disk) {
+        Ok(vault) => vault,
+        Err((fault, disk)) => {
+            return idle(alloc, disk, workers, dials, Ending::unopened(fault));
+        }
+    };
+    match serve_all(rt, alloc, vault, workers, gate) {
+        Ok(
+            Served {
+                vault,
+                workers,
+                ends,
+            },
+        ) => {
+            let ending = stopped(ends.as_slice());
+            let (disk, lines) = vault.into_parts();
+            Worked {
+                disk,
+                workers,
+                dials,
+                ending,
+                lines,
+                ends,
+            }
+        }
+        Err((_, vault, workers)) => {
+            idle(
+                alloc,
+                vault.into_disk(),
+                workers,
+                dials,
+                Ending::at_no_place(OUT_OF_MEMORY),
+            )
+        }
+    }
+}
+
+// Nothing was served.
+fn idle<D, P, L, C>(
+    alloc: Global,
+    disk: D,
+    workers: Vec<Worker<P, C>>,
+    dials: Dials<L>,
+    ending: Ending,
+) -> Worked<D, P, L, C>
+    ensures same { (result.disk ≡ disk) × (result.workers ≡ workers) × (result.dials ≡ dials) × (result.ending ≡ ending) }
+    ensures none { (result.lines.items ≡ []) × (result.ends.items ≡ []) }
+{
+    Worked {
+        disk,
+        workers,
+        dials,
+        ending,
+        lines: Vec::new(alloc),
+        ends: Vec::new(alloc),
+    }
+}
+
+// How the run ends, by how its workers stopped.
+fn stopped(ends: &[WorkerEnd]) -> Ending
+    ensures { StoppedAs ends.now result }
+{
+    let mut starved = false;
+    'looking: for end in ends {
+        match end.how {
+            How::PortFault => return Ending::at_no_place(PORT_FAILED),
+            How::NoMemory => starved = true,
+            How::Closed => {}
+        }
+    }
+    if starved {
+        Ending::at_no_place(OUT_OF_MEMORY)
+    } else {
+        Ending::at_no_place(CLEAN)
+    }
+}
