@@ -1,0 +1,5 @@
+pub mod Opening
+pub mod Items
+pub mod Purchases
+pub mod Keeping
+pub mod Restoring

@@ -1,0 +1,168 @@
+-- How the purchases of a consumer change.
+use Rattle.std.proofs.Common.{◌≡◌, ℕ, zero, suc, ◌+◌, ◌<◌, ◌≤◌, Bool, true, false, cond, List, [], ◌∷◌, ◌++◌, map, length, set, get_or, Option, Some, None, Ok, Err, Result, refl, sym, ap, subst, ◌∙◌, arith}
+use Rattle.std.specs.Prelude.{OnOk, OnErr, slice_get, position, nat_eq, nat_lt, not, is_none, is_some, IfSome}
+use Rattle.std.specs.List.{AllByRecursion, list_any, position_or_len, prefix_len}
+use Rattle.std.proofs.lemmas.List.{map-append, map-set}
+use Rattle.std.proofs.lemmas.Option.{slice_get_within}
+use Rattle.std.proofs.lemmas.Bool.{ltb-false, false≢true, eqb-true}
+use Rattle.std.specs.Borrow.{Bor}
+use Rattle.std.specs.Cmp.Lexicographic.{pointwise}
+use Rattle.std.specs.Map.{lookup}
+use Rattle.std.specs.Prelude.{option_copied, ◌||◌}
+use Rattle.indexmap.specs.IndexSet.{insert_key}
+use Rattle.indexmap.specs.IndexMap.{insert_entry}
+use Rattle.indexmap.proofs.MapLemmas.{absent_from_lookup, insert_entry-absent}
+use Rattle.nb_units.specs.declared.memory.NoMemory.{NoMemory}
+use Rattle.nb_msgs.specs.declared.node.Reason.{Reason}
+use Rattle.nb_consumer.specs.Tests.{found}
+use Rattle.nb_consumer.specs.declared.wallet.Start.{Start}
+use Rattle.nb_consumer.specs.declared.purchase.Stage.{Stage}
+use Rattle.nb_consumer.specs.declared.purchase.Stage.TheVariants as stage
+use Rattle.nb_consumer.specs.declared.purchase.Purchase.{Purchase}
+use Rattle.nb_consumer.specs.declared.purchase.Change.{Change}
+use Rattle.nb_consumer.specs.declared.purchase.Change.TheVariants as change
+use Rattle.nb_epo.specs.declared.order.Order.{Order}
+use Rattle.nb_consumer.specs.declared.item.Item.TheVariants as item
+use Rattle.nb_consumer.specs.State.{Buyer, number_of, place_of, purchase_at, purchase_of, changed, changed_at, changed_with, noted, fresh, behind_item, ordered_from, remembered, epoid_bytes}
+use Rattle.nb_consumer.specs.Changes.{changed_to, Sound, StageIsSound}
+
+no_some : {A : Type 0} {B : Type 0} (x : A) → ◌≡◌ {A = Option A} None (Some x) → B
+no_some x e = absurd cc
+
+some_is : {A : Type 0} (x y : A) → ◌≡◌ {A = Option A} (Some x) (Some y) → x ≡ y
+some_is x y e = cc
+
+-- ---- what every purchase keeps to
+
+pub sound_set : (ps : List Purchase) (i : ℕ) (q : Purchase) → AllByRecursion Sound ps → Sound q → AllByRecursion Sound (set ps i q)
+sound_set [] i q all is = tt
+sound_set (p ∷ ps) zero q all is = (is, all.1)
+sound_set (p ∷ ps) (suc i) q all is = (all.0, sound_set ps i q all.1 is)
+
+pub sound_push : (ps : List Purchase) (q : Purchase) → AllByRecursion Sound ps → Sound q → AllByRecursion Sound (ps ++ q ∷ [])
+sound_push [] q all is = (is, tt)
+sound_push (p ∷ ps) q all is = (all.0, sound_push ps q all.1 is)
+
+pub sound_at : (ps : List Purchase) (i : ℕ) (p : Purchase) → AllByRecursion Sound ps → slice_get ps i ≡ Some p → Sound p
+sound_at [] i p all e = no_some p e
+sound_at (q ∷ ps) zero p all e = subst Sound (some_is q p e) all.0
+sound_at (q ∷ ps) (suc i) p all e = sound_at ps i p all.1 e
+
+-- ---- their numbers
+
+numbers_set : (ps : List Purchase) (i : ℕ) (p q : Purchase) → slice_get ps i ≡ Some p → number_of q ≡ number_of p → map number_of (set ps i q) ≡ map number_of ps
+numbers_set [] i p q e same = refl
+numbers_set (r ∷ ps) zero p q e same = ap (λ (n : ℕ). n ∷ map number_of ps) (same ∙ sym (ap number_of (some_is r p e)))
+numbers_set (r ∷ ps) (suc i) p q e same = ap (λ (ns : List ℕ). number_of r ∷ ns) (numbers_set ps i p q e same)
+
+-- a change to a sound stage leaves the numbers and keeps all sound
+changed_keeps : (ps : List Purchase) (i : ℕ) (stage : Stage) (parts : Change) (o : Option Purchase) → slice_get ps i ≡ o → StageIsSound stage → AllByRecursion Sound ps
+    → (map number_of ps ≡ map number_of (changed_with ps i (changed_to stage parts) o)) × AllByRecursion Sound (changed_with ps i (changed_to stage parts) o)
+changed_keeps ps i stage parts None is sound all = (refl, all)
+changed_keeps ps i stage parts (Some p) is sound all =
+    (sym (numbers_set ps i p (changed_to stage parts p) is refl), sound_set ps i (changed_to stage parts p) all ((sound_at ps i p all is).0, sound))
+
+pub change_keeps : (r : Result (Unit {0}) NoMemory) (keys : List ℕ) (old new : List Purchase) (i : ℕ) (stage : Stage) (parts : Change)
+    → keys ≡ map number_of old → AllByRecursion Sound old → StageIsSound stage
+    → OnOk r (new ≡ changed_at old (Some i) (changed_to stage parts)) → OnErr r (new ≡ old)
+    → (keys ≡ map number_of new) × AllByRecursion Sound new
+change_keeps (Ok done) keys old new i stage parts numbers all sound ok err =
+    let k = changed_keeps old i stage parts (slice_get old i) refl sound all in
+    (numbers ∙ k.0 ∙ sym (ap (map number_of) ok), subst (AllByRecursion Sound) (sym ok) k.1)
+change_keeps (Err none) keys old new i stage parts numbers all sound ok err = (numbers ∙ sym (ap (map number_of) err), subst (AllByRecursion Sound) (sym err) all)
+
+-- ---- one purchase more
+
+any_none : (p : ℕ → Bool) (xs : List ℕ) → length xs ≤ prefix_len (λ x. not (p x)) xs → list_any p xs ≡ false
+any_none p [] h = refl
+any_none p (x ∷ xs) h = by (any_none p xs) (p x) refl h
+  where
+    by : (length xs ≤ prefix_len (λ x. not (p x)) xs → list_any p xs ≡ false) → (b : Bool) → p x ≡ b → suc (length xs) ≤ cond (not (p x)) (1 + prefix_len (λ x. not (p x)) xs) 0
+        → (p x || list_any p xs) ≡ false
+    by rest true is h = absurd (omega (arith, subst (λ (b : Bool). suc (length xs) ≤ cond (not b) (1 + prefix_len (λ x. not (p x)) xs) 0) is h))
+    by rest false is h = rw is (rest (omega (arith, subst (λ (b : Bool). suc (length xs) ≤ cond (not b) (1 + prefix_len (λ x. not (p x)) xs) 0) is h)))
+
+position_none : (p : ℕ → Bool) (xs : List ℕ) → position p xs ≡ None → list_any p xs ≡ false
+position_none p xs none = any_none p xs (ltb-false (position_or_len p xs) (length xs) (by (nat_lt (position_or_len p xs) (length xs)) none))
+  where
+    by : (b : Bool) → cond b (Some (position_or_len p xs)) None ≡ None → b ≡ false
+    by true e = no_some (position_or_len p xs) (sym e)
+    by false e = refl
+
+new_key : (ns : List ℕ) (t : ℕ) → position (nat_eq t) ns ≡ None → insert_key nat_eq ns t ≡ ns ++ t ∷ []
+new_key ns t none = ap (λ (x : Bool). cond x ns (ns ++ t ∷ [])) (position_none (nat_eq t) ns none)
+
+pub add_keeps : (keys keys' : List ℕ) (old new : List Purchase) (q : Purchase) → keys ≡ map number_of old → AllByRecursion Sound old
+    → place_of old (number_of q) ≡ None → keys' ≡ insert_key nat_eq keys (number_of q) → new ≡ old ++ q ∷ [] → Sound q
+    → (keys' ≡ map number_of new) × AllByRecursion Sound new
+add_keeps keys keys' old new q numbers all none inserted pushed sound = (
+  inserted ∙ ap (λ (ns : List ℕ). insert_key nat_eq ns (number_of q)) numbers ∙ new_key (map number_of old) (number_of q) none
+      ∙ sym (map-append number_of old (q ∷ [])) ∙ sym (ap (map number_of) pushed),
+  subst (AllByRecursion Sound) (sym pushed) (sound_push old q all sound),
+)
+
+-- ---- an identifier more
+
+none_of : (o : Option (Bor ℕ)) (b : Bool) → is_some o ≡ not b → b ≡ true → option_copied o ≡ None
+none_of None b e is = refl
+none_of (Some x) b e is = absurd (false≢true (sym (e ∙ ap not is)))
+
+pub noted_new : (orders new : List (List ℕ × ℕ)) (epoid : List ℕ) (t : ℕ) (o : Option (Bor ℕ)) (b : Bool) → option_copied o ≡ lookup (pointwise nat_eq epoid) orders
+    → is_some o ≡ not b → b ≡ true → new ≡ insert_entry (pointwise nat_eq) orders epoid t → new ≡ noted orders epoid t
+noted_new orders new epoid t o b found test none_so is =
+    let none : lookup (pointwise nat_eq epoid) orders ≡ None = sym found ∙ none_of o b test none_so in
+    is ∙ insert_entry-absent (pointwise nat_eq) epoid t orders (absent_from_lookup (pointwise nat_eq epoid) orders none)
+    ∙ sym (ap (λ (o : Option ℕ). cond (is_some o) orders (orders ++ (epoid, t) ∷ [])) none)
+
+pub on_ok : {A E : Type 0} (r : Result A E) (x : A) (P : Type 0) → r ≡ Ok x → OnOk r P → P
+on_ok (Ok y) x P e is = is
+on_ok (Err f) x P e is = absurd cc
+
+pub pushed_so : (old held new : List Purchase) (start : Start) (none : List ℕ) → held ≡ old → none ≡ [] → new ≡ held ++ (record { start = start; stage = stage.Ticketing; held = none }) ∷ []
+    → new ≡ old ++ fresh start ∷ []
+pushed_so old held new start none a b c = c ∙ rw (a, b) refl
+
+-- ---- an order
+
+pub order_so : (b : Buyer) (t : ℕ) (order : Order) (part : List ℕ) (at : ℕ) (p : Purchase) (stage : Stage) (new : List Purchase) (reserved later : List (List ℕ × ℕ))
+    → place_of b.purchases t ≡ Some at → purchase_of b t ≡ Some p → stage ≡ ordered_from p.stage order
+    → new ≡ changed_at b.purchases (Some at) (changed_to stage (change.More part)) → reserved ≡ b.orders → later ≡ noted reserved (epoid_bytes order.epoid) t
+    → (let c : Buyer = record { wallet = b.wallet; purchases = new; orders = later } in c) ≡ remembered b (item.Ordered t order part)
+order_so b t order part at p stage new reserved later place found stage_is new_is reserved_is later_is =
+    let got : slice_get b.purchases at ≡ Some p = sym (ap (purchase_at b.purchases) place) ∙ found in
+    let first : new ≡ set b.purchases at (behind_item (item.Ordered t order part) p) =
+    new_is ∙ ap (changed_with b.purchases at (changed_to stage (change.More part))) got
+    ∙ ap (λ (s : Stage). set b.purchases at (changed_to s (change.More part) p)) stage_is in
+    let second : changed b.purchases t (behind_item (item.Ordered t order part)) ≡ set b.purchases at (behind_item (item.Ordered t order part) p) =
+    ap (λ (o : Option ℕ). changed_at b.purchases o (behind_item (item.Ordered t order part))) place
+    ∙ ap (changed_with b.purchases at (behind_item (item.Ordered t order part))) got in
+    rw (first ∙ sym second, later_is, reserved_is) refl
+
+-- ---- the number of a purchase that was found
+
+first_is : (t : ℕ) (ps : List Purchase) (p : Purchase) → slice_get ps (prefix_len (λ x. not (nat_eq t x)) (map number_of ps)) ≡ Some p → number_of p ≡ t
+first_is t [] p e = no_some p e
+first_is t (q ∷ ps) p e = by (first_is t ps p) (nat_eq t (number_of q)) refl e
+  where
+    by : (slice_get ps (prefix_len (λ x. not (nat_eq t x)) (map number_of ps)) ≡ Some p → number_of p ≡ t) → (b : Bool) → nat_eq t (number_of q) ≡ b
+        → slice_get (q ∷ ps) (cond (not (nat_eq t (number_of q))) (1 + prefix_len (λ x. not (nat_eq t x)) (map number_of ps)) 0) ≡ Some p → number_of p ≡ t
+    by rest true is e =
+        let first : q ≡ p = some_is q p (sym (ap (λ (b : Bool). slice_get (q ∷ ps) (cond (not b) (1 + prefix_len (λ x. not (nat_eq t x)) (map number_of ps)) 0)) is) ∙ e) in
+        ap number_of (sym first) ∙ sym (eqb-true t (number_of q) is)
+    by rest false is e =
+        let next : 1 + prefix_len (λ x. not (nat_eq t x)) (map number_of ps) ≡ suc (prefix_len (λ x. not (nat_eq t x)) (map number_of ps)) = omega arith in
+        rest (sym (ap (λ (b : Bool). slice_get (q ∷ ps) (cond (not b) (1 + prefix_len (λ x. not (nat_eq t x)) (map number_of ps)) 0)) is ∙ ap (slice_get (q ∷ ps)) next) ∙ e)
+
+pub found_number : (b : Buyer) (t : ℕ) (p : Purchase) → purchase_of b t ≡ Some p → number_of p ≡ t
+found_number b t p e = by (nat_lt (position_or_len (nat_eq t) (map number_of b.purchases)) (length (map number_of b.purchases))) e
+  where
+    by : (test : Bool) → purchase_at b.purchases (cond test (Some (position_or_len (nat_eq t) (map number_of b.purchases))) None) ≡ Some p → number_of p ≡ t
+    by true e = first_is t b.purchases p e
+    by false e = no_some p e
+
+pub found_some : {A : Type 0} (why : Reason) (o : Option A) (x : A) → found why o ≡ Ok x → o ≡ Some x
+found_some {A = A} why None x e = absurd cc
+found_some {A = A} why (Some y) x e = ap Some (ok_value y x e)
+  where
+    ok_value : (a b : A) → ◌≡◌ {A = Result A Reason} (Ok a) (Ok b) → a ≡ b
+    ok_value a b e = cc

@@ -1,0 +1,14 @@
+use Rattle.std.proofs.Common.{◌≡◌, None, sym, subst, ◌∙◌, ap, List, ◌++◌}
+use Rattle.nb_consumer.specs.State.{Buyer, place_of, fresh}
+use Rattle.nb_consumer.proofs.Purchases.{add_keeps, pushed_so}
+use Rattle.nb_consumer.proofs.consumer.Consumer.add.Goals as goal
+
+pub invariant_of-self-2 : goal.invariant_of-self-2
+invariant_of-self-2 c =
+    let none : place_of c.self.inside.purchases.items c.args.start.transaction ≡ None =
+    subst (λ (b : Buyer). place_of b.purchases c.args.start.transaction ≡ None) (sym c.self.view_is) c.requires.1 in
+    let k = add_keeps c.self.inside.numbers.keys c.insert.new.self.keys c.self.inside.purchases.items c.push_reserved.new.self.items (fresh c.args.start)
+    c.self.invariant.numbers c.self.invariant.sound none c.in_ok-_new.ensures.keys
+    (pushed_so c.self.inside.purchases.items c.reserve.new.self.items c.push_reserved.new.self.items c.args.start c.new.result c.in_ok-reserve.ensures.items c.new.ensures c.push_reserved.ensures.items)
+    (c.requires.0, tt) in
+    record { numbers = k.0; sound = k.1 }

@@ -1,0 +1,106 @@
+-- For the contracts of private functions alone: how a purchase changes, and what each purchase of a consumer keeps to.
+use Rattle.std.specs.Prelude.{◌≡◌, ℕ, ◌+◌, ◌≤◌, List, [], ◌++◌, length, Option, Some, None, IfSome, IsSomeAnd, IfOk, OnOk, OnErr, Result, Ok, Err, ⊤}
+use Rattle.std.specs.Borrow.{Bor}
+use Rattle.nb_endorse.specs.Replies.{ReceiptKeepsRules}
+use Rattle.nb_msgs.specs.Bodies.{MessageKeepsRules}
+use Rattle.nb_msgs.specs.declared.node.Reason.{Reason}
+use Rattle.nb_msgs.specs.declared.node.Step.{Step}
+use Rattle.nb_msgs.specs.declared.node.Step.TheVariants as step
+use Rattle.nb_units.specs.declared.memory.NoMemory.{NoMemory}
+use Rattle.nb_units.specs.declared.limits.TheConstants.{MAX_HIDDEN}
+use Rattle.nb_body.specs.declared.goods_head.GoodsHead.{GoodsHead}
+use Rattle.nb_goods.specs.declared.limits.TheConstants.{MAX_SEALED}
+use Rattle.nb_consumer.specs.declared.purchase.Stage.{Stage}
+use Rattle.nb_consumer.specs.declared.purchase.Stage.TheVariants as stage
+use Rattle.nb_consumer.specs.declared.purchase.Purchase.{Purchase}
+use Rattle.nb_consumer.specs.declared.purchase.Change.{Change}
+use Rattle.nb_consumer.specs.declared.purchase.Change.TheVariants as change
+use Rattle.nb_consumer.specs.declared.deed.Deed.{Deed}
+use Rattle.nb_consumer.specs.declared.deed.Deed.TheVariants as deed
+use Rattle.nb_consumer.specs.declared.deed.Halt.{Halt}
+use Rattle.nb_consumer.specs.declared.deed.Halt.TheVariants as halt
+use Rattle.nb_consumer.specs.declared.item.Item.{Item}
+use Rattle.nb_consumer.specs.declared.item.Item.TheVariants as item
+use Rattle.nb_consumer.specs.Spelling.{StartKeepsRules, PassKeepsRules, ItemKeepsRules, IsItem}
+use Rattle.nb_consumer.specs.Table.{step_of, after}
+use Rattle.nb_consumer.specs.State.{Buyer, place_of, purchase_of, end_of}
+
+-- the parts behind a change
+abbrev pub held_behind : Change → List ℕ → List ℕ
+held_behind change.Same held = held
+held_behind (change.More part) held = held ++ part
+held_behind change.Forgotten held = []
+
+abbrev pub changed_to : Stage → Change → Purchase → Purchase
+changed_to stage parts p = record { start = p.start; stage = stage; held = held_behind parts p.held }
+
+-- there is not more than sealed goods may have
+abbrev pub ChangeFits : List ℕ → Change → Type 0
+ChangeFits held (change.More part) = length held + length part ≤ MAX_SEALED
+ChangeFits held other = Unit {0}
+
+-- the total that was told is not more than sealed goods may have
+abbrev pub HeadIsSound : Option GoodsHead → Type 0
+HeadIsSound None = Unit {0}
+HeadIsSound (Some h) = h.total ≤ MAX_SEALED
+
+abbrev pub StageIsSound : Stage → Type 0
+StageIsSound (stage.Asked pass) = PassKeepsRules pass
+StageIsSound (stage.Wanted pass price head) = PassKeepsRules pass × HeadIsSound head
+StageIsSound (stage.Ordered pass order least) = PassKeepsRules pass × (length order.hidden ≤ MAX_HIDDEN)
+StageIsSound other = Unit {0}
+
+-- what every purchase of a consumer keeps to
+abbrev pub Sound : Purchase → Type 0
+Sound p = StartKeepsRules p.start × StageIsSound p.stage
+
+-- there is such a purchase, and room for so many bytes more of its goods
+abbrev pub HasRoom : Buyer → ℕ → ℕ → Type 0
+HasRoom b transaction n = IsSomeAnd (purchase_of b transaction) (λ p. length p.held + n ≤ MAX_SEALED)
+
+-- an item can be remembered
+abbrev pub ItemFits : Buyer → Item → Type 0
+ItemFits b (item.Started start) = StartKeepsRules start × (place_of b.purchases start.transaction ≡ None)
+ItemFits b (item.Granted transaction pass) = PassKeepsRules pass
+ItemFits b (item.Part head part) = (head.total ≤ MAX_SEALED) × HasRoom b head.transaction (length part)
+ItemFits b (item.Ordered transaction order part) = (length order.hidden ≤ MAX_HIDDEN) × HasRoom b transaction (length part)
+ItemFits b other = Unit {0}
+
+-- a deed can be done, and its message be written
+abbrev pub DeedFits : Buyer → Deed → Type 0
+DeedFits b (deed.Sends to message) = MessageKeepsRules message
+DeedFits b (deed.Hears transaction place to message) = MessageKeepsRules message
+DeedFits b (deed.Keeps item to message) = ItemKeepsRules item × ItemFits b item × MessageKeepsRules message
+DeedFits b (deed.Ends transaction receipt end) = ReceiptKeepsRules receipt.receipt × IfSome (purchase_of b transaction) (λ p. end ≡ end_of receipt.receipt p.held)
+
+-- what it keeps is within its limits
+abbrev pub DeedIsSpelled : Deed → Type 0
+DeedIsSpelled (deed.Keeps item to message) = IsItem item
+DeedIsSpelled (deed.Ends transaction receipt end) = IsItem (item.Ended transaction receipt)
+DeedIsSpelled other = Unit {0}
+
+-- a row gives what it says, or its reason; of want of memory nothing is said
+abbrev pub Gives : {A : Type 0} → Result A Halt → Result A Reason → Type 0
+Gives (Ok x) row = row ≡ Ok x
+Gives (Err (halt.Ignored why)) row = row ≡ Err why
+Gives (Err halt.NoMemory) row = ⊤
+
+-- what was found, without where it lies in memory
+abbrev pub seen : {A : Type 0} → Result (Bor A) Reason → Result A Reason
+seen (Ok x) = Ok x.now
+seen (Err why) = Err why
+
+-- the message of a step can be written
+abbrev pub StepKeepsRules : Step → Type 0
+StepKeepsRules (step.Move keep to message) = MessageKeepsRules message
+StepKeepsRules other = Unit {0}
+
+-- a step is what a row says, and the consumer then is what it says; after want of memory all is as before
+pub record Answers (old new : Buyer) (row : Result Deed Reason) (result : Result Step NoMemory) : Type 0 where
+  pub told : IfOk result (λ step. step ≡ step_of row)
+  pub after : OnOk result (new ≡ after old row)
+  pub err : OnErr result (new ≡ old)
+
+-- so it is for whatever row gave the deed
+abbrev pub AnswersRow : Buyer → Buyer → Result Deed Halt → Result Step NoMemory → Type 0
+AnswersRow old new deed result = (row : Result Deed Reason) → Gives deed row → Answers old new row result

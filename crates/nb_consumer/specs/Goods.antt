@@ -1,0 +1,33 @@
+-- What a consumer tells of a purchase.
+use Rattle.std.specs.Prelude.{ℕ, ◌-◌, List, length, codes, Option, Some, None}
+use Rattle.nb_seal.specs.Seal.{text_in}
+use Rattle.nb_units.specs.declared.width.TheConstants.{SEAL}
+use Rattle.nb_consumer.specs.declared.wallet.Phase.{Phase}
+use Rattle.nb_consumer.specs.declared.wallet.Phase.TheVariants as phase
+use Rattle.nb_consumer.specs.declared.purchase.Stage.{Stage}
+use Rattle.nb_consumer.specs.declared.purchase.Stage.TheVariants as stage
+use Rattle.nb_consumer.specs.declared.purchase.Purchase.{Purchase}
+use Rattle.nb_consumer.specs.State.{Buyer, purchase_of}
+
+-- the goods have 32 bytes less than the sealed goods
+abbrev pub phase_of : Stage → List ℕ → Phase
+phase_of stage.Ticketing sealed = phase.Ticketing
+phase_of (stage.Asked pass) sealed = phase.Asked
+phase_of (stage.Wanted pass price head) sealed = phase.Wanted
+phase_of (stage.Ordered pass order least) sealed = phase.Ordered
+phase_of (stage.Paid key) sealed = phase.Paid (length sealed - SEAL)
+phase_of (stage.Refused code) sealed = phase.Refused code
+phase_of stage.Foul sealed = phase.Foul
+
+abbrev pub phase_in : Option Purchase → Option Phase
+phase_in (Some p) = Some (phase_of p.stage p.held)
+phase_in None = None
+
+-- the goods of a purchase that was paid
+abbrev pub goods_of : Stage → List ℕ → Option (List ℕ)
+goods_of (stage.Paid key) sealed = text_in key (codes "good") sealed
+goods_of other sealed = None
+
+abbrev pub goods_in : Option Purchase → Option (List ℕ)
+goods_in (Some p) = goods_of p.stage p.held
+goods_in None = None

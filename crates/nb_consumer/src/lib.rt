@@ -1,0 +1,41 @@
+//! A consumer's core: everything that a consumer's program decides, without a socket or a file.
+//!
+//! A [`Consumer`] starts purchases ([`Consumer::start`]), hears messages ([`Consumer::on`]) and is told that nothing was heard for long
+//! ([`Consumer::quiet`]). Each answers a step of `nb_msgs`: an item that is to be kept before a message is sent, and the message; how a purchase
+//! ended; or why nothing is done. What each does is a row of a table (`specs/Table.antt`): its tests in order, and what is kept and sent. What the
+//! consumer knows then is a function of what it knew and of the item (`specs/State.antt`). [`Consumer::state`] and [`Consumer::goods`] tell a
+//! purchase. [`Consumer::restart`] makes a consumer again from the items of its journal, which must each be one that a row keeps behind those
+//! before it (`specs/Restart.antt`).
+//!
+//! An [`Item`] is what is kept; its bytes stand in `specs/Spelling.antt`, and read field by field in `specs/Reading.antt`. What holds of all items
+//! and ends is proved by the functions of [`laws`].
+//!
+//! Sealed goods come in parts. One copy of them is held, with the state of their digest, so that no part is hashed twice. A purchase is
+//! found by its number, and an order by its identifier, without going through the others.
+//!
+//! Left to others: the journal, links, and when nothing was heard for long.
+#![tactic(auto)]
+
+mod calls;
+mod consumer;
+mod deed;
+mod held;
+mod item;
+pub mod laws;
+mod limits;
+mod purchase;
+mod reading;
+mod restart;
+mod rows;
+mod sending;
+mod wallet;
+
+pub use consumer::Consumer;
+pub use deed::Deed;
+pub use held::Held;
+pub use item::{Item, SessionTicket};
+pub use purchase::{Purchase, Stage};
+pub use wallet::{Phase, Start, Wallet};
+
+#[cfg(test)]
+mod tests;
