@@ -1,0 +1,12 @@
+pub mod Spelling
+pub mod Reading
+pub mod Sales
+pub mod Shop
+pub mod Tests
+pub mod Messages
+pub mod Table
+pub mod Telling
+pub mod Keeping
+pub mod Sending
+pub mod Noting
+pub mod Laws

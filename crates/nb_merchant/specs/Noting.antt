@@ -1,0 +1,109 @@
+-- For the contracts of private functions alone: what is held of a purchase beside its kept items.
+use Rattle.std.specs.Prelude.{◌≡◌, ℕ, ◌+◌, ◌≤◌, Bool, true, false, List, [], ◌∷◌, length, Option, Some, None, option_map, IfSome, if◌then◌else◌}
+use Rattle.nb_units.specs.declared.epoid.Epoid.{Epoid}
+use Rattle.nb_goods.specs.Divided.{Divided}
+use Rattle.nb_goods.specs.Parts.{parts_of}
+use Rattle.nb_price.specs.Products.{Product}
+use Rattle.nb_merchant.specs.declared.answer.Planned.{Planned}
+use Rattle.nb_merchant.specs.declared.delivery.Delivery.{Delivery}
+use Rattle.nb_merchant.specs.declared.limits.TheConstants.{MAX_PART}
+use Rattle.nb_merchant.specs.declared.stall.Stall.{Stall}
+use Rattle.nb_merchant.specs.declared.purchase.Purchase.{Purchase}
+use Rattle.nb_merchant.specs.declared.item.Item.{Item}
+use Rattle.nb_merchant.specs.declared.item.Item.TheVariants as item
+use Rattle.nb_merchant.specs.declared.sale.Progress.TheVariants as progress
+use Rattle.nb_merchant.specs.declared.sale.Sale.{Sale}
+use Rattle.nb_merchant.specs.declared.sale.Held.{Held}
+use Rattle.nb_merchant.specs.Reading.{purchase_of}
+use Rattle.nb_merchant.specs.Sales.{is_same, is_same_epoid, progressed, epoid_in, sale_in, deliveries_in}
+use Rattle.nb_merchant.specs.Shop.{Shop, goods_in, key_of}
+use Rattle.nb_merchant.specs.Keeping.{IsKept, follows}
+
+-- what the parts of a sale's goods are made from, once they were sealed
+abbrev pub parts_for : Stall → List Product → ℕ → Option Epoid → Option Divided
+parts_for stall products product None = None
+parts_for stall products product (Some epoid) = Some (parts_of (key_of stall epoid.serial) (goods_in products product))
+
+-- what is held of a sale
+abbrev pub held_of : Stall → List Product → Sale → Held
+held_of stall products sale = record { sale = sale; parts = parts_for stall products sale.product (epoid_in sale.progress) }
+
+-- what was held stays where there is nothing new
+abbrev pub or_held : Option Divided → Option Divided → Option Divided
+or_held (Some new) old = Some new
+or_held None old = old
+
+-- what is held of a purchase with an item of it more
+abbrev pub noted : Option Held → Item → Option Divided → Option Held
+noted (Some held) x parts = Some (record { sale = record held.sale { progress = progressed held.sale.progress x }; parts = or_held parts held.parts })
+noted None (item.Quoted p product price request) parts = Some (record { sale = record { product = product; price = price; request = request; progress = progress.Quoted }; parts = parts })
+noted None other parts = None
+
+-- the same, where the item may be of another purchase
+abbrev pub noted_at : Item → Option Divided → Purchase → Option Held → Option Held
+noted_at x parts q old = if is_same (purchase_of x) q then noted old x parts else old
+
+-- the goods of what was sold
+abbrev pub goods_held : List Product → Option Sale → List ℕ
+goods_held products None = []
+goods_held products (Some sale) = goods_in products sale.product
+
+-- for an item that is kept next: what the parts are made from comes with goods that were sealed, and with nothing else; a receipt is not too long
+abbrev pub PartsOf : Stall → List ℕ → Item → Option Divided → Type 0
+PartsOf stall goods (item.Delivered p epoid checksum) parts = parts ≡ Some (parts_of (key_of stall epoid.serial) goods)
+PartsOf stall goods (item.Settled p part) parts = (parts ≡ None) × (length part ≤ MAX_PART)
+PartsOf stall goods other parts = parts ≡ None
+
+abbrev pub HasParts : Shop → Item → Option Divided → Type 0
+HasParts shop x parts = PartsOf shop.stall (goods_held shop.products (sale_in shop.items (purchase_of x))) x parts
+
+-- an item that seals no goods
+abbrev pub IsNoDelivery : Item → Type 0
+IsNoDelivery (item.Delivered p epoid checksum) = ⊥
+IsNoDelivery other = Unit {0}
+
+-- a test holds, and these are what the parts of the goods are made from; or it does not
+abbrev pub SealsAs : Stall → List ℕ → Epoid → Bool → Option Divided → Type 0
+SealsAs stall goods epoid test (Some parts) = (test ≡ true) × (parts ≡ parts_of (key_of stall epoid.serial) goods)
+SealsAs stall goods epoid test None = test ≡ false
+
+-- the goods may be sealed next, and these are what their parts are made from; or they may not
+abbrev pub SealsNext : Shop → Purchase → Epoid → List ℕ → Option Divided → Type 0
+SealsNext shop p epoid checksum (Some parts) = (follows shop (item.Delivered p epoid checksum) ≡ true) × HasParts shop (item.Delivered p epoid checksum) (Some parts)
+SealsNext shop p epoid checksum None = follows shop (item.Delivered p epoid checksum) ≡ false
+
+-- the same of what a row keeps
+abbrev pub PlansParts : Shop → Planned → Type 0
+PlansParts shop planned = IfSome planned.answer.keep (λ x. HasParts shop x planned.parts)
+
+-- of the row that seals goods: the item is of this purchase
+abbrev pub SealsFor : Stall → List ℕ → Option Divided → Purchase → Item → Type 0
+SealsFor stall goods parts p x = (purchase_of x ≡ p) × PartsOf stall goods x parts
+
+-- of a row that seals no goods
+abbrev pub IsPlain : Item → Option Divided → Type 0
+IsPlain (item.Delivered p epoid checksum) parts = ⊥
+IsPlain (item.Settled p part) parts = (parts ≡ None) × (length part ≤ MAX_PART)
+IsPlain other parts = parts ≡ None
+
+abbrev pub PlansPlain : Planned → Type 0
+PlansPlain planned = IfSome planned.answer.keep (λ x. IsPlain x planned.parts)
+
+-- the serial numbers of the goods that were sealed are 1, 2 and so on
+abbrev pub serials_from : ℕ → List Delivery → Type 0
+serials_from n [] = Unit {0}
+serials_from n (d ∷ deliveries) = (d.epoid.serial ≡ n) × serials_from (n + 1) deliveries
+
+abbrev pub AreSerials : List Delivery → Type 0
+AreSerials deliveries = serials_from 1 deliveries
+
+-- the purchase of a delivery that was looked up, where it has the identifier
+abbrev pub given_as : Option Delivery → Epoid → Option Purchase
+given_as None epoid = None
+given_as (Some d) epoid = if is_same_epoid d.epoid epoid then Some d.purchase else None
+
+-- beside the kept items: what is held of each purchase is what they say of it, and the goods that were sealed are theirs
+pub record Holds (shop : Shop) (held : Purchase → Option Held) (given : List Delivery) : Type 0 where
+  pub kept : IsKept shop
+  pub sales : (p : Purchase) → held p ≡ option_map (held_of shop.stall shop.products) (sale_in shop.items p)
+  pub deliveries : given ≡ deliveries_in shop.items

@@ -1,0 +1,35 @@
+-- What a merchant is seen as: who it is, what it sells, and what it kept.
+use Rattle.std.specs.Prelude.{ℕ, List, [], ◌∷◌, ◌++◌, Option, Some, None}
+use Rattle.nb_goods.specs.Goods.{goods_key_of, sealed_goods}
+use Rattle.nb_price.specs.Products.{Product, product_in}
+use Rattle.nb_merchant.specs.declared.stall.Stall.{Stall}
+use Rattle.nb_merchant.specs.declared.item.Item.{Item}
+
+pub record Shop : Type 0 where
+  pub stall : Stall
+  pub products : List Product
+  pub items : List Item
+
+-- before anything was kept
+abbrev pub new_shop : Stall → List Product → Shop
+new_shop stall products = record { stall = stall; products = products; items = [] }
+
+-- with an item more
+abbrev pub with_item : Shop → Item → Shop
+with_item shop x = record shop { items = shop.items ++ x ∷ [] }
+
+-- the goods of a product. The catalogue has each product that a price was told of, so that these are never the goods of none
+abbrev pub goods_of : Option Product → List ℕ
+goods_of None = []
+goods_of (Some p) = p.goods
+
+abbrev pub goods_in : List Product → ℕ → List ℕ
+goods_in products id = goods_of (product_in products id)
+
+-- the key of the goods of a serial number
+abbrev pub key_of : Stall → ℕ → List ℕ
+key_of stall serial = goods_key_of stall.master stall.id serial
+
+-- the goods of a product, sealed under the key of a serial number
+abbrev pub sealed_for : Stall → List Product → ℕ → ℕ → List ℕ
+sealed_for stall products serial product = sealed_goods (key_of stall serial) (goods_in products product)

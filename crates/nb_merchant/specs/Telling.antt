@@ -1,0 +1,48 @@
+-- For the contracts of private functions alone: what code gave, of what the table says.
+use Rattle.std.specs.Prelude.{◌≡◌, ℕ, List, take, Option, Some, None, Result, Ok, Err, ⊤}
+use Rattle.nb_msgs.specs.declared.node.Reason.{Reason}
+use Rattle.nb_msgs.specs.declared.node.Reason.TheVariants as reason
+use Rattle.nb_msgs.specs.declared.node.RestartFault.{RestartFault}
+use Rattle.nb_msgs.specs.declared.node.RestartFault.TheVariants as fault
+use Rattle.nb_msgs.specs.declared.node.Step.{Step}
+use Rattle.nb_msgs.specs.declared.node.Step.TheVariants as step
+use Rattle.nb_merchant.specs.Shop.{Shop}
+use Rattle.nb_merchant.specs.Table.{step_of, after}
+use Rattle.nb_merchant.specs.declared.answer.Answer.{Answer}
+use Rattle.nb_merchant.specs.declared.answer.Planned.{Planned}
+use Rattle.nb_merchant.specs.declared.answer.Halt.{Halt}
+use Rattle.nb_merchant.specs.declared.answer.Halt.TheVariants as halt
+
+-- a text that was unsealed stands at the front of a buffer
+abbrev pub Unseals : Option (List ℕ) → List ℕ → Result ℕ Reason → Type 0
+Unseals text buffer (Ok n) = text ≡ Some (take n buffer)
+Unseals text buffer (Err why) = (text ≡ None) × (why ≡ reason.Seal)
+
+-- what a row does was planned, or it was found why it does nothing. Of want of memory nothing is said
+abbrev pub Plans : Result Planned Halt → Result Answer Reason → Type 0
+Plans (Ok planned) row = row ≡ Ok planned.answer
+Plans (Err (halt.Ignored why)) row = row ≡ Err why
+Plans (Err halt.NoMemory) row = ⊤
+
+-- the step of what was planned; want of memory is none
+abbrev pub Performs : Result Planned Halt → Step → Type 0
+Performs (Ok planned) s = s ≡ step_of (Ok planned.answer)
+Performs (Err (halt.Ignored why)) s = s ≡ step.Ignored why
+Performs (Err halt.NoMemory) s = ⊥
+
+-- the merchant behind that
+abbrev pub performed : Shop → Result Planned Halt → Shop
+performed shop (Ok planned) = after shop (Ok planned.answer)
+performed shop (Err why) = shop
+
+-- an item was taken up, or may not stand where it does. Of want of memory nothing is said
+abbrev pub TakesUp : Option Shop → Shop → ℕ → Result (Unit {0}) RestartFault → Type 0
+TakesUp taken new number (Ok done) = taken ≡ Some new
+TakesUp taken new number (Err (fault.BadItem n)) = (n ≡ number) × (taken ≡ None)
+TakesUp taken new number (Err fault.NoMemory) = ⊤
+
+-- a restart gave the merchant, or the number of the first item that is bad. Of want of memory nothing is said
+abbrev pub Restarts : Result Shop ℕ → Result Shop RestartFault → Type 0
+Restarts all (Ok shop) = all ≡ Ok shop
+Restarts all (Err (fault.BadItem n)) = all ≡ Err n
+Restarts all (Err fault.NoMemory) = ⊤

@@ -1,0 +1,10 @@
+use crate::purchase::Purchase;
+use nb_units::Epoid;
+
+/// Goods that were sealed: for which purchase, and under which identifier.
+#[derive(Clone, Copy, PartialEq, Eq, Debug)]
+pub struct Delivery {
+    pub purchase: Purchase,
+    /// The identifier that the order must have, 16 bytes wide.
+    pub epoid: Epoid,
+}
