@@ -7,8 +7,8 @@ use Rattle.nb_world.specs.declared.event.Event.TheVariants as on
 use Rattle.nb_world.specs.declared.packet.Maker.{Maker}
 use Rattle.nb_world.specs.declared.packet.Maker.TheVariants as by
 use Rattle.nb_world.specs.declared.packet.Packet.{Packet}
-use Rattle.nb_world.specs.declared.packet.To.{To}
-use Rattle.nb_world.specs.declared.packet.To.TheVariants as to
+use Rattle.nb_msgs.specs.declared.node.To.{To}
+use Rattle.nb_msgs.specs.declared.node.To.TheVariants as to
 use Rattle.nb_world.specs.declared.turning.Turning.{Turning}
 use Rattle.nb_world.specs.World.{World}
 use Rattle.nb_world.specs.Steps.{where_so, may_answer, node_of, asker_of, reply_to, answer_of, step, next, or_same}

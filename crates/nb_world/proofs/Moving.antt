@@ -11,7 +11,7 @@ use Rattle.nb_world.specs.declared.event.Event.{Event}
 use Rattle.nb_world.specs.declared.event.Event.TheVariants as on
 use Rattle.nb_world.specs.declared.packet.Maker.TheVariants as by
 use Rattle.nb_world.specs.declared.packet.Packet.{Packet}
-use Rattle.nb_world.specs.declared.packet.To.{To}
+use Rattle.nb_msgs.specs.declared.node.To.{To}
 use Rattle.nb_world.specs.declared.turning.Stage.TheVariants as stage
 use Rattle.nb_world.specs.declared.turning.Turning.{Turning}
 use Rattle.nb_world.specs.World.{Rules, World, request_of, is_decided, is_written}

@@ -15,9 +15,9 @@ use Rattle.nb_world.specs.declared.packet.Maker.{Maker}
 use Rattle.nb_world.specs.declared.packet.Maker.TheVariants as by
 use Rattle.nb_world.specs.declared.packet.Packet.{Packet}
 use Rattle.nb_world.specs.declared.packet.Sending.{Sending}
-use Rattle.nb_world.specs.declared.packet.To.{To}
-use Rattle.nb_world.specs.declared.packet.To.TheVariants as to
-use Rattle.nb_world.specs.declared.start.Start.{Start}
+use Rattle.nb_msgs.specs.declared.node.To.{To}
+use Rattle.nb_msgs.specs.declared.node.To.TheVariants as to
+use Rattle.nb_consumer.specs.declared.wallet.Start.{Start}
 use Rattle.nb_world.specs.declared.turning.Verdict.{Verdict}
 use Rattle.nb_world.specs.World.{Going, Stays, Goes, Rules, World}
 use Rattle.nb_world.specs.Steps.{where_so, packets_of, consumer_goes, merchant_goes, consumer_at, merchant_at, is_known, started, server_gets, delivered_to, buy_of, quiet_consumer_of, quiet_merchant_of, restart_consumer_of, restart_merchant_of, deliver_of, inject_of}
@@ -102,22 +102,6 @@ merchant_sends id None = tt
 merchant_sends id (Some s) = ((λ c at is. cc), tt)
 
 module _ {C M : Type 0} where
-  same_outside : (v : World C M) → Outside v v
-  same_outside v = record {
-    made = [];
-    asked = [];
-    durable = refl;
-    server = refl;
-    origins = refl;
-    acknowledged = refl;
-    turn = refl;
-    packets = sym (append-nil v.packets);
-    calls = sym (append-nil v.calls);
-    not_by_house = tt;
-    of_house = tt;
-    waiting = tt;
-  }
-
   -- consumers, merchants or the clock change
   nodes_outside : (v : World C M) (consumers : List C) (merchants : List M) (moment : ℕ)
       → Outside v (record v { consumers = consumers; merchants = merchants; moment = moment })
@@ -135,6 +119,9 @@ module _ {C M : Type 0} where
     of_house = tt;
     waiting = tt;
   }
+
+  same_outside : (v : World C M) → Outside v v
+  same_outside v = nodes_outside v v.consumers v.merchants v.moment
 
   -- and these packets are new
   sends_outside : (v : World C M) (consumers : List C) (merchants : List M) (made : List Packet) → AllByRecursion NotByHouse made

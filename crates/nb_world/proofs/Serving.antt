@@ -17,8 +17,8 @@ use Rattle.nb_world.specs.declared.event.Event.TheVariants as on
 use Rattle.nb_world.specs.declared.packet.Maker.{Maker}
 use Rattle.nb_world.specs.declared.packet.Maker.TheVariants as by
 use Rattle.nb_world.specs.declared.packet.Packet.{Packet}
-use Rattle.nb_world.specs.declared.packet.To.{To}
-use Rattle.nb_world.specs.declared.packet.To.TheVariants as to
+use Rattle.nb_msgs.specs.declared.node.To.{To}
+use Rattle.nb_msgs.specs.declared.node.To.TheVariants as to
 use Rattle.nb_world.specs.declared.turning.Acknowledged.{Acknowledged}
 use Rattle.nb_world.specs.declared.turning.Origin.{Origin}
 use Rattle.nb_world.specs.declared.turning.Stage.{Stage}

@@ -13,7 +13,7 @@ use Rattle.nb_world.specs.declared.call.CallPhase.TheVariants.{Waiting, InTurn, 
 use Rattle.nb_world.specs.declared.event.Event.{Event}
 use Rattle.nb_world.specs.declared.event.Event.TheVariants as on
 use Rattle.nb_world.specs.declared.packet.Packet.{Packet}
-use Rattle.nb_world.specs.declared.packet.To.TheVariants as to
+use Rattle.nb_msgs.specs.declared.node.To.TheVariants as to
 use Rattle.nb_world.specs.declared.turning.Stage.{Stage}
 use Rattle.nb_world.specs.declared.turning.Stage.TheVariants as stage
 use Rattle.nb_world.specs.declared.turning.Turning.{Turning}

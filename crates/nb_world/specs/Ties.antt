@@ -8,7 +8,7 @@ use Rattle.nb_turns.specs.Turns.{Request, Ruling, House, State, Outcome, Decides
 use Rattle.nb_world.specs.declared.event.Event.{Event}
 use Rattle.nb_world.specs.declared.event.Event.TheVariants as on
 use Rattle.nb_world.specs.declared.packet.Packet.{Packet}
-use Rattle.nb_world.specs.declared.packet.To.TheVariants as to
+use Rattle.nb_msgs.specs.declared.node.To.TheVariants as to
 use Rattle.nb_world.specs.declared.turning.Turning.{Turning}
 use Rattle.nb_world.specs.declared.turning.Verdict.{Verdict}
 use Rattle.nb_world.specs.World.{Rules, World}

@@ -11,8 +11,8 @@ use Rattle.nb_world.specs.declared.event.Event.TheVariants as on
 use Rattle.nb_world.specs.declared.packet.Maker.TheVariants as by
 use Rattle.nb_world.specs.declared.packet.Packet.{Packet}
 use Rattle.nb_world.specs.declared.packet.Sending.{Sending}
-use Rattle.nb_world.specs.declared.packet.To.TheVariants as to
-use Rattle.nb_world.specs.declared.start.Start.{Start}
+use Rattle.nb_msgs.specs.declared.node.To.TheVariants as to
+use Rattle.nb_consumer.specs.declared.wallet.Start.{Start}
 use Rattle.nb_world.specs.declared.turning.Verdict.{Verdict}
 use Rattle.nb_world.specs.World.{Stays, Goes, Rules, World}
 use Rattle.nb_world.specs.Steps.{run, step}
@@ -67,7 +67,7 @@ small_world = record {
 }
 
 abbrev pub small_start : Start
-small_start = record { tid = 1; merchant = second_party; product = 1; limit = 5; request = []; memo = [] }
+small_start = record { transaction = 1; merchant = second_party; product = 1; limit = record { 0 = 5 }; request = []; memo = [] }
 
 abbrev pub enrolling : Packet
 enrolling = record { kind = ENROL_REQUEST; body = 1 ∷ []; maker = by.Consumer first_party; to = to.Server }
@@ -79,12 +79,10 @@ all_goes_well =
 
 -- the entry stands at place 0, came by call 0 and is acknowledged; the reply is told at place 0, and was heard
 abbrev pub HeardOnce : Type 0
-HeardOnce = run small_world_rules small_world all_goes_well ≡ record {
+HeardOnce = run small_world_rules small_world all_goes_well ≡ record small_world {
   consumers = 1 ∷ [];
-  merchants = 0 ∷ [];
   packets = enrolling ∷ record { kind = DONE_REPLY; body = 1 ∷ 0 ∷ 0 ∷ []; maker = by.Server 0 0; to = to.Consumer first_party } ∷ [];
   calls = record { packet = 0; moment = 7; phase = Answered } ∷ [];
-  turn = None;
   durable = enrolment 1 ∷ [];
   server = enrolment 1 ∷ [];
   origins = record { place = 0; call = 0 } ∷ [];
@@ -98,17 +96,12 @@ stopped_and_again =
     on.Buy first_party small_start ∷ on.Deliver 0 ∷ on.Turn 0 ∷ on.Write 0 ∷ on.Stop true ∷ on.Deliver 0 ∷ on.Turn 1 ∷ on.Answer 1 ∷ []
 
 abbrev pub LeftAndTold : Type 0
-LeftAndTold = run small_world_rules small_world stopped_and_again ≡ record {
-  consumers = 0 ∷ [];
-  merchants = 0 ∷ [];
+LeftAndTold = run small_world_rules small_world stopped_and_again ≡ record small_world {
   packets = enrolling ∷ record { kind = DONE_REPLY; body = 1 ∷ 0 ∷ 0 ∷ []; maker = by.Server 1 1; to = to.Consumer first_party } ∷ [];
   calls = record { packet = 0; moment = 0; phase = Gone } ∷ record { packet = 0; moment = 0; phase = Answered } ∷ [];
-  turn = None;
   durable = enrolment 1 ∷ [];
   server = enrolment 1 ∷ [];
   origins = record { place = 0; call = 0 } ∷ [];
-  acknowledged = [];
-  moment = 0;
 }
 
 -- an injected request is recorded and acknowledged, and no packet is made of its reply; a packet that is not there is not delivered, and a
@@ -118,17 +111,13 @@ injected_and_unfit =
     on.Inject to.Server ENROL_REQUEST (1 ∷ []) ∷ on.Deliver 0 ∷ on.Turn 0 ∷ on.Write 0 ∷ on.Open 0 ∷ on.Answer 0 ∷ on.Deliver 1 ∷ on.Turn 0 ∷ []
 
 abbrev pub InjectedIsRecorded : Type 0
-InjectedIsRecorded = (run small_world_rules small_world injected_and_unfit ≡ record {
-  consumers = 0 ∷ [];
-  merchants = 0 ∷ [];
+InjectedIsRecorded = (run small_world_rules small_world injected_and_unfit ≡ record small_world {
   packets = record { kind = ENROL_REQUEST; body = 1 ∷ []; maker = by.Network; to = to.Server } ∷ [];
   calls = record { packet = 0; moment = 0; phase = Answered } ∷ [];
-  turn = None;
   durable = enrolment 1 ∷ [];
   server = enrolment 1 ∷ [];
   origins = record { place = 0; call = 0 } ∷ [];
   acknowledged = record { entry = enrolment 1; place = 0 } ∷ [];
-  moment = 0;
 }) × (step small_world_rules small_world (on.Deliver 0) ≡ None)
 
 -- the merchant hears an injected packet at the clock's moment, and not one without a byte; the consumer sends again where it knows the purchase,
@@ -140,17 +129,10 @@ heard_and_waited =
 
 -- behind its restart the merchant heard nothing
 abbrev pub NodesHear : Type 0
-NodesHear = (run small_world_rules small_world heard_and_waited ≡ record {
-  consumers = 0 ∷ [];
+NodesHear = (run small_world_rules small_world heard_and_waited ≡ record small_world {
   merchants = 7 ∷ [];
   packets = record { kind = PRICE_REQUEST; body = 5 ∷ []; maker = by.Network; to = to.Merchant second_party }
       ∷ record { kind = PRICE_REQUEST; body = []; maker = by.Network; to = to.Merchant second_party } ∷ enrolling ∷ [];
-  calls = [];
-  turn = None;
-  durable = [];
-  server = [];
-  origins = [];
-  acknowledged = [];
   moment = 7;
 }) × ((run small_world_rules small_world (heard_and_waited ++ on.RestartMerchant second_party ∷ [])).merchants ≡ 0 ∷ [])
 
@@ -178,14 +160,13 @@ merchant_is_answered =
     ∷ on.QuietMerchant second_party first_party 1 ∷ on.Deliver 1 ∷ on.Turn 0 ∷ on.Write 0 ∷ on.Open 0 ∷ on.Answer 0 ∷ on.Deliver 2 ∷ []
 
 abbrev pub EachNodeItsOwn : Type 0
-EachNodeItsOwn = run two_consumers_rules two_consumers merchant_is_answered ≡ record {
+EachNodeItsOwn = run two_consumers_rules two_consumers merchant_is_answered ≡ record two_consumers {
   consumers = 0 ∷ 111 ∷ [];
   merchants = 4 ∷ [];
   packets = record { kind = DONE_REPLY; body = 1 ∷ []; maker = by.Network; to = to.Consumer third_party }
       ∷ record { kind = ENROL_REQUEST; body = 1 ∷ []; maker = by.Merchant second_party; to = to.Server }
       ∷ record { kind = DONE_REPLY; body = 1 ∷ 0 ∷ 0 ∷ []; maker = by.Server 0 0; to = to.Merchant second_party } ∷ [];
   calls = record { packet = 1; moment = 3; phase = Answered } ∷ [];
-  turn = None;
   durable = enrolment 1 ∷ [];
   server = enrolment 1 ∷ [];
   origins = record { place = 0; call = 0 } ∷ [];

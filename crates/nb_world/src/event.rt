@@ -1,4 +1,5 @@
-use crate::{Start, To};
+use nb_consumer::Start;
+use nb_msgs::To;
 use nb_units::{Blob, PartyId};
 
 /// What may happen next in a world. Packets and calls go by their numbers, 4 bytes wide, in the order in which they were made.

@@ -17,11 +17,12 @@ mod call;
 mod event;
 pub mod laws;
 mod packet;
-mod start;
 mod turning;
 
 pub use call::{Call, CallPhase};
 pub use event::Event;
-pub use packet::{Maker, Packet, Sending, To};
-pub use start::Start;
+pub use packet::{Maker, Packet, Sending};
 pub use turning::{Acknowledged, Origin, Stage, Turning, Verdict};
+
+#[cfg(test)]
+mod tests;

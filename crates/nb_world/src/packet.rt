@@ -1,15 +1,5 @@
+use nb_msgs::To;
 use nb_units::{Blob, PartyId};
-
-/// Whom a packet is for.
-#[derive(Clone, Copy, PartialEq, Eq, Debug)]
-pub enum To {
-    /// The house.
-    Server,
-    /// A party, as a merchant.
-    Merchant(PartyId),
-    /// A party, as a consumer.
-    Consumer(PartyId),
-}
 
 /// Who made a packet.
 #[derive(Clone, Copy, PartialEq, Eq, Debug)]
