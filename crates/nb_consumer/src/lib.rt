@@ -36,6 +36,3 @@ pub use held::Held;
 pub use item::{Item, SessionTicket};
 pub use purchase::{Purchase, Stage};
 pub use wallet::{Phase, Start, Wallet};
-
-#[cfg(test)]
-mod tests;
