@@ -9,6 +9,72 @@ import typing
 ENDORSED, RESULT, STATUS, TOLD, TICKET, GRANT, ENROL, FUND, DONE, REFUSAL = 0x06, 0x07, 0x09, 0x0A, 0x0B, 0x0C, 0x0D, 0x0E, 0x0F, 0x10
 CONSUMER, MERCHANT = 1, 2
 ENROLLED, FUNDED, PAID, REFUSED = 1, 2, 3, 4
+ENTRY_BYTES = {ENROLLED: 50, FUNDED: 29, PAID: 117, REFUSED: 94}
+
+# The kinds of frames, by their names.
+KINDS = {
+    0x01: "price request",
+    0x02: "quote",
+    0x03: "goods request",
+    0x04: "goods",
+    0x05: "order for its merchant",
+    0x06: "endorsed order",
+    0x07: "result",
+    0x08: "result, passed on",
+    0x09: "status query",
+    0x0A: "status",
+    0x0B: "ticket request",
+    0x0C: "grant",
+    0x0D: "enrol",
+    0x0E: "fund",
+    0x0F: "done",
+    0x10: "refused",
+}
+
+# Refusals and receipts, by their codes: what each says, and what its two numbers are.
+CODES = {
+    0: ("paid", "", ""),
+    10: ("not spelled as it should be", "at byte", "of part"),
+    11: ("not enrolled in the role that is asked for", "party", ""),
+    12: ("no seal under the party's key", "", ""),
+    13: ("another merchant than the one that endorses", "endorser", "other"),
+    14: ("wrong tag", "", ""),
+    15: ("identifier used up by another endorsement", "", ""),
+    16: ("number or account is held", "held by", "its account"),
+    17: ("reference is held", "account", "amount"),
+    18: ("nobody holds the account", "account", ""),
+    19: ("all funds would be too much", "so far", "amount"),
+    20: ("journal is full", "cap", ""),
+    31: ("the account is not the consumer's", "named", "consumer's"),
+    32: ("the account is not the merchant's", "named", "merchant's"),
+    33: ("price out of range", "price", "most"),
+    34: ("too old", "moment", "identifier's"),
+    35: ("too early", "identifier's", "moment"),
+    36: ("too little in the account", "balance", "price"),
+    37: ("not the consumer's nonce", "named", "consumer's"),
+    40: ("fewer entries than asked for", "held", "asked for"),
+    50: ("the disk failed, and what was asked is in doubt", "faults before", "after"),
+    51: ("the disk failed too often, and nothing was done", "faults", ""),
+    52: ("no memory", "", ""),
+    53: ("this kind is not served", "kind", ""),
+}
+
+# How the program ends, by its status: what it means, what P is, and what to do.
+STATUSES = {
+    0: ("all was done", "", "nothing"),
+    1: ("the program was not built", "", "look at the end of netbill.log, which the launcher shows"),
+    2: ("the words are none of the program's", "", "compare them with docs/netbill.1"),
+    3: ("the input failed", "", "send it again: what was answered is recorded, and is told again"),
+    4: ("the output failed", "", "send the input again: what was recorded is told again"),
+    5: ("the input ended within a frame, or holds what is no frame, or is no head", "bytes read, or the place of the fault", "mend the input from there on; the frames before it were answered"),
+    6: ("there was no memory", "", "give the process more: docs/OPERATING.md says how much a journal takes"),
+    7: ("the journal's disk failed as it was opened or made", "", "look at the disk and its free room, then start again"),
+    8: ("the file is no journal, or it is damaged", "place of the damage in the file", "put the last copy in its place: docs/OPERATING.md says what that forgets"),
+    9: ("no journal is made: there is one, or the cap is out of its range", "", "take another file, or a cap from 1 to 1,000,000"),
+    11: ("as many frames were answered as one run answers", "", "start again with the rest of the input"),
+    13: ("a port failed, with connections left", "", "start again"),
+    17: ("a file or a port could not be opened, or another process holds the journal", "", "see who holds it, its mode, and whether the port is free"),
+}
 
 OPEN, CLOSED = b"\xa5", b"\x00"
 WORD = 0xFFFFFFFF
@@ -193,6 +259,33 @@ def number(field):
     return int.from_bytes(field, "big")
 
 
+def read_journal(image, front):
+    """The entries of a journal that begins with this front, and the place of the gate behind them; None where it is no such journal."""
+    if not image.startswith(front):
+        return None
+    entries, gate = [], len(front)
+    while image[gate : gate + 1] == OPEN:
+        item = image[gate + 5 :][: number(image[gate + 1 : gate + 5])]
+        gate += 5 + number(image[gate + 1 : gate + 5])
+        if gate >= len(image):
+            return None
+        while item:
+            size = ENTRY_BYTES.get(item[0], 0)
+            if not 0 < size <= len(item):
+                return None
+            entries.append(item[:size])
+            item = item[size:]
+    return entries, gate
+
+
+def unsealed(key, label, sealed):
+    """The text that these bytes are the seal of, or None."""
+    stream_key = code(key, b"enc" + sealed[:32])
+    stream = b"".join(block(stream_key, place) for place in range(len(sealed) // 64 + 1))
+    text = bytes(a ^ b for a, b in zip(sealed[32:], stream))
+    return text if code(key, label + text) == sealed[:32] else None
+
+
 def balance(entries, account):
     """What is in an account, which is given as its four bytes."""
     total = 0
@@ -202,6 +295,18 @@ def balance(entries, account):
         if entry[0] == PAID:
             total += number(entry[61:69]) * ((entry[73:77] == account) - (entry[69:73] == account))
     return total
+
+
+def balances(entries, accounts):
+    """What is in each of these accounts, in one walk over the entries."""
+    held = dict.fromkeys(accounts, 0)
+    for entry in entries:
+        if entry[0] == FUNDED:
+            held[entry[1:5]] += number(entry[5:13])
+        if entry[0] == PAID:
+            held[entry[69:73]] -= number(entry[61:69])
+            held[entry[73:77]] += number(entry[61:69])
+    return held.items()
 
 
 def key_of(entries, id):
@@ -327,20 +432,23 @@ def spelled(fields):
 
 
 def cuts(fields):
-    """How many bytes of a layout are left, and the place that is then bad: at each field's front, and one byte before its end."""
+    """How many bytes of a layout are left, and the place that is then bad: at each field's front, within a text's length and behind it,
+    and one byte before the field's end."""
     made, places = spelled(fields)
-    for place, end in zip(places, places[1:] + [len(made)]):
-        for cut in sorted({place, end - 1}):
+    for field, place, end in zip(fields, places, places[1:] + [len(made)]):
+        for cut in sorted({place, end - 1} | ({place + 2, place + 4} if field.text else set())):
             yield cut, place
 
 
 def faults(fields):
-    """Bytes that break one field of a layout, and its place: the length of a text above its limit, a value that is not allowed; and
-    the place of the first byte behind the layout."""
+    """Bytes that break one field of a layout, and its place: the length of a text above its limit, a value that is not allowed, with
+    what follows it and with nothing behind it; and the place of the first byte behind the layout."""
     made, places = spelled(fields)
     for field, place in zip(fields, places):
         for bad in field.bad:
-            yield made[:place] + bad.to_bytes(field.width, "big") + made[place + field.width :], place
+            front = made[:place] + bad.to_bytes(field.width, "big")
+            yield front + made[place + field.width :], place
+            yield front, place
         if field.text:
             yield made[:place] + struct.pack(">I", field.width + 1) + made[place + 4 :], place
     yield made + b"\0", len(made)
