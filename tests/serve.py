@@ -37,8 +37,8 @@ HOUSE, OPERATOR, GOODS = (bytes([byte]) * 32 for byte in (0x11, 0x22, 0x77))
 HEAD = formats.head(HOUSE, OPERATOR, bytes([0x33]) * 16)
 CAP, WORKERS, LINKS, ORDERS, CONSUMERS, KILLS = 20000, 4, 8, 40, 6, 20
 
-# In seconds: the whole test, and the wait for a server's first reply.
-SECONDS, LONGEST_START = 60, 1
+# In seconds: the whole test, and the wait for a server's replies.
+SECONDS, LONGEST_START = 60, 2
 
 # Ports below those that the system gives out by itself.
 FIRST_PORT, LAST_PORT = 20000, 30000
@@ -278,23 +278,22 @@ def pour(link, frames):
         pass
 
 
-def wait_for_reply(server, talks, wanted):
-    """Where it is wanted, waits until a link has a reply: the server reads its whole journal before the first."""
+def wait_for_replies(server, talks, wanted):
+    """Waits until the links have so many replies between them, or the server has ended, or for too long."""
     end = time.monotonic() + LONGEST_START
-    while wanted and server.process.poll() is None and time.monotonic() < end and not any(replies for _, replies in talks):
-        time.sleep(0.002)
+    while server.process.poll() is None and time.monotonic() < end and sum(len(replies) for _, replies in talks) < wanted:
+        time.sleep(0.0005)
 
 
 def kill_often(draw, journal, parties, serials):
-    """Kills the server at random moments, and starts it again. Gives how many kills fell while it was asked, and the replies handed out."""
+    """Kills the server behind random numbers of replies, and starts it again. Gives how many kills fell while it was asked, and the replies handed out."""
     within, first, runs = 0, int(time.time()), []
     entries = read_journal(journal)
     start = len(entries)
     for kill in range(KILLS):
         server = Server(journal, draw, 2)
         talks, threads = run_links(server, draw, parties, first, serials)
-        wait_for_reply(server, talks, draw.random() < 0.75)
-        time.sleep(draw.random() * 0.1)
+        wait_for_replies(server, talks, draw.randrange(sum(len(requests) for requests, _ in talks) // 2))
         within += server.process.poll() is None
         server.process.kill()
         server.process.wait()
