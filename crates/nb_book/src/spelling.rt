@@ -3,7 +3,9 @@ ghost use Rattle.nb_units.specs.declared.buffer.TheConstants.{MAX_BUFFER};
 ghost use Rattle.nb_units.specs.Fields.{moved};
 ghost use Rattle.nb_units.specs.Laws.{StandsAt};
 ghost use Rattle.nb_units.specs.Reads.{Reads};
+ghost use Rattle.nb_units.specs.Reasons.{IsReason};
 ghost use Rattle.nb_units.specs.Room.{spare_of};
+ghost use Rattle.nb_book.specs.declared.entry.Entry.TheVariants.{Enrol, Fund, Paid, Refused};
 ghost use Rattle.nb_book.specs.declared.spelling.TheConstants.{MAX_ENTRY};
 ghost use Rattle.nb_book.specs.Spelling as spelling;
 ghost use Rattle.nb_book.specs.Reading as reading;
@@ -91,7 +93,6 @@ impl Entry {
         ensures fits { spelling.IsEntry self.now }
         ensures long { length result ≤ MAX_ENTRY }
     {
-        let mut bytes = Buffer::new();
         match self {
             Entry::Enrol {
                 id,
@@ -99,24 +100,12 @@ impl Entry {
                 acct,
                 nonce,
                 key,
-            } => {
-                bytes.u8(ENROL_ENTRY);
-                bytes.u32(id.0);
-                bytes.u8(*role);
-                bytes.u32(acct.0);
-                bytes.u64(*nonce);
-                bytes.raw(key);
-            }
+            } => enrol_spelled(*id, *role, *acct, *nonce, key),
             Entry::Fund {
                 acct,
                 amount,
                 reference,
-            } => {
-                bytes.u8(FUND_ENTRY);
-                bytes.u32(acct.0);
-                bytes.u64(*amount);
-                bytes.raw(reference);
-            }
+            } => fund_spelled(*acct, *amount, reference),
             Entry::Paid {
                 digest,
                 epoid,
@@ -129,21 +118,8 @@ impl Entry {
                 moment,
                 key,
             } => {
-                bytes.u8(PAID_ENTRY);
-                let digest = *digest;
-                let terms = OrderTerms {
-                    digest,
-                    epoid: *epoid,
-                    consumer: *consumer,
-                    merchant: *merchant,
-                    product: *product,
-                    price: *price,
-                };
-                terms.write(&mut bytes);
-                bytes.u32(cacct.0);
-                bytes.u32(macct.0);
-                bytes.u64(*moment);
-                bytes.raw(key);
+                let terms = OrderTerms::of(digest, *epoid, *consumer, *merchant, *product, *price);
+                paid_spelled(&terms, *cacct, *macct, *moment, key)
             }
             Entry::Refused {
                 digest,
@@ -157,25 +133,83 @@ impl Entry {
                 b,
                 moment,
             } => {
-                bytes.u8(REFUSED_ENTRY);
-                let digest = *digest;
-                let terms = OrderTerms {
-                    digest,
-                    epoid: *epoid,
-                    consumer: *consumer,
-                    merchant: *merchant,
-                    product: *product,
-                    price: *price,
-                };
-                terms.write(&mut bytes);
-                bytes.u8(*code);
-                bytes.u64(*a);
-                bytes.u64(*b);
-                bytes.u64(*moment);
+                let terms = OrderTerms::of(digest, *epoid, *consumer, *merchant, *product, *price);
+                refused_spelled(&terms, *code, *a, *b, *moment)
             }
         }
-        bytes
     }
+}
+
+// What follows spells one kind of entry each.
+
+#[tactic(auto, unfolding(crate::specs::Spelling::entry_bytes))]
+fn enrol_spelled(id: PartyId, role: u8, acct: AcctId, nonce: u64, key: &[u8; 32]) -> Buffer
+    requires { spelling.IsRole role }
+    ensures bytes { result ≡ spelling.entry_bytes (Enrol id role acct nonce key.now) }
+    ensures fits { spelling.IsEntry (Enrol id role acct nonce key.now) }
+    ensures long { length result ≤ MAX_ENTRY }
+{
+    let mut bytes = Buffer::new();
+    bytes.u8(ENROL_ENTRY);
+    bytes.u32(id.0);
+    bytes.u8(role);
+    bytes.u32(acct.0);
+    bytes.u64(nonce);
+    bytes.raw(key);
+    bytes
+}
+
+#[tactic(auto, unfolding(crate::specs::Spelling::entry_bytes))]
+fn fund_spelled(acct: AcctId, amount: u64, reference: &[u8; 16]) -> Buffer
+    ensures bytes { result ≡ spelling.entry_bytes (Fund acct amount reference.now) }
+    ensures fits { spelling.IsEntry (Fund acct amount reference.now) }
+    ensures long { length result ≤ MAX_ENTRY }
+{
+    let mut bytes = Buffer::new();
+    bytes.u8(FUND_ENTRY);
+    bytes.u32(acct.0);
+    bytes.u64(amount);
+    bytes.raw(reference);
+    bytes
+}
+
+#[tactic(auto, unfolding(crate::specs::Spelling::entry_bytes))]
+fn paid_spelled(
+    terms: &OrderTerms,
+    cacct: AcctId,
+    macct: AcctId,
+    moment: u64,
+    key: &[u8; 32],
+) -> Buffer
+    ensures bytes { result ≡ spelling.entry_bytes (Paid terms.now.digest terms.now.epoid terms.now.consumer terms.now.merchant terms.now.product terms.now.price cacct macct moment key.now) }
+    ensures fits { spelling.IsEntry (Paid terms.now.digest terms.now.epoid terms.now.consumer terms.now.merchant terms.now.product terms.now.price cacct macct moment key.now) }
+    ensures long { length result ≤ MAX_ENTRY }
+{
+    let mut bytes = Buffer::new();
+    bytes.u8(PAID_ENTRY);
+    terms.write(&mut bytes);
+    bytes.u32(cacct.0);
+    bytes.u32(macct.0);
+    bytes.u64(moment);
+    bytes.raw(key);
+    bytes
+}
+
+#[tactic(auto, unfolding(crate::specs::Spelling::entry_bytes))]
+fn refused_spelled(terms: &OrderTerms, code: u8, a: u64, b: u64, moment: u64) -> Buffer
+    requires { IsReason code }
+    ensures bytes { result ≡ spelling.entry_bytes (Refused terms.now.digest terms.now.epoid terms.now.consumer terms.now.merchant terms.now.product terms.now.price code a b moment) }
+    ensures fits { spelling.IsEntry (Refused terms.now.digest terms.now.epoid terms.now.consumer terms.now.merchant terms.now.product terms.now.price code a b moment) }
+    ensures long { length result ≤ MAX_ENTRY }
+{
+    let mut bytes = Buffer::new();
+    bytes.u8(REFUSED_ENTRY);
+    terms.write(&mut bytes);
+    bytes.u8(code);
+    bytes.u64(a);
+    bytes.u64(b);
+    bytes.u64(moment);
+    bytes
 }
 
 // The entry at the front of the bytes.
@@ -251,6 +285,27 @@ struct OrderTerms {
 }
 
 impl OrderTerms {
+    fn of(
+        digest: &Digest,
+        epoid: Epoid,
+        consumer: PartyId,
+        merchant: PartyId,
+        product: u32,
+        price: Price,
+    ) -> OrderTerms
+        ensures { result ≡ record { digest = digest.now; epoid = epoid; consumer = consumer; merchant = merchant; product = product; price = price } }
+    {
+        let digest = *digest;
+        OrderTerms {
+            digest,
+            epoid,
+            consumer,
+            merchant,
+            product,
+            price,
+        }
+    }
+
     fn write(&self, bytes: &mut Buffer)
         requires { length bytes.old + 68 ≤ MAX_BUFFER }
         ensures bytes { bytes.new ≡ bytes.old ++ spelling.terms_bytes self.now }
