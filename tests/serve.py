@@ -11,8 +11,9 @@ the end. The test holds the program to this:
   others: they are all answered while it is held.
 - The server ends with status 0 when each port has given its links.
 
-Then the server is killed at random moments, and started again over the same journal. After each kill the entries begin with those
-that were there before, and the reply to each order that was handed out whole, in whatever run, is the one that its entry gives.
+Then the server is killed behind random numbers of replies, and started again over the same journal. After each kill the entries begin
+with those that were there before, and the reply to each order that was handed out whole, in whatever run, is the one that its entry
+gives.
 
 A kill leaves what the program gave to the system. What a failure of power leaves is not tried here.
 """
@@ -35,7 +36,10 @@ import formats
 PROGRAM = TOP / "crates/netbill/out/netbill"
 HOUSE, OPERATOR, GOODS = (bytes([byte]) * 32 for byte in (0x11, 0x22, 0x77))
 HEAD = formats.head(HOUSE, OPERATOR, bytes([0x33]) * 16)
-CAP, WORKERS, LINKS, ORDERS, CONSUMERS, KILLS = 20000, 4, 8, 40, 6, 20
+CAP, WORKERS, LINKS, CONSUMERS, KILLS = 20000, 4, 8, 6, 20
+
+# The orders of a link: to a server that is left alone, and to one that is killed.
+ORDERS, KILL_ORDERS = 40, 20
 
 # In seconds: the whole test, and the wait for a server's replies.
 SECONDS, LONGEST_START = 60, 2
@@ -143,18 +147,17 @@ def requests_of(draw, parties, moment, serials, count):
     waiting, known = [], []
     for _ in range(count):
         order = formats.Order(draw.choice(consumers), merchant, 7, draw.randint(1, 60), moment, next(serials), GOODS)
+        request = order.frame(), order
         known.append(order)
-        waiting.append(order)
-        yield order.frame(), order
+        waiting.append(request)
+        yield request
         if draw.random() < 0.7:
-            again = waiting.pop(draw.randrange(len(waiting)))
-            yield again.frame(), again
+            yield waiting.pop(draw.randrange(len(waiting)))
         if draw.random() < 0.5:
             about = draw.choice(known)
             asker = draw.choice([about.consumer, merchant])
             yield formats.status(asker.id, asker.key, about.epoid(), 0), (asker, about.epoid())
-    for order in waiting:
-        yield order.frame(), order
+    yield from waiting
 
 
 def see_entries(entries, start, orders, first, last):
@@ -222,12 +225,13 @@ def make_house(journal):
     return merchant, consumers
 
 
-def run_links(server, draw, parties, moment, serials):
-    """Talks on all links that are left, at once. Gives the requests and the replies of each, and the threads by their workers."""
+def run_links(server, draw, parties, moment, serials, orders):
+    """Talks on all links that are left, at once, with so many orders on each. Gives the requests and the replies of each, and the threads
+    by their workers."""
     talks, threads = [], [[] for _ in range(WORKERS)]
     for worker in range(WORKERS):
         for _ in range(server.left[worker]):
-            requests, replies = list(requests_of(draw, parties, moment, serials, ORDERS)), []
+            requests, replies = list(requests_of(draw, parties, moment, serials, orders)), []
             talks.append((requests, replies))
             threads[worker].append(threading.Thread(target=talk, args=(server, worker, draw.random(), requests, replies)))
             threads[worker][-1].start()
@@ -252,7 +256,7 @@ def serve_well(draw, journal, parties, serials):
     asks = formats.status(parties[0].id, parties[0].key, bytes(16), 0) * 9999
     flood = threading.Thread(target=pour, args=(harmful[3], asks))
     flood.start()
-    talks, threads = run_links(server, draw, parties, first, serials)
+    talks, threads = run_links(server, draw, parties, first, serials, ORDERS)
     finish(threads[0] + threads[1])
     for link in harmful[1:]:
         link.close()
@@ -286,13 +290,14 @@ def wait_for_replies(server, talks, wanted):
 
 
 def kill_often(draw, journal, parties, serials):
-    """Kills the server behind random numbers of replies, and starts it again. Gives how many kills fell while it was asked, and the replies handed out."""
+    """Kills the server behind random numbers of replies, and starts it again. Gives how many kills fell while it was asked, and the
+    replies handed out."""
     within, first, runs = 0, int(time.time()), []
     entries = read_journal(journal)
     start = len(entries)
     for kill in range(KILLS):
         server = Server(journal, draw, 2)
-        talks, threads = run_links(server, draw, parties, first, serials)
+        talks, threads = run_links(server, draw, parties, first, serials, KILL_ORDERS)
         wait_for_replies(server, talks, draw.randrange(sum(len(requests) for requests, _ in talks) // 2))
         within += server.process.poll() is None
         server.process.kill()
