@@ -1,6 +1,7 @@
-/* The orders of bench/run by SQLite, in memory and one transaction each: an entry under an identifier that no other has, and the price
-   from one balance to the other where it covers it. Nothing is read, hashed or sealed. ORDERS of them, over so many entries:
-   sqlite ENTRIES ORDERS */
+/* The orders of bench/run by SQLite: an entry under an identifier that no other has, and the price from one balance to the other where it
+   covers it. Nothing is read, hashed or sealed. ORDERS of them, over so many entries: in memory and one transaction each, or in a new
+   file, TOGETHER of them a transaction, each of which is synced in a log of its own before the next begins:
+   sqlite ENTRIES ORDERS [FILE TOGETHER] */
 #include <sqlite3.h>
 #include <stdio.h>
 #include <stdlib.h>
@@ -52,11 +53,15 @@ static void record(sqlite3_stmt *statement, unsigned number)
 
 int main(int count, char **words)
 {
-    if (count != 3)
+    if (count != 3 && count != 5)
         return 2;
-    unsigned entries = atoi(words[1]), orders = atoi(words[2]);
-    if (sqlite3_open(":memory:", &house) != SQLITE_OK)
+    unsigned entries = atoi(words[1]), orders = atoi(words[2]), together = count == 5 ? atoi(words[4]) : 1;
+    if (together < 1 || sqlite3_open(count == 5 ? words[3] : ":memory:", &house) != SQLITE_OK)
         failed("open");
+    if (count == 5) {
+        run("pragma journal_mode = wal");
+        run("pragma synchronous = full");
+    }
     run("create table entry (epoid blob primary key, bytes blob not null) without rowid");
     run("create table account (id integer primary key, balance integer not null check (balance >= 0))");
     run("insert into account values (1, 0)");
@@ -74,14 +79,19 @@ int main(int count, char **words)
         record(put, number);
     run("commit");
     for (unsigned number = 0; number < orders; number++) {
-        sqlite3_step(begin);
-        sqlite3_reset(begin);
+        if (number % together == 0) {
+            sqlite3_step(begin);
+            sqlite3_reset(begin);
+        }
         record(put, entries + number);
         sqlite3_bind_int(pay, 1, 2 + number % 10);
         step(pay);
         step(earn);
-        sqlite3_step(commit);
-        sqlite3_reset(commit);
+        if ((number + 1) % together == 0 || number + 1 == orders) {
+            if (sqlite3_step(commit) != SQLITE_DONE)
+                failed("commit");
+            sqlite3_reset(commit);
+        }
     }
     return 0;
 }
