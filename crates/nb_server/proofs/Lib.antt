@@ -4,4 +4,4 @@ mod Splitting
 mod Gathering
 mod Joining
 mod Telling
-mod Resting
+pub mod Resting

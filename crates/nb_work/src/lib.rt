@@ -7,6 +7,7 @@
 //! Left to others: to listen, to dial, to open the file.
 #![tactic(auto)]
 
+pub mod laws;
 mod working;
 
 pub use working::{Dials, Worked, work};

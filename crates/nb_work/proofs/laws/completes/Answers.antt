@@ -1,0 +1,5 @@
+use Rattle.nb_work.proofs.Completing.{completes}
+use Rattle.nb_work.proofs.laws.completes.Goals as goal
+
+pub returns : goal.returns
+returns g c = completes g.D.Disk.tells
