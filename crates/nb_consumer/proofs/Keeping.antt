@@ -32,19 +32,20 @@ use Rattle.nb_msgs.specs.declared.node.End.{End}
 use Rattle.nb_msgs.specs.declared.node.End.TheVariants as end
 use Rattle.nb_msgs.specs.declared.node.Reason.{Reason}
 use Rattle.nb_msgs.specs.declared.node.Reason.TheVariants as reason
-use Rattle.nb_consumer.specs.declared.wallet.Start.{Start}
-use Rattle.nb_consumer.specs.declared.item.SessionTicket.{SessionTicket}
-use Rattle.nb_consumer.specs.declared.item.Item.{Item}
-use Rattle.nb_consumer.specs.declared.item.Item.TheVariants as item
-use Rattle.nb_consumer.specs.declared.purchase.Stage.{Stage}
-use Rattle.nb_consumer.specs.declared.purchase.Stage.TheVariants as stage
-use Rattle.nb_consumer.specs.declared.purchase.Purchase.{Purchase}
+use Rattle.nb_wallet.specs.declared.wallet.Start.{Start}
+use Rattle.nb_wallet.specs.declared.item.SessionTicket.{SessionTicket}
+use Rattle.nb_wallet.specs.declared.item.Item.{Item}
+use Rattle.nb_wallet.specs.declared.item.Item.TheVariants as item
+use Rattle.nb_wallet.specs.declared.purchase.Stage.{Stage}
+use Rattle.nb_wallet.specs.declared.purchase.Stage.TheVariants as stage
+use Rattle.nb_wallet.specs.declared.purchase.Purchase.{Purchase}
 use Rattle.nb_consumer.specs.declared.rows.Wanting.{Wanting}
 use Rattle.nb_consumer.specs.declared.rows.Owing.{Owing}
 use Rattle.nb_consumer.specs.declared.deed.Deed.{Deed}
 use Rattle.nb_consumer.specs.declared.deed.Deed.TheVariants as deed
-use Rattle.nb_consumer.specs.State.{Buyer, place_of, purchase_of, ordered_with, end_of, end_with, end_opened, epoid_bytes, number_of}
-use Rattle.nb_consumer.specs.Tests.{unless, field, found, opened}
+use Rattle.nb_wallet.specs.Stages.{end_of, end_with, end_opened}
+use Rattle.nb_consumer.specs.State.{Buyer, place_of, purchase_of, ordered_with, epoid_bytes, number_of}
+use Rattle.nb_wallet.specs.Tests.{unless, field, found, opened}
 use Rattle.nb_consumer.specs.Table.{started, granted, quoted, price_quoted, is_price, pass_of_asked, pass_of, is_ticketing, delivered, goods_came, goods_wrong, goods_ordered, part_kept, head_told, part_fits, order_made, agrees, is_same_epoid, wanting_in, owing_in, passed, told_status, status_told, receipt_told, receipt_fits, silent, unheard, heard}
 use Rattle.nb_consumer.specs.Restart.{allows, holds_for, holds_at, part_follows, order_follows, order_names, is_rest, is_short}
 use Rattle.nb_consumer.specs.Laws.{OrderSo, EndSo, RowSo, RowsAreSo, PaidOpens}

@@ -1,5 +1,3 @@
-pub mod Opening
-pub mod Items
 pub mod Purchases
 pub mod Keeping
 pub mod Restoring

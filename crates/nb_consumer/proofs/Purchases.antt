@@ -14,17 +14,18 @@ use Rattle.indexmap.specs.IndexMap.{insert_entry}
 use Rattle.indexmap.proofs.MapLemmas.{absent_from_lookup, insert_entry-absent}
 use Rattle.nb_units.specs.declared.memory.NoMemory.{NoMemory}
 use Rattle.nb_msgs.specs.declared.node.Reason.{Reason}
-use Rattle.nb_consumer.specs.Tests.{found}
-use Rattle.nb_consumer.specs.declared.wallet.Start.{Start}
-use Rattle.nb_consumer.specs.declared.purchase.Stage.{Stage}
-use Rattle.nb_consumer.specs.declared.purchase.Stage.TheVariants as stage
-use Rattle.nb_consumer.specs.declared.purchase.Purchase.{Purchase}
-use Rattle.nb_consumer.specs.declared.purchase.Change.{Change}
-use Rattle.nb_consumer.specs.declared.purchase.Change.TheVariants as change
+use Rattle.nb_wallet.specs.Tests.{found}
+use Rattle.nb_wallet.specs.declared.wallet.Start.{Start}
+use Rattle.nb_wallet.specs.declared.purchase.Stage.{Stage}
+use Rattle.nb_wallet.specs.declared.purchase.Stage.TheVariants as stage
+use Rattle.nb_wallet.specs.declared.purchase.Purchase.{Purchase}
+use Rattle.nb_wallet.specs.declared.purchase.Change.{Change}
+use Rattle.nb_wallet.specs.declared.purchase.Change.TheVariants as change
 use Rattle.nb_epo.specs.declared.order.Order.{Order}
-use Rattle.nb_consumer.specs.declared.item.Item.TheVariants as item
-use Rattle.nb_consumer.specs.State.{Buyer, number_of, place_of, purchase_at, purchase_of, changed, changed_at, changed_with, noted, fresh, behind_item, ordered_from, remembered, epoid_bytes}
-use Rattle.nb_consumer.specs.Changes.{changed_to, Sound, StageIsSound}
+use Rattle.nb_wallet.specs.declared.item.Item.TheVariants as item
+use Rattle.nb_wallet.specs.Stages.{ordered_from}
+use Rattle.nb_consumer.specs.State.{Buyer, number_of, place_of, purchase_at, purchase_of, changed, changed_at, changed_with, noted, fresh, behind_item, remembered, epoid_bytes}
+use Rattle.nb_wallet.specs.Changes.{changed_to, Sound, StageIsSound}
 
 no_some : {A : Type 0} {B : Type 0} (x : A) → ◌≡◌ {A = Option A} None (Some x) → B
 no_some x e = absurd cc

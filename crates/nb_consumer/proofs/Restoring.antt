@@ -3,7 +3,7 @@ use Rattle.std.proofs.Common.{◌≡◌, ℕ, zero, suc, ◌+◌, Bool, true, fa
 use Rattle.std.specs.Prelude.{slice_get, position, nat_eq, is_some, is_none, is_ok, ◌&&◌, ◌==◌, codes}
 use Rattle.std.specs.Option.{option_map, option_map_or}
 use Rattle.nb_units.specs.declared.ids.Price.{Price}
-use Rattle.nb_consumer.specs.declared.wallet.Wallet.{Wallet}
+use Rattle.nb_wallet.specs.declared.wallet.Wallet.{Wallet}
 use Rattle.std.proofs.lemmas.List.{map-append, map-set}
 use Rattle.nb_seal.specs.Seal.{text_in}
 use Rattle.nb_body.specs.declared.goods_head.GoodsHead.{GoodsHead}
@@ -11,23 +11,24 @@ use Rattle.nb_endorse.specs.declared.receipt.Receipt.{Receipt}
 use Rattle.nb_epo.specs.declared.order.Order.{Order}
 use Rattle.nb_msgs.specs.declared.message.Message.{Message}
 use Rattle.nb_msgs.specs.declared.node.Reason.{Reason}
-use Rattle.nb_consumer.specs.declared.wallet.Start.{Start}
-use Rattle.nb_consumer.specs.declared.item.Item.{Item}
-use Rattle.nb_consumer.specs.declared.item.Item.TheVariants as item
-use Rattle.nb_consumer.specs.declared.purchase.Stage.{Stage}
-use Rattle.nb_consumer.specs.declared.purchase.Stage.TheVariants as stage
-use Rattle.nb_consumer.specs.declared.purchase.Purchase.{Purchase}
+use Rattle.nb_wallet.specs.declared.wallet.Start.{Start}
+use Rattle.nb_wallet.specs.declared.item.Item.{Item}
+use Rattle.nb_wallet.specs.declared.item.Item.TheVariants as item
+use Rattle.nb_wallet.specs.declared.purchase.Stage.{Stage}
+use Rattle.nb_wallet.specs.declared.purchase.Stage.TheVariants as stage
+use Rattle.nb_wallet.specs.declared.purchase.Purchase.{Purchase}
 use Rattle.nb_consumer.specs.declared.rows.Owing.{Owing}
 use Rattle.nb_consumer.specs.declared.deed.Deed.{Deed}
 use Rattle.nb_consumer.specs.declared.deed.Deed.TheVariants as deed
-use Rattle.nb_consumer.specs.State.{Buyer, new_buyer, number_of, place_of, purchase_at, purchase_of, changed, changed_at, changed_with, behind_item, fresh, remembered, raised, raised_from, wanted_from, with_head, ordered_from, stage_ended, stage_with, stage_opened, number_in, noted, epoid_bytes}
+use Rattle.nb_wallet.specs.Stages.{raised_from, wanted_from, with_head, ordered_from, stage_ended, stage_with, stage_opened}
+use Rattle.nb_consumer.specs.State.{Buyer, new_buyer, number_of, place_of, purchase_at, purchase_of, changed, changed_at, changed_with, behind_item, fresh, remembered, raised, number_in, noted, epoid_bytes}
 use Rattle.nb_consumer.specs.Table.{step_of, after, is_ticketing, pass_of_asked, wanting_in, owing_in, is_price, receipt_fits}
 use Rattle.nb_consumer.specs.Restart.{allows, holds_for, holds_at, part_follows, order_follows, behind, behind_read, restarted_from, restarted, untold_stage, untold_purchase, untold, Kept, kept_in}
-use Rattle.nb_consumer.specs.Spelling.{item_bytes, IsItem}
-use Rattle.nb_consumer.specs.Reading.{item_of}
-use Rattle.nb_consumer.specs.Changes.{DeedIsSpelled}
+use Rattle.nb_wallet.specs.Spelling.{item_bytes, IsItem}
+use Rattle.nb_wallet.specs.Reading.{item_of}
+use Rattle.nb_consumer.specs.Deeds.{DeedIsSpelled}
 use Rattle.nb_consumer.specs.Laws.{RowSo, KeepsRestarting}
-use Rattle.nb_consumer.proofs.Items.{item_reads_back}
+use Rattle.nb_wallet.proofs.Items.{item_reads_back}
 
 -- ---- look-ups
 

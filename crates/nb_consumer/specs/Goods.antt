@@ -2,11 +2,11 @@
 use Rattle.std.specs.Prelude.{ℕ, ◌-◌, List, length, codes, Option, Some, None}
 use Rattle.nb_seal.specs.Seal.{text_in}
 use Rattle.nb_units.specs.declared.width.TheConstants.{SEAL}
-use Rattle.nb_consumer.specs.declared.wallet.Phase.{Phase}
-use Rattle.nb_consumer.specs.declared.wallet.Phase.TheVariants as phase
-use Rattle.nb_consumer.specs.declared.purchase.Stage.{Stage}
-use Rattle.nb_consumer.specs.declared.purchase.Stage.TheVariants as stage
-use Rattle.nb_consumer.specs.declared.purchase.Purchase.{Purchase}
+use Rattle.nb_consumer.specs.declared.phase.Phase.{Phase}
+use Rattle.nb_consumer.specs.declared.phase.Phase.TheVariants as phase
+use Rattle.nb_wallet.specs.declared.purchase.Stage.{Stage}
+use Rattle.nb_wallet.specs.declared.purchase.Stage.TheVariants as stage
+use Rattle.nb_wallet.specs.declared.purchase.Purchase.{Purchase}
 use Rattle.nb_consumer.specs.State.{Buyer, purchase_of}
 
 -- the goods have 32 bytes less than the sealed goods

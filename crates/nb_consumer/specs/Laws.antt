@@ -1,4 +1,4 @@
--- Spelling and reading are the two sides of one thing; what rows keep, and how purchases end.
+-- What rows keep, how purchases end, and what starting again gives.
 use Rattle.std.specs.Prelude.{◌≡◌, ℕ, List, ◌++◌, true, Some, Ok, Err, Result}
 use Rattle.sha2.specs.Sha256.{sha256}
 use Rattle.nb_epo.specs.declared.order.Order.{Order}
@@ -12,36 +12,20 @@ use Rattle.nb_msgs.specs.declared.message.Message.{Message}
 use Rattle.nb_msgs.specs.declared.node.End.{End}
 use Rattle.nb_msgs.specs.declared.node.End.TheVariants as end
 use Rattle.nb_msgs.specs.declared.node.Reason.{Reason}
-use Rattle.nb_consumer.specs.declared.wallet.Start.{Start}
-use Rattle.nb_consumer.specs.declared.item.Item.TheVariants as item
-use Rattle.nb_consumer.specs.declared.purchase.Purchase.{Purchase}
+use Rattle.nb_wallet.specs.declared.wallet.Start.{Start}
+use Rattle.nb_wallet.specs.declared.item.Item.TheVariants as item
+use Rattle.nb_wallet.specs.declared.purchase.Purchase.{Purchase}
 use Rattle.nb_consumer.specs.declared.rows.Wanting.{Wanting}
 use Rattle.nb_consumer.specs.declared.rows.Owing.{Owing}
 use Rattle.nb_consumer.specs.declared.deed.Deed.{Deed}
 use Rattle.nb_consumer.specs.declared.deed.Deed.TheVariants as deed
-use Rattle.nb_consumer.specs.State.{Buyer, purchase_of, end_of}
-use Rattle.nb_consumer.specs.Messages.{payment}
+use Rattle.nb_wallet.specs.Stages.{end_of}
+use Rattle.nb_consumer.specs.State.{Buyer, purchase_of}
+use Rattle.nb_wallet.specs.Messages.{payment}
 use Rattle.nb_consumer.specs.Table.{step_of, after, started, heard, silent, wanting_in, owing_in, receipt_fits}
 use Rattle.nb_consumer.specs.Restart.{allows, Kept, kept_in}
-use Rattle.nb_consumer.specs.Changes.{DeedIsSpelled}
-use Rattle.nb_units.specs.Frames.{AreBytes}
-use Rattle.nb_consumer.specs.declared.item.Item.{Item}
-use Rattle.nb_consumer.specs.Spelling.{IsItem, item_bytes}
-use Rattle.nb_consumer.specs.Reading.{item_of}
-
--- what was spelled of an item is read as that
-abbrev pub ItemReadsBack : Type 0
-ItemReadsBack = (x : Item) → IsItem x → item_of (item_bytes x) ≡ Ok x
-
--- what was read as an item is spelled as those bytes, and is within its limits
-abbrev pub ItemSpellsBack : Type 0
-ItemSpellsBack = (bytes : List ℕ) (x : Item) → AreBytes bytes → item_of bytes ≡ Ok x → IsItem x × (bytes ≡ item_bytes x)
-
--- two items with one spelling are one
-abbrev pub OneItem : Type 0
-OneItem = (a b : Item) → IsItem a → IsItem b → item_bytes a ≡ item_bytes b → a ≡ b
-
--- ---- what rows keep, and how purchases end
+use Rattle.nb_consumer.specs.Deeds.{DeedIsSpelled}
+use Rattle.nb_wallet.specs.declared.item.Item.{Item}
 
 -- an order that is kept behind what is known: its purchase is known and its goods are wanted; its bytes name the checksum of all sealed goods that are
 -- held then; and it is what is sent

@@ -1,10 +1,6 @@
-pub mod Spelling
-pub mod Reading
 pub mod State
-pub mod Tests
-pub mod Messages
 pub mod Table
-pub mod Changes
+pub mod Deeds
 pub mod Goods
 pub mod Restart
 pub mod Recalls

@@ -12,18 +12,18 @@ use Rattle.nb_msgs.specs.declared.node.RestartFault.TheVariants as fault
 use Rattle.nb_msgs.specs.declared.node.Step.{Step}
 use Rattle.nb_msgs.specs.declared.node.Step.TheVariants as step
 use Rattle.nb_goods.specs.declared.limits.TheConstants.{MAX_SEALED}
-use Rattle.nb_consumer.specs.declared.wallet.Wallet.{Wallet}
-use Rattle.nb_consumer.specs.declared.item.SessionTicket.{SessionTicket}
-use Rattle.nb_consumer.specs.declared.item.Item.{Item}
-use Rattle.nb_consumer.specs.declared.item.Item.TheVariants as item
-use Rattle.nb_consumer.specs.declared.purchase.Stage.{Stage}
-use Rattle.nb_consumer.specs.declared.purchase.Stage.TheVariants as stage
-use Rattle.nb_consumer.specs.declared.purchase.Purchase.{Purchase}
+use Rattle.nb_wallet.specs.declared.wallet.Wallet.{Wallet}
+use Rattle.nb_wallet.specs.declared.item.SessionTicket.{SessionTicket}
+use Rattle.nb_wallet.specs.declared.item.Item.{Item}
+use Rattle.nb_wallet.specs.declared.item.Item.TheVariants as item
+use Rattle.nb_wallet.specs.declared.purchase.Stage.{Stage}
+use Rattle.nb_wallet.specs.declared.purchase.Stage.TheVariants as stage
+use Rattle.nb_wallet.specs.declared.purchase.Purchase.{Purchase}
 use Rattle.nb_consumer.specs.declared.rows.Wanting.{Wanting}
 use Rattle.nb_consumer.specs.declared.rows.Owing.{Owing}
-use Rattle.nb_consumer.specs.Reading.{item_of}
+use Rattle.nb_wallet.specs.Reading.{item_of}
 use Rattle.nb_consumer.specs.State.{Buyer, new_buyer, place_of, purchase_of, remembered}
-use Rattle.nb_consumer.specs.Messages.{price_request_of_start}
+use Rattle.nb_wallet.specs.Messages.{price_request_of_start}
 use Rattle.nb_consumer.specs.Table.{is_ticketing, is_price, pass_of_asked, wanting_in, owing_in, is_same_epoid, part_fits, receipt_fits}
 
 -- ---- what may stand behind what is known

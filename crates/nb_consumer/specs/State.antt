@@ -1,24 +1,15 @@
 -- What a consumer is seen as: its wallet, and what its kept items say of each purchase.
-use Rattle.std.specs.Prelude.{ℕ, ◌+◌, max, List, [], ◌∷◌, ◌++◌, map, set, position, slice_get, nat_eq, bytes_eq, is_some, if◌then◌else◌, codes, Option, Some, None, ◌==◌}
+use Rattle.std.specs.Prelude.{ℕ, List, [], ◌∷◌, ◌++◌, map, set, position, slice_get, nat_eq, is_some, if◌then◌else◌, Option, Some, None}
 pub use Rattle.nb_units.specs.Epoid.{epoid_bytes}
 use Rattle.std.specs.Cmp.Lexicographic.{pointwise}
 use Rattle.std.specs.Map.{lookup}
-use Rattle.nb_units.specs.declared.ids.Price.{Price}
-use Rattle.nb_body.specs.declared.goods_head.GoodsHead.{GoodsHead}
-use Rattle.nb_endorse.specs.declared.receipt.TheConstants.{PAID_CODE}
-use Rattle.nb_endorse.specs.declared.receipt.Receipt.{Receipt}
-use Rattle.nb_epo.specs.declared.order.Order.{Order}
-use Rattle.nb_msgs.specs.declared.node.End.{End}
-use Rattle.nb_msgs.specs.declared.node.End.TheVariants as end
-use Rattle.nb_seal.specs.Seal.{text_in}
-use Rattle.nb_consumer.specs.declared.wallet.Wallet.{Wallet}
-use Rattle.nb_consumer.specs.declared.wallet.Start.{Start}
-use Rattle.nb_consumer.specs.declared.item.SessionTicket.{SessionTicket}
-use Rattle.nb_consumer.specs.declared.item.Item.{Item}
-use Rattle.nb_consumer.specs.declared.item.Item.TheVariants as item
-use Rattle.nb_consumer.specs.declared.purchase.Stage.{Stage}
-use Rattle.nb_consumer.specs.declared.purchase.Stage.TheVariants as stage
-use Rattle.nb_consumer.specs.declared.purchase.Purchase.{Purchase}
+use Rattle.nb_wallet.specs.Stages.{stage_ended, wanted_from, with_head, ordered_from, raised_from}
+use Rattle.nb_wallet.specs.declared.wallet.Wallet.{Wallet}
+use Rattle.nb_wallet.specs.declared.wallet.Start.{Start}
+use Rattle.nb_wallet.specs.declared.item.Item.{Item}
+use Rattle.nb_wallet.specs.declared.item.Item.TheVariants as item
+use Rattle.nb_wallet.specs.declared.purchase.Stage.TheVariants as stage
+use Rattle.nb_wallet.specs.declared.purchase.Purchase.{Purchase}
 
 pub record Buyer : Type 0 where
   pub wallet : Wallet
@@ -53,43 +44,6 @@ abbrev pub ordered_with : List (List ℕ × ℕ) → List ℕ → Option ℕ
 ordered_with orders epoid = lookup (pointwise nat_eq epoid) orders
 
 -- ---- how an item changes what is known
-
--- the key of a receipt opens the sealed goods, or does not
-abbrev pub end_opened : Option (List ℕ) → End
-end_opened (Some goods) = end.Paid goods
-end_opened None = end.Foul
-
-abbrev pub end_with : Option (List ℕ) → List ℕ → End
-end_with (Some key) sealed = end_opened (text_in key (codes "good") sealed)
-end_with None sealed = end.Foul
-
--- how a purchase of these sealed goods ends with this receipt
-abbrev pub end_of : Receipt → List ℕ → End
-end_of r sealed = if r.code == PAID_CODE then end_with r.key sealed else end.Refused r.code
-
-abbrev pub stage_opened : List ℕ → Option (List ℕ) → Stage
-stage_opened key (Some goods) = stage.Paid key
-stage_opened key None = stage.Foul
-
-abbrev pub stage_with : Option (List ℕ) → List ℕ → Stage
-stage_with (Some key) sealed = stage_opened key (text_in key (codes "good") sealed)
-stage_with None sealed = stage.Foul
-
--- and what is left of it
-abbrev pub stage_ended : Receipt → List ℕ → Stage
-stage_ended r sealed = if r.code == PAID_CODE then stage_with r.key sealed else stage.Refused r.code
-
-abbrev pub wanted_from : Stage → Price → Stage
-wanted_from (stage.Asked pass) price = stage.Wanted pass price None
-wanted_from other price = other
-
-abbrev pub with_head : Stage → Option GoodsHead → Stage
-with_head (stage.Wanted pass price held) head = stage.Wanted pass price head
-with_head other head = other
-
-abbrev pub ordered_from : Stage → Order → Stage
-ordered_from (stage.Wanted pass price head) order = stage.Ordered pass order 0
-ordered_from other order = other
 
 -- what is known of its purchase behind an item
 abbrev pub behind_item : Item → Purchase → Purchase
@@ -141,10 +95,6 @@ remembered b (item.Ordered transaction order part) = record b {
 remembered b other = record b { purchases = changed b.purchases (number_in other) (behind_item other) }
 
 -- ---- the greatest place
-
-abbrev pub raised_from : Stage → ℕ → Stage
-raised_from (stage.Ordered pass order least) place = stage.Ordered pass order (max least place)
-raised_from other place = other
 
 abbrev pub raised : ℕ → Purchase → Purchase
 raised place p = record p { stage = raised_from p.stage place }

@@ -26,22 +26,23 @@ use Rattle.nb_msgs.specs.declared.node.Reason.TheVariants as reason
 use Rattle.nb_msgs.specs.declared.node.Step.{Step}
 use Rattle.nb_msgs.specs.declared.node.Step.TheVariants as step
 use Rattle.nb_msgs.specs.declared.node.To.TheVariants as to
-use Rattle.nb_consumer.specs.declared.wallet.Wallet.{Wallet}
-use Rattle.nb_consumer.specs.declared.wallet.Start.{Start}
-use Rattle.nb_consumer.specs.declared.item.SessionTicket.{SessionTicket}
-use Rattle.nb_consumer.specs.declared.item.Item.{Item}
-use Rattle.nb_consumer.specs.declared.item.Item.TheVariants as item
-use Rattle.nb_consumer.specs.declared.purchase.Stage.{Stage}
-use Rattle.nb_consumer.specs.declared.purchase.Stage.TheVariants as stage
-use Rattle.nb_consumer.specs.declared.purchase.Purchase.{Purchase}
+use Rattle.nb_wallet.specs.declared.wallet.Wallet.{Wallet}
+use Rattle.nb_wallet.specs.declared.wallet.Start.{Start}
+use Rattle.nb_wallet.specs.declared.item.SessionTicket.{SessionTicket}
+use Rattle.nb_wallet.specs.declared.item.Item.{Item}
+use Rattle.nb_wallet.specs.declared.item.Item.TheVariants as item
+use Rattle.nb_wallet.specs.declared.purchase.Stage.{Stage}
+use Rattle.nb_wallet.specs.declared.purchase.Stage.TheVariants as stage
+use Rattle.nb_wallet.specs.declared.purchase.Purchase.{Purchase}
 use Rattle.nb_consumer.specs.declared.rows.Wanting.{Wanting}
 use Rattle.nb_consumer.specs.declared.rows.Owing.{Owing}
 use Rattle.nb_consumer.specs.declared.deed.Deed.{Deed}
 use Rattle.nb_consumer.specs.declared.deed.Deed.TheVariants as deed
-use Rattle.nb_consumer.specs.Spelling.{item_bytes}
-use Rattle.nb_consumer.specs.State.{Buyer, place_of, purchase_of, ordered_with, end_of, changed, raised, remembered}
-use Rattle.nb_consumer.specs.Tests.{unless, field, found, opened}
-use Rattle.nb_consumer.specs.Messages.{ticket_request, price_request, goods_request, payment, status_query, order_for}
+use Rattle.nb_wallet.specs.Spelling.{item_bytes}
+use Rattle.nb_wallet.specs.Stages.{end_of}
+use Rattle.nb_consumer.specs.State.{Buyer, place_of, purchase_of, ordered_with, changed, raised, remembered}
+use Rattle.nb_wallet.specs.Tests.{unless, field, found, opened}
+use Rattle.nb_wallet.specs.Messages.{ticket_request, price_request, goods_request, payment, status_query, order_for}
 
 -- ---- a start: the number is not known. A ticket is asked for
 

@@ -1,18 +1,18 @@
 ghost use Rattle.std.specs.Prelude.{◌≡◌, IfOk};
 ghost use Rattle.nb_msgs.specs.Bodies.{MessageKeepsRules};
-ghost use Rattle.nb_consumer.specs.Changes.{Answers, AnswersRow, DeedFits, StepKeepsRules};
+ghost use Rattle.nb_consumer.specs.Deeds.{Answers, AnswersRow, DeedFits, StepKeepsRules};
 ghost use Rattle.nb_consumer.specs.Goods.{goods_in, phase_in};
-ghost use Rattle.nb_consumer.specs.Spelling.{StartKeepsRules};
+ghost use Rattle.nb_wallet.specs.Spelling.{StartKeepsRules};
 ghost use Rattle.nb_consumer.specs.State.{purchase_of};
 ghost use Rattle.nb_consumer.specs.Table as table;
 
 use crate::consumer::Consumer;
 use crate::deed::{Deed, Halt};
-use crate::purchase::Stage;
-use crate::wallet::{Phase, Start};
+use crate::phase::Phase;
 use nb_msgs::{Message, Step};
 use nb_units::width::SEAL;
 use nb_units::{Blob, NoMemory};
+use nb_wallet::{Stage, Start};
 
 impl Consumer {
     // The step of what a row gives.

@@ -1,25 +1,25 @@
 ghost use Rattle.std.specs.Prelude.{◌≡◌, ◌≤◌, ◌<◌, ◌+◌, [], length, is_some, is_none, option_copied, slice_get, IfOk, IfErr, IfSome, OnOk, OnErr, Some, None, Ok};
 ghost use Rattle.indexmap.specs.IndexMap.{spare};
-ghost use Rattle.nb_consumer.specs.Changes as changes;
+ghost use Rattle.nb_consumer.specs.Deeds as deeds;
+ghost use Rattle.nb_wallet.specs.Changes as changes;
 ghost use Rattle.nb_consumer.specs.State as state;
+ghost use Rattle.nb_wallet.specs.Stages.{end_of};
 ghost use Rattle.nb_consumer.specs.Table as table;
-ghost use Rattle.nb_consumer.specs.Tests.{found};
+ghost use Rattle.nb_wallet.specs.Tests.{found};
 ghost use Rattle.nb_msgs.specs.declared.node.Reason.TheVariants.{Unknown};
-ghost use Rattle.nb_consumer.specs.declared.item.Item.TheVariants as items;
+ghost use Rattle.nb_wallet.specs.declared.item.Item.TheVariants as items;
 
 use crate::deed::Deed;
-use crate::held::Held;
-use crate::item::Item;
-use crate::purchase::{
-    Change, Purchase, Stage, ordered_from, raised_from, stage_ended, wanted_from, with_head,
-};
-use crate::wallet::{Start, Wallet};
 use indexmap::{IndexMap, IndexSet};
 use nb_body::GoodsHead;
 use nb_endorse::Signed;
 use nb_epo::Order;
 use nb_msgs::{End, Reason, Step};
 use nb_units::{Blob, Epoid, NoMemory, Price};
+use nb_wallet::{
+    Change, Held, Item, Purchase, Stage, Start, Wallet, ordered_from, raised_from, stage_ended,
+    wanted_from, with_head,
+};
 use std::alloc::Global;
 use std::marker::Model;
 
@@ -39,7 +39,7 @@ impl Model for Consumer {
     ghost use Rattle.std.specs.Prelude.{◌≡◌, map};
     ghost use Rattle.std.specs.List.{AllByRecursion};
     ghost use Rattle.nb_consumer.specs.State.{Buyer, number_of};
-    ghost use Rattle.nb_consumer.specs.Changes.{Sound};
+    ghost use Rattle.nb_wallet.specs.Changes.{Sound};
 
     ghost Value = { Buyer };
 
@@ -112,7 +112,7 @@ impl Consumer {
 
     // The same, or the reason for which a message of it is ignored.
     pub(crate) fn known(&self, transaction: u64) -> Result<&Purchase, Reason>
-        ensures found { changes.seen result ≡ found Unknown (state.purchase_of self.now transaction) }
+        ensures found { deeds.seen result ≡ found Unknown (state.purchase_of self.now transaction) }
         ensures sound { IfOk result (λ p. changes.Sound p.now) }
     {
         match self.purchase_of(transaction) {
@@ -144,7 +144,7 @@ impl Consumer {
 
     // A purchase more. After want of memory all is as before.
     fn add(&mut self, start: Start) -> Result<(), NoMemory>
-        requires { changes.ItemFits self.old (items.Started start) }
+        requires { deeds.ItemFits self.old (items.Started start) }
         ensures added { OnOk result (self.new ≡ state.remembered self.old (items.Started start)) }
         ensures err { OnErr result (self.new ≡ self.old) }
     {
@@ -173,7 +173,7 @@ impl Consumer {
 
     // Remembers an item. After want of memory all is as before.
     pub(crate) fn remember(&mut self, item: Item) -> Result<(), NoMemory>
-        requires { changes.ItemFits self.old item }
+        requires { deeds.ItemFits self.old item }
         ensures remembered { OnOk result (self.new ≡ state.remembered self.old item) }
         ensures err { OnErr result (self.new ≡ self.old) }
     {
@@ -211,7 +211,7 @@ impl Consumer {
 
     // A part came.
     fn part(&mut self, head: GoodsHead, part: Blob) -> Result<(), NoMemory>
-        requires { changes.ItemFits self.old (items.Part head part) }
+        requires { deeds.ItemFits self.old (items.Part head part) }
         ensures remembered { OnOk result (self.new ≡ state.remembered self.old (items.Part head part)) }
         ensures err { OnErr result (self.new ≡ self.old) }
     {
@@ -237,7 +237,7 @@ impl Consumer {
 
     // The last part came, and the goods are ordered.
     fn order(&mut self, transaction: u64, order: Order, part: Blob) -> Result<(), NoMemory>
-        requires { changes.ItemFits self.old (items.Ordered transaction order part) }
+        requires { deeds.ItemFits self.old (items.Ordered transaction order part) }
         ensures remembered { OnOk result (self.new ≡ state.remembered self.old (items.Ordered transaction order part)) }
         ensures err { OnErr result (self.new ≡ self.old) }
     {
@@ -273,7 +273,7 @@ impl Consumer {
         receipt: &Signed,
         end: &End,
     ) -> Result<(), NoMemory>
-        requires { IfSome (state.purchase_of self.old transaction) (λ p. end.now ≡ state.end_of receipt.now.receipt p.held) }
+        requires { IfSome (state.purchase_of self.old transaction) (λ p. end.now ≡ end_of receipt.now.receipt p.held) }
         ensures remembered { OnOk result (self.new ≡ state.remembered self.old (items.Ended transaction receipt.now)) }
         ensures err { OnErr result (self.new ≡ self.old) }
     {
@@ -295,11 +295,11 @@ impl Consumer {
 
     // Does what a row says: what is kept is spelled and remembered.
     pub(crate) fn carry_out(&mut self, deed: Deed) -> Result<Step, NoMemory>
-        requires { changes.DeedFits self.old deed }
+        requires { deeds.DeedFits self.old deed }
         ensures told { IfOk result (λ step. step ≡ table.step_of (Ok deed)) }
         ensures after { OnOk result (self.new ≡ table.after self.old (Ok deed)) }
-        ensures spelled { OnOk result (changes.DeedIsSpelled deed) }
-        ensures lawful { IfOk result changes.StepKeepsRules }
+        ensures spelled { OnOk result (deeds.DeedIsSpelled deed) }
+        ensures lawful { IfOk result deeds.StepKeepsRules }
         ensures err { OnErr result (self.new ≡ self.old) }
     {
         match deed {

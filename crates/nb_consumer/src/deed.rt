@@ -1,7 +1,7 @@
-use crate::item::Item;
 use nb_endorse::Signed;
 use nb_msgs::{End, Message, Reason, To};
 use nb_units::NoMemory;
+use nb_wallet::Item;
 
 /// What a consumer does where it does something, before what is kept is spelled.
 #[derive(Debug, Drop)]

@@ -1,21 +1,6 @@
-//! What holds of every item, of every row and of every end. Each function here does nothing: its contract is the law.
+//! What holds of every row, of every end and of starting again. Each function here does nothing: its contract is the law.
 
 ghost use Rattle.nb_consumer.specs.Laws as law;
-
-/// A law: what was spelled of an item is read as that item.
-pub fn item_reads_back()
-    ensures { law.ItemReadsBack }
-{}
-
-/// A law: what was read as an item is spelled as those bytes, and is within its limits.
-pub fn item_spells_back()
-    ensures { law.ItemSpellsBack }
-{}
-
-/// A law: two items with one spelling are one.
-pub fn one_item()
-    ensures { law.OneItem }
-{}
 
 /// A law: a purchase ends paid only where the receipt says paid and its key opens the sealed goods to the goods that are told.
 pub fn paid_opens()

@@ -7,11 +7,8 @@
 //! purchase. [`Consumer::restart`] makes a consumer again from the items of its journal, which must each be one that a row keeps behind those
 //! before it (`specs/Restart.antt`).
 //!
-//! An [`Item`] is what is kept; its bytes stand in `specs/Spelling.antt`, and read field by field in `specs/Reading.antt`. What holds of all items
-//! and ends is proved by the functions of [`laws`].
-//!
-//! Sealed goods come in parts. One copy of them is held, with the state of their digest, so that no part is hashed twice. A purchase is
-//! found by its number, and an order by its identifier, without going through the others.
+//! What is kept, and what is known of one purchase, stands in `nb_wallet`. What holds of all rows and ends, and of starting again, is proved by the
+//! functions of [`laws`]. A purchase is found by its number, and an order by its identifier, without going through the others.
 //!
 //! Left to others: the journal, links, and when nothing was heard for long.
 #![tactic(auto)]
@@ -19,20 +16,11 @@
 mod calls;
 mod consumer;
 mod deed;
-mod held;
-mod item;
 pub mod laws;
-mod limits;
-mod purchase;
-mod reading;
+mod phase;
 mod restart;
 mod rows;
-mod sending;
-mod wallet;
 
 pub use consumer::Consumer;
 pub use deed::Deed;
-pub use held::Held;
-pub use item::{Item, SessionTicket};
-pub use purchase::{Purchase, Stage};
-pub use wallet::{Phase, Start, Wallet};
+pub use phase::Phase;

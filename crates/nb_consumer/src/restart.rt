@@ -1,27 +1,25 @@
 ghost use Rattle.std.specs.Prelude.{◌≡◌, ◌≤◌, ◌<◌, ◌^◌, ◌+◌, ◌++◌, ◌==◌, ℕ, List, length, IsTrue};
 ghost use Rattle.nb_goods.specs.declared.limits.TheConstants.{MAX_SEALED};
-ghost use Rattle.nb_consumer.specs.Changes as changes;
+ghost use Rattle.nb_consumer.specs.Deeds as deeds;
+ghost use Rattle.nb_wallet.specs.Changes as changes;
 ghost use Rattle.nb_consumer.specs.Recalls.{Recalls};
 ghost use Rattle.nb_consumer.specs.Restart as again;
 ghost use Rattle.nb_consumer.specs.Table.{is_ticketing};
-ghost use Rattle.nb_consumer.specs.Spelling.{IsItem};
+ghost use Rattle.nb_wallet.specs.Spelling.{IsItem};
 ghost use Rattle.nb_consumer.specs.State.{purchase_of};
-ghost use Rattle.nb_consumer.specs.declared.item.Item.TheVariants as items;
+ghost use Rattle.nb_wallet.specs.declared.item.Item.TheVariants as items;
 
 use crate::consumer::Consumer;
-use crate::item::Item;
-use crate::purchase::Purchase;
 use crate::rows::{
     Owing, Wanting, asked, is_price, is_ticketing, ordered_as, part_fits, receipt_fits, wanted_as,
 };
-use crate::sending::request_digest;
-use crate::wallet::Wallet;
 use nb_body::GoodsHead;
 use nb_endorse::Signed;
 use nb_epo::Order;
 use nb_goods::MAX_SEALED;
 use nb_msgs::{BodyFault, RestartFault};
 use nb_units::{Blob, NoMemory, Price};
+use nb_wallet::{Item, Purchase, Wallet, request_digest};
 use std::alloc::Global;
 
 // Why bytes are not recalled.
@@ -146,7 +144,7 @@ impl Consumer {
 
     fn allows_part(&self, head: &GoodsHead, part: &[u8]) -> bool
         ensures allows { result ≡ again.allows self.now (items.Part head.now part.now) }
-        ensures fits { IsTrue result → changes.ItemFits self.now (items.Part head.now part.now) }
+        ensures fits { IsTrue result → deeds.ItemFits self.now (items.Part head.now part.now) }
     {
         match self.purchase_of(head.transaction) {
             Some(purchase) => match wanted_as(&purchase.stage) {
@@ -171,7 +169,7 @@ impl Consumer {
 
     fn allows_order(&self, transaction: u64, order: &Order, part: &[u8]) -> bool
         ensures allows { result ≡ again.allows self.now (items.Ordered transaction order.now part.now) }
-        ensures fits { IsTrue result → IsItem (items.Ordered transaction order.now part.now) → changes.ItemFits self.now (items.Ordered transaction order.now part.now) }
+        ensures fits { IsTrue result → IsItem (items.Ordered transaction order.now part.now) → deeds.ItemFits self.now (items.Ordered transaction order.now part.now) }
     {
         match self.purchase_of(transaction) {
             Some(purchase) => match wanted_as(&purchase.stage) {
@@ -197,7 +195,7 @@ impl Consumer {
     // Whether a row keeps an item like this behind what is known.
     fn allows(&self, item: &Item) -> bool
         ensures allows { result ≡ again.allows self.now item.now }
-        ensures fits { IsTrue result → IsItem item.now → changes.ItemFits self.now item.now }
+        ensures fits { IsTrue result → IsItem item.now → deeds.ItemFits self.now item.now }
     {
         match item {
             Item::Started(start) => self.is_new(start.transaction),

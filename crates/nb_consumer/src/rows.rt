@@ -6,30 +6,29 @@ ghost use Rattle.nb_ticket.specs.declared.granted.TheConstants.{GRANT_BYTES};
 ghost use Rattle.nb_msgs.specs.Bodies.{MessageKeepsRules};
 ghost use Rattle.nb_msgs.specs.declared.lengths.TheConstants.{MAX_SEALED_QUOTE, MAX_SEALED_HEAD};
 ghost use Rattle.nb_msgs.specs.declared.status.TheConstants.{MOST_STATUS};
-ghost use Rattle.nb_consumer.specs.Changes.{Gives, DeedFits, StageIsSound, HeadIsSound, Sound};
-ghost use Rattle.nb_consumer.specs.Spelling.{StartKeepsRules, PassKeepsRules};
+ghost use Rattle.nb_wallet.specs.Changes.{StageIsSound, HeadIsSound, Sound};
+ghost use Rattle.nb_consumer.specs.Deeds.{Gives, DeedFits};
+ghost use Rattle.nb_wallet.specs.Spelling.{StartKeepsRules, PassKeepsRules};
 ghost use Rattle.nb_endorse.specs.Replies.{ReceiptKeepsRules};
 ghost use Rattle.nb_consumer.specs.State.{purchase_of};
 ghost use Rattle.nb_consumer.specs.declared.deed.Halt.TheVariants as halts;
 ghost use Rattle.nb_msgs.specs.declared.node.Reason.TheVariants as reasons;
 ghost use Rattle.nb_consumer.specs.Table as table;
-ghost use Rattle.nb_consumer.specs.Tests as tests;
+ghost use Rattle.nb_wallet.specs.Tests as tests;
 
 use crate::consumer::Consumer;
 use crate::deed::{Deed, Halt};
-use crate::item::{Item, SessionTicket};
-use crate::purchase::{Purchase, Stage};
-use crate::reading::{open_granted, open_head, open_quote, open_receipt, open_status};
-use crate::sending::{
-    goods_request, order_for, payment, price_request, status_query, ticket_request,
-};
-use crate::wallet::Start;
 use nb_body::GoodsHead;
 use nb_endorse::{Receipt, Signed};
 use nb_epo::Order;
 use nb_goods::{MAX_SEALED, PART_BYTES};
 use nb_msgs::{Message, Reason, To};
 use nb_units::{Blob, PartyId, Price};
+use nb_wallet::{
+    Item, Purchase, SessionTicket, Stage, Start, goods_request, open_granted, open_head,
+    open_quote, open_receipt, open_status, order_for, payment, price_request, status_query,
+    ticket_request,
+};
 
 // What is asked for holds, or this is why not.
 pub(crate) fn unless(test: bool, why: Reason) -> Result<(), Reason>

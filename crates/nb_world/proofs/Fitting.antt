@@ -16,7 +16,7 @@ use Rattle.nb_world.specs.declared.packet.Packet.{Packet}
 use Rattle.nb_world.specs.declared.packet.Sending.{Sending}
 use Rattle.nb_msgs.specs.declared.node.To.{To}
 use Rattle.nb_msgs.specs.declared.node.To.TheVariants as to
-use Rattle.nb_consumer.specs.declared.wallet.Start.{Start}
+use Rattle.nb_wallet.specs.declared.wallet.Start.{Start}
 use Rattle.nb_world.specs.declared.turning.Stage.{Stage}
 use Rattle.nb_world.specs.declared.turning.Stage.TheVariants as stage
 use Rattle.nb_world.specs.World.{Going, Stays, Goes, Rules, World, is_decided, is_written}

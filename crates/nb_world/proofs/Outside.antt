@@ -17,7 +17,7 @@ use Rattle.nb_world.specs.declared.packet.Packet.{Packet}
 use Rattle.nb_world.specs.declared.packet.Sending.{Sending}
 use Rattle.nb_msgs.specs.declared.node.To.{To}
 use Rattle.nb_msgs.specs.declared.node.To.TheVariants as to
-use Rattle.nb_consumer.specs.declared.wallet.Start.{Start}
+use Rattle.nb_wallet.specs.declared.wallet.Start.{Start}
 use Rattle.nb_world.specs.declared.turning.Verdict.{Verdict}
 use Rattle.nb_world.specs.World.{Going, Stays, Goes, Rules, World}
 use Rattle.nb_world.specs.Steps.{where_so, packets_of, consumer_goes, merchant_goes, consumer_at, merchant_at, is_known, started, server_gets, delivered_to, buy_of, quiet_consumer_of, quiet_merchant_of, restart_consumer_of, restart_merchant_of, deliver_of, inject_of}

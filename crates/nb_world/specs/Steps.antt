@@ -17,7 +17,7 @@ use Rattle.nb_world.specs.declared.packet.Packet.{Packet}
 use Rattle.nb_world.specs.declared.packet.Sending.{Sending}
 use Rattle.nb_msgs.specs.declared.node.To.{To}
 use Rattle.nb_msgs.specs.declared.node.To.TheVariants as to
-use Rattle.nb_consumer.specs.declared.wallet.Start.{Start}
+use Rattle.nb_wallet.specs.declared.wallet.Start.{Start}
 use Rattle.nb_world.specs.declared.turning.Acknowledged.{Acknowledged}
 use Rattle.nb_world.specs.declared.turning.Origin.{Origin}
 use Rattle.nb_world.specs.declared.turning.Stage.{Stage}

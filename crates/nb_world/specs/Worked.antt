@@ -12,7 +12,7 @@ use Rattle.nb_world.specs.declared.packet.Maker.TheVariants as by
 use Rattle.nb_world.specs.declared.packet.Packet.{Packet}
 use Rattle.nb_world.specs.declared.packet.Sending.{Sending}
 use Rattle.nb_msgs.specs.declared.node.To.TheVariants as to
-use Rattle.nb_consumer.specs.declared.wallet.Start.{Start}
+use Rattle.nb_wallet.specs.declared.wallet.Start.{Start}
 use Rattle.nb_world.specs.declared.turning.Verdict.{Verdict}
 use Rattle.nb_world.specs.World.{Stays, Goes, Rules, World}
 use Rattle.nb_world.specs.Steps.{run, step}

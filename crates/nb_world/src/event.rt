@@ -1,6 +1,6 @@
-use nb_consumer::Start;
 use nb_msgs::To;
 use nb_units::{Blob, PartyId};
+use nb_wallet::Start;
 
 /// What may happen next in a world. Packets and calls go by their numbers, 4 bytes wide, in the order in which they were made.
 #[derive(Debug, Drop)]

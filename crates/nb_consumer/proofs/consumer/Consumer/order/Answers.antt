@@ -1,5 +1,5 @@
 use Rattle.std.proofs.Common.{◌≡◌, ℕ, List, Ok, Some, sym, subst, ap, ◌∙◌}
-use Rattle.nb_consumer.specs.declared.purchase.Change.TheVariants.{More}
+use Rattle.nb_wallet.specs.declared.purchase.Change.TheVariants.{More}
 use Rattle.std.specs.Prelude.{position, nat_eq}
 use Rattle.nb_consumer.specs.State.{Buyer, place_of, purchase_of, noted}
 use Rattle.nb_consumer.proofs.Purchases.{change_keeps, order_so}

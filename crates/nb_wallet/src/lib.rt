@@ -1,0 +1,34 @@
+//! What a consumer keeps, and what it knows of one purchase.
+//!
+//! An [`Item`] is what is kept of one step; its bytes stand in `specs/Spelling.antt`, and read field by field in `specs/Reading.antt`. What holds of
+//! all items is proved by the functions of [`laws`].
+//!
+//! A [`Purchase`] is how it was started, how far it has come ([`Stage`]), and the sealed goods that came ([`Held`]). Behind a receipt, a quote, a part,
+//! an order or a status it is at the stage that `specs/Stages.antt` says. Sealed goods come in parts. One copy of them is held, with the state of
+//! their digest, so that no part is hashed twice.
+//!
+//! What a consumer sends stands in `specs/Messages.antt`, a call for each message; what is sealed for it is opened by a call for each text, which
+//! answers why it does not open.
+//!
+//! Left to others: which purchases there are, and what is done at a message.
+#![tactic(auto)]
+
+mod held;
+mod item;
+pub mod laws;
+mod limits;
+mod purchase;
+mod reading;
+mod sending;
+mod wallet;
+
+pub use held::Held;
+pub use item::{Item, SessionTicket};
+pub use purchase::{
+    Change, Purchase, Stage, ordered_from, raised_from, stage_ended, wanted_from, with_head,
+};
+pub use reading::{open_granted, open_head, open_quote, open_receipt, open_status};
+pub use sending::{
+    goods_request, order_for, payment, price_request, request_digest, status_query, ticket_request,
+};
+pub use wallet::{Start, Wallet};

@@ -1,0 +1,187 @@
+ghost use Rattle.std.specs.Prelude.{◌≡◌, ◌≤◌, ℕ, List, length, IfOk, OnOk, OnErr};
+ghost use Rattle.nb_units.specs.declared.limits.TheConstants.{MAX_HIDDEN};
+ghost use Rattle.nb_wallet.specs.Stages.{end_of};
+ghost use Rattle.nb_wallet.specs.Stages as state;
+ghost use Rattle.nb_wallet.specs.Changes.{ChangeFits, StageIsSound, changed_to};
+
+use crate::held::Held;
+use crate::item::SessionTicket;
+use crate::wallet::Start;
+use nb_body::GoodsHead;
+use nb_endorse::{PAID_CODE, Receipt};
+use nb_epo::Order;
+use nb_msgs::End;
+use nb_units::{Blob, NoMemory, Price, Secret};
+use std::alloc::Global;
+
+/// How far a purchase has come, with what the rest of it needs.
+#[derive(Clone, Copy, PartialEq, Eq, Debug)]
+pub enum Stage {
+    /// A ticket was asked for.
+    Ticketing,
+    /// A price was asked for.
+    Asked {
+        /// The ticket and its key.
+        pass: SessionTicket,
+    },
+    /// The goods were asked for.
+    Wanted {
+        /// The ticket and its key.
+        pass: SessionTicket,
+        /// The price that was quoted.
+        price: Price,
+        /// What the merchant said of the last part that is held, if one is.
+        head: Option<GoodsHead>,
+    },
+    /// The order was sent.
+    Ordered {
+        /// The ticket and its key.
+        pass: SessionTicket,
+        /// The order, signed.
+        order: Order,
+        /// The greatest place that the house told of in a status without a receipt, since the consumer started again last; 0 before.
+        least: u64,
+    },
+    /// It was paid.
+    Paid {
+        /// The key of the receipt, which opens the goods.
+        key: Secret,
+    },
+    /// It was refused.
+    Refused {
+        /// The code of the receipt, one byte wide.
+        code: u8,
+    },
+    /// It was paid, and the key of the receipt does not open the goods.
+    Foul,
+}
+
+/// What a consumer knows of one purchase.
+#[derive(Drop)]
+pub struct Purchase {
+    /// How it was started.
+    pub start: Start,
+    /// How far it has come.
+    pub stage: Stage,
+    /// The sealed goods that came.
+    pub held: Held,
+}
+
+/// What becomes of the parts of a purchase.
+#[derive(Drop)]
+pub enum Change {
+    /// They stay.
+    Same,
+    /// One comes behind them.
+    More(Blob),
+    /// They are forgotten.
+    Forgotten,
+}
+
+impl Purchase {
+    /// Goes on to a stage, and changes the parts, of which there are at most [`MAX_SEALED`](nb_goods::MAX_SEALED) bytes then. Answers [`NoMemory`] where
+    /// there is none for a part more, and then all is as before.
+    pub fn change(&mut self, stage: Stage, parts: Change) -> Result<(), NoMemory>
+        requires { ChangeFits self.old.held parts }
+        ensures changed { OnOk result (self.new ≡ changed_to stage parts self.old) }
+        ensures err { OnErr result (self.new ≡ self.old) }
+    {
+        match parts {
+            Change::Same => {}
+            Change::More(part) => self.held.push(part)?,
+            Change::Forgotten => self.held.forget(),
+        }
+        self.stage = stage;
+        Ok(())
+    }
+
+    /// How it ends with a receipt. Answers [`NoMemory`] where there is none for the goods.
+    pub fn end(&self, alloc: Global, receipt: &Receipt) -> Result<End, NoMemory>
+        ensures { IfOk result (λ end. end ≡ end_of receipt.now self.now.held) }
+    {
+        if receipt.code != PAID_CODE {
+            return Ok(End::Refused(receipt.code));
+        }
+        match receipt.key {
+            None => Ok(End::Foul),
+            Some(key) => match self.held.open(alloc, &key)? {
+                Some(goods) => Ok(End::Paid(goods)),
+                None => Ok(End::Foul),
+            },
+        }
+    }
+}
+
+/// What is left of a purchase that ended so with a receipt.
+pub fn stage_ended(receipt: &Receipt, end: &End) -> Stage
+    ensures stage { (sealed : List ℕ) → end.now ≡ end_of receipt.now sealed → result ≡ state.stage_ended receipt.now sealed }
+    ensures sound { StageIsSound result }
+{
+    if receipt.code != PAID_CODE {
+        return Stage::Refused { code: receipt.code };
+    }
+    match receipt.key {
+        None => Stage::Foul,
+        Some(key) => match end {
+            End::Paid(_) => Stage::Paid { key },
+            _ => Stage::Foul,
+        },
+    }
+}
+
+/// The stage behind a quote that was taken.
+pub fn wanted_from(stage: &Stage, price: Price) -> Stage
+    ensures { result ≡ state.wanted_from stage.now price }
+{
+    match stage {
+        Stage::Asked { pass } => Stage::Wanted {
+            pass: *pass,
+            price,
+            head: None,
+        },
+        _ => *stage,
+    }
+}
+
+/// The stage with what was said of the last part that is held, or none.
+pub fn with_head(stage: &Stage, head: Option<GoodsHead>) -> Stage
+    ensures { result ≡ state.with_head stage.now head }
+{
+    match stage {
+        Stage::Wanted { pass, price, .. } => Stage::Wanted {
+            pass: *pass,
+            price: *price,
+            head,
+        },
+        _ => *stage,
+    }
+}
+
+/// The stage behind an order.
+pub fn ordered_from(stage: &Stage, order: &Order) -> Stage
+    ensures stage { result ≡ state.ordered_from stage.now order.now }
+    ensures sound { StageIsSound stage.now → length order.now.hidden ≤ MAX_HIDDEN → StageIsSound result }
+{
+    match stage {
+        Stage::Wanted { pass, .. } => Stage::Ordered {
+            pass: *pass,
+            order: *order,
+            least: 0,
+        },
+        _ => *stage,
+    }
+}
+
+/// The stage with the greater of two places, 8 bytes wide.
+pub fn raised_from(stage: &Stage, place: u64) -> Stage
+    ensures { result ≡ state.raised_from stage.now place }
+{
+    match stage {
+        Stage::Ordered { pass, order, least } => Stage::Ordered {
+            pass: *pass,
+            order: *order,
+            least: (*least).max(place),
+        },
+        _ => *stage,
+    }
+}

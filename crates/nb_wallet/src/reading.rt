@@ -1,0 +1,90 @@
+ghost use Rattle.std.specs.Prelude.{◌≡◌, ◌≤◌, length, codes, IfOk, IfSome};
+ghost use Rattle.nb_body.specs.Reading.{quote_of, goods_head_of};
+ghost use Rattle.nb_endorse.specs.Reading.{signed_of};
+ghost use Rattle.nb_endorse.specs.Replies.{ReceiptKeepsRules};
+ghost use Rattle.nb_endorse.specs.declared.receipt.TheConstants.{RECEIPT_BYTES};
+ghost use Rattle.nb_ticket.specs.Reading.{granted_of};
+ghost use Rattle.nb_ticket.specs.declared.granted.TheConstants.{GRANT_BYTES};
+ghost use Rattle.nb_ticket.specs.declared.ticket.TheConstants.{TICKET_BYTES};
+ghost use Rattle.nb_msgs.specs.StatusText.{text_of};
+ghost use Rattle.nb_msgs.specs.declared.lengths.TheConstants.{MAX_SEALED_QUOTE, MAX_SEALED_HEAD};
+ghost use Rattle.nb_msgs.specs.declared.status.TheConstants.{MOST_STATUS};
+ghost use Rattle.nb_wallet.specs.Tests.{opened};
+
+use crate::limits::{GOODS_HEAD_LABEL, QUOTE_LABEL, STATUS_LABEL};
+use nb_body::{GoodsHead, Quote};
+use nb_endorse::{Signed, read_receipt};
+use nb_msgs::{MAX_SEALED_HEAD, MAX_SEALED_QUOTE, MOST_STATUS, Reason, StatusText};
+use nb_seal::unseal_to;
+use nb_ticket::{Granted, open_grant};
+use nb_units::Secret;
+
+/// The quote that is sealed under the session key, or [`Reason::Seal`] where the bytes do not open to one.
+pub fn open_quote(session: &Secret, sealed: &[u8]) -> Result<Quote, Reason>
+    requires { length sealed.now ≤ MAX_SEALED_QUOTE }
+    ensures { result ≡ opened quote_of session.now (codes "m002") sealed.now }
+{
+    let mut plain = [0u8; MAX_SEALED_QUOTE];
+    let Ok(n) = unseal_to(session, &QUOTE_LABEL, sealed, &mut plain) else {
+        return Err(Reason::Seal);
+    };
+    match Quote::read(plain.split_at(n).0) {
+        Ok(quote) => Ok(quote),
+        Err(_) => Err(Reason::Seal),
+    }
+}
+
+/// What is said of a part of goods, sealed under the session key, or [`Reason::Seal`] where the bytes do not open to that.
+pub fn open_head(session: &Secret, sealed: &[u8]) -> Result<GoodsHead, Reason>
+    requires { length sealed.now ≤ MAX_SEALED_HEAD }
+    ensures { result ≡ opened goods_head_of session.now (codes "m004") sealed.now }
+{
+    let mut plain = [0u8; MAX_SEALED_HEAD];
+    let Ok(n) = unseal_to(session, &GOODS_HEAD_LABEL, sealed, &mut plain) else {
+        return Err(Reason::Seal);
+    };
+    match GoodsHead::read(plain.split_at(n).0) {
+        Ok(head) => Ok(head),
+        Err(_) => Err(Reason::Seal),
+    }
+}
+
+/// The status that the house sealed under the consumer's key, or [`Reason::Seal`] where the bytes do not open to one.
+pub fn open_status(key: &Secret, sealed: &[u8]) -> Result<StatusText, Reason>
+    requires { length sealed.now ≤ MOST_STATUS }
+    ensures opened { result ≡ opened text_of key.now (codes "stat") sealed.now }
+    ensures lawful { IfOk result (λ t. IfSome t.receipt (λ s. ReceiptKeepsRules s.receipt)) }
+{
+    let mut plain = [0u8; MOST_STATUS];
+    let Ok(n) = unseal_to(key, &STATUS_LABEL, sealed, &mut plain) else {
+        return Err(Reason::Seal);
+    };
+    match StatusText::read(plain.split_at(n).0) {
+        Ok(text) => Ok(text),
+        Err(_) => Err(Reason::Seal),
+    }
+}
+
+/// The receipt that the house sealed under the consumer's key, or [`Reason::Seal`] where the bytes do not open to one.
+pub fn open_receipt(key: &Secret, sealed: &[u8]) -> Result<Signed, Reason>
+    requires { length sealed.now ≤ RECEIPT_BYTES }
+    ensures opened { result ≡ opened signed_of key.now (codes "rcpt") sealed.now }
+    ensures lawful { IfOk result (λ s. ReceiptKeepsRules s.receipt) }
+{
+    match read_receipt(sealed, key) {
+        Ok(signed) => Ok(signed),
+        Err(_) => Err(Reason::Seal),
+    }
+}
+
+/// The grant that the house sealed under the consumer's key, or [`Reason::Seal`] where the bytes do not open to one.
+pub fn open_granted(key: &Secret, sealed: &[u8]) -> Result<Granted, Reason>
+    requires { length sealed.now ≤ GRANT_BYTES }
+    ensures opened { result ≡ opened granted_of key.now (codes "gran") sealed.now }
+    ensures short { IfOk result (λ g. length g.ticket ≤ TICKET_BYTES) }
+{
+    match open_grant(sealed, key) {
+        Ok(granted) => Ok(granted),
+        Err(_) => Err(Reason::Seal),
+    }
+}

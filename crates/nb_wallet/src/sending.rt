@@ -1,0 +1,201 @@
+ghost use Rattle.std.specs.Prelude.{◌≡◌, ◌≤◌, ◌+◌, ◌++◌, length, codes, IfOk};
+ghost use Rattle.sha2.specs.Sha256.{sha256};
+ghost use Rattle.nb_units.specs.declared.limits.TheConstants.{MAX_HIDDEN, MAX_MEMO};
+ghost use Rattle.nb_body.specs.declared.limits.TheConstants.{MAX_REQUEST, MAX_PRICE_REQUEST};
+ghost use Rattle.nb_seal.specs.Hmac.{hmac_of};
+ghost use Rattle.nb_seal.specs.Seal.{seal_of};
+ghost use Rattle.nb_wallet.specs.Messages as messages;
+ghost use Rattle.nb_msgs.specs.Bodies.{MessageKeepsRules};
+ghost use Rattle.nb_wallet.specs.Spelling.{StartKeepsRules, PassKeepsRules};
+
+use crate::item::{SessionTicket, order_text};
+use crate::limits::{GOODS_REQUEST_LABEL, PAYMENT_LABEL, PRICE_REQUEST_LABEL, STATUS_LABEL};
+use crate::wallet::{Start, Wallet};
+use nb_body::{GoodsRequest, PaymentRequest, PriceRequest, StatusQuery};
+use nb_epo::{Hidden, Order, account_digest, hide, sign_order};
+use nb_msgs::Message;
+use nb_seal::{hmac, seal_spare, sha};
+use nb_ticket::request;
+use nb_units::width::SEAL;
+use nb_units::{Blob, Buffer, Digest, Epoid, NoMemory, Price, Secret};
+use std::alloc::Global;
+
+/// A request for a ticket, whose nonce is the number of the purchase.
+pub fn ticket_request(wallet: &Wallet, start: &Start) -> Message
+    ensures { result ≡ messages.ticket_request wallet.now start.now }
+{
+    Message::TicketAsk(request(&wallet.key, wallet.id, start.merchant, start.transaction))
+}
+
+// A text sealed under the session key.
+fn sealed(
+    alloc: Global,
+    session: &Secret,
+    label: &[u8; 4],
+    plain: &Buffer,
+) -> Result<Blob, NoMemory>
+    ensures bytes { IfOk result (λ sealed. sealed ≡ seal_of session.now label.now plain.now) }
+    ensures long { IfOk result (λ sealed. length sealed ≡ 32 + length plain.now) }
+{
+    let plain = plain.as_slice();
+    let mut bytes = Vec::with_capacity(alloc, SEAL + plain.len())?;
+    seal_spare(session, label, plain, &mut bytes);
+    Ok(Blob::from_vec(bytes))
+}
+
+// The ticket, to be shown to its merchant.
+fn ticket(alloc: Global, pass: &SessionTicket) -> Result<Blob, NoMemory>
+    ensures { IfOk result (λ ticket. ticket ≡ pass.now.ticket) }
+{
+    Blob::of(alloc, pass.ticket.as_slice())
+}
+
+// What a price is asked for.
+fn price_text(start: &Start) -> Buffer
+    requires { length start.now.request ≤ MAX_REQUEST }
+    ensures text { result ≡ messages.price_request_of_start start.now }
+    ensures short { length result ≤ MAX_PRICE_REQUEST }
+{
+    let request = PriceRequest {
+        transaction: start.transaction,
+        product: start.product,
+        request: start.request,
+    };
+    request.spelled()
+}
+
+/// The SHA-256 digest (FIPS 180-4) of what a price is asked for. The request has at most [`MAX_REQUEST`](nb_body::MAX_REQUEST) bytes.
+pub fn request_digest(start: &Start) -> Digest
+    requires { length start.now.request ≤ MAX_REQUEST }
+    ensures { result ≡ sha256 (messages.price_request_of_start start.now) }
+{
+    sha(price_text(start).as_slice())
+}
+
+/// A request for a price, sealed under the session key, with the ticket. Answers [`NoMemory`] where there is none for it.
+pub fn price_request(
+    alloc: Global,
+    pass: &SessionTicket,
+    start: &Start,
+) -> Result<Message, NoMemory>
+    requires request { length start.now.request ≤ MAX_REQUEST }
+    requires pass { PassKeepsRules pass.now }
+    ensures message { IfOk result (λ message. message ≡ messages.price_request pass.now start.now) }
+    ensures lawful { IfOk result MessageKeepsRules }
+{
+    let sealed = sealed(
+        alloc,
+        &pass.session,
+        &PRICE_REQUEST_LABEL,
+        &price_text(start),
+    )?;
+    let ticket = ticket(alloc, pass)?;
+    Ok(Message::PriceAsk { ticket, sealed })
+}
+
+/// A request for the sealed goods from a place on, counted in bytes, 8 bytes wide. Answers [`NoMemory`] where there is none for it.
+pub fn goods_request(
+    alloc: Global,
+    pass: &SessionTicket,
+    start: &Start,
+    place: u64,
+) -> Result<Message, NoMemory>
+    requires pass { PassKeepsRules pass.now }
+    ensures message { IfOk result (λ message. message ≡ messages.goods_request pass.now start.now place) }
+    ensures lawful { IfOk result MessageKeepsRules }
+{
+    let request = GoodsRequest {
+        transaction: start.transaction,
+        place,
+    };
+    let sealed = sealed(
+        alloc,
+        &pass.session,
+        &GOODS_REQUEST_LABEL,
+        &request.spelled(),
+    )?;
+    let ticket = ticket(alloc, pass)?;
+    Ok(Message::GoodsAsk { ticket, sealed })
+}
+
+/// An order for its merchant, sealed under the session key, with the ticket. Answers [`NoMemory`] where there is none for it.
+pub fn payment(
+    alloc: Global,
+    pass: &SessionTicket,
+    start: &Start,
+    order: &Order,
+) -> Result<Message, NoMemory>
+    requires hidden { length order.now.hidden ≤ MAX_HIDDEN }
+    requires pass { PassKeepsRules pass.now }
+    ensures message { IfOk result (λ message. message ≡ messages.payment pass.now start.now order.now) }
+    ensures lawful { IfOk result MessageKeepsRules }
+{
+    let request = PaymentRequest {
+        transaction: start.transaction,
+        order: order_text(alloc, order)?,
+    };
+    let sealed = sealed(alloc, &pass.session, &PAYMENT_LABEL, &request.spelled())?;
+    let ticket = ticket(alloc, pass)?;
+    Ok(Message::Order { ticket, sealed })
+}
+
+// The body of a status query before its tag.
+#[tactic(auto, unfolding(crate::specs::Messages::untagged_query))]
+fn untagged(wallet: &Wallet, epoid: Epoid, least: u64) -> Buffer
+    ensures { result ≡ messages.untagged_query wallet.now epoid least }
+{
+    let mut bytes = Buffer::new();
+    bytes.u32(wallet.id.0);
+    bytes.raw(&epoid.write());
+    bytes.u64(least);
+    bytes
+}
+
+/// A query for the status of the order with this identifier, over at least so many entries, 8 bytes wide.
+pub fn status_query(wallet: &Wallet, epoid: Epoid, least: u64) -> Message
+    ensures { result ≡ messages.status_query wallet.now epoid least }
+{
+    Message::StatusAsk(StatusQuery {
+        asker: wallet.id,
+        epoid,
+        least,
+        tag: hmac(
+            &wallet.key,
+            &STATUS_LABEL,
+            untagged(wallet, epoid, least).as_slice(),
+        ),
+    })
+}
+
+/// The order of a purchase at this price, with this identifier and this checksum of the sealed goods, signed with the consumer's key.
+pub fn order_for(
+    wallet: &Wallet,
+    start: &Start,
+    price: Price,
+    epoid: Epoid,
+    checksum: &Digest,
+) -> Order
+    requires { StartKeepsRules start.now }
+    ensures order { result ≡ messages.order_for wallet.now start.now price epoid checksum.now }
+    ensures hidden { length result.hidden ≤ MAX_HIDDEN }
+{
+    let hidden = Hidden {
+        acct: wallet.acct,
+        nonce: wallet.nonce,
+        memo: start.memo,
+    };
+    let mut order = Order {
+        consumer: wallet.id,
+        merchant: start.merchant,
+        product: start.product,
+        price,
+        epoid,
+        checksum: *checksum,
+        request: request_digest(start),
+        account: account_digest(wallet.acct, wallet.nonce),
+        hidden: hide(&hidden, &wallet.key),
+        tag: [0; 32],
+    };
+    sign_order(&mut order, &wallet.key);
+    order
+}
