@@ -57,7 +57,7 @@ module _ {D : Type 0} (tells : DiskTells D) (old new : D) (image head : List ℕ
   all_whole : (before after : List WorkerSeen) (lines : List Line) (ends : List WorkerEnd) → IsServed tells old new before after lines ends → AreFaultless before after → AllServeWhole before ends
   all_whole before after lines ends is faultless =
       complete_all tells is.opened is.served before after ends is.all
-        (λ rose. still (subst (λ (x : ℕ × D). Rose x.0 (tells.faults x.1)) (λ i. (is.opens.count i, sym is.disk_is i)) rose)) faultless
+      (λ rose. still (subst (λ (x : ℕ × D). Rose x.0 (tells.faults x.1)) (λ i. (is.opens.count i, sym is.disk_is i)) rose)) faultless
 
   ends_so : (before : List WorkerSeen) (ends : List WorkerEnd) (ending : Ending) → AllServeWhole before ends → StoppedAs ends ending → (ending ≡ at_no_place OUT_OF_MEMORY) ⊎ ((ending ≡ at_no_place CLEAN) × AllServeWhole before ends)
   ends_so before ends ending whole stopped = elim stopped [
