@@ -6,7 +6,7 @@ use Rattle.std.specs.List.{AllByRecursion}
 use Rattle.std.specs.Option.{option_or, is_some, IsNone, IfSome}
 use Rattle.std.specs.Str.{bytes_eq}
 use Rattle.nb_index.specs.declared.put.Put.{Put}
-use Rattle.nb_index.specs.Puts.{Indexed, value_in, IsLast}
+use Rattle.nb_index.specs.Puts.{Indexed, Shape, value_in, IsLast}
 use Rattle.nb_book.specs.declared.entry.Entry.{Entry}
 use Rattle.nb_book.specs.declared.entry.Entry.TheVariants.{Fund}
 use Rattle.nb_book.specs.Searches.{first_from}
@@ -172,19 +172,19 @@ puts_le key at (e ∷ es) = part (key e) (puts_le key (at + 1) es) where
 
 -- there is room for one entry more
 pub has_room : (key : Entry → Option (List ℕ)) (cap : ℕ) (index : Indexed) (H : List Entry) → Indexes key cap index H → length H < cap
-    → 2 * length index.puts < index.slots
+    → 2 * length index.puts < index.shape.slots
 has_room key cap index H indexes within = rw (indexes.puts, indexes.slots) (omega (arith, puts_le key 0 H, within))
 
 -- an index behind one entry more
 pub index_put : (key : Entry → Option (List ℕ)) (cap : ℕ) (old new : Indexed) (H : List Entry) (e : Entry) (k : List ℕ) (at : ℕ)
-    → Indexes key cap old H → key e ≡ Some k → at ≡ length H → new.puts ≡ old.puts ++ record { key = k; value = at } ∷ [] → new.slots ≡ old.slots
+    → Indexes key cap old H → key e ≡ Some k → at ≡ length H → new.puts ≡ old.puts ++ record { key = k; value = at } ∷ [] → new.shape ≡ old.shape
     → Indexes key cap new (H ++ e ∷ [])
-index_put key cap old new H e k at indexes has here puts slots =
+index_put key cap old new H e k at indexes has here puts shape =
     let place : at ≡ 0 + length H = omega (arith, here) in
     let grown : puts_from key 0 H ++ record { key = k; value = at } ∷ [] ≡ puts_from key 0 (H ++ e ∷ []) = rw (puts_push key 0 H e, has, place) refl in
     record {
       puts = puts ∙ ap (λ (ps : List Put). ps ++ record { key = k; value = at } ∷ []) indexes.puts ∙ grown;
-      slots = slots ∙ indexes.slots;
+      slots = ap (λ (s : Shape). s.slots) shape ∙ indexes.slots;
     }
 
 -- an index that has no key of the entry stays
@@ -218,16 +218,16 @@ is_last key cap index H e k indexes has =
 
 -- an index without its last entry
 pub index_off : (key : Entry → Option (List ℕ)) (cap : ℕ) (old new : Indexed) (H : List Entry) (e : Entry) (k : List ℕ)
-    → Indexes key cap old (H ++ e ∷ []) → key e ≡ Some k → new.puts ≡ take (length old.puts - 1) old.puts → new.slots ≡ old.slots
+    → Indexes key cap old (H ++ e ∷ []) → key e ≡ Some k → new.puts ≡ take (length old.puts - 1) old.puts → new.shape ≡ old.shape
     → Indexes key cap new H
-index_off key cap old new H e k indexes has puts slots =
+index_off key cap old new H e k indexes has puts shape =
     let last : Put = record { key = k; value = 0 + length H } in
     let here : length (puts_from key 0 H) ≡ length (puts_from key 0 H ++ last ∷ []) - 1 = omega (arith, length_push (puts_from key 0 H) last) in
     let front : take (length old.puts - 1) old.puts ≡ puts_from key 0 H =
     rw (last_put key cap old H e k indexes has) (take_at (puts_from key 0 H) (last ∷ []) (length (puts_from key 0 H ++ last ∷ []) - 1) here) in
     record {
       puts = puts ∙ front;
-      slots = slots ∙ indexes.slots;
+      slots = ap (λ (s : Shape). s.slots) shape ∙ indexes.slots;
     }
 
 pub index_less : (key : Entry → Option (List ℕ)) (cap : ℕ) (index : Indexed) (H : List Entry) (e : Entry)

@@ -6,7 +6,7 @@ use Rattle.nb_units.specs.Fields.{be4}
 use Rattle.nb_units.specs.Epoid.{IsEpoid, epoid_bytes}
 use Rattle.nb_units.specs.declared.limits.TheConstants.{MAX_CAP}
 use Rattle.nb_index.specs.declared.put.Put.{Put}
-use Rattle.nb_index.specs.Puts.{Indexed}
+use Rattle.nb_index.specs.Puts.{Indexed, Shape}
 use Rattle.nb_book.specs.declared.entry.Entry.{Entry}
 use Rattle.nb_book.specs.declared.entry.Entry.TheVariants.{Enrol, Fund, Paid, Refused}
 use Rattle.nb_book.specs.declared.list.EntryList.{EntryList}
@@ -63,10 +63,14 @@ place_if test at e = if test e then Some at else None
 abbrev pub first_place : (Entry → Bool) → List Entry → Option ℕ
 first_place test H = first_from (place_if test) 0 H
 
--- an index of the entries that have such a key, with more than twice as many slots as there can be entries
+-- the slots of an index: more than twice as many as there can be entries
+abbrev pub slots_for : ℕ → ℕ
+slots_for cap = 2 * cap + 2
+
+-- an index of the entries that have such a key
 pub record Indexes (key : Entry → Option (List ℕ)) (cap : ℕ) (index : Indexed) (H : List Entry) : Type 0 where
   pub puts : index.puts ≡ puts_from key 0 H
-  pub slots : index.slots ≡ 2 * cap + 2
+  pub slots : index.shape.slots ≡ slots_for cap
 
 -- there is a number for each entry, and at the place of the enrolment that opens an account it is the account's balance
 pub record KeepsBalances (H : List Entry) (balances : List ℕ) : Type 0 where
@@ -84,3 +88,11 @@ pub record Tied (list : EntryList) (H : List Entry) : Type 0 where
   pub balances : KeepsBalances H list.balances.items
   pub room : list.cap ≤ vec_capacity list.balances
   pub sum : list.total ≡ total H
+
+-- for how many entries, and for how many balances, it has memory
+abbrev pub list_places : EntryList → List ℕ
+list_places list = vec_capacity list.entries ∷ vec_capacity list.balances ∷ []
+
+-- the shapes of its indexes
+abbrev pub list_indexes : EntryList → List Shape
+list_indexes list = list.parties.shape ∷ list.accounts.shape ∷ list.references.shape ∷ list.orders.shape ∷ []

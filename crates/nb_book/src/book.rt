@@ -1,9 +1,12 @@
 ghost use Rattle.std.specs.Prelude.{◌≡◌, ◌≤◌, ◌<◌, ◌-◌, ◌↔◌, [], ◌∷◌, ◌++◌, length, take, Some, IsTrue, IfOk, IfSome};
+ghost use Rattle.std.specs.List.{AllByRecursion};
 ghost use Rattle.nb_units.specs.declared.limits.TheConstants.{MAX_CAP};
+ghost use Rattle.nb_index.specs.Puts.{IsShaped};
 ghost use Rattle.nb_book.specs.declared.limits.TheConstants.{MAX_TOTAL};
 ghost use Rattle.nb_book.specs.Searches.{party_in, holder_in, funded_in, order_in};
 ghost use Rattle.nb_book.specs.Money.{account_in, balance, total};
 ghost use Rattle.nb_book.specs.Legal.{LegalAfter, Legal};
+ghost use Rattle.nb_book.specs.Indexes.{slots_for};
 
 use crate::account::Account;
 use crate::entry::Entry;
@@ -26,11 +29,11 @@ impl Model for Book {
     ghost use Rattle.std.specs.Prelude.{◌≤◌, vec_len, vec_capacity};
     ghost use Rattle.nb_book.specs.Ledger.{Ledger};
     ghost use Rattle.nb_book.specs.Legal.{Legal};
-    ghost use Rattle.nb_book.specs.Indexes.{Tied};
+    ghost use Rattle.nb_book.specs.Indexes.{Tied, list_places, list_indexes};
 
     ghost Value = { Ledger };
 
-    ghost view = { λ b. record { entries = b.list.entries.items; cap = b.list.cap; places = vec_capacity b.list.entries } };
+    ghost view = { λ b. record { entries = b.list.entries.items; cap = b.list.cap; places = list_places b.list; indexes = list_indexes b.list } };
 
     ghost invariant = { λ b. record {
       within : vec_len b.list.entries ≤ b.list.cap;
@@ -51,6 +54,8 @@ impl Book {
         requires most { cap ≤ MAX_CAP }
         ensures entries { IfOk result (λ book. book.entries ≡ []) }
         ensures cap { IfOk result (λ book. book.cap ≡ cap) }
+        ensures places { IfOk result (λ book. AllByRecursion (λ n. cap ≤ n) book.places) }
+        ensures indexes { IfOk result (λ book. AllByRecursion (IsShaped (slots_for cap) key.now) book.indexes) }
     {
         Ok(Book {
             list: EntryList::new(alloc, cap, key)?,
@@ -150,6 +155,7 @@ impl Book {
         ensures entries { self.new.entries ≡ self.old.entries ++ e.now ∷ [] }
         ensures cap { self.new.cap ≡ self.old.cap }
         ensures places { self.new.places ≡ self.old.places }
+        ensures indexes { self.new.indexes ≡ self.old.indexes }
     {
         self.list.push(e);
     }
@@ -161,6 +167,7 @@ impl Book {
         ensures entries { self.new.entries ≡ take (length self.old.entries - 1) self.old.entries }
         ensures cap { self.new.cap ≡ self.old.cap }
         ensures places { self.new.places ≡ self.old.places }
+        ensures indexes { self.new.indexes ≡ self.old.indexes }
     {
         self.list.pop();
     }

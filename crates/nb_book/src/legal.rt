@@ -58,20 +58,7 @@ impl Entry {
                 b,
                 moment,
                 ..
-            } => {
-                order_is_new(book, epoid, merchant)
-                    && roles_are(book, consumer, merchant)
-                    && match code {
-                        CONSUMER_ACCOUNT => account_differs(book, consumer, a, b),
-                        MERCHANT_ACCOUNT => account_differs(book, merchant, a, b),
-                        PRICE_RANGE => price_is_out(price, a, b),
-                        TOO_OLD => is_too_old(epoid, moment, a, b),
-                        TOO_EARLY => is_too_early(epoid, moment, a, b),
-                        BALANCE_LOW => balance_is_low(book, consumer, price, a, b),
-                        CONSUMER_NONCE => nonce_differs(book, consumer, a, b),
-                        _ => false,
-                    }
-            }
+            } => refused_is_legal(book, epoid, consumer, merchant, price, code, a, b, moment),
         }
     }
 }
@@ -98,12 +85,45 @@ fn paid_is_legal(
         return false;
     };
     order_is_new(book, epoid, merchant)
-        && payer.role == CONSUMER
-        && payee.role == MERCHANT
+        && roles_are(book, consumer, &payer, merchant, &payee)
         && payee.acct == macct
         && price_is_legal(price)
         && can_pay(book, consumer, &payer, cacct, price)
         && is_in_time(epoid, moment)
+}
+
+fn refused_is_legal(
+    book: &Book,
+    epoid: &Epoid,
+    consumer: PartyId,
+    merchant: PartyId,
+    price: Price,
+    code: u8,
+    a: u64,
+    b: u64,
+    moment: u64,
+) -> bool
+    ensures { IsTrue result
+        ↔ legal.RefusedIsLegal book.now.entries epoid.now consumer merchant price code a b moment }
+{
+    let Some(payer) = book.party(consumer) else {
+        return false;
+    };
+    let Some(payee) = book.party(merchant) else {
+        return false;
+    };
+    order_is_new(book, epoid, merchant)
+        && roles_are(book, consumer, &payer, merchant, &payee)
+        && match code {
+            CONSUMER_ACCOUNT => account_differs(book, consumer, &payer, a, b),
+            MERCHANT_ACCOUNT => account_differs(book, merchant, &payee, a, b),
+            PRICE_RANGE => price_is_out(price, a, b),
+            TOO_OLD => is_too_old(epoid, moment, a, b),
+            TOO_EARLY => is_too_early(epoid, moment, a, b),
+            BALANCE_LOW => balance_is_low(book, consumer, &payer, price, a, b),
+            CONSUMER_NONCE => nonce_differs(book, consumer, &payer, a, b),
+            _ => false,
+        }
 }
 
 // Whether this is the account of the party, and the price is in it.
@@ -121,10 +141,18 @@ fn order_is_new(book: &Book, epoid: &Epoid, merchant: PartyId) -> bool
     book.order(epoid).is_none() && epoid.merchant == merchant
 }
 
-fn roles_are(book: &Book, consumer: PartyId, merchant: PartyId) -> bool
+fn roles_are(
+    book: &Book,
+    consumer: PartyId,
+    payer: &Party,
+    merchant: PartyId,
+    payee: &Party,
+) -> bool
+    requires consumer { party_in book.now.entries consumer ≡ Some payer.now }
+    requires merchant { party_in book.now.entries merchant ≡ Some payee.now }
     ensures { IsTrue result ↔ legal.RolesAre book.now.entries consumer merchant }
 {
-    has_role(book, consumer, CONSUMER) && has_role(book, merchant, MERCHANT)
+    payer.role == CONSUMER && payee.role == MERCHANT
 }
 
 fn price_is_legal(price: Price) -> bool
@@ -140,16 +168,18 @@ fn is_in_time(epoid: &Epoid, moment: u64) -> bool
         && epoid.moment.saturating_sub(moment) <= MAX_AHEAD
 }
 
-fn account_differs(book: &Book, id: PartyId, a: u64, b: u64) -> bool
+fn account_differs(book: &Book, id: PartyId, party: &Party, a: u64, b: u64) -> bool
+    requires enrolled { party_in book.now.entries id ≡ Some party.now }
     ensures { IsTrue result ↔ legal.AccountDiffers book.now.entries id a b }
 {
-    has_account(book, id, b) && a != b
+    u64::from(party.acct.0) == b && a != b
 }
 
-fn nonce_differs(book: &Book, id: PartyId, a: u64, b: u64) -> bool
+fn nonce_differs(book: &Book, id: PartyId, party: &Party, a: u64, b: u64) -> bool
+    requires enrolled { party_in book.now.entries id ≡ Some party.now }
     ensures { IsTrue result ↔ legal.NonceDiffers book.now.entries id a b }
 {
-    has_nonce(book, id, b) && a != b
+    party.nonce == b && a != b
 }
 
 fn price_is_out(price: Price, a: u64, b: u64) -> bool
@@ -170,41 +200,9 @@ fn is_too_early(epoid: &Epoid, moment: u64, a: u64, b: u64) -> bool
     a == epoid.moment && b == moment && a.saturating_sub(b) > MAX_AHEAD
 }
 
-fn balance_is_low(book: &Book, id: PartyId, price: Price, a: u64, b: u64) -> bool
+fn balance_is_low(book: &Book, id: PartyId, party: &Party, price: Price, a: u64, b: u64) -> bool
+    requires enrolled { party_in book.now.entries id ≡ Some party.now }
     ensures { IsTrue result ↔ legal.BalanceIsLow book.now.entries id price a b }
 {
-    match book.party(id) {
-        Some(party) => a == book.balance_of(id, &party) && b == price.0 && a < b,
-        None => false,
-    }
-}
-
-// Whether the party of this number is enrolled in this role.
-fn has_role(book: &Book, id: PartyId, role: u8) -> bool
-    ensures { IsTrue result ↔ (role_of book.now.entries id ≡ Some role) }
-{
-    match book.party(id) {
-        Some(party) => party.role == role,
-        None => false,
-    }
-}
-
-// Whether the party of this number has the account of that number, which a refusal shows in 8 bytes.
-fn has_account(book: &Book, id: PartyId, acct: u64) -> bool
-    ensures { IsTrue result ↔ (account_of book.now.entries id ≡ Some (record { 0 = acct })) }
-{
-    match book.party(id) {
-        Some(party) => u64::from(party.acct.0) == acct,
-        None => false,
-    }
-}
-
-// Whether the party of this number has this nonce.
-fn has_nonce(book: &Book, id: PartyId, nonce: u64) -> bool
-    ensures { IsTrue result ↔ (nonce_of book.now.entries id ≡ Some nonce) }
-{
-    match book.party(id) {
-        Some(party) => party.nonce == nonce,
-        None => false,
-    }
+    a == book.balance_of(id, party) && b == price.0 && a < b
 }

@@ -1,11 +1,12 @@
 ghost use Rattle.std.specs.Prelude.{◌≡◌, ◌≤◌, ◌<◌, ◌+◌, ◌*◌, ◌-◌, ◌++◌, ◌∷◌, [], Some, IfOk, IfSome, length, take, vec_capacity, IsSome};
-ghost use Rattle.std.specs.List.{HoldsAt};
+ghost use Rattle.std.specs.List.{HoldsAt, AllByRecursion};
 ghost use Rattle.nb_units.specs.declared.limits.TheConstants.{MAX_CAP};
 ghost use Rattle.nb_book.specs.Searches.{party_in, holder_in, funded_in, order_in};
 ghost use Rattle.nb_book.specs.Money.{account_in, balance, total};
 ghost use Rattle.nb_book.specs.Legal.{Legal, LegalAfter};
 ghost use Rattle.nb_book.specs.Laws.{opens};
-ghost use Rattle.nb_book.specs.Indexes.{Tied, first_place};
+ghost use Rattle.nb_index.specs.Puts.{IsShaped};
+ghost use Rattle.nb_book.specs.Indexes.{Tied, first_place, slots_for, list_places, list_indexes};
 
 use crate::account::Account;
 use crate::entry::Entry;
@@ -40,7 +41,7 @@ pub(crate) struct EntryList {
 fn index_for(alloc: Global, cap: u32, key: &[u8; 16]) -> Result<FixedIndex, NoMemory>
     requires { cap ≤ MAX_CAP }
     ensures puts { IfOk result (λ index. index.puts ≡ []) }
-    ensures slots { IfOk result (λ index. index.slots ≡ 2 * cap + 2) }
+    ensures shape { IfOk result (λ index. IsShaped (slots_for cap) key.now index.shape) }
 {
     match FixedIndex::new(alloc, 2 * cap + 2, key) {
         Ok(index) => Ok(index),
@@ -54,7 +55,8 @@ impl EntryList {
         requires { cap ≤ MAX_CAP }
         ensures entries { IfOk result (λ list. list.entries.items ≡ []) }
         ensures cap { IfOk result (λ list. list.cap ≡ cap) }
-        ensures room { IfOk result (λ list. cap ≤ vec_capacity list.entries) }
+        ensures places { IfOk result (λ list. AllByRecursion (λ n. cap ≤ n) (list_places list)) }
+        ensures indexes { IfOk result (λ list. AllByRecursion (IsShaped (slots_for cap) key.now) (list_indexes list)) }
         ensures tied { IfOk result (λ list. Tied list []) }
     {
         Ok(EntryList {
@@ -90,7 +92,8 @@ impl EntryList {
         requires room { self.old.cap ≤ vec_capacity self.old.entries }
         ensures entries { self.new.entries.items ≡ self.old.entries.items ++ e.now ∷ [] }
         ensures cap { self.new.cap ≡ self.old.cap }
-        ensures room { vec_capacity self.new.entries ≡ vec_capacity self.old.entries }
+        ensures places { list_places self.new ≡ list_places self.old }
+        ensures indexes { list_indexes self.new ≡ list_indexes self.old }
         ensures tied { Tied self.new self.new.entries.items }
     {
         self.record(e);
@@ -106,6 +109,8 @@ impl EntryList {
         ensures tied { Tied self.new (self.old.entries.items ++ e.now ∷ []) }
         ensures entries { self.new.entries ≡ self.old.entries }
         ensures cap { self.new.cap ≡ self.old.cap }
+        ensures places { list_places self.new ≡ list_places self.old }
+        ensures indexes { list_indexes self.new ≡ list_indexes self.old }
     {
         let at = self.entries.len() as u32;
         match *e {
@@ -153,7 +158,8 @@ impl EntryList {
         requires some { 0 < length self.old.entries.items }
         ensures entries { self.new.entries.items ≡ take (length self.old.entries.items - 1) self.old.entries.items }
         ensures cap { self.new.cap ≡ self.old.cap }
-        ensures room { vec_capacity self.new.entries ≡ vec_capacity self.old.entries }
+        ensures places { list_places self.new ≡ list_places self.old }
+        ensures indexes { list_indexes self.new ≡ list_indexes self.old }
         ensures tied { Tied self.new self.new.entries.items }
     {
         let last = self.entries[self.entries.len() - 1];
@@ -170,6 +176,8 @@ impl EntryList {
         ensures tied { Tied self.new (take (length self.old.entries.items - 1) self.old.entries.items) }
         ensures entries { self.new.entries ≡ self.old.entries }
         ensures cap { self.new.cap ≡ self.old.cap }
+        ensures places { list_places self.new ≡ list_places self.old }
+        ensures indexes { list_indexes self.new ≡ list_indexes self.old }
     {
         match *e {
             Entry::Enrol { id, acct, .. } => {

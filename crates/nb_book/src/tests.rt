@@ -134,7 +134,7 @@ fn finds_what_was_applied(rt: HostRuntime) -> Result<(), Fail> {
     Ok(())
 }
 
-// The edges of the ranges that entries are held to.
+// The edges of the ranges that entries are held to; and a number, an account and a reference that were used before.
 #[test]
 fn says_what_may_come_next(rt: HostRuntime) -> Result<(), Fail> {
     let book = book_of(
@@ -149,6 +149,10 @@ fn says_what_may_come_next(rt: HostRuntime) -> Result<(), Fail> {
     for (e, want) in [
         (enrol(5, MERCHANT, 5), true),
         (enrol(5, 3, 5), false),
+        (enrol(1, CONSUMER, 5), false),
+        (enrol(5, CONSUMER, 1), false),
+        (fund(1, 1, 0), false),
+        (fund(3, 1, 1), false),
         (fund(1, 999_999_999_999_999_500, 1), true),
         (fund(1, 999_999_999_999_999_501, 1), false),
         (paid(given(1000), 500, 1900), true),
@@ -164,5 +168,56 @@ fn says_what_may_come_next(rt: HostRuntime) -> Result<(), Fail> {
     ] {
         assert_eq!(rt; book.legal(&e), want, "{e:?}");
     }
+    Ok(())
+}
+
+// Identifiers of merchant 2, given at moment 1000, by their serial numbers.
+fn numbered(serial: u32) -> Epoid {
+    Epoid {
+        merchant: PartyId(2),
+        moment: 1000,
+        serial,
+    }
+}
+
+// Where a book has the order of a serial number.
+fn place_of(book: &Book, serial: u32) -> Option<u64> {
+    match book.order(&numbered(serial)) {
+        Some(kept) => Some(kept.at),
+        None => None,
+    }
+}
+
+// Orders whose identifiers fall on one slot, of the 22 that a book for 10 entries has: by Python's hashlib, the SHA-256 of its key, of zeros, and
+// each identifier begins with a number that 22 divides. An identifier is used once, paid or refused, until its entry is taken off.
+#[test]
+fn finds_orders_that_fall_on_one_slot(rt: HostRuntime) -> Result<(), Fail> {
+    let last = refused(numbered(46), 501, 1000, BALANCE_LOW, 498, 501);
+    let mut book = book_of(
+        &rt,
+        rt.alloc(),
+        &[
+            enrol(1, CONSUMER, 1),
+            enrol(2, MERCHANT, 2),
+            fund(1, 500, 0),
+            paid(numbered(2), 1, 1000),
+            paid(numbered(29), 1, 1000),
+            last,
+        ],
+    )?;
+    for (serial, place) in [(2, Some(3)), (29, Some(4)), (46, Some(5)), (31, None)] {
+        assert_eq!(rt; place_of(&book, serial), place, "{serial}");
+    }
+    for (serial, may_come) in [(2, false), (29, false), (46, false), (31, true)] {
+        assert_eq!(rt;
+            book.legal(&paid(numbered(serial), 1, 1000)),
+            may_come,
+            "{serial}"
+        );
+    }
+    assert!(rt; !book.legal(&last) && book.len() == 6);
+    book.undo();
+    assert!(rt; book.legal(&last));
+    assert_eq!(rt; (place_of(&book, 29), place_of(&book, 46)), (Some(4), None));
     Ok(())
 }

@@ -1,13 +1,26 @@
 -- What was put into an index, and what is found in it.
-use Rattle.std.specs.Prelude.{◌≡◌, ℕ, ◌-◌, ◌<◌, List, [], ◌∷◌, Option, Some, None, IsNone, take, length, slice_index_or, if◌then◌else◌}
-use Rattle.std.specs.List.{HoldsAt}
+use Rattle.std.specs.Prelude.{◌≡◌, ℕ, ◌+◌, ◌*◌, ◌-◌, ◌<◌, ◌≤◌, List, [], ◌∷◌, Option, Some, None, IsNone, take, length, slice_index_or, if◌then◌else◌}
+use Rattle.std.specs.List.{HoldsAt, AllByRecursion}
 use Rattle.std.specs.Str.{bytes_eq}
 use Rattle.nb_index.specs.declared.put.Put.{Put}
 
--- what an index is seen as: its puts in order, and how many slots it has
+-- what does not change as an index is used: how many slots it has, its own key, by which keys fall on slots, and for how many puts each of
+-- its two lists has memory
+pub record Shape : Type 0 where
+  pub slots : ℕ
+  pub key : List ℕ
+  pub places : List ℕ
+
+-- what an index is seen as: its puts in order, and its shape
 pub record Indexed : Type 0 where
   pub puts : List Put
-  pub slots : ℕ
+  pub shape : Shape
+
+-- so many slots, this key, and memory in each list for as many puts as such an index may have
+pub record IsShaped (slots : ℕ) (key : List ℕ) (shape : Shape) : Type 0 where
+  pub slots_are : shape.slots ≡ slots
+  pub key_is : shape.key ≡ key
+  pub room : AllByRecursion (λ n. slots + 1 ≤ 2 * n) shape.places
 
 -- the number of the first put under this key
 abbrev pub value_in : List Put → List ℕ → Option ℕ

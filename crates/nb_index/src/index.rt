@@ -1,6 +1,6 @@
 ghost use Rattle.std.specs.Prelude.{◌≡◌, ◌≤◌, ◌<◌, ◌*◌, ◌-◌, [], ◌∷◌, ◌++◌, length, take, IsNone, IfOk};
 ghost use Rattle.nb_index.specs.declared.limits.TheConstants.{MAX_SLOTS};
-ghost use Rattle.nb_index.specs.Puts.{value_in, AreNew, IsLast};
+ghost use Rattle.nb_index.specs.Puts.{value_in, AreNew, IsLast, IsShaped};
 
 use crate::limits::MAX_SLOTS;
 use crate::memory::NoMemory;
@@ -23,14 +23,14 @@ pub struct FixedIndex {
 }
 
 impl Model for FixedIndex {
-    ghost use Rattle.std.specs.Prelude.{◌≤◌, ◌+◌, ◌*◌, vec_len, vec_capacity};
+    ghost use Rattle.std.specs.Prelude.{◌≤◌, ◌+◌, ◌*◌, [], ◌∷◌, vec_len, vec_capacity};
     ghost use Rattle.nb_index.specs.declared.limits.TheConstants.{MAX_SLOTS};
     ghost use Rattle.nb_index.specs.Puts.{Indexed, AreNew};
     ghost use Rattle.nb_index.specs.Slots.{Chains, slots_of};
 
     ghost Value = { Indexed };
 
-    ghost view = { λ x. record { puts = x.puts.items; slots = vec_len x.lasts } };
+    ghost view = { λ x. record { puts = x.puts.items; shape = record { slots = vec_len x.lasts; key = x.key; places = vec_capacity x.puts ∷ vec_capacity x.before ∷ [] } } };
 
     ghost invariant = { λ x. record {
       some : 2 ≤ vec_len x.lasts;
@@ -44,13 +44,14 @@ impl Model for FixedIndex {
 }
 
 impl FixedIndex {
-    /// An index with no puts and so many slots, from 2 to [`MAX_SLOTS`]. Its key, 16 bytes, decides on which slot a key falls: who
-    /// does not know it cannot choose keys that all fall on one. Answers [`NoMemory`] where there is none for it.
+    /// An index with no puts and so many slots, from 2 to [`MAX_SLOTS`], and memory for all puts that it may have. Its key, 16 bytes,
+    /// decides on which slot a key falls: who does not know it cannot choose keys that all fall on one. Answers [`NoMemory`] where there
+    /// is none for it.
     pub fn new(alloc: Global, slots: u32, key: &[u8; 16]) -> Result<FixedIndex, NoMemory>
         requires some { 2 ≤ slots }
         requires most { slots ≤ MAX_SLOTS }
         ensures puts { IfOk result (λ index. index.puts ≡ []) }
-        ensures slots { IfOk result (λ index. index.slots ≡ slots) }
+        ensures shape { IfOk result (λ index. IsShaped slots key.now index.shape) }
     {
         let most = slots as usize / 2 + 1;
         Ok(FixedIndex {
@@ -82,9 +83,9 @@ impl FixedIndex {
     /// Puts a number under a key that has none, where fewer than half of the slots are used. This takes no memory.
     pub fn put(&mut self, key: &[u8; 16], value: u32)
         requires absent { IsNone (value_in self.old.puts key.now) }
-        requires room { 2 * length self.old.puts < self.old.slots }
+        requires room { 2 * length self.old.puts < self.old.shape.slots }
         ensures puts { self.new.puts ≡ self.old.puts ++ record { key = key.now; value = value } ∷ [] }
-        ensures slots { self.new.slots ≡ self.old.slots }
+        ensures shape { self.new.shape ≡ self.old.shape }
     {
         let slot = slot_of(&self.key, self.lasts.len() as u32, key) as usize;
         self.before.push_reserved(self.lasts[slot]);
@@ -92,12 +93,12 @@ impl FixedIndex {
         self.lasts[slot] = self.puts.len() as u32;
     }
 
-    /// Takes the last put off: the index is as it was before it. The key is that put's.
+    /// Takes the last put off: the index is as it was before it. The key is that put's. This takes no memory.
     pub fn take_off(&mut self, key: &[u8; 16])
         requires some { 0 < length self.old.puts }
         requires last { IsLast self.old.puts key.now }
         ensures puts { self.new.puts ≡ take (length self.old.puts - 1) self.old.puts }
-        ensures slots { self.new.slots ≡ self.old.slots }
+        ensures shape { self.new.shape ≡ self.old.shape }
     {
         let slot = slot_of(&self.key, self.lasts.len() as u32, key) as usize;
         let before = self.before.pop();
@@ -107,7 +108,7 @@ impl FixedIndex {
         }
     }
 
-    /// How many slots are used: the number of puts.
+    /// The number of puts. As many slots are used, or fewer where puts share one.
     pub fn used(&self) -> u32
         ensures { result ≡ length self.now.puts }
     {

@@ -1,10 +1,9 @@
 //! An index of fixed size: numbers under keys of 16 bytes, found without going over them all.
 //!
-//! A [`FixedIndex`] is seen as an [`Indexed`](specs/Puts.antt): the list of its puts in order, and how many slots it has. Each
-//! key is put once. [`FixedIndex::find`] gives the number that was put under a key, [`FixedIndex::put`] appends a put, and
-//! [`FixedIndex::take_off`] takes the last one off, so that the list is as before it. All memory is taken by
-//! [`FixedIndex::new`]: the other calls take none and cannot fail. It holds half as many puts as it has slots, at least one and at
-//! most half of [`MAX_SLOTS`].
+//! A [`FixedIndex`] is seen as an [`Indexed`](specs/Puts.antt): the list of its puts in order, and what does not change as it is
+//! used: how many slots it has, its own key, and for how many puts it has memory. Each key is put once. [`FixedIndex::find`] gives the number that was put under a key, [`FixedIndex::put`]
+//! appends a put, and [`FixedIndex::take_off`] takes the last one off, so that the list is as before it. All memory is taken by
+//! [`FixedIndex::new`]: the other calls take none and cannot fail. A put is taken where there are fewer puts than half the slots.
 //!
 //! A key falls on one slot, by the SHA-256 (FIPS 180-4) of the index's own key and the key. Who does not know the index's key can not
 //! choose keys that all fall on one slot. A slot has the number of the last put that fell on it, and beside each put stands the

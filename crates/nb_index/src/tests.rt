@@ -19,9 +19,9 @@ fn key_of(number: u8) -> [u8; 16] {
 
 // Puts ten times the number under its key, which has none, and gives the key.
 fn put(rt: &impl Abort, index: &mut FixedIndex, number: u8) -> [u8; 16]
-    requires { 2 * length index.old.puts < index.old.slots }
+    requires { 2 * length index.old.puts < index.old.shape.slots }
     ensures puts { index.new.puts ≡ index.old.puts ++ record { key = result; value = 10 * number } ∷ [] }
-    ensures slots { index.new.slots ≡ index.old.slots }
+    ensures shape { index.new.shape ≡ index.old.shape }
 {
     let key = key_of(number);
     assert!(rt; index.find(&key).is_none());
@@ -61,5 +61,17 @@ fn finds_keys_that_fall_on_one_slot(rt: HostRuntime) -> Result<(), Fail> {
     }
     index.take_off(&last);
     assert_eq!(rt; (index.used(), index.find(&last)), (3, None));
+    Ok(())
+}
+
+// Two keys in an index of four slots, and a third that falls on the slot of the second.
+#[test]
+fn finds_two_keys_of_four_slots(rt: HostRuntime) -> Result<(), Fail> {
+    let mut index = FixedIndex::new(rt.alloc(), 4, &INDEX)?;
+    put(&rt, &mut index, 1);
+    put(&rt, &mut index, 2);
+    for (number, found) in [(1, Some(10)), (2, Some(20)), (3, None)] {
+        assert_eq!(rt; index.find(&key_of(number)), found);
+    }
     Ok(())
 }

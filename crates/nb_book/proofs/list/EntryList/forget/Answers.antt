@@ -190,8 +190,8 @@ returns-in-Enrol-clause-tied c =
     record {
       most = c.requires.tied.most;
       fit = (fit_pop front e b.tied.fit).0;
-      parties = index_off party_key c.args.self.now.cap c.args.self.now.parties c.take_off.new.self front e c.name_key.result b.tied.parties (ap (λ (k : List ℕ). Some k) (sym c.name_key.ensures.key)) c.take_off.ensures.puts c.take_off.ensures.slots;
-      accounts = index_off account_key c.args.self.now.cap c.args.self.now.accounts c.take_off-in-Enrol.new.self front e c.name_key-in-Enrol.result b.tied.accounts (ap (λ (k : List ℕ). Some k) (sym c.name_key-in-Enrol.ensures.key)) c.take_off-in-Enrol.ensures.puts c.take_off-in-Enrol.ensures.slots;
+      parties = index_off party_key c.args.self.now.cap c.args.self.now.parties c.take_off.new.self front e c.name_key.result b.tied.parties (ap (λ (k : List ℕ). Some k) (sym c.name_key.ensures.key)) c.take_off.ensures.puts c.take_off.ensures.shape;
+      accounts = index_off account_key c.args.self.now.cap c.args.self.now.accounts c.take_off-in-Enrol.new.self front e c.name_key-in-Enrol.result b.tied.accounts (ap (λ (k : List ℕ). Some k) (sym c.name_key-in-Enrol.ensures.key)) c.take_off-in-Enrol.ensures.puts c.take_off-in-Enrol.ensures.shape;
       references = index_less reference_key c.args.self.now.cap c.args.self.now.references front e b.tied.references refl;
       orders = index_less order_key c.args.self.now.cap c.args.self.now.orders front e b.tied.orders refl;
       balances = rw (c.pop.ensures.rest, count)
@@ -223,7 +223,7 @@ returns-in-Fund-clause-tied c =
       fit = (fit_pop front e b.tied.fit).0;
       parties = index_less party_key c.args.self.now.cap c.args.self.now.parties front e b.tied.parties refl;
       accounts = index_less account_key c.args.self.now.cap c.args.self.now.accounts front e b.tied.accounts refl;
-      references = index_off reference_key c.args.self.now.cap c.args.self.now.references c.take_off-in-Fund.new.self front e c.in-Fund.reference b.tied.references refl c.take_off-in-Fund.ensures.puts c.take_off-in-Fund.ensures.slots;
+      references = index_off reference_key c.args.self.now.cap c.args.self.now.references c.take_off-in-Fund.new.self front e c.in-Fund.reference b.tied.references refl c.take_off-in-Fund.ensures.puts c.take_off-in-Fund.ensures.shape;
       orders = index_less order_key c.args.self.now.cap c.args.self.now.orders front e b.tied.orders refl;
       balances = rw (c.pop-in-Fund.ensures.rest, count)
           (kept_pop front e before (set before c.seat-payee.result left) b.behind.legal b.behind.next b.tied.balances (length-set before c.seat-payee.result left)
@@ -272,7 +272,7 @@ returns-in-Paid-clause-tied c =
       parties = index_less party_key c.args.self.now.cap c.args.self.now.parties front e b.tied.parties refl;
       accounts = index_less account_key c.args.self.now.cap c.args.self.now.accounts front e b.tied.accounts refl;
       references = index_less reference_key c.args.self.now.cap c.args.self.now.references front e b.tied.references refl;
-      orders = index_off order_key c.args.self.now.cap c.args.self.now.orders c.take_off-in-Paid.new.self front e c.write.result b.tied.orders (ap (λ (k : List ℕ). Some k) (sym c.write.ensures.spelling)) c.take_off-in-Paid.ensures.puts c.take_off-in-Paid.ensures.slots;
+      orders = index_off order_key c.args.self.now.cap c.args.self.now.orders c.take_off-in-Paid.new.self front e c.write.result b.tied.orders (ap (λ (k : List ℕ). Some k) (sym c.write.ensures.spelling)) c.take_off-in-Paid.ensures.puts c.take_off-in-Paid.ensures.shape;
       balances = rw (c.pop-in-Paid.ensures.rest, count)
           (kept_pop front e before (set between c.seat-payee-in-Paid.result left) b.behind.legal b.behind.next b.tied.balances
           (length-set between c.seat-payee-in-Paid.result left ∙ length-set before c.seat-payer.result more)
@@ -298,7 +298,7 @@ returns-in-Refused-clause-tied c =
       parties = index_less party_key c.args.self.now.cap c.args.self.now.parties front e b.tied.parties refl;
       accounts = index_less account_key c.args.self.now.cap c.args.self.now.accounts front e b.tied.accounts refl;
       references = index_less reference_key c.args.self.now.cap c.args.self.now.references front e b.tied.references refl;
-      orders = index_off order_key c.args.self.now.cap c.args.self.now.orders c.take_off-in-Refused.new.self front e c.write-in-Refused.result b.tied.orders (ap (λ (k : List ℕ). Some k) (sym c.write-in-Refused.ensures.spelling)) c.take_off-in-Refused.ensures.puts c.take_off-in-Refused.ensures.slots;
+      orders = index_off order_key c.args.self.now.cap c.args.self.now.orders c.take_off-in-Refused.new.self front e c.write-in-Refused.result b.tied.orders (ap (λ (k : List ℕ). Some k) (sym c.write-in-Refused.ensures.spelling)) c.take_off-in-Refused.ensures.puts c.take_off-in-Refused.ensures.shape;
       balances = rw (c.pop-in-Refused.ensures.rest, count)
           (kept_pop front e c.args.self.now.balances.items c.args.self.now.balances.items b.behind.legal b.behind.next b.tied.balances refl (λ a place placed. refl));
       room = omega (arith, c.requires.tied.room, c.pop-in-Refused.ensures.capacity);

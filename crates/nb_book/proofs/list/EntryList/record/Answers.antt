@@ -153,8 +153,8 @@ returns-in-Enrol-clause-tied c =
     record {
       most = c.requires.tied.most;
       fit = fit_push H e c.requires.tied.fit (c.name_key.ensures.fits, c.name_key-in-Enrol.ensures.fits);
-      parties = index_put party_key c.args.self.now.cap c.args.self.now.parties c.put.new.self H e c.name_key.result c.len-at.result c.requires.tied.parties (ap (λ (k : List ℕ). Some k) (sym c.name_key.ensures.key)) at c.put.ensures.puts c.put.ensures.slots;
-      accounts = index_put account_key c.args.self.now.cap c.args.self.now.accounts c.put-in-Enrol.new.self H e c.name_key-in-Enrol.result c.len-at.result c.requires.tied.accounts (ap (λ (k : List ℕ). Some k) (sym c.name_key-in-Enrol.ensures.key)) at c.put-in-Enrol.ensures.puts c.put-in-Enrol.ensures.slots;
+      parties = index_put party_key c.args.self.now.cap c.args.self.now.parties c.put.new.self H e c.name_key.result c.len-at.result c.requires.tied.parties (ap (λ (k : List ℕ). Some k) (sym c.name_key.ensures.key)) at c.put.ensures.puts c.put.ensures.shape;
+      accounts = index_put account_key c.args.self.now.cap c.args.self.now.accounts c.put-in-Enrol.new.self H e c.name_key-in-Enrol.result c.len-at.result c.requires.tied.accounts (ap (λ (k : List ℕ). Some k) (sym c.name_key-in-Enrol.ensures.key)) at c.put-in-Enrol.ensures.puts c.put-in-Enrol.ensures.shape;
       references = index_same reference_key c.args.self.now.cap c.args.self.now.references H e c.requires.tied.references refl;
       orders = index_same order_key c.args.self.now.cap c.args.self.now.orders H e c.requires.tied.orders refl;
       balances = rw c.push_reserved.ensures.items
@@ -178,7 +178,7 @@ returns-in-Fund-clause-tied c =
       fit = fit_push H e c.requires.tied.fit tt;
       parties = index_same party_key c.args.self.now.cap c.args.self.now.parties H e c.requires.tied.parties refl;
       accounts = index_same account_key c.args.self.now.cap c.args.self.now.accounts H e c.requires.tied.accounts refl;
-      references = index_put reference_key c.args.self.now.cap c.args.self.now.references c.put-in-Fund.new.self H e c.in-Fund.reference c.len-at.result c.requires.tied.references refl at c.put-in-Fund.ensures.puts c.put-in-Fund.ensures.slots;
+      references = index_put reference_key c.args.self.now.cap c.args.self.now.references c.put-in-Fund.new.self H e c.in-Fund.reference c.len-at.result c.requires.tied.references refl at c.put-in-Fund.ensures.puts c.put-in-Fund.ensures.shape;
       orders = index_same order_key c.args.self.now.cap c.args.self.now.orders H e c.requires.tied.orders refl;
       balances = rw c.push_reserved-in-Fund.ensures.items
           (kept_push H e before _ c.requires.legal next c.requires.tied.balances (length-set before c.seat-payee.result (c.index_mut.result.now + c.in-Fund.amount))
@@ -216,7 +216,7 @@ returns-in-Paid-clause-tied c =
       parties = index_same party_key c.args.self.now.cap c.args.self.now.parties H e c.requires.tied.parties refl;
       accounts = index_same account_key c.args.self.now.cap c.args.self.now.accounts H e c.requires.tied.accounts refl;
       references = index_same reference_key c.args.self.now.cap c.args.self.now.references H e c.requires.tied.references refl;
-      orders = index_put order_key c.args.self.now.cap c.args.self.now.orders c.put-in-Paid.new.self H e c.write.result c.len-at.result c.requires.tied.orders (ap (λ (k : List ℕ). Some k) (sym c.write.ensures.spelling)) at c.put-in-Paid.ensures.puts c.put-in-Paid.ensures.slots;
+      orders = index_put order_key c.args.self.now.cap c.args.self.now.orders c.put-in-Paid.new.self H e c.write.result c.len-at.result c.requires.tied.orders (ap (λ (k : List ℕ). Some k) (sym c.write.ensures.spelling)) at c.put-in-Paid.ensures.puts c.put-in-Paid.ensures.shape;
       balances = rw c.push_reserved-in-Paid.ensures.items
           (kept_push H e before _ c.requires.legal next c.requires.tied.balances
           (length-set between c.seat-payee-in-Paid.result (c.index_mut-in-Paid-2.result.now + price) ∙ length-set before c.seat-payer.result left)
@@ -244,7 +244,7 @@ returns-in-Refused-clause-tied c =
       parties = index_same party_key c.args.self.now.cap c.args.self.now.parties H e c.requires.tied.parties refl;
       accounts = index_same account_key c.args.self.now.cap c.args.self.now.accounts H e c.requires.tied.accounts refl;
       references = index_same reference_key c.args.self.now.cap c.args.self.now.references H e c.requires.tied.references refl;
-      orders = index_put order_key c.args.self.now.cap c.args.self.now.orders c.put-in-Refused.new.self H e c.write-in-Refused.result c.len-at.result c.requires.tied.orders (ap (λ (k : List ℕ). Some k) (sym c.write-in-Refused.ensures.spelling)) at c.put-in-Refused.ensures.puts c.put-in-Refused.ensures.slots;
+      orders = index_put order_key c.args.self.now.cap c.args.self.now.orders c.put-in-Refused.new.self H e c.write-in-Refused.result c.len-at.result c.requires.tied.orders (ap (λ (k : List ℕ). Some k) (sym c.write-in-Refused.ensures.spelling)) at c.put-in-Refused.ensures.puts c.put-in-Refused.ensures.shape;
       balances = rw c.push_reserved-in-Refused.ensures.items
           (kept_push H e c.args.self.now.balances.items c.args.self.now.balances.items c.requires.legal next c.requires.tied.balances refl (λ a place placed. refl));
       room = omega (arith, c.requires.tied.room, c.push_reserved-in-Refused.ensures.capacity);
