@@ -66,8 +66,8 @@ module _ {D : Type 0} (tells : DiskTells D) (old new : D) (image head : List ℕ
     | inr (inr closed) ↦ inr (closed.1, whole)
   ]
 
-pub completes : {D : Type 0} (tells : DiskTells D) → Completes tells
-completes tells W sees old new before after lines ends ending image head cap entries serves content stands still faultless = elim serves [
+pub completes : {D W : Type 0} (tells : DiskTells D) (sees : W → List WorkerSeen) → Completes tells sees
+completes tells sees old new before after lines ends ending image head cap entries serves content stands still faultless = elim serves [
   | inl failed ↦ inl (failed.1 ∙ not_opened tells old new image head cap entries content stands still failed.0 failed.2)
   | inr (inl idle) ↦ inl idle.0
   | inr (inr all) ↦ ends_so tells old new image head cap entries content stands still (sees before) ends ending (all_whole tells old new image head cap entries content stands still (sees before) (sees after) lines ends all.0 faultless) all.1

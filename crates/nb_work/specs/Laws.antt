@@ -15,8 +15,8 @@ use Rattle.nb_work.specs.Work.{ServesAs}
 
 -- over a content that stands for a list, where no count of the disk, of a port or of a link rises, ports tell their links, and each link gives
 -- few frames: every link of every worker is served whole and the job ends with 0, or it ends with want of memory
-abbrev pub Completes : {D : Type 0} → DiskTells D → Type 0
-Completes {D} tells = (W : Type 0) (sees : W → List WorkerSeen) (old new : D) (before after : W) (lines : List Line) (ends : List WorkerEnd) (ending : Ending)
+abbrev pub Completes : {D W : Type 0} → DiskTells D → (W → List WorkerSeen) → Type 0
+Completes {D} {W} tells sees = (old new : D) (before after : W) (lines : List Line) (ends : List WorkerEnd) (ending : Ending)
     (image head : List ℕ) (cap : ℕ) (entries : List Entry)
     → ServesAs tells sees old new before after lines ends ending
     → tells.content old ≡ Some image → StandsFor head cap entries image

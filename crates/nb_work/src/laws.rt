@@ -1,12 +1,14 @@
 //! What follows for a job over links. Each function here does nothing: its contract is the law.
 
+ghost use Rattle.nb_work.specs.Work.{workers_seen};
 ghost use Rattle.nb_work.specs.Laws as law;
 
-use nb_port::Disk;
+use nb_link::Port;
+use nb_port::{Clock, Disk};
 
 /// Over a content that stands for a list, where ports tell their links, as many as are left, each link gives fewer than 10,000 whole frames
 /// and then ends, and no count of the disk, of a port or of a link rises: each session ends clean with all its frames answered by a verdict,
 /// each worker serves all its links, and the job ends with 0; or memory was wanting, for one session to begin or with status 6.
-pub fn completes<D: Disk>()
-    ensures { law.Completes D.tells }
+pub fn completes<D: Disk, P: Port, C: Clock>()
+    ensures { law.Completes D.tells (workers_seen P.seen C.moments) }
 {}
