@@ -1,5 +1,5 @@
 -- A job over links that do not fail is done, or memory was wanting.
-use Rattle.std.proofs.Common.{◌≡◌, ◌⊎◌, inl, inr, ⊎_elim, ℕ, zero, suc, List, [], ◌∷◌, Option, None, Some, refl, sym, ap, subst, ◌∙◌}
+use Rattle.std.proofs.Common.{◌≡◌, ◌⊎◌, inl, inr, ⊎_elim, ℕ, zero, suc, List, [], ◌∷◌, Some, refl, sym, ap, subst, ◌∙◌}
 use Rattle.std.specs.List.{slice_get}
 use Rattle.std.proofs.lemmas.Option.{same_Some}
 use Rattle.nb_port.specs.Tells.{DiskTells}
@@ -13,7 +13,6 @@ use Rattle.nb_vault.specs.Holdings.{StandsFor}
 use Rattle.nb_vault.specs.Opens.{IsBadEntry, VaultOpenFails}
 use Rattle.nb_vault.proofs.Founding.{told_of}
 use Rattle.nb_vault.proofs.HoldingLaws.{no_unborn, no_damage, no_bad}
-use Rattle.nb_server.specs.declared.worker.How.{How}
 use Rattle.nb_server.specs.declared.worker.How.TheVariants.{Closed, PortFault, NoMemory}
 use Rattle.nb_server.specs.declared.worker.WorkerEnd.{WorkerEnd}
 use Rattle.nb_server.specs.Served.{WorkerSeen}
@@ -23,7 +22,7 @@ use Rattle.nb_run.specs.declared.ending.Ending.{Ending}
 use Rattle.nb_run.specs.declared.ending.TheConstants.{CLEAN, OUT_OF_MEMORY}
 use Rattle.nb_run.specs.Ending.{at_no_place}
 use Rattle.nb_run.specs.Run.{unopened}
-use Rattle.nb_work.specs.Work.{IsServed, ServesAs, StoppedAs}
+use Rattle.nb_work.specs.Work.{IsServed, StoppedAs}
 use Rattle.nb_work.specs.Laws.{Completes}
 
 -- no worker that served its links whole stopped at a port that failed
