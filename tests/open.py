@@ -40,7 +40,7 @@ def entries():
     yield order(1, 300).paid(MOMENT)
     yield order(2, 201).refused(36, 200, 201, MOMENT)
     for place in range(5, COUNT - 1):
-        number = place // 2 + 1
+        number = (place + 1) // 2
         yield formats.Fund(number, 1, number).entry() if place % 2 == 0 else party(number).entry()
 
 
