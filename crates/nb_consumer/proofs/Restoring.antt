@@ -1,5 +1,5 @@
 -- A consumer starts again, with what it kept, as it was but for the places that it was told.
-use Rattle.std.proofs.Common.{◌≡◌, ℕ, zero, suc, ◌+◌, Bool, true, false, cond, List, [], ◌∷◌, ◌++◌, map, set, Option, Some, None, Ok, Err, Result, refl, sym, ap, subst, ◌∙◌, arith, append-nil}
+use Rattle.std.proofs.Common.{◌≡◌, ℕ, zero, suc, ◌+◌, Bool, true, false, cond, List, [], ◌∷◌, ◌++◌, map, set, Option, Some, None, Ok, Err, Result, refl, sym, ap, subst, ◌∙◌, append-nil}
 use Rattle.std.specs.Prelude.{IfOk, slice_get, position, nat_eq, is_some, is_none, is_ok, ◌&&◌, ◌==◌, codes}
 use Rattle.std.specs.Option.{option_map, option_map_or}
 use Rattle.nb_units.specs.declared.ids.Price.{Price}
@@ -9,10 +9,8 @@ use Rattle.nb_seal.specs.Seal.{text_in}
 use Rattle.nb_body.specs.declared.goods_head.GoodsHead.{GoodsHead}
 use Rattle.nb_endorse.specs.declared.receipt.Receipt.{Receipt}
 use Rattle.nb_epo.specs.declared.order.Order.{Order}
-use Rattle.nb_msgs.specs.declared.message.Message.{Message}
 use Rattle.nb_msgs.specs.declared.node.Reason.{Reason}
 use Rattle.nb_msgs.specs.declared.node.Step.{Step}
-use Rattle.nb_wallet.specs.declared.wallet.Start.{Start}
 use Rattle.nb_wallet.specs.declared.item.Item.{Item}
 use Rattle.nb_wallet.specs.declared.item.Item.TheVariants as item
 use Rattle.nb_wallet.specs.declared.purchase.Stage.{Stage}
@@ -22,14 +20,13 @@ use Rattle.nb_consumer.specs.declared.rows.Owing.{Owing}
 use Rattle.nb_consumer.specs.declared.deed.Deed.{Deed}
 use Rattle.nb_consumer.specs.declared.deed.Deed.TheVariants as deed
 use Rattle.nb_wallet.specs.Stages.{raised_from, wanted_from, with_head, ordered_from, stage_ended, stage_with, stage_opened}
-use Rattle.nb_consumer.specs.State.{Buyer, new_buyer, number_of, place_of, purchase_at, purchase_of, changed, changed_at, changed_with, behind_item, fresh, remembered, raised, number_in, noted, epoid_bytes}
+use Rattle.nb_consumer.specs.State.{Buyer, new_buyer, number_of, place_of, purchase_at, purchase_of, changed, changed_at, changed_with, behind_item, fresh, remembered, raised, noted, epoid_bytes}
 use Rattle.nb_consumer.specs.Table.{step_of, after, is_ticketing, pass_of_asked, wanting_in, owing_in, is_price, receipt_fits}
 use Rattle.nb_consumer.specs.Restart.{allows, holds_for, holds_at, part_follows, order_follows, behind, behind_read, restarted_from, restarted, untold_stage, untold_purchase, untold, Kept, kept_in}
 use Rattle.nb_wallet.specs.Spelling.{item_bytes, IsItem}
-use Rattle.nb_wallet.specs.Reading.{item_of}
 use Rattle.nb_consumer.specs.Deeds.{DeedIsSpelled}
 use Rattle.nb_consumer.specs.Laws.{RowSo, KeepsRestarting}
-use Rattle.nb_consumer.specs.Runs.{Call, Starts, Hears, Waits, row_of, kept_of}
+use Rattle.nb_consumer.specs.Runs.{Call, Starts, Hears, Waits, row_of}
 use Rattle.nb_consumer.proofs.Keeping.{rows_are_so}
 use Rattle.nb_wallet.proofs.Items.{item_reads_back}
 

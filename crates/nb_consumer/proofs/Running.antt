@@ -12,9 +12,6 @@ use Rattle.nb_msgs.specs.declared.node.Step.{Step}
 use Rattle.nb_wallet.specs.declared.wallet.Wallet.{Wallet}
 use Rattle.nb_wallet.specs.declared.item.Item.{Item}
 use Rattle.nb_wallet.specs.declared.item.Item.TheVariants as item
-use Rattle.nb_wallet.specs.declared.purchase.Stage.{Stage}
-use Rattle.nb_wallet.specs.declared.purchase.Stage.TheVariants as stage
-use Rattle.nb_wallet.specs.declared.purchase.Purchase.{Purchase}
 use Rattle.nb_wallet.specs.Spelling.{item_bytes, IsItem}
 use Rattle.nb_wallet.specs.Reading.{item_of}
 use Rattle.nb_wallet.proofs.Items.{item_reads_back, item_spells_back}
@@ -24,7 +21,7 @@ use Rattle.nb_consumer.specs.declared.deed.Deed.TheVariants as deed
 use Rattle.nb_consumer.specs.State.{Buyer, new_buyer, remembered}
 use Rattle.nb_consumer.specs.Table.{step_of, after}
 use Rattle.nb_consumer.specs.Deeds.{Answers, DeedIsSpelled}
-use Rattle.nb_consumer.specs.Restart.{allows, behind, behind_read, restarted, restarted_from, Restarts, untold_stage, untold_purchase, untold, Kept, kept_in}
+use Rattle.nb_consumer.specs.Restart.{allows, behind, behind_read, restarted, restarted_from, Restarts, untold, Kept, kept_in}
 use Rattle.nb_consumer.specs.Runs.{Call, row_of, kept_of, Event, Called, Restarted, Runs, AllAllowed, IsJournal, GivesBack}
 use Rattle.nb_consumer.specs.Laws.{RowSo, RunsRestart, RestartsAsKept}
 use Rattle.nb_consumer.proofs.Restoring.{buyer_is, same_allowed, same_remembered, same_wallet, call_so, keeps_restarting}
@@ -68,8 +65,7 @@ restarted_journal n b c [] are e = ([], refl, tt)
 restarted_journal n b c (bytes ∷ items) are e =
     let f = first_item n b c bytes items e in
     let s = item_spells_back bytes f.0 are.0 f.1 in
-    let r = restarted_journal (n + 1) (remembered b f.0) c items are.1 f.3 in
-    (
+    let r = restarted_journal (n + 1) (remembered b f.0) c items are.1 f.3 in (
       f.0 ∷ r.0,
       ap (λ (front : List ℕ). front ∷ items) s.1 ∙ ap (λ (rest : List (List ℕ)). item_bytes f.0 ∷ rest) r.1,
       (s.0, f.2, r.2),
@@ -93,8 +89,7 @@ allowed_more n b c (y ∷ xs) x all e is allowed =
 item_more : (w : Wallet) (b : Buyer) (items : List (List ℕ)) (x : Item) → b.wallet ≡ w → Kept items b → IsJournal w items → IsItem x → allows b x ≡ true → IsJournal w (items ++ item_bytes x ∷ [])
 item_more w b items x same kept journal is allowed =
     let known : restarted_from 0 (new_buyer w) (map item_bytes journal.0) ≡ Ok (untold b) =
-    sym (ap (restarted_from 0 (new_buyer w)) journal.1) ∙ sym (ap (λ (v : Wallet). restarted v items) same) ∙ kept in
-    (
+    sym (ap (restarted_from 0 (new_buyer w)) journal.1) ∙ sym (ap (λ (v : Wallet). restarted v items) same) ∙ kept in (
       journal.0 ++ x ∷ [],
       ap (λ (ys : List (List ℕ)). ys ++ item_bytes x ∷ []) journal.1 ∙ sym (map-append item_bytes journal.0 (x ∷ [])),
       allowed_more 0 (new_buyer w) (untold b) journal.0 x journal.2 known is (same_allowed b x ∙ allowed),
