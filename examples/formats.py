@@ -61,7 +61,7 @@ CODES = {
 
 # How the program ends, by its status: what it means, what P is, and what to do.
 STATUSES = {
-    0: ("all was done", "", "nothing"),
+    0: ("all requests were answered, or the journal was made", "", "look into the replies: codes 50 and 51 say that the disk failed"),
     1: ("the program was not built", "", "look at the end of netbill.log, which the launcher shows"),
     2: ("the words are none of the program's", "", "compare them with docs/netbill.1"),
     3: ("the input failed", "", "send it again: what was answered is recorded, and is told again"),
@@ -69,7 +69,7 @@ STATUSES = {
     5: ("the input ended within a frame, or holds what is no frame, or is no head", "bytes read, or the place of the fault", "mend the input from there on; the frames before it were answered"),
     6: ("there was no memory", "", "give the process more: docs/OPERATING.md says how much a journal takes"),
     7: ("the journal's disk failed as it was opened or made", "", "look at the disk and its free room, then start again"),
-    8: ("the file is no journal, or it is damaged", "place of the damage in the file", "put the last copy in its place: docs/OPERATING.md says what that forgets"),
+    8: ("the file is no journal, has a bad entry, or is damaged", "place of the damage in the file, and else 0", "put the last copy in its place: docs/OPERATING.md says what that forgets"),
     9: ("no journal is made: there is one, or the cap is out of its range", "", "take another file, or a cap from 1 to 1,000,000"),
     11: ("as many frames were answered as one run answers", "", "start again with the rest of the input"),
     13: ("a port failed, with connections left", "", "start again"),
