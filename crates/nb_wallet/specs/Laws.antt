@@ -1,8 +1,7 @@
 -- Spelling and reading are the two sides of one thing.
-use Rattle.std.specs.Prelude.{◌≡◌, ℕ, List, [], ◌∷◌, codes, Ok}
+use Rattle.std.specs.Prelude.{◌≡◌, ℕ, List, Ok}
 use Rattle.nb_units.specs.Frames.{AreBytes}
 use Rattle.nb_wallet.specs.declared.item.Item.{Item}
-use Rattle.nb_wallet.specs.declared.limits.TheConstants.{STARTED, GRANTED, WANTED, ORDERED, ENDED, PART, FORGOTTEN, PRICE_REQUEST_LABEL, QUOTE_LABEL, GOODS_REQUEST_LABEL, GOODS_HEAD_LABEL, PAYMENT_LABEL, STATUS_LABEL}
 use Rattle.nb_wallet.specs.Spelling.{IsItem, item_bytes}
 use Rattle.nb_wallet.specs.Reading.{item_of}
 
@@ -17,9 +16,3 @@ ItemSpellsBack = (bytes : List ℕ) (x : Item) → AreBytes bytes → item_of by
 -- two items with one spelling are one
 abbrev pub OneItem : Type 0
 OneItem = (a b : Item) → IsItem a → IsItem b → item_bytes a ≡ item_bytes b → a ≡ b
-
--- the kinds of kept items, and what is sealed under which label
-abbrev pub LimitsAre : Type 0
-LimitsAre = (STARTED ∷ GRANTED ∷ WANTED ∷ ORDERED ∷ ENDED ∷ PART ∷ FORGOTTEN ∷ [] ≡ 1 ∷ 2 ∷ 3 ∷ 4 ∷ 5 ∷ 6 ∷ 8 ∷ [])
-    × (PRICE_REQUEST_LABEL ≡ codes "m001") × (QUOTE_LABEL ≡ codes "m002") × (GOODS_REQUEST_LABEL ≡ codes "m003") × (GOODS_HEAD_LABEL ≡ codes "m004") × (PAYMENT_LABEL ≡ codes "m005")
-    × (STATUS_LABEL ≡ codes "stat")

@@ -16,8 +16,3 @@ pub fn item_spells_back()
 pub fn one_item()
     ensures { law.OneItem }
 {}
-
-/// A law: the kinds of items in numbers, and the labels.
-pub fn limits()
-    ensures { law.LimitsAre }
-{}
