@@ -22,6 +22,7 @@ use Rattle.nb_msgs.specs.declared.message.Message.{Message}
 use Rattle.nb_msgs.specs.declared.message.Message.TheVariants as message
 use Rattle.nb_msgs.specs.declared.node.Reason.{Reason}
 use Rattle.nb_msgs.specs.declared.node.Reason.TheVariants as reason
+use Rattle.nb_msgs.specs.declared.node.To.TheVariants as to
 use Rattle.nb_stall.specs.declared.limits.TheConstants.{LAST_SERIAL}
 use Rattle.nb_stall.specs.declared.purchase.Purchase.{Purchase}
 use Rattle.nb_stall.specs.declared.item.Item.{Item}
@@ -34,9 +35,8 @@ use Rattle.nb_merchant.specs.declared.answer.Planned.{Planned}
 use Rattle.nb_merchant.specs.declared.answer.Halt.{Halt}
 use Rattle.nb_merchant.specs.Telling.{Plans}
 use Rattle.nb_stall.specs.Reading.{purchase_of}
-use Rattle.nb_merchant.specs.Sending.{SentSo, EndorsesKept, PassesKept}
-use Rattle.nb_stall.specs.Messages.{key_of, endorsed_message}
-use Rattle.nb_stall.proofs.Lengths.{quote_short, goods_short}
+use Rattle.nb_merchant.specs.Sending.{SentSo, QuotesKept, DeliversKept, EndorsesKept, PassesKept}
+use Rattle.nb_stall.specs.Messages.{key_of, quote_message, goods_message, endorsed_message}
 use Rattle.nb_merchant.proofs.Keeping.{sale_from_more}
 use Rattle.nb_stall.proofs.Noting.{same_purchase}
 use Rattle.nb_stall.specs.Sales.{moved, progressed, sale_in, epoid_in, deliveries_in, sold_as, next_serial}
@@ -86,9 +86,18 @@ behind_item shop x o there =
 behind_none : (shop : Shop) (p : Purchase) (sale : Sale) → sale_in shop.items p ≡ Some sale → sale_in (shop.items ++ []) p ≡ Some sale
 behind_none shop p sale there = ap (λ (items : List Item). sale_in items p) (append-nil shop.items) ∙ there
 
+quotes : (shop : Shop) (items : List Item) (p : Purchase) (sale : Sale) (session : List ℕ) → sale_in items p ≡ Some sale
+    → QuotesKept (record shop { items = items }) (to.Consumer p.consumer) (quote_message session (record { transaction = p.transaction; product = sale.product; price = sale.price }))
+quotes shop items p sale session there = record { purchase = p; sale = sale; session = session; kept = there; is = refl; consumer = refl }
+
+delivers : (shop : Shop) (items : List Item) (p : Purchase) (sale : Sale) (epoid : Epoid) (session : List ℕ) (place : ℕ) → sale_in items p ≡ Some sale → epoid_in sale.progress ≡ Some epoid
+    → DeliversKept (record shop { items = items }) (to.Consumer p.consumer) (goods_message session p.transaction epoid (sealed_for shop.stall shop.products epoid.serial sale.product) place)
+delivers shop items p sale epoid session place there identifier =
+    record { purchase = p; sale = sale; epoid = epoid; session = session; place = place; kept = there; identifier = identifier; is = refl; consumer = refl }
+
 endorses : (shop : Shop) (items : List Item) (p : Purchase) (sale : Sale) (epoid : Epoid) (order : List ℕ) → sale_in items p ≡ Some sale → sale.progress ≡ progress.Endorsed epoid order
-    → EndorsesKept (record shop { items = items }) (endorsed_message shop.stall epoid order)
-endorses shop items p sale epoid order there is = record { purchase = p; sale = sale; epoid = epoid; order = order; kept = there; endorsed = is; is = refl }
+    → EndorsesKept (record shop { items = items }) to.Server (endorsed_message shop.stall epoid order)
+endorses shop items p sale epoid order there is = record { purchase = p; sale = sale; epoid = epoid; order = order; kept = there; endorsed = is; is = refl; house = refl }
 
 passes : (shop : Shop) (items : List Item) (p : Purchase) (sale : Sale) (epoid : Epoid) (order part : List ℕ) → sale_in items p ≡ Some sale → sale.progress ≡ progress.Settled epoid order part
     → PassesKept (record shop { items = items }) (table.to_consumer p.consumer) p.transaction part
@@ -105,18 +114,23 @@ unfolding table.first_quote
 first_quote_follows shop session consumer r a none e =
     let price = inside (table.price_of (product_in shop.products r.product)) _ a e in
     let known : is_some (product_in shop.products r.product) ≡ true = price_given (product_in shop.products r.product) price.0 price.1 in
-    subst (Follows shop) (answer_is _ a price.2) (rw (none, known) refl, quote_short session _)
+    let p = table.purchase_by consumer r.transaction in
+    let x = item.Quoted p r.product price.0 (request_digest r) in
+    subst (Follows shop) (answer_is _ a price.2)
+    (rw (none, known) refl, quotes shop (shop.items ++ x ∷ []) p (record { product = r.product; price = price.0; request = request_digest r; progress = progress.Quoted }) session (behind_item shop x None none))
 
-quote_again_follows : (shop : Shop) (session : List ℕ) (consumer : PartyId) (r : PriceRequest) (sale : Sale) (a : Answer) → table.quote_again session consumer r sale ≡ Ok a → Follows shop a
+quote_again_follows : (shop : Shop) (session : List ℕ) (consumer : PartyId) (r : PriceRequest) (sale : Sale) (a : Answer) → sale_in shop.items (table.purchase_by consumer r.transaction) ≡ Some sale
+    → table.quote_again session consumer r sale ≡ Ok a → Follows shop a
 unfolding table.quote_again
-quote_again_follows shop session consumer r sale a e =
+quote_again_follows shop session consumer r sale a there e =
+    let p = table.purchase_by consumer r.transaction in
     let same = inside (field 1 (bytes_eq (request_digest r) sale.request)) _ a e in
-    subst (Follows shop) (answer_is _ a same.2) (tt, quote_short session _)
+    subst (Follows shop) (answer_is _ a same.2) (tt, quotes shop (shop.items ++ []) p sale session (behind_none shop p sale there))
 
 quoted_follows : (shop : Shop) (session : List ℕ) (consumer : PartyId) (r : PriceRequest) (o : Option Sale) (a : Answer) → sale_in shop.items (table.purchase_by consumer r.transaction) ≡ o
     → table.quoted shop.products session consumer r o ≡ Ok a → Follows shop a
 quoted_follows shop session consumer r None a is e = first_quote_follows shop session consumer r a is e
-quoted_follows shop session consumer r (Some sale) a is e = quote_again_follows shop session consumer r sale a e
+quoted_follows shop session consumer r (Some sale) a is e = quote_again_follows shop session consumer r sale a is e
 
 price_follows : (shop : Shop) (ticket sealed : List ℕ) (moment : ℕ) (a : Answer) → table.price_asked shop ticket sealed moment ≡ Ok a → Follows shop a
 unfolding table.price_asked
@@ -149,13 +163,22 @@ first_part_follows shop session consumer r sale moment a there before e =
     let quoted : delivery_follows shop.stall goods (next_serial shop.items) order checksum progress.Quoted ≡ true =
     all_true (eq-eqb shop.stall.id.0 shop.stall.id.0 refl) (eq-eqb serial.0 (next_serial shop.items) next) fits (bytes_same checksum) in
     let now : test sale ≡ true = subst (λ (b : Progress). delivery_follows shop.stall goods (next_serial shop.items) order checksum b ≡ true) (sym before) quoted in
-    subst (Follows shop) (answer_is _ a serial.2) (of_there test (sale_in shop.items (table.purchase_by consumer r.transaction)) sale there now, goods_short session r.transaction order (sealed_for shop.stall shop.products serial.0 sale.product) 0)
+    let p = table.purchase_by consumer r.transaction in
+    let x = item.Delivered p order checksum in
+    let after : sale_in (shop.items ++ x ∷ []) p ≡ Some (record sale { progress = progressed sale.progress x }) = behind_item shop x (Some sale) there in
+    let identifier : epoid_in (progressed sale.progress x) ≡ Some order = ap (λ (b : Progress). epoid_in (progressed b x)) before in
+    subst (Follows shop) (answer_is _ a serial.2)
+    (of_there test (sale_in shop.items p) sale there now, delivers shop (shop.items ++ x ∷ []) p (record sale { progress = progressed sale.progress x }) order session 0 after identifier)
 
-part_again_follows : (shop : Shop) (key goods session : List ℕ) (consumer : PartyId) (r : GoodsRequest) (epoid : Epoid) (a : Answer) → table.part_again key goods session consumer r epoid ≡ Ok a → Follows shop a
+part_again_follows : (shop : Shop) (session : List ℕ) (consumer : PartyId) (r : GoodsRequest) (sale : Sale) (epoid : Epoid) (a : Answer) → sale_in shop.items (table.purchase_by consumer r.transaction) ≡ Some sale
+    → epoid_in sale.progress ≡ Some epoid → table.part_again (key_of shop.stall epoid.serial) (goods_in shop.products sale.product) session consumer r epoid ≡ Ok a → Follows shop a
 unfolding table.part_again
-part_again_follows shop key goods session consumer r epoid a e =
+part_again_follows shop session consumer r sale epoid a there identifier e =
+    let p = table.purchase_by consumer r.transaction in
+    let key = key_of shop.stall epoid.serial in
+    let goods = goods_in shop.products sale.product in
     let starts = inside (field 1 (r.place % PART_BYTES == 0 && nat_lt r.place (length (sealed_goods key goods)))) _ a e in
-    subst (Follows shop) (answer_is _ a starts.2) (tt, goods_short session r.transaction epoid (sealed_goods key goods) r.place)
+    subst (Follows shop) (answer_is _ a starts.2) (tt, delivers shop (shop.items ++ []) p sale epoid session r.place (behind_none shop p sale there) identifier)
 
 delivered_follows : (shop : Shop) (session : List ℕ) (consumer : PartyId) (r : GoodsRequest) (sale : Sale) (moment : ℕ) (a : Answer) → sale_in shop.items (table.purchase_by consumer r.transaction) ≡ Some sale
     → table.delivered shop session consumer r sale moment (epoid_in sale.progress) ≡ Ok a → Follows shop a
@@ -163,9 +186,9 @@ delivered_follows shop session consumer r sale moment a there e = by sale.progre
   where
     by : (before : Progress) → sale.progress ≡ before → table.delivered shop session consumer r sale moment (epoid_in before) ≡ Ok a → Follows shop a
     by progress.Quoted is e = first_part_follows shop session consumer r sale moment a there is e
-    by (progress.Delivered order) is e = part_again_follows shop (key_of shop.stall order.serial) (goods_in shop.products sale.product) session consumer r order a e
-    by (progress.Endorsed order kept) is e = part_again_follows shop (key_of shop.stall order.serial) (goods_in shop.products sale.product) session consumer r order a e
-    by (progress.Settled order kept part) is e = part_again_follows shop (key_of shop.stall order.serial) (goods_in shop.products sale.product) session consumer r order a e
+    by (progress.Delivered order) is e = part_again_follows shop session consumer r sale order a there (ap epoid_in is) e
+    by (progress.Endorsed order kept) is e = part_again_follows shop session consumer r sale order a there (ap epoid_in is) e
+    by (progress.Settled order kept part) is e = part_again_follows shop session consumer r sale order a there (ap epoid_in is) e
 
 goods_follows : (shop : Shop) (ticket sealed : List ℕ) (moment : ℕ) (a : Answer) → table.goods_asked shop ticket sealed moment ≡ Ok a → Follows shop a
 unfolding table.goods_asked

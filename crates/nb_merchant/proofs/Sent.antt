@@ -37,11 +37,11 @@ use Rattle.nb_units.specs.declared.limits.TheConstants.{MAX_ORDER}
 use Rattle.nb_msgs.specs.Bodies.{MessageKeepsRules}
 use Rattle.nb_stall.specs.declared.limits.TheConstants.{MAX_PART}
 use Rattle.nb_stall.specs.Spelling.{IsItem}
-use Rattle.nb_stall.proofs.Lengths.{endorsement_short}
+use Rattle.nb_stall.proofs.Lengths.{quote_short, goods_short, endorsement_short}
 use Rattle.nb_stall.specs.Reading.{purchase_of}
 use Rattle.nb_stall.specs.Sales.{is_same, is_same_epoid, progressed, moved, told, sale_in, next_serial}
 use Rattle.nb_merchant.specs.Shop.{Shop, new_shop, with_item, goods_of, goods_in, sealed_for}
-use Rattle.nb_stall.specs.Messages.{key_of}
+use Rattle.nb_stall.specs.Messages.{key_of, endorsement_for}
 use Rattle.nb_stall.specs.Tests.{field, or_seal}
 use Rattle.nb_merchant.specs.Table as table
 use Rattle.nb_merchant.specs.Keeping.{delivery_follows, order_follows, result_follows, of_sale, follows, all_follow, IsKept}
@@ -199,8 +199,8 @@ product_is : (o : Option Product) → is_some o ≡ true → (product : Product)
 product_is None is = absurd (false≢true is)
 product_is (Some product) is = (product, refl)
 
-endorses_so : (shop : Shop) (m : Message) → IsKept shop → EndorsesKept shop m → Endorses shop m
-endorses_so shop m kept sent =
+endorses_so : (shop : Shop) (whom : To) (m : Message) → IsKept shop → EndorsesKept shop whom m → Endorses shop whom m
+endorses_so shop whom m kept sent =
     let of_it = subst (λ (o : Option Sale). IfSome o (SaleIs shop.stall shop.products sent.purchase)) sent.kept (sales_are shop kept sent.purchase) in
     let fits : IsOrderFor shop.stall shop.products sent.purchase sent.sale.product sent.sale.price sent.sale.request sent.epoid sent.order =
     (subst (ProgressIs shop.stall shop.products sent.purchase sent.sale.product sent.sale.price sent.sale.request) sent.endorsed of_it.1).0 in
@@ -208,6 +208,12 @@ endorses_so shop m kept sent =
     let key = key_of shop.stall sent.epoid.serial in
     record {
       sent = sent;
+      endorsement = endorsement_for shop.stall sent.epoid sent.order;
+      sealed = sent.is;
+      of_order = refl;
+      to_account = refl;
+      no_memo = refl;
+      of_serial = refl;
       fits = fits;
       product = there.0;
       sold = there.1;
@@ -215,8 +221,8 @@ endorses_so shop m kept sent =
           subst (λ (goods : List ℕ). OpensOrCollides key goods bytes) (ap goods_of there.1) (right_checksum key (goods_in shop.products sent.sale.product) bytes (same ∙ fits.checksum));
     }
 
-order_short : (shop : Shop) (m : Message) → IsKept shop → (sent : EndorsesKept shop m) → length sent.order ≤ MAX_ORDER
-order_short shop m kept sent =
+order_short : (shop : Shop) (whom : To) (m : Message) → IsKept shop → (sent : EndorsesKept shop whom m) → length sent.order ≤ MAX_ORDER
+order_short shop whom m kept sent =
     let of_it = subst (λ (o : Option Sale). IfSome o (SaleIs shop.stall shop.products sent.purchase)) sent.kept (sales_are shop kept sent.purchase) in
     (subst (ProgressIs shop.stall shop.products sent.purchase sent.sale.product sent.sale.price sent.sale.request) sent.endorsed of_it.1).1
 
@@ -226,9 +232,11 @@ part_short shop whom transaction part kept sent =
     (subst (ProgressIs shop.stall shop.products sent.purchase sent.sale.product sent.sale.price sent.sale.request) sent.settled of_it.1).2
 
 message_is : (shop : Shop) (whom : To) (m : Message) → IsKept shop → SentSo shop whom m → MessageIs shop whom m × MessageKeepsRules m
-message_is shop whom (message.Quote transaction sealed) kept sent = (tt, sent)
-message_is shop whom (message.Goods transaction head part) kept sent = (tt, sent)
-message_is shop whom (message.Endorsed merchant sealed) kept sent = (endorses_so shop (message.Endorsed merchant sealed) kept sent, subst MessageKeepsRules (sym sent.is) (endorsement_short shop.stall sent.epoid sent.order (order_short shop (message.Endorsed merchant sealed) kept sent)))
+message_is shop whom (message.Quote transaction sealed) kept sent =
+    (sent, subst MessageKeepsRules (sym sent.is) (quote_short sent.session (record { transaction = sent.purchase.transaction; product = sent.sale.product; price = sent.sale.price })))
+message_is shop whom (message.Goods transaction head part) kept sent =
+    (sent, subst MessageKeepsRules (sym sent.is) (goods_short sent.session sent.purchase.transaction sent.epoid (sealed_for shop.stall shop.products sent.epoid.serial sent.sale.product) sent.place))
+message_is shop whom (message.Endorsed merchant sealed) kept sent = (endorses_so shop whom (message.Endorsed merchant sealed) kept sent, subst MessageKeepsRules (sym sent.is) (endorsement_short shop.stall sent.epoid sent.order (order_short shop whom (message.Endorsed merchant sealed) kept sent)))
 message_is shop whom (message.Passed transaction part) kept sent = (sent, part_short shop whom transaction part kept sent)
 message_is shop whom other kept sent = absurd sent
 

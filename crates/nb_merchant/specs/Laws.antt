@@ -47,6 +47,10 @@ RunsAreKept = (stall : Stall) (products : List Product) (events : List Event) �
 abbrev pub SerialsFollow : Type 0
 SerialsFollow = (shop : Shop) → IsKept shop → (i : ℕ) (d : Delivery) → slice_get (deliveries_in shop.items) i ≡ Some d → (d.epoid.serial ≡ i + 1) × (d.epoid.merchant ≡ shop.stall.id)
 
+-- no two places have one identifier
+abbrev pub IdentifiersDiffer : Type 0
+IdentifiersDiffer = (shop : Shop) → IsKept shop → (i j : ℕ) (d e : Delivery) → slice_get (deliveries_in shop.items) i ≡ Some d → slice_get (deliveries_in shop.items) j ≡ Some e → d.epoid ≡ e.epoid → i ≡ j
+
 -- the same products are there, with the same goods
 abbrev pub SameGoods : List Product → List Product → Type 0
 SameGoods products others = (id : ℕ) → (is_some (product_in others id) ≡ is_some (product_in products id)) × (goods_in others id ≡ goods_in products id)

@@ -18,6 +18,11 @@ pub fn serials_follow()
     ensures { law.SerialsFollow }
 {}
 
+/// A law: no two of them have one identifier.
+pub fn identifiers_differ()
+    ensures { law.IdentifiersDiffer }
+{}
+
 /// A law: a restart with another catalogue that has the same products with the same goods, at whatever prices, takes up the same items.
 pub fn prices_may_change()
     ensures { law.PricesMayChange }
