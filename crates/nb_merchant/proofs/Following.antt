@@ -1,7 +1,7 @@
 -- What rows do, from what they gave.
-use Rattle.std.proofs.Common.{◌≡◌, ℕ, ◌+◌, ◌≤◌, Bool, true, false, cond, ◌==◌, ◌&&◌, List, [], ◌∷◌, ◌++◌, length, codes, Option, Some, None, IfSome, option_map, Result, Ok, Err, IfOk, refl, sym, ap, subst, ◌∙◌, append-nil, arith}
-use Rattle.std.proofs.lemmas.Bool.{false≢true, eq-eqb}
-use Rattle.std.specs.Prelude.{◌%◌, is_some, is_none, nat_le, nat_lt}
+use Rattle.std.proofs.Common.{◌≡◌, ℕ, Bool, true, false, cond, ◌==◌, ◌&&◌, List, [], ◌∷◌, ◌++◌, length, codes, Option, Some, None, IfSome, Result, Ok, Err, IfOk, refl, sym, ap, subst, ◌∙◌, append-nil}
+use Rattle.std.proofs.lemmas.Bool.{eq-eqb}
+use Rattle.std.specs.Prelude.{◌%◌, is_some, nat_le, nat_lt}
 use Rattle.std.proofs.lemmas.Slice.Eq.{bytes_eq-Decides}
 use Rattle.std.specs.Result.{is_ok}
 use Rattle.std.specs.Str.{bytes_eq}
@@ -22,27 +22,26 @@ use Rattle.nb_msgs.specs.declared.message.Message.{Message}
 use Rattle.nb_msgs.specs.declared.message.Message.TheVariants as message
 use Rattle.nb_msgs.specs.declared.node.Reason.{Reason}
 use Rattle.nb_msgs.specs.declared.node.Reason.TheVariants as reason
-use Rattle.nb_merchant.specs.declared.limits.TheConstants.{LAST_SERIAL}
-use Rattle.nb_merchant.specs.declared.purchase.Purchase.{Purchase}
-use Rattle.nb_merchant.specs.declared.stall.Stall.{Stall}
-use Rattle.nb_merchant.specs.declared.item.Item.{Item}
-use Rattle.nb_merchant.specs.declared.item.Item.TheVariants as item
-use Rattle.nb_merchant.specs.declared.sale.Progress.{Progress}
-use Rattle.nb_merchant.specs.declared.sale.Progress.TheVariants as progress
-use Rattle.nb_merchant.specs.declared.sale.Sale.{Sale}
+use Rattle.nb_stall.specs.declared.limits.TheConstants.{LAST_SERIAL}
+use Rattle.nb_stall.specs.declared.purchase.Purchase.{Purchase}
+use Rattle.nb_stall.specs.declared.item.Item.{Item}
+use Rattle.nb_stall.specs.declared.item.Item.TheVariants as item
+use Rattle.nb_stall.specs.declared.sale.Progress.{Progress}
+use Rattle.nb_stall.specs.declared.sale.Progress.TheVariants as progress
+use Rattle.nb_stall.specs.declared.sale.Sale.{Sale}
 use Rattle.nb_merchant.specs.declared.answer.Answer.{Answer}
 use Rattle.nb_merchant.specs.declared.answer.Planned.{Planned}
 use Rattle.nb_merchant.specs.declared.answer.Halt.{Halt}
 use Rattle.nb_merchant.specs.Telling.{Plans}
-use Rattle.nb_merchant.specs.Reading.{purchase_of}
+use Rattle.nb_stall.specs.Reading.{purchase_of}
 use Rattle.nb_merchant.specs.Sending.{SentSo, EndorsesKept, PassesKept}
-use Rattle.nb_merchant.specs.Messages.{endorsed_message}
-use Rattle.nb_merchant.proofs.Lengths.{quote_short, goods_short}
+use Rattle.nb_stall.specs.Messages.{key_of, endorsed_message}
+use Rattle.nb_stall.proofs.Lengths.{quote_short, goods_short}
 use Rattle.nb_merchant.proofs.Keeping.{sale_from_more}
-use Rattle.nb_merchant.proofs.Noting.{same_purchase}
-use Rattle.nb_merchant.specs.Sales.{moved, progressed, sale_in, epoid_in, deliveries_in, sold_as, next_serial}
-use Rattle.nb_merchant.specs.Shop.{Shop, goods_in, key_of, sealed_for}
-use Rattle.nb_merchant.specs.Tests.{field, found, opened, ticket_in}
+use Rattle.nb_stall.proofs.Noting.{same_purchase}
+use Rattle.nb_stall.specs.Sales.{moved, progressed, sale_in, epoid_in, deliveries_in, sold_as, next_serial}
+use Rattle.nb_merchant.specs.Shop.{Shop, goods_in, sealed_for}
+use Rattle.nb_stall.specs.Tests.{field, found, opened, ticket_in, request_digest}
 use Rattle.nb_merchant.specs.Table as table
 use Rattle.nb_merchant.specs.Keeping.{delivery_follows, order_follows, result_follows, of_sale, follows}
 
@@ -111,7 +110,7 @@ first_quote_follows shop session consumer r a none e =
 quote_again_follows : (shop : Shop) (session : List ℕ) (consumer : PartyId) (r : PriceRequest) (sale : Sale) (a : Answer) → table.quote_again session consumer r sale ≡ Ok a → Follows shop a
 unfolding table.quote_again
 quote_again_follows shop session consumer r sale a e =
-    let same = inside (field 1 (bytes_eq (table.request_digest r) sale.request)) _ a e in
+    let same = inside (field 1 (bytes_eq (request_digest r) sale.request)) _ a e in
     subst (Follows shop) (answer_is _ a same.2) (tt, quote_short session _)
 
 quoted_follows : (shop : Shop) (session : List ℕ) (consumer : PartyId) (r : PriceRequest) (o : Option Sale) (a : Answer) → sale_in shop.items (table.purchase_by consumer r.transaction) ≡ o

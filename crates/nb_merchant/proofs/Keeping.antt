@@ -1,5 +1,5 @@
 -- What was kept, with an item more.
-use Rattle.std.proofs.Common.{◌≡◌, ℕ, Bool, true, false, cond, ◌&&◌, List, [], ◌∷◌, ◌++◌, Option, Some, None, option_map, Result, Ok, Err, IfOk, refl, sym, ap, subst, ◌∙◌, append_assoc, append-nil, arith}
+use Rattle.std.proofs.Common.{◌≡◌, ℕ, Bool, true, false, ◌&&◌, List, [], ◌∷◌, ◌++◌, Option, Some, None, option_map, Result, Ok, Err, IfOk, refl, sym, ap, subst, ◌∙◌, append_assoc, append-nil}
 use Rattle.std.proofs.lemmas.Bool.{false≢true}
 use Rattle.std.specs.List.{AllByRecursion}
 use Rattle.std.specs.Prelude.{is_some, is_none, IfSome}
@@ -9,26 +9,28 @@ use Rattle.nb_goods.specs.Divided.{Divided}
 use Rattle.nb_units.specs.declared.epoid.Epoid.{Epoid}
 use Rattle.nb_units.specs.declared.ids.Price.{Price}
 use Rattle.nb_price.specs.Products.{Product, product_in}
-use Rattle.nb_merchant.specs.declared.delivery.Delivery.{Delivery}
-use Rattle.nb_merchant.specs.declared.purchase.Purchase.{Purchase}
-use Rattle.nb_merchant.specs.declared.stall.Stall.{Stall}
-use Rattle.nb_merchant.specs.declared.item.Item.{Item}
-use Rattle.nb_merchant.specs.declared.item.Item.TheVariants as item
-use Rattle.nb_merchant.specs.declared.sale.Progress.{Progress}
-use Rattle.nb_merchant.specs.declared.sale.Progress.TheVariants as progress
-use Rattle.nb_merchant.specs.declared.sale.Sale.{Sale}
-use Rattle.nb_merchant.specs.declared.sale.Held.{Held}
-use Rattle.nb_merchant.specs.Spelling.{IsItem}
-use Rattle.nb_merchant.specs.Reading.{purchase_of}
-use Rattle.nb_merchant.specs.Sales.{is_same, progressed, moved, told, sale_from, sale_in, deliveries_in, next_serial}
+use Rattle.nb_stall.specs.declared.delivery.Delivery.{Delivery}
+use Rattle.nb_stall.specs.declared.purchase.Purchase.{Purchase}
+use Rattle.nb_stall.specs.declared.stall.Stall.{Stall}
+use Rattle.nb_stall.specs.declared.item.Item.{Item}
+use Rattle.nb_stall.specs.declared.item.Item.TheVariants as item
+use Rattle.nb_stall.specs.declared.sale.Progress.{Progress}
+use Rattle.nb_stall.specs.declared.sale.Progress.TheVariants as progress
+use Rattle.nb_stall.specs.declared.sale.Sale.{Sale}
+use Rattle.nb_stall.specs.declared.sale.Held.{Held}
+use Rattle.nb_stall.specs.Spelling.{IsItem}
+use Rattle.nb_stall.specs.Reading.{purchase_of}
+use Rattle.nb_stall.specs.Sales.{is_same, progressed, moved, told, sale_from, sale_in, deliveries_in, next_serial}
 use Rattle.nb_goods.specs.Parts.{parts_of}
-use Rattle.nb_msgs.specs.declared.node.Reason.{Reason}
 use Rattle.nb_merchant.specs.declared.answer.Planned.{Planned}
 use Rattle.nb_merchant.specs.declared.answer.Halt.{Halt}
-use Rattle.nb_merchant.specs.Shop.{Shop, goods_in, key_of, new_shop, with_item}
+use Rattle.nb_merchant.specs.Shop.{Shop, goods_in, new_shop, with_item}
+use Rattle.nb_stall.specs.Messages.{key_of}
 use Rattle.nb_merchant.specs.Keeping.{delivery_follows, of_sale, follows, all_follow, IsKept}
-use Rattle.nb_merchant.specs.Noting.{parts_for, held_of, noted, noted_at, goods_held, PartsOf, HasParts, PlansParts, SealsFor, IsPlain, PlansPlain, Holds}
-use Rattle.nb_merchant.proofs.Noting.{one_purchase}
+use Rattle.nb_stall.specs.Ledger.{noted, noted_at}
+use Rattle.nb_merchant.specs.Noting.{parts_for, held_of, goods_held, PartsOf, HasParts, PlansParts, SealsFor, IsPlain, PlansPlain, Holds}
+use Rattle.nb_stall.proofs.Noting.{one_purchase}
+use Rattle.nb_stall.proofs.Serials.{both_true}
 
 -- ---- searches of a list with an item more
 
@@ -44,10 +46,6 @@ deliveries_more (item.Endorsed p order ∷ items) x = deliveries_more items x
 deliveries_more (item.Settled p part ∷ items) x = deliveries_more items x
 
 -- ---- the rule of a restart
-
-pub both_true : (a b : Bool) → (a && b) ≡ true → (a ≡ true) × (b ≡ true)
-both_true true b e = (refl, e)
-both_true false b e = absurd (false≢true e)
 
 pub follow_more : (start : Shop) (items : List Item) (x : Item) → all_follow start items ≡ true → follows (record start { items = start.items ++ items }) x ≡ true → all_follow start (items ++ x ∷ []) ≡ true
 follow_more start [] x all next =

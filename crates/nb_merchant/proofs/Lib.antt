@@ -1,8 +1,4 @@
-pub mod Layouts
-pub mod Unsealing
-pub mod Noting
 pub mod Keeping
-pub mod Lengths
 pub mod Following
 pub mod Serials
 pub mod Sent

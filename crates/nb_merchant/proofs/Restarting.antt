@@ -1,31 +1,32 @@
 -- Restarts over what was kept, and runs.
-use Rattle.std.proofs.Common.{◌≡◌, ℕ, ◌+◌, Bool, true, false, cond, ◌==◌, ◌&&◌, List, [], ◌∷◌, ◌++◌, length, map, Option, Some, None, IfSome, Result, Ok, Err, refl, sym, ap, subst, ◌∙◌, append_assoc, append-nil, arith}
-use Rattle.std.specs.Prelude.{is_some, is_none}
+use Rattle.std.proofs.Common.{◌≡◌, ℕ, ◌+◌, Bool, true, ◌&&◌, List, [], ◌∷◌, ◌++◌, map, Option, Some, None, IfSome, Result, Ok, Err, refl, sym, ap, subst, ◌∙◌, append_assoc, append-nil}
+use Rattle.std.specs.Prelude.{is_none}
 use Rattle.std.specs.Result.{is_ok}
 use Rattle.std.specs.List.{AllByRecursion}
 use Rattle.sha2.specs.Sha256.{sha256}
 use Rattle.nb_units.specs.declared.epoid.Epoid.{Epoid}
 use Rattle.nb_goods.specs.Goods.{sealed_goods}
-use Rattle.nb_price.specs.Products.{Product, product_in}
+use Rattle.nb_price.specs.Products.{Product}
 use Rattle.nb_msgs.specs.declared.node.Reason.{Reason}
 use Rattle.nb_merchant.specs.declared.answer.Answer.{Answer}
-use Rattle.nb_merchant.specs.declared.stall.Stall.{Stall}
-use Rattle.nb_merchant.specs.declared.purchase.Purchase.{Purchase}
-use Rattle.nb_merchant.specs.declared.item.Item.{Item}
-use Rattle.nb_merchant.specs.declared.item.Item.TheVariants as item
-use Rattle.nb_merchant.specs.declared.sale.Progress.{Progress}
-use Rattle.nb_merchant.specs.declared.sale.Progress.TheVariants as progress
-use Rattle.nb_merchant.specs.declared.sale.Sale.{Sale}
-use Rattle.nb_merchant.specs.Spelling.{IsItem, item_bytes}
-use Rattle.nb_merchant.specs.Reading.{item_of}
-use Rattle.nb_merchant.specs.Sales.{sale_in, next_serial}
-use Rattle.nb_merchant.specs.Shop.{Shop, new_shop, with_item, goods_in, key_of, sealed_for}
-use Rattle.nb_merchant.specs.Table.{after, listed, heard, heard_of_house, silent, order_taken}
+use Rattle.nb_stall.specs.declared.purchase.Purchase.{Purchase}
+use Rattle.nb_stall.specs.declared.item.Item.{Item}
+use Rattle.nb_stall.specs.declared.item.Item.TheVariants as item
+use Rattle.nb_stall.specs.declared.sale.Progress.{Progress}
+use Rattle.nb_stall.specs.declared.sale.Progress.TheVariants as progress
+use Rattle.nb_stall.specs.declared.sale.Sale.{Sale}
+use Rattle.nb_stall.specs.Spelling.{IsItem, item_bytes}
+use Rattle.nb_stall.specs.Reading.{item_of}
+use Rattle.nb_stall.specs.Sales.{sale_in, next_serial}
+use Rattle.nb_merchant.specs.Shop.{Shop, new_shop, with_item, goods_in}
+use Rattle.nb_stall.specs.Messages.{key_of}
+use Rattle.nb_merchant.specs.Table.{after, listed, order_taken}
 use Rattle.nb_merchant.specs.Keeping.{delivery_follows, order_follows, of_sale, follows, all_follow, taken_up, or_bad, restarted, IsKept}
 use Rattle.nb_merchant.specs.Laws.{RestartGivesBack, Event, done_at, run, RunsAreKept, SameGoods, PricesMayChange}
 use Rattle.nb_merchant.specs.Laws.Event.{OfConsumer, OfHouse, Nothing}
-use Rattle.nb_merchant.proofs.Layouts.{item_reads_back}
-use Rattle.nb_merchant.proofs.Keeping.{both_true, follow_more}
+use Rattle.nb_stall.proofs.Layouts.{item_reads_back}
+use Rattle.nb_stall.proofs.Serials.{both_true}
+use Rattle.nb_merchant.proofs.Keeping.{follow_more}
 use Rattle.nb_merchant.proofs.Following.{Follows, heard_follows, heard_of_house_follows, silence_follows}
 
 -- ---- a restart over what was kept

@@ -1,19 +1,17 @@
 -- What was sent, over what was kept.
-use Rattle.std.proofs.Common.{◌≡◌, ℕ, ◌≤◌, length, Bool, true, false, cond, ◌==◌, ◌&&◌, List, [], ◌∷◌, ◌++◌, Option, Some, None, IfSome, Result, Ok, Err, IfOk, OnOk, refl, sym, ap, subst, ◌∙◌, append_assoc, append-nil, arith}
+use Rattle.std.proofs.Common.{◌≡◌, ℕ, ◌≤◌, length, Bool, true, false, ◌==◌, ◌&&◌, List, [], ◌∷◌, ◌++◌, Option, Some, None, IfSome, Result, Ok, Err, IfOk, OnOk, refl, sym, ap, subst, ◌∙◌, append_assoc, append-nil}
 use Rattle.std.proofs.lemmas.Bool.{eqb-true, false≢true}
 use Rattle.std.proofs.lemmas.Slice.Eq.{bytes_eq-Decides}
 use Rattle.std.specs.Prelude.{is_some, is_none}
 use Rattle.std.specs.Result.{is_ok}
 use Rattle.std.specs.Str.{bytes_eq}
 use Rattle.sha2.specs.Sha256.{sha256}
-use Rattle.nb_units.specs.Fields.{◌>>=◌}
 use Rattle.nb_units.specs.declared.memory.NoMemory.{NoMemory}
 use Rattle.nb_units.specs.declared.epoid.Epoid.{Epoid}
 use Rattle.nb_units.specs.declared.ids.PartyId.{PartyId}
 use Rattle.nb_units.specs.declared.ids.Price.{Price}
 use Rattle.nb_epo.specs.declared.order.Order.{Order}
 use Rattle.nb_epo.specs.Reading.{order_of}
-use Rattle.nb_epo.specs.Places.{checksum_in}
 use Rattle.nb_epo.proofs.Placing.{checksum_is_read}
 use Rattle.nb_goods.proofs.Sealing.{right_checksum}
 use Rattle.nb_price.specs.Products.{Product, product_in}
@@ -22,13 +20,13 @@ use Rattle.nb_msgs.specs.declared.message.Message.TheVariants as message
 use Rattle.nb_msgs.specs.declared.node.Reason.{Reason}
 use Rattle.nb_msgs.specs.declared.node.Step.{Step}
 use Rattle.nb_msgs.specs.declared.node.To.{To}
-use Rattle.nb_merchant.specs.declared.purchase.Purchase.{Purchase}
-use Rattle.nb_merchant.specs.declared.stall.Stall.{Stall}
-use Rattle.nb_merchant.specs.declared.item.Item.{Item}
-use Rattle.nb_merchant.specs.declared.item.Item.TheVariants as item
-use Rattle.nb_merchant.specs.declared.sale.Progress.{Progress}
-use Rattle.nb_merchant.specs.declared.sale.Progress.TheVariants as progress
-use Rattle.nb_merchant.specs.declared.sale.Sale.{Sale}
+use Rattle.nb_stall.specs.declared.purchase.Purchase.{Purchase}
+use Rattle.nb_stall.specs.declared.stall.Stall.{Stall}
+use Rattle.nb_stall.specs.declared.item.Item.{Item}
+use Rattle.nb_stall.specs.declared.item.Item.TheVariants as item
+use Rattle.nb_stall.specs.declared.sale.Progress.{Progress}
+use Rattle.nb_stall.specs.declared.sale.Progress.TheVariants as progress
+use Rattle.nb_stall.specs.declared.sale.Sale.{Sale}
 use Rattle.nb_merchant.specs.declared.answer.Answer.{Answer}
 use Rattle.nb_merchant.specs.declared.answer.Planned.{Planned}
 use Rattle.nb_merchant.specs.declared.answer.Halt.{Halt}
@@ -37,18 +35,20 @@ use Rattle.nb_merchant.specs.Telling.{Plans, Performs, performed}
 use Rattle.std.specs.List.{AllByRecursion}
 use Rattle.nb_units.specs.declared.limits.TheConstants.{MAX_ORDER}
 use Rattle.nb_msgs.specs.Bodies.{MessageKeepsRules}
-use Rattle.nb_merchant.specs.declared.limits.TheConstants.{MAX_PART}
-use Rattle.nb_merchant.specs.Spelling.{IsItem}
-use Rattle.nb_merchant.proofs.Lengths.{endorsement_short}
-use Rattle.nb_merchant.specs.Reading.{purchase_of}
-use Rattle.nb_merchant.specs.Sales.{is_same, is_same_epoid, progressed, moved, told, sale_in, next_serial}
-use Rattle.nb_merchant.specs.Shop.{Shop, new_shop, with_item, goods_of, goods_in, key_of, sealed_for}
-use Rattle.nb_merchant.specs.Tests.{field, or_seal}
+use Rattle.nb_stall.specs.declared.limits.TheConstants.{MAX_PART}
+use Rattle.nb_stall.specs.Spelling.{IsItem}
+use Rattle.nb_stall.proofs.Lengths.{endorsement_short}
+use Rattle.nb_stall.specs.Reading.{purchase_of}
+use Rattle.nb_stall.specs.Sales.{is_same, is_same_epoid, progressed, moved, told, sale_in, next_serial}
+use Rattle.nb_merchant.specs.Shop.{Shop, new_shop, with_item, goods_of, goods_in, sealed_for}
+use Rattle.nb_stall.specs.Messages.{key_of}
+use Rattle.nb_stall.specs.Tests.{field, or_seal}
 use Rattle.nb_merchant.specs.Table as table
 use Rattle.nb_merchant.specs.Keeping.{delivery_follows, order_follows, result_follows, of_sale, follows, all_follow, IsKept}
 use Rattle.nb_merchant.specs.Sending.{IsOrderFor, EndorsesKept, PassesKept, Endorses, OpensOrCollides, SentSo, MessageIs, StepIs}
-use Rattle.nb_merchant.proofs.Noting.{one_purchase}
-use Rattle.nb_merchant.proofs.Keeping.{sale_from_more, both_true}
+use Rattle.nb_stall.proofs.Noting.{one_purchase}
+use Rattle.nb_stall.proofs.Serials.{both_true}
+use Rattle.nb_merchant.proofs.Keeping.{sale_from_more}
 use Rattle.nb_merchant.proofs.Following.{Follows, inside, holds}
 
 -- ---- an order that fits

@@ -1,59 +1,27 @@
 -- The goods that were sealed, by their serial numbers.
-use Rattle.std.proofs.Common.{◌≡◌, ℕ, zero, suc, ◌+◌, ◌-◌, ◌<◌, ◌≤◌, Bool, true, false, cond, ◌==◌, ◌&&◌, List, [], ◌∷◌, ◌++◌, length, Option, Some, None, refl, sym, ap, subst, ◌∙◌, arith, length-append}
+use Rattle.std.proofs.Common.{◌≡◌, ℕ, zero, suc, ◌+◌, true, ◌==◌, ◌&&◌, List, [], ◌∷◌, ◌++◌, length, Option, Some, None, refl, ap, subst, arith, length-append}
 use Rattle.std.specs.Prelude.{slice_get, nat_le}
 use Rattle.nb_goods.specs.Divided.{Divided}
 use Rattle.nb_goods.specs.declared.limits.TheConstants.{MAX_GOODS}
-use Rattle.std.proofs.lemmas.Bool.{eqb-true, eqb-false, false≢true}
+use Rattle.std.proofs.lemmas.Bool.{eqb-true, false≢true}
 use Rattle.std.specs.List.{AllByRecursion}
 use Rattle.nb_units.specs.declared.epoid.Epoid.{Epoid}
 use Rattle.nb_units.specs.declared.ids.PartyId.{PartyId}
-use Rattle.nb_merchant.specs.declared.delivery.Delivery.{Delivery}
-use Rattle.nb_merchant.specs.declared.purchase.Purchase.{Purchase}
-use Rattle.nb_merchant.specs.declared.item.Item.{Item}
-use Rattle.nb_merchant.specs.declared.item.Item.TheVariants as item
-use Rattle.nb_merchant.specs.declared.sale.Progress.{Progress}
-use Rattle.nb_merchant.specs.declared.sale.Progress.TheVariants as progress
-use Rattle.nb_merchant.specs.declared.sale.Sale.{Sale}
-use Rattle.nb_merchant.specs.Sales.{is_same_epoid, sale_in, deliveries_in, sold_as, next_serial}
+use Rattle.nb_stall.specs.declared.delivery.Delivery.{Delivery}
+use Rattle.nb_stall.specs.declared.purchase.Purchase.{Purchase}
+use Rattle.nb_stall.specs.declared.item.Item.{Item}
+use Rattle.nb_stall.specs.declared.item.Item.TheVariants as item
+use Rattle.nb_stall.specs.declared.sale.Progress.{Progress}
+use Rattle.nb_stall.specs.declared.sale.Progress.TheVariants as progress
+use Rattle.nb_stall.specs.declared.sale.Sale.{Sale}
+use Rattle.nb_stall.specs.Sales.{sale_in, deliveries_in, next_serial}
 use Rattle.nb_merchant.specs.Laws.{SerialsFollow}
 use Rattle.nb_merchant.specs.Shop.{Shop, new_shop, goods_in, with_item}
 use Rattle.nb_merchant.specs.Keeping.{delivery_follows, of_sale, follows, all_follow}
-use Rattle.nb_merchant.specs.Noting.{serials_from, given_as, SealsAs, SealsNext}
-use Rattle.nb_merchant.proofs.Keeping.{deliveries_more, both_true}
-
--- ---- a look-up by the serial number
-
-not_same : (a b : Epoid) → is_same_epoid a b ≡ true → a.serial ≡ b.serial
-not_same a b is = eqb-true a.serial b.serial (both_true (a.merchant.0 == b.merchant.0 && a.moment == b.moment) (a.serial == b.serial) is).1
-
-differ : (a b : Epoid) → (a.serial ≡ b.serial → ⊥) → is_same_epoid a b ≡ false
-differ a b apart = by (is_same_epoid a b) refl
-  where
-    by : (same : Bool) → is_same_epoid a b ≡ same → same ≡ false
-    by true is = absurd (apart (not_same a b is))
-    by false is = refl
-
--- a number before the first is none's
-pub before_first : (n : ℕ) (ds : List Delivery) (e : Epoid) → serials_from n ds → e.serial < n → sold_as ds e ≡ None
-before_first n [] e s less = refl
-before_first n (d ∷ ds) e s less =
-    ap (λ (b : Bool). cond b (Some d.purchase) (sold_as ds e)) (differ d.epoid e (λ same. omega (arith, same, s.0, less)))
-    ∙ before_first (n + 1) ds e s.1 (omega (arith, less))
-
-pub by_serial : (n : ℕ) (ds : List Delivery) (e : Epoid) → serials_from n ds → n ≤ e.serial → sold_as ds e ≡ given_as (slice_get ds (e.serial - n)) e
-by_serial n [] e s most = refl
-by_serial n (d ∷ ds) e s most = by (by_serial (n + 1) ds e s.1) (e.serial == n) refl
-  where
-    by : (n + 1 ≤ e.serial → sold_as ds e ≡ given_as (slice_get ds (e.serial - (n + 1))) e) → (first : Bool) → (e.serial == n) ≡ first → sold_as (d ∷ ds) e ≡ given_as (slice_get (d ∷ ds) (e.serial - n)) e
-    by rest true is =
-        let here : e.serial - n ≡ 0 = omega (arith, eqb-true e.serial n is) in
-        let behind : sold_as ds e ≡ None = before_first (n + 1) ds e s.1 (omega (arith, eqb-true e.serial n is)) in
-        rw (here, behind) refl
-    by rest false is =
-        let more : n + 1 ≤ e.serial = omega (arith, most, eqb-false e.serial n is) in
-        let place : e.serial - n ≡ suc (e.serial - (n + 1)) = omega (arith, more) in
-        ap (λ (b : Bool). cond b (Some d.purchase) (sold_as ds e)) (differ d.epoid e (λ same. eqb-false e.serial n is (sym same ∙ s.0)))
-        ∙ rest more ∙ sym (ap (λ (i : ℕ). given_as (slice_get (d ∷ ds) i) e) place)
+use Rattle.nb_stall.specs.Ledger.{serials_from}
+use Rattle.nb_merchant.specs.Noting.{SealsAs, SealsNext}
+use Rattle.nb_stall.proofs.Serials.{both_true}
+use Rattle.nb_merchant.proofs.Keeping.{deliveries_more}
 
 -- ---- what was kept
 

@@ -4,22 +4,22 @@ use Rattle.std.specs.Result.{is_ok}
 use Rattle.std.specs.Str.{bytes_eq}
 use Rattle.std.specs.List.{AllByRecursion}
 use Rattle.sha2.specs.Sha256.{sha256}
-use Rattle.nb_units.specs.Fields.{◌>>=◌}
 use Rattle.nb_units.specs.declared.epoid.Epoid.{Epoid}
 use Rattle.nb_goods.specs.declared.limits.TheConstants.{MAX_GOODS}
 use Rattle.nb_goods.specs.Goods.{sealed_goods}
-use Rattle.nb_price.specs.Products.{Product, product_in}
-use Rattle.nb_merchant.specs.declared.purchase.Purchase.{Purchase}
-use Rattle.nb_merchant.specs.declared.stall.Stall.{Stall}
-use Rattle.nb_merchant.specs.declared.item.Item.{Item}
-use Rattle.nb_merchant.specs.declared.item.Item.TheVariants as item
-use Rattle.nb_merchant.specs.declared.sale.Progress.{Progress}
-use Rattle.nb_merchant.specs.declared.sale.Progress.TheVariants as progress
-use Rattle.nb_merchant.specs.declared.sale.Sale.{Sale}
-use Rattle.nb_merchant.specs.Spelling.{IsItem}
-use Rattle.nb_merchant.specs.Reading.{item_of}
-use Rattle.nb_merchant.specs.Sales.{sale_in, next_serial}
-use Rattle.nb_merchant.specs.Shop.{Shop, new_shop, with_item, goods_in, key_of, sealed_for}
+use Rattle.nb_price.specs.Products.{product_in}
+use Rattle.nb_stall.specs.declared.purchase.Purchase.{Purchase}
+use Rattle.nb_stall.specs.declared.stall.Stall.{Stall}
+use Rattle.nb_stall.specs.declared.item.Item.{Item}
+use Rattle.nb_stall.specs.declared.item.Item.TheVariants as item
+use Rattle.nb_stall.specs.declared.sale.Progress.{Progress}
+use Rattle.nb_stall.specs.declared.sale.Progress.TheVariants as progress
+use Rattle.nb_stall.specs.declared.sale.Sale.{Sale}
+use Rattle.nb_stall.specs.Spelling.{IsItem}
+use Rattle.nb_stall.specs.Reading.{item_of}
+use Rattle.nb_stall.specs.Sales.{sale_in, next_serial}
+use Rattle.nb_merchant.specs.Shop.{Shop, new_shop, with_item, goods_in, sealed_for}
+use Rattle.nb_stall.specs.Messages.{key_of}
 use Rattle.nb_merchant.specs.Table.{order_taken}
 
 -- goods are sealed under the next serial number of this merchant, and the checksum is that of the goods under the key of that number

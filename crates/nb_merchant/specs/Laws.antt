@@ -1,36 +1,18 @@
--- What holds of every merchant. Spelling and reading are the two sides of one thing, and a restart gives back what was kept.
-use Rattle.std.specs.Prelude.{◌≡◌, ℕ, ◌+◌, List, [], ◌∷◌, map, codes, slice_get, is_some, Option, Some, Result, Ok}
+-- What holds of every merchant: a restart gives back what was kept.
+use Rattle.std.specs.Prelude.{◌≡◌, ℕ, ◌+◌, List, [], ◌∷◌, map, slice_get, is_some, Some, Result, Ok}
 use Rattle.std.specs.List.{AllByRecursion}
-use Rattle.nb_units.specs.Frames.{AreBytes}
 use Rattle.nb_price.specs.Products.{Product, product_in}
 use Rattle.nb_msgs.specs.declared.message.Message.{Message}
 use Rattle.nb_msgs.specs.declared.node.Reason.{Reason}
-use Rattle.nb_merchant.specs.declared.limits.TheConstants.{QUOTED_ITEM, DELIVERED_ITEM, ENDORSED_ITEM, SETTLED_ITEM, MAX_ITEM, MAX_PART, LAST_SERIAL, PRICE_REQUEST_LABEL, QUOTE_LABEL, GOODS_REQUEST_LABEL, GOODS_HEAD_LABEL, PAYMENT_LABEL}
 use Rattle.nb_merchant.specs.declared.answer.Answer.{Answer}
-use Rattle.nb_merchant.specs.declared.delivery.Delivery.{Delivery}
-use Rattle.nb_merchant.specs.declared.item.Item.{Item}
-use Rattle.nb_merchant.specs.declared.purchase.Purchase.{Purchase}
-use Rattle.nb_merchant.specs.declared.stall.Stall.{Stall}
-use Rattle.nb_merchant.specs.Spelling.{IsItem, item_bytes}
-use Rattle.nb_merchant.specs.Reading.{item_of}
-use Rattle.nb_merchant.specs.Sales.{deliveries_in}
+use Rattle.nb_stall.specs.declared.delivery.Delivery.{Delivery}
+use Rattle.nb_stall.specs.declared.purchase.Purchase.{Purchase}
+use Rattle.nb_stall.specs.declared.stall.Stall.{Stall}
+use Rattle.nb_stall.specs.Spelling.{IsItem, item_bytes}
+use Rattle.nb_stall.specs.Sales.{deliveries_in}
 use Rattle.nb_merchant.specs.Shop.{Shop, new_shop, goods_in}
 use Rattle.nb_merchant.specs.Table.{heard, heard_of_house, silent, after}
 use Rattle.nb_merchant.specs.Keeping.{IsKept, restarted}
-
--- what was spelled of an item is read as that
-abbrev pub ItemReadsBack : Type 0
-ItemReadsBack = (x : Item) → IsItem x → item_of (item_bytes x) ≡ Ok x
-
--- what was read as an item is spelled as those bytes, and is within its limits
-abbrev pub ItemSpellsBack : Type 0
-ItemSpellsBack = (bytes : List ℕ) (x : Item) → AreBytes bytes → item_of bytes ≡ Ok x → IsItem x × (bytes ≡ item_bytes x)
-
--- two items with one spelling are one
-abbrev pub OneItem : Type 0
-OneItem = (a b : Item) → IsItem a → IsItem b → item_bytes a ≡ item_bytes b → a ≡ b
-
--- ---- restarts
 
 -- what a journal has of a merchant
 abbrev pub kept_bytes : Shop → List (List ℕ)
@@ -72,8 +54,3 @@ SameGoods products others = (id : ℕ) → (is_some (product_in others id) ≡ i
 -- the same items are taken up with them
 abbrev pub PricesMayChange : Type 0
 PricesMayChange = (shop : Shop) (others : List Product) → IsKept shop → SameGoods shop.products others → IsKept (record shop { products = others })
-
--- the kinds, the limits and the labels
-abbrev pub LimitsAre : Type 0
-LimitsAre = (QUOTED_ITEM ∷ DELIVERED_ITEM ∷ ENDORSED_ITEM ∷ SETTLED_ITEM ∷ [] ≡ 1 ∷ 2 ∷ 3 ∷ 4 ∷ []) × (MAX_ITEM ≡ 297) × (MAX_PART ≡ 167) × (LAST_SERIAL ≡ 4294967295)
-    × (PRICE_REQUEST_LABEL ≡ codes "m001") × (QUOTE_LABEL ≡ codes "m002") × (GOODS_REQUEST_LABEL ≡ codes "m003") × (GOODS_HEAD_LABEL ≡ codes "m004") × (PAYMENT_LABEL ≡ codes "m005")

@@ -1,9 +1,4 @@
-pub mod Spelling
-pub mod Reading
-pub mod Sales
 pub mod Shop
-pub mod Tests
-pub mod Messages
 pub mod Table
 pub mod Telling
 pub mod Keeping

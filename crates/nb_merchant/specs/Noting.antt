@@ -1,22 +1,22 @@
 -- For the contracts of private functions alone: what is held of a purchase beside its kept items.
-use Rattle.std.specs.Prelude.{◌≡◌, ℕ, ◌+◌, ◌≤◌, Bool, true, false, List, [], ◌∷◌, length, Option, Some, None, option_map, IfSome, if◌then◌else◌}
+use Rattle.std.specs.Prelude.{◌≡◌, ℕ, ◌≤◌, Bool, true, false, List, [], length, Option, Some, None, option_map, IfSome}
 use Rattle.nb_units.specs.declared.epoid.Epoid.{Epoid}
 use Rattle.nb_goods.specs.Divided.{Divided}
 use Rattle.nb_goods.specs.Parts.{parts_of}
 use Rattle.nb_price.specs.Products.{Product}
 use Rattle.nb_merchant.specs.declared.answer.Planned.{Planned}
-use Rattle.nb_merchant.specs.declared.delivery.Delivery.{Delivery}
-use Rattle.nb_merchant.specs.declared.limits.TheConstants.{MAX_PART}
-use Rattle.nb_merchant.specs.declared.stall.Stall.{Stall}
-use Rattle.nb_merchant.specs.declared.purchase.Purchase.{Purchase}
-use Rattle.nb_merchant.specs.declared.item.Item.{Item}
-use Rattle.nb_merchant.specs.declared.item.Item.TheVariants as item
-use Rattle.nb_merchant.specs.declared.sale.Progress.TheVariants as progress
-use Rattle.nb_merchant.specs.declared.sale.Sale.{Sale}
-use Rattle.nb_merchant.specs.declared.sale.Held.{Held}
-use Rattle.nb_merchant.specs.Reading.{purchase_of}
-use Rattle.nb_merchant.specs.Sales.{is_same, is_same_epoid, progressed, epoid_in, sale_in, deliveries_in}
-use Rattle.nb_merchant.specs.Shop.{Shop, goods_in, key_of}
+use Rattle.nb_stall.specs.declared.delivery.Delivery.{Delivery}
+use Rattle.nb_stall.specs.declared.limits.TheConstants.{MAX_PART}
+use Rattle.nb_stall.specs.declared.stall.Stall.{Stall}
+use Rattle.nb_stall.specs.declared.purchase.Purchase.{Purchase}
+use Rattle.nb_stall.specs.declared.item.Item.{Item}
+use Rattle.nb_stall.specs.declared.item.Item.TheVariants as item
+use Rattle.nb_stall.specs.declared.sale.Sale.{Sale}
+use Rattle.nb_stall.specs.declared.sale.Held.{Held}
+use Rattle.nb_stall.specs.Reading.{purchase_of}
+use Rattle.nb_stall.specs.Sales.{epoid_in, sale_in, deliveries_in}
+use Rattle.nb_merchant.specs.Shop.{Shop, goods_in}
+use Rattle.nb_stall.specs.Messages.{key_of}
 use Rattle.nb_merchant.specs.Keeping.{IsKept, follows}
 
 -- what the parts of a sale's goods are made from, once they were sealed
@@ -27,21 +27,6 @@ parts_for stall products product (Some epoid) = Some (parts_of (key_of stall epo
 -- what is held of a sale
 abbrev pub held_of : Stall → List Product → Sale → Held
 held_of stall products sale = record { sale = sale; parts = parts_for stall products sale.product (epoid_in sale.progress) }
-
--- what was held stays where there is nothing new
-abbrev pub or_held : Option Divided → Option Divided → Option Divided
-or_held (Some new) old = Some new
-or_held None old = old
-
--- what is held of a purchase with an item of it more
-abbrev pub noted : Option Held → Item → Option Divided → Option Held
-noted (Some held) x parts = Some (record { sale = record held.sale { progress = progressed held.sale.progress x }; parts = or_held parts held.parts })
-noted None (item.Quoted p product price request) parts = Some (record { sale = record { product = product; price = price; request = request; progress = progress.Quoted }; parts = parts })
-noted None other parts = None
-
--- the same, where the item may be of another purchase
-abbrev pub noted_at : Item → Option Divided → Purchase → Option Held → Option Held
-noted_at x parts q old = if is_same (purchase_of x) q then noted old x parts else old
 
 -- the goods of what was sold
 abbrev pub goods_held : List Product → Option Sale → List ℕ
@@ -88,19 +73,6 @@ IsPlain other parts = parts ≡ None
 
 abbrev pub PlansPlain : Planned → Type 0
 PlansPlain planned = IfSome planned.answer.keep (λ x. IsPlain x planned.parts)
-
--- the serial numbers of the goods that were sealed are 1, 2 and so on
-abbrev pub serials_from : ℕ → List Delivery → Type 0
-serials_from n [] = Unit {0}
-serials_from n (d ∷ deliveries) = (d.epoid.serial ≡ n) × serials_from (n + 1) deliveries
-
-abbrev pub AreSerials : List Delivery → Type 0
-AreSerials deliveries = serials_from 1 deliveries
-
--- the purchase of a delivery that was looked up, where it has the identifier
-abbrev pub given_as : Option Delivery → Epoid → Option Purchase
-given_as None epoid = None
-given_as (Some d) epoid = if is_same_epoid d.epoid epoid then Some d.purchase else None
 
 -- beside the kept items: what is held of each purchase is what they say of it, and the goods that were sealed are theirs
 pub record Holds (shop : Shop) (held : Purchase → Option Held) (given : List Delivery) : Type 0 where

@@ -1,6 +1,6 @@
 -- What a message is that a merchant sent: an endorsement is of a kept order, which is that of a sale, and a result is passed on as it was
 -- kept. And what an endorsement means for who holds sealed goods.
-use Rattle.std.specs.Prelude.{◌≡◌, ◌⊎◌, ℕ, ◌≤◌, length, List, Option, Some, Result, Ok}
+use Rattle.std.specs.Prelude.{◌≡◌, ◌⊎◌, ℕ, ◌≤◌, length, List, Some, Ok}
 use Rattle.sha2.specs.Sha256.{sha256}
 use Rattle.nb_units.specs.declared.epoid.Epoid.{Epoid}
 use Rattle.nb_units.specs.declared.ids.Price.{Price}
@@ -19,13 +19,13 @@ use Rattle.nb_msgs.specs.declared.node.Step.{Step}
 use Rattle.nb_msgs.specs.declared.node.Step.TheVariants as step
 use Rattle.nb_msgs.specs.declared.node.To.{To}
 use Rattle.nb_msgs.specs.declared.node.To.TheVariants as to
-use Rattle.nb_merchant.specs.declared.purchase.Purchase.{Purchase}
-use Rattle.nb_merchant.specs.declared.stall.Stall.{Stall}
-use Rattle.nb_merchant.specs.declared.sale.Progress.TheVariants as progress
-use Rattle.nb_merchant.specs.declared.sale.Sale.{Sale}
-use Rattle.nb_merchant.specs.Sales.{sale_in}
-use Rattle.nb_merchant.specs.Shop.{Shop, key_of, sealed_for}
-use Rattle.nb_merchant.specs.Messages.{endorsed_message}
+use Rattle.nb_stall.specs.declared.purchase.Purchase.{Purchase}
+use Rattle.nb_stall.specs.declared.stall.Stall.{Stall}
+use Rattle.nb_stall.specs.declared.sale.Progress.TheVariants as progress
+use Rattle.nb_stall.specs.declared.sale.Sale.{Sale}
+use Rattle.nb_stall.specs.Sales.{sale_in}
+use Rattle.nb_merchant.specs.Shop.{Shop, sealed_for}
+use Rattle.nb_stall.specs.Messages.{key_of, endorsed_message}
 
 -- the bytes are an order for a purchase of this product, at this price, of this request, for goods that were sealed under an identifier
 pub record IsOrderFor (stall : Stall) (products : List Product) (p : Purchase) (product : ℕ) (price : Price) (request : List ℕ) (epoid : Epoid) (order : List ℕ) : Type 0 where

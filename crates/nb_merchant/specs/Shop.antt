@@ -1,9 +1,10 @@
 -- What a merchant is seen as: who it is, what it sells, and what it kept.
 use Rattle.std.specs.Prelude.{ℕ, List, [], ◌∷◌, ◌++◌, Option, Some, None}
-use Rattle.nb_goods.specs.Goods.{goods_key_of, sealed_goods}
+use Rattle.nb_goods.specs.Goods.{sealed_goods}
 use Rattle.nb_price.specs.Products.{Product, product_in}
-use Rattle.nb_merchant.specs.declared.stall.Stall.{Stall}
-use Rattle.nb_merchant.specs.declared.item.Item.{Item}
+use Rattle.nb_stall.specs.declared.stall.Stall.{Stall}
+use Rattle.nb_stall.specs.declared.item.Item.{Item}
+use Rattle.nb_stall.specs.Messages.{key_of}
 
 pub record Shop : Type 0 where
   pub stall : Stall
@@ -25,10 +26,6 @@ goods_of (Some p) = p.goods
 
 abbrev pub goods_in : List Product → ℕ → List ℕ
 goods_in products id = goods_of (product_in products id)
-
--- the key of the goods of a serial number
-abbrev pub key_of : Stall → ℕ → List ℕ
-key_of stall serial = goods_key_of stall.master stall.id serial
 
 -- the goods of a product, sealed under the key of a serial number
 abbrev pub sealed_for : Stall → List Product → ℕ → ℕ → List ℕ

@@ -1,6 +1,6 @@
 -- What a merchant does at a message, a row for each message and stage: its tests in order, each a line, and then what is kept and what
 -- is sent. The first test that fails gives the reason for which the message is ignored.
-use Rattle.std.specs.Prelude.{ℕ, ◌==◌, ◌&&◌, ◌%◌, if◌then◌else◌, nat_lt, nat_le, is_some, List, [], ◌∷◌, ◌++◌, codes, length, Option, Some, None, option_map, Result, Ok, Err}
+use Rattle.std.specs.Prelude.{ℕ, ◌==◌, ◌&&◌, ◌%◌, if◌then◌else◌, nat_lt, nat_le, List, [], ◌∷◌, ◌++◌, codes, length, Option, Some, None, option_map, Result, Ok, Err}
 use Rattle.std.specs.Str.{bytes_eq}
 use Rattle.sha2.specs.Sha256.{sha256}
 use Rattle.nb_units.specs.Fields.{◌>>=◌}
@@ -9,7 +9,6 @@ use Rattle.nb_units.specs.declared.ids.Price.{Price}
 use Rattle.nb_units.specs.declared.epoid.Epoid.{Epoid}
 use Rattle.nb_body.specs.declared.price_request.PriceRequest.{PriceRequest}
 use Rattle.nb_body.specs.declared.goods_request.GoodsRequest.{GoodsRequest}
-use Rattle.nb_body.specs.Spelling.{price_request_bytes}
 use Rattle.nb_body.specs.Reading.{price_request_of, goods_request_of, payment_request_of}
 use Rattle.nb_epo.specs.declared.order.Order.{Order}
 use Rattle.nb_epo.specs.Reading.{order_of}
@@ -27,20 +26,20 @@ use Rattle.nb_msgs.specs.declared.node.Step.{Step}
 use Rattle.nb_msgs.specs.declared.node.Step.TheVariants as step
 use Rattle.nb_msgs.specs.declared.node.To.{To}
 use Rattle.nb_msgs.specs.declared.node.To.TheVariants as to
-use Rattle.nb_merchant.specs.declared.limits.TheConstants.{LAST_SERIAL}
-use Rattle.nb_merchant.specs.declared.purchase.Purchase.{Purchase}
-use Rattle.nb_merchant.specs.declared.stall.Stall.{Stall}
-use Rattle.nb_merchant.specs.declared.item.Item.{Item}
-use Rattle.nb_merchant.specs.declared.item.Item.TheVariants as item
-use Rattle.nb_merchant.specs.declared.sale.Progress.{Progress}
-use Rattle.nb_merchant.specs.declared.sale.Progress.TheVariants as progress
-use Rattle.nb_merchant.specs.declared.sale.Sale.{Sale}
+use Rattle.nb_stall.specs.declared.limits.TheConstants.{LAST_SERIAL}
+use Rattle.nb_stall.specs.declared.purchase.Purchase.{Purchase}
+use Rattle.nb_stall.specs.declared.stall.Stall.{Stall}
+use Rattle.nb_stall.specs.declared.item.Item.{Item}
+use Rattle.nb_stall.specs.declared.item.Item.TheVariants as item
+use Rattle.nb_stall.specs.declared.sale.Progress.{Progress}
+use Rattle.nb_stall.specs.declared.sale.Progress.TheVariants as progress
+use Rattle.nb_stall.specs.declared.sale.Sale.{Sale}
 use Rattle.nb_merchant.specs.declared.answer.Answer.{Answer}
-use Rattle.nb_merchant.specs.Spelling.{item_bytes}
-use Rattle.nb_merchant.specs.Sales.{is_same_epoid, sale_in, epoid_in, deliveries_in, sold_as, next_serial}
-use Rattle.nb_merchant.specs.Shop.{Shop, goods_in, key_of, sealed_for}
-use Rattle.nb_merchant.specs.Tests.{field, found, or_seal, opened, ticket_in}
-use Rattle.nb_merchant.specs.Messages.{quote_message, goods_message, endorsed_message}
+use Rattle.nb_stall.specs.Spelling.{item_bytes}
+use Rattle.nb_stall.specs.Sales.{is_same_epoid, sale_in, epoid_in, deliveries_in, sold_as, next_serial}
+use Rattle.nb_merchant.specs.Shop.{Shop, goods_in, sealed_for}
+use Rattle.nb_stall.specs.Tests.{field, found, or_seal, opened, ticket_in, request_digest}
+use Rattle.nb_stall.specs.Messages.{key_of, quote_message, goods_message, endorsed_message}
 
 -- to a consumer
 abbrev pub to_consumer : PartyId → To
@@ -51,10 +50,6 @@ abbrev pub purchase_by : PartyId → ℕ → Purchase
 purchase_by consumer transaction = record { consumer = consumer; transaction = transaction }
 
 -- ---- a request for a price
-
--- the digest of a request
-abbrev pub request_digest : PriceRequest → List ℕ
-request_digest r = sha256 (price_request_bytes r)
 
 -- of a purchase that is new: 1 the catalogue has the product. The catalogue's price is kept and told
 abbrev pub price_of : Option Product → Result Price Reason

@@ -1,7 +1,6 @@
 -- For the contracts of private functions alone: what code gave, of what the table says.
-use Rattle.std.specs.Prelude.{◌≡◌, ℕ, List, take, Option, Some, None, Result, Ok, Err, ⊤}
+use Rattle.std.specs.Prelude.{◌≡◌, ℕ, Option, Some, None, Result, Ok, Err, ⊤}
 use Rattle.nb_msgs.specs.declared.node.Reason.{Reason}
-use Rattle.nb_msgs.specs.declared.node.Reason.TheVariants as reason
 use Rattle.nb_msgs.specs.declared.node.RestartFault.{RestartFault}
 use Rattle.nb_msgs.specs.declared.node.RestartFault.TheVariants as fault
 use Rattle.nb_msgs.specs.declared.node.Step.{Step}
@@ -12,11 +11,6 @@ use Rattle.nb_merchant.specs.declared.answer.Answer.{Answer}
 use Rattle.nb_merchant.specs.declared.answer.Planned.{Planned}
 use Rattle.nb_merchant.specs.declared.answer.Halt.{Halt}
 use Rattle.nb_merchant.specs.declared.answer.Halt.TheVariants as halt
-
--- a text that was unsealed stands at the front of a buffer
-abbrev pub Unseals : Option (List ℕ) → List ℕ → Result ℕ Reason → Type 0
-Unseals text buffer (Ok n) = text ≡ Some (take n buffer)
-Unseals text buffer (Err why) = (text ≡ None) × (why ≡ reason.Seal)
 
 -- what a row does was planned, or it was found why it does nothing. Of want of memory nothing is said
 abbrev pub Plans : Result Planned Halt → Result Answer Reason → Type 0

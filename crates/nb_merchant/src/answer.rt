@@ -1,6 +1,6 @@
-use crate::item::Item;
 use nb_goods::Parts;
 use nb_msgs::{Message, Reason, To};
+use nb_stall::Item;
 use nb_units::NoMemory;
 
 // What a row does: what is kept, and what is sent to whom.

@@ -2,21 +2,6 @@
 
 ghost use Rattle.nb_merchant.specs.Laws as law;
 
-/// A law: what was spelled of an item is read as that.
-pub fn item_reads_back()
-    ensures { law.ItemReadsBack }
-{}
-
-/// A law: what was read as an item is spelled as those bytes, and is within its limits.
-pub fn item_spells_back()
-    ensures { law.ItemSpellsBack }
-{}
-
-/// A law: two items with one spelling are one.
-pub fn one_item()
-    ensures { law.OneItem }
-{}
-
 /// A law: a restart over what a merchant kept gives that merchant.
 pub fn restart_gives_back()
     ensures { law.RestartGivesBack }
@@ -36,9 +21,4 @@ pub fn serials_follow()
 /// A law: a restart with another catalogue that has the same products with the same goods, at whatever prices, takes up the same items.
 pub fn prices_may_change()
     ensures { law.PricesMayChange }
-{}
-
-/// The kinds of items, the longest item, the last serial number and the labels, in numbers and texts.
-pub fn limits()
-    ensures { law.LimitsAre }
 {}

@@ -1,40 +1,23 @@
-//! A merchant's side of a purchase: what it keeps, what it does at each message, and how it starts again with what it kept.
+//! A merchant's side of a purchase: what it does at each message, and how it starts again with what it kept.
 //!
-//! A [`Merchant`] is seen as who it is, what it sells, and the list of the [`Item`]s that it kept. What it does stands in `specs/Table.antt`, a row for
+//! A [`Merchant`] is seen as who it is, what it sells, and the list of the items that it kept (`nb_stall`). What it does stands in `specs/Table.antt`, a row for
 //! each message and stage, its tests in their order: [`Merchant::on_consumer`], [`Merchant::on_server`] and [`Merchant::quiet`] are exactly
-//! that. A step hands out the item that is to be kept before its message is sent. What is known of a purchase is what the items say of it
-//! (`specs/Sales.antt`); a restart takes up the items that may stand one behind the other (`specs/Keeping.antt`), and tells the first that may not.
+//! that. A step hands out the item that is to be kept before its message is sent. A restart takes up the items that may stand one behind
+//! the other (`specs/Keeping.antt`), and tells the first that may not.
 //!
 //! What an endorsement means stands in `specs/Sending.antt`, and is a clause of the calls that send one: it is of the kept order, which is
 //! that of the sale, and bytes with the order's checksum open under its key to the goods of the product, or are a collision. What holds of
 //! every merchant is proved by the functions of [`laws`].
 //!
-//! Goods are sealed part by part as they are asked for; what the parts are made from is held with the sale.
-//!
 //! Left to others: the journal that the items are kept in, links and clocks, who the consumers are, and whether a receipt is the house's.
 #![tactic(auto)]
 
 mod answer;
-mod delivery;
-mod item;
 pub mod laws;
-mod ledger;
-mod limits;
 mod merchant;
-mod opening;
-mod purchase;
 mod rows;
-mod sale;
-mod sending;
-mod stall;
 
-pub use delivery::Delivery;
-pub use item::Item;
-pub use limits::{ITEM_KIND, LAST_SERIAL, MAX_ITEM};
 pub use merchant::Merchant;
-pub use purchase::Purchase;
-pub use sale::Stage;
-pub use stall::Stall;
 
 #[cfg(test)]
 mod tests;

@@ -4,33 +4,28 @@ ghost use Rattle.nb_endorse.specs.declared.receipt.TheConstants.{RECEIPT_BYTES};
 ghost use Rattle.nb_msgs.specs.declared.lengths.TheConstants.{MAX_SEALED_PRICE_REQUEST, MAX_SEALED_GOODS_REQUEST, MAX_SEALED_PAYMENT};
 ghost use Rattle.nb_msgs.specs.Bodies.{MessageKeepsRules};
 ghost use Rattle.nb_merchant.specs.Keeping.{follows, order_follows, taken_up, restarted, IsKept};
-ghost use Rattle.nb_merchant.specs.Reading.{item_of};
-ghost use Rattle.nb_merchant.specs.Tests.{ticket_in};
+ghost use Rattle.nb_stall.specs.Reading.{item_of};
+ghost use Rattle.nb_stall.specs.Tests.{ticket_in};
 ghost use Rattle.nb_merchant.specs.Noting.{held_of, HasParts, PlansParts, PlansPlain, IsNoDelivery, SealsNext};
 ghost use Rattle.nb_merchant.specs.Telling.{Performs, performed, TakesUp, Restarts};
-ghost use Rattle.nb_merchant.specs.Sales.{sale_in, epoid_in, stage_of, deliveries_in, next_serial, sold_as};
+ghost use Rattle.nb_stall.specs.Sales.{sale_in, epoid_in, stage_of, deliveries_in, next_serial, sold_as};
 ghost use Rattle.nb_merchant.specs.Shop.{new_shop, with_item};
 ghost use Rattle.nb_merchant.specs.Sending.{StepIs};
-ghost use Rattle.nb_merchant.specs.Spelling.{IsItem};
+ghost use Rattle.nb_stall.specs.Spelling.{IsItem};
 ghost use Rattle.nb_merchant.specs.Table as table;
 ghost use Rattle.nb_merchant.specs.Telling.{Plans};
 
 use crate::answer::{Answer, Halt, Planned};
-use crate::delivery::Delivery;
-use crate::item::Item;
-use crate::ledger::{delivery_at, note, note_delivery};
-use crate::opening::{
-    open_for, open_goods_request, open_payment, open_price_request, open_receipt,
-};
-use crate::purchase::Purchase;
 use crate::rows;
-use crate::sale::{Held, Progress, Stage};
-use crate::stall::Stall;
 use nb_body::GoodsRequest;
 use nb_goods::Parts;
 use nb_msgs::{Message, Reason, RestartFault, Step};
 use nb_price::Catalogue;
 use nb_seal::KeyState;
+use nb_stall::{
+    Delivery, Held, Item, Progress, Purchase, Stage, Stall, delivery_at, note, note_delivery,
+    open_for, open_goods_request, open_payment, open_price_request, open_receipt,
+};
 use nb_units::{Blob, Digest, Epoid, NoMemory, PartyId, Small};
 use std::alloc::Global;
 use std::collections::BTreeMap;
@@ -52,7 +47,7 @@ pub struct Merchant {
 impl Model for Merchant {
     ghost use Rattle.std.specs.BTreeMap.{get};
     ghost use Rattle.nb_merchant.specs.Shop.{Shop};
-    ghost use Rattle.nb_merchant.specs.Sales.{purchase_cmp};
+    ghost use Rattle.nb_stall.specs.Sales.{purchase_cmp};
     ghost use Rattle.nb_merchant.specs.Noting.{Holds};
 
     ghost Value = { Shop };

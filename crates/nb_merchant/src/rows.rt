@@ -9,16 +9,9 @@ ghost use Rattle.nb_merchant.specs.Keeping.{delivery_follows, is_sealed_next};
 ghost use Rattle.nb_merchant.specs.Shop.{goods_in};
 ghost use Rattle.nb_merchant.specs.Table as table;
 ghost use Rattle.nb_merchant.specs.Telling.{Plans};
-ghost use Rattle.nb_merchant.specs.Tests as tests;
+ghost use Rattle.nb_stall.specs.Tests as tests;
 
 use crate::answer::{Answer, Halt, Planned};
-use crate::item::Item;
-use crate::limits::LAST_SERIAL;
-use crate::opening::AskedPrice;
-use crate::purchase::Purchase;
-use crate::sale::{Progress, Sale};
-use crate::sending::{endorsed_message, goods_message, quote_message};
-use crate::stall::Stall;
 use nb_body::{GoodsRequest, Quote};
 use nb_endorse::Receipt;
 use nb_epo::{Order, read_order};
@@ -26,6 +19,10 @@ use nb_goods::{MAX_GOODS, PART_BYTES, Parts, goods_key, parts};
 use nb_msgs::{Message, Reason, To};
 use nb_price::Catalogue;
 use nb_seal::KeyState;
+use nb_stall::{
+    AskedPrice, Item, LAST_SERIAL, Progress, Purchase, Sale, Stall, endorsed_message,
+    goods_message, quote_message,
+};
 use nb_units::{Blob, Digest, Epoid, NoMemory, PartyId, Price, Small};
 use std::alloc::Global;
 
@@ -84,7 +81,7 @@ pub(crate) fn first_quote(
     consumer: PartyId,
     asked: &AskedPrice,
 ) -> Result<Planned, Halt>
-    requires { asked.now.digest ≡ table.request_digest asked.now.request }
+    requires { asked.now.digest ≡ tests.request_digest asked.now.request }
     ensures row { Plans result (table.first_quote catalogue.now session.now consumer asked.now.request) }
     ensures parts { IfOk result PlansPlain }
 {
@@ -122,7 +119,7 @@ pub(crate) fn quote_again(
     asked: &AskedPrice,
     sale: &Sale,
 ) -> Result<Planned, Halt>
-    requires { asked.now.digest ≡ table.request_digest asked.now.request }
+    requires { asked.now.digest ≡ tests.request_digest asked.now.request }
     ensures row { Plans result (table.quote_again session.now consumer asked.now.request sale.now) }
     ensures parts { IfOk result PlansPlain }
 {

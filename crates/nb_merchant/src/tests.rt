@@ -10,6 +10,7 @@ use nb_endorse::RECEIPT_BYTES;
 use nb_msgs::{BodyFault, Message, Reason, Step, To, read_body, write_message};
 use nb_price::Catalogue;
 use nb_seal::{hmac, seal, unseal};
+use nb_stall::{Stage, Stall};
 use nb_ticket::{TICKET_BYTES, Ticket, write_ticket};
 use nb_units::frames::LAST_KIND;
 use nb_units::{AcctId, Blob, PartyId, Secret};

@@ -1,7 +1,6 @@
-use Rattle.std.proofs.Common.{◌≡◌, Some, List, ap, sym, subst, ◌∙◌}
-use Rattle.nb_price.specs.Products.{Product}
-use Rattle.nb_merchant.specs.Sales.{sale_in}
-use Rattle.nb_merchant.specs.Shop.{Shop, goods_in}
+use Rattle.std.proofs.Common.{◌≡◌, Some, ap, ◌∙◌}
+use Rattle.nb_stall.specs.Sales.{sale_in}
+use Rattle.nb_merchant.specs.Shop.{Shop}
 use Rattle.nb_merchant.specs.Table.{purchase_by}
 use Rattle.nb_merchant.proofs.Keeping.{seals_plans}
 use Rattle.nb_merchant.proofs.merchant.Merchant.delivered.Goals as goal

@@ -1,5 +1,5 @@
-use Rattle.std.proofs.Common.{◌≡◌, ℕ, Some, ap, sym, ◌∙◌}
-use Rattle.nb_merchant.specs.Sales.{sale_in, next_serial}
+use Rattle.std.proofs.Common.{◌≡◌, Some, ap, sym, ◌∙◌}
+use Rattle.nb_stall.specs.Sales.{sale_in, next_serial}
 use Rattle.nb_merchant.specs.Shop.{Shop}
 use Rattle.nb_merchant.proofs.Serials.{seals_next}
 use Rattle.nb_merchant.proofs.merchant.Merchant.delivery_parts.Goals as goal

@@ -1,4 +1,4 @@
-use Rattle.nb_merchant.specs.Sales.{sale_in}
+use Rattle.nb_stall.specs.Sales.{sale_in}
 use Rattle.std.proofs.Common.{◌∙◌}
 use Rattle.nb_merchant.proofs.Keeping.{found_so}
 use Rattle.nb_merchant.proofs.merchant.Merchant.find.Goals as goal

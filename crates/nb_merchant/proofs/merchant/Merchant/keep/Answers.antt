@@ -1,11 +1,11 @@
 use Rattle.std.proofs.Common.{◌≡◌, ◌++◌, ◌∷◌, [], true, List, ap, sym, subst, ◌∙◌}
 use Rattle.std.specs.BTreeMap.{get}
-use Rattle.nb_merchant.specs.declared.delivery.Delivery.{Delivery}
-use Rattle.nb_merchant.specs.declared.item.Item.{Item}
-use Rattle.nb_merchant.specs.Shop.{Shop, with_item}
+use Rattle.nb_stall.specs.declared.delivery.Delivery.{Delivery}
+use Rattle.nb_stall.specs.declared.item.Item.{Item}
+use Rattle.nb_merchant.specs.Shop.{Shop}
 use Rattle.nb_merchant.specs.Keeping.{follows}
 use Rattle.nb_merchant.specs.Noting.{HasParts, Holds}
-use Rattle.nb_merchant.specs.Sales.{purchase_cmp, deliveries_in}
+use Rattle.nb_stall.specs.Sales.{purchase_cmp, deliveries_in}
 use Rattle.nb_merchant.proofs.Keeping.{holds_more}
 use Rattle.nb_merchant.proofs.merchant.Merchant.keep.Goals as goal
 

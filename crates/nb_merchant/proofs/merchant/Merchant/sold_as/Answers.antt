@@ -1,6 +1,5 @@
-use Rattle.std.proofs.Common.{List, sym, subst, ◌∙◌}
-use Rattle.nb_merchant.specs.declared.delivery.Delivery.{Delivery}
-use Rattle.nb_merchant.specs.Noting.{AreSerials}
+use Rattle.std.proofs.Common.{sym, subst, ◌∙◌}
+use Rattle.nb_stall.specs.Ledger.{AreSerials}
 use Rattle.nb_merchant.specs.Shop.{new_shop}
 use Rattle.nb_merchant.proofs.Serials.{serials_kept}
 use Rattle.nb_merchant.proofs.merchant.Merchant.sold_as.Goals as goal

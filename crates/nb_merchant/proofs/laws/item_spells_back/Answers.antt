@@ -1,5 +1,0 @@
-use Rattle.nb_merchant.proofs.Layouts.{item_spells_back}
-use Rattle.nb_merchant.proofs.laws.item_spells_back.Goals as goal
-
-pub returns : goal.returns
-returns c = item_spells_back

@@ -1,0 +1,5 @@
+pub mod Layouts
+pub mod Unsealing
+pub mod Noting
+pub mod Serials
+pub mod Lengths

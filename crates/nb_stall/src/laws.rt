@@ -1,0 +1,23 @@
+//! What holds of every kept item. Each function here does nothing: its contract is the law.
+
+ghost use Rattle.nb_stall.specs.Laws as law;
+
+/// A law: what was spelled of an item is read as that.
+pub fn item_reads_back()
+    ensures { law.ItemReadsBack }
+{}
+
+/// A law: what was read as an item is spelled as those bytes, and is within its limits.
+pub fn item_spells_back()
+    ensures { law.ItemSpellsBack }
+{}
+
+/// A law: two items with one spelling are one.
+pub fn one_item()
+    ensures { law.OneItem }
+{}
+
+/// The kinds of items, the longest item, the last serial number and the labels, in numbers and texts.
+pub fn limits()
+    ensures { law.LimitsAre }
+{}

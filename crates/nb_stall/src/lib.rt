@@ -1,0 +1,36 @@
+//! What a merchant keeps, and what it knows of one purchase.
+//!
+//! An [`Item`] is what is kept of one step; its bytes stand in `specs/Spelling.antt`, and read field by field in `specs/Reading.antt`. What holds of
+//! all items is proved by the functions of [`laws`].
+//!
+//! What the kept items say of a purchase, a [`Sale`], and under which identifiers goods were sealed, stands in `specs/Sales.antt`. [`note`],
+//! [`note_delivery`] and [`delivery_at`] keep both beside the items, so that neither is searched for (`specs/Ledger.antt`).
+//!
+//! What a merchant sends stands in `specs/Messages.antt`, a call for each message; what is sealed for it is opened by a call for each text
+//! (`specs/Tests.antt`). Goods are sealed part by part as they are asked for; what the parts are made from is held with the sale.
+//!
+//! Left to others: what is done at a message, and which items may stand one behind the other.
+#![tactic(auto)]
+
+mod delivery;
+mod item;
+pub mod laws;
+mod ledger;
+mod limits;
+mod opening;
+mod purchase;
+mod sale;
+mod sending;
+mod stall;
+
+pub use delivery::Delivery;
+pub use item::Item;
+pub use ledger::{delivery_at, note, note_delivery};
+pub use limits::{ITEM_KIND, LAST_SERIAL, MAX_ITEM, MAX_PART};
+pub use opening::{
+    AskedPrice, open_for, open_goods_request, open_payment, open_price_request, open_receipt,
+};
+pub use purchase::Purchase;
+pub use sale::{Held, Progress, Sale, Stage};
+pub use sending::{endorsed_message, goods_message, quote_message};
+pub use stall::Stall;

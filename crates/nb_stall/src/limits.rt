@@ -1,0 +1,39 @@
+//! How an item of a stall begins, how long it is at most, how many serial numbers there are, and the labels of what a merchant and a
+//! consumer seal for each other.
+
+use nb_body::TRANSACTION;
+use nb_endorse::RECEIPT_BYTES;
+use nb_units::MAX_ORDER;
+use nb_units::width::{LENGTH, PARTY};
+
+/// The width of what an item begins with, its kind, in bytes.
+pub const ITEM_KIND: usize = 1;
+
+/// The most bytes of an item: those of one with an order, which is longer than a sealed receipt.
+pub const MAX_ITEM: usize = ITEM_KIND + PARTY + TRANSACTION + LENGTH + MAX_ORDER;
+
+/// The last serial number of a merchant. The first is 1.
+pub const LAST_SERIAL: u32 = u32::MAX;
+
+// The kind of an item, one byte wide.
+pub(crate) const QUOTED_ITEM: u8 = 1;
+
+pub(crate) const DELIVERED_ITEM: u8 = 2;
+
+pub(crate) const ENDORSED_ITEM: u8 = 3;
+
+pub(crate) const SETTLED_ITEM: u8 = 4;
+
+/// The most bytes of the receipt that is passed on to a consumer.
+pub const MAX_PART: usize = RECEIPT_BYTES;
+
+// What is sealed under the session key, by the kind of its message.
+pub(crate) const PRICE_REQUEST_LABEL: [u8; 4] = *b"m001";
+
+pub(crate) const QUOTE_LABEL: [u8; 4] = *b"m002";
+
+pub(crate) const GOODS_REQUEST_LABEL: [u8; 4] = *b"m003";
+
+pub(crate) const GOODS_HEAD_LABEL: [u8; 4] = *b"m004";
+
+pub(crate) const PAYMENT_LABEL: [u8; 4] = *b"m005";

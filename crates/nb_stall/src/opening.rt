@@ -1,0 +1,119 @@
+ghost use Rattle.std.specs.Prelude.{◌≡◌, ◌≤◌, ◌+◌, length, codes, take, IfOk, Ok, Err};
+ghost use Rattle.nb_seal.specs.declared.limits.TheConstants.{CODE_BYTES, MAX_TEXT};
+ghost use Rattle.nb_seal.specs.Seal.{text_in};
+ghost use Rattle.nb_ticket.specs.declared.ticket.TheConstants.{TICKET_BYTES};
+ghost use Rattle.nb_endorse.specs.declared.receipt.TheConstants.{RECEIPT_BYTES};
+ghost use Rattle.nb_endorse.specs.Reading.{signed_of};
+ghost use Rattle.nb_body.specs.Reading as body;
+ghost use Rattle.nb_msgs.specs.declared.lengths.TheConstants.{MAX_SEALED_PRICE_REQUEST, MAX_SEALED_GOODS_REQUEST, MAX_SEALED_PAYMENT};
+ghost use Rattle.nb_msgs.specs.declared.node.Reason.TheVariants as reason;
+ghost use Rattle.nb_stall.specs.Tests as tests;
+ghost use Rattle.nb_stall.specs.Tests.{request_digest};
+ghost use Rattle.nb_stall.specs.Tests.{Unseals};
+
+use crate::limits::{GOODS_REQUEST_LABEL, PAYMENT_LABEL, PRICE_REQUEST_LABEL};
+use crate::stall::Stall;
+use nb_body::{GoodsRequest, PaymentRequest, PriceRequest};
+use nb_endorse::{Signed, read_receipt};
+use nb_msgs::{MAX_SEALED_GOODS_REQUEST, MAX_SEALED_PAYMENT, MAX_SEALED_PRICE_REQUEST, Reason};
+use nb_seal::{KeyState, sha};
+use nb_ticket::{Ticket, open_ticket};
+use nb_units::{Digest, Secret};
+
+/// A request for a price, and the digest of its bytes.
+#[derive(Clone, Copy, PartialEq, Eq, Debug)]
+pub struct AskedPrice {
+    pub request: PriceRequest,
+    /// The SHA-256 (FIPS 180-4) of the request, before it was sealed.
+    pub digest: Digest,
+}
+
+/// The ticket that the bytes are the seal of, where it is for this merchant and holds at this moment, in seconds since 1970-01-01 00:00 UTC.
+/// Answers [`Reason::Seal`] exactly where there is none.
+#[tactic(auto, unfolding(crate::specs::Tests::ticket_in))]
+pub fn open_for(stall: &Stall, ticket: &[u8], moment: u64) -> Result<Ticket, Reason>
+    requires { length ticket.now ≤ TICKET_BYTES }
+    ensures { result ≡ tests.ticket_in stall.now ticket.now moment }
+{
+    match open_ticket(ticket, &stall.key, stall.id, moment) {
+        Ok(opened) => Ok(opened),
+        Err(_fault) => Err(Reason::Seal),
+    }
+}
+
+// The text that the bytes are the seal of, to the front of a buffer, and how long it is.
+fn unsealed(
+    key: &KeyState,
+    label: &[u8; 4],
+    bytes: &[u8],
+    buffer: &mut [u8],
+) -> Result<usize, Reason>
+    requires short { length bytes.now ≤ CODE_BYTES + MAX_TEXT }
+    requires room { length bytes.now ≤ length buffer.old }
+    ensures text { Unseals (text_in key.now label.now bytes.now) buffer.new result }
+    ensures within { IfOk result (λ n. n ≤ length bytes.now) }
+{
+    match key.unseal_to(label, bytes, buffer) {
+        Ok(n) => Ok(n),
+        Err(_bad) => Err(Reason::Seal),
+    }
+}
+
+/// The request for a price that is sealed there under the session key, or [`Reason::Seal`] where there is none.
+#[tactic(auto, unfolding(crate::specs::Tests::opened))]
+pub fn open_price_request(session: &KeyState, sealed: &[u8]) -> Result<AskedPrice, Reason>
+    requires { length sealed.now ≤ MAX_SEALED_PRICE_REQUEST }
+    ensures request { tests.opened body.price_request_of session.now (codes "m001") sealed.now ≡ tests.request_in result }
+    ensures digest { IfOk result (λ asked. asked.digest ≡ request_digest asked.request) }
+{
+    let mut plain = [0u8; MAX_SEALED_PRICE_REQUEST];
+    let n = unsealed(session, &PRICE_REQUEST_LABEL, sealed, &mut plain)?;
+    let text = plain.split_at(n).0;
+    match PriceRequest::read(text) {
+        Ok(request) => Ok(AskedPrice {
+            request,
+            digest: sha(text),
+        }),
+        Err(_malformed) => Err(Reason::Seal),
+    }
+}
+
+/// The request for goods that is sealed there under the session key, or [`Reason::Seal`] where there is none.
+#[tactic(auto, unfolding(crate::specs::Tests::opened))]
+pub fn open_goods_request(session: &KeyState, sealed: &[u8]) -> Result<GoodsRequest, Reason>
+    requires { length sealed.now ≤ MAX_SEALED_GOODS_REQUEST }
+    ensures { result ≡ tests.opened body.goods_request_of session.now (codes "m003") sealed.now }
+{
+    let mut plain = [0u8; MAX_SEALED_GOODS_REQUEST];
+    let n = unsealed(session, &GOODS_REQUEST_LABEL, sealed, &mut plain)?;
+    match GoodsRequest::read(plain.split_at(n).0) {
+        Ok(request) => Ok(request),
+        Err(_malformed) => Err(Reason::Seal),
+    }
+}
+
+/// The order for its merchant that is sealed there under the session key, or [`Reason::Seal`] where there is none.
+#[tactic(auto, unfolding(crate::specs::Tests::opened))]
+pub fn open_payment(session: &KeyState, sealed: &[u8]) -> Result<PaymentRequest, Reason>
+    requires { length sealed.now ≤ MAX_SEALED_PAYMENT }
+    ensures { result ≡ tests.opened body.payment_request_of session.now (codes "m005") sealed.now }
+{
+    let mut plain = [0u8; MAX_SEALED_PAYMENT];
+    let n = unsealed(session, &PAYMENT_LABEL, sealed, &mut plain)?;
+    match PaymentRequest::read(plain.split_at(n).0) {
+        Ok(request) => Ok(request),
+        Err(_malformed) => Err(Reason::Seal),
+    }
+}
+
+/// The merchant's receipt that is sealed there under the stall's key, or [`Reason::Seal`] where there is none.
+#[tactic(auto, unfolding(crate::specs::Tests::opened))]
+pub fn open_receipt(key: &Secret, sealed: &[u8]) -> Result<Signed, Reason>
+    requires { length sealed.now ≤ RECEIPT_BYTES }
+    ensures { result ≡ tests.opened signed_of key.now (codes "rcpt") sealed.now }
+{
+    match read_receipt(sealed, key) {
+        Ok(signed) => Ok(signed),
+        Err(_fault) => Err(Reason::Seal),
+    }
+}
