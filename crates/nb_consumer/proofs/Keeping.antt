@@ -1,5 +1,5 @@
 -- What rows keep may stand behind what is known.
-use Rattle.std.proofs.Common.{◌≡◌, ℕ, ◌+◌, ◌-◌, ◌<◌, ◌≤◌, min, Bool, true, false, cond, ltb, List, [], ◌∷◌, ◌++◌, length, Option, Some, None, Ok, Err, Result, refl, sym, ap, subst, ◌∙◌, arith}
+use Rattle.std.proofs.Common.{◌≡◌, ℕ, ◌+◌, ◌-◌, ◌<◌, ◌≤◌, min, Bool, true, false, cond, List, ◌++◌, length, Option, Some, None, Ok, Err, Result, refl, sym, ap, subst, ◌∙◌, arith}
 use Rattle.std.specs.Prelude.{◌==◌, ◌&&◌, nat_lt, nat_le, is_some, is_none, is_ok, codes}
 use Rattle.std.specs.Str.{bytes_eq}
 use Rattle.std.proofs.lemmas.Bool.{eqb-true, eq-eqb, leb-true, le-leb, ltb-false}
@@ -18,37 +18,30 @@ use Rattle.nb_ticket.specs.declared.granted.Granted.{Granted}
 use Rattle.nb_ticket.specs.Reading.{granted_of}
 use Rattle.nb_msgs.specs.declared.status.StatusText.{StatusText}
 use Rattle.nb_epo.specs.declared.order.Order.{Order}
-use Rattle.nb_epo.specs.Spelling.{order_bytes}
-use Rattle.nb_epo.specs.Places.{checksum_in}
 use Rattle.nb_epo.proofs.Placing.{checksum_is_spelled}
-use Rattle.nb_endorse.specs.declared.receipt.Receipt.{Receipt}
 use Rattle.nb_endorse.specs.declared.receipt.Signed.{Signed}
 use Rattle.nb_endorse.specs.Reading.{signed_of}
 use Rattle.nb_goods.specs.Goods.{OpensTo}
 use Rattle.nb_msgs.specs.StatusText.{text_of}
 use Rattle.nb_msgs.specs.declared.message.Message.{Message}
 use Rattle.nb_msgs.specs.declared.message.Message.TheVariants as message
-use Rattle.nb_msgs.specs.declared.node.End.{End}
 use Rattle.nb_msgs.specs.declared.node.End.TheVariants as end
 use Rattle.nb_msgs.specs.declared.node.Reason.{Reason}
 use Rattle.nb_msgs.specs.declared.node.Reason.TheVariants as reason
 use Rattle.nb_wallet.specs.declared.wallet.Start.{Start}
 use Rattle.nb_wallet.specs.declared.item.SessionTicket.{SessionTicket}
-use Rattle.nb_wallet.specs.declared.item.Item.{Item}
-use Rattle.nb_wallet.specs.declared.item.Item.TheVariants as item
 use Rattle.nb_wallet.specs.declared.purchase.Stage.{Stage}
 use Rattle.nb_wallet.specs.declared.purchase.Stage.TheVariants as stage
 use Rattle.nb_wallet.specs.declared.purchase.Purchase.{Purchase}
 use Rattle.nb_consumer.specs.declared.rows.Wanting.{Wanting}
 use Rattle.nb_consumer.specs.declared.rows.Owing.{Owing}
 use Rattle.nb_consumer.specs.declared.deed.Deed.{Deed}
-use Rattle.nb_consumer.specs.declared.deed.Deed.TheVariants as deed
-use Rattle.nb_wallet.specs.Stages.{end_of, end_with, end_opened}
+use Rattle.nb_wallet.specs.Stages.{end_with, end_opened}
 use Rattle.nb_consumer.specs.State.{Buyer, place_of, purchase_of, ordered_with, epoid_bytes, number_of}
 use Rattle.nb_wallet.specs.Tests.{unless, field, found, opened}
-use Rattle.nb_consumer.specs.Table.{started, granted, quoted, price_quoted, is_price, pass_of_asked, pass_of, is_ticketing, delivered, goods_came, goods_wrong, goods_ordered, part_kept, head_told, part_fits, order_made, agrees, is_same_epoid, wanting_in, owing_in, passed, told_status, status_told, receipt_told, receipt_fits, silent, unheard, heard}
-use Rattle.nb_consumer.specs.Restart.{allows, holds_for, holds_at, part_follows, order_follows, order_names, is_rest, is_short}
-use Rattle.nb_consumer.specs.Laws.{OrderSo, EndSo, RowSo, RowsAreSo, PaidOpens}
+use Rattle.nb_consumer.specs.Table.{started, granted, quoted, price_quoted, is_price, pass_of_asked, is_ticketing, delivered, goods_came, goods_wrong, goods_ordered, part_kept, head_told, part_fits, order_made, agrees, is_same_epoid, wanting_in, owing_in, passed, told_status, status_told, receipt_told, receipt_fits, silent, unheard, heard}
+use Rattle.nb_consumer.specs.Restart.{holds_for, holds_at, part_follows, order_follows, order_names, is_rest, is_short}
+use Rattle.nb_consumer.specs.Laws.{RowSo, RowsAreSo, PaidOpens}
 use Rattle.nb_consumer.proofs.Purchases.{found_some, found_number}
 
 -- ---- steps of a row

@@ -1,3 +1,4 @@
 pub mod Purchases
 pub mod Keeping
 pub mod Restoring
+pub mod Running

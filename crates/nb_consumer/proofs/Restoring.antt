@@ -1,6 +1,6 @@
 -- A consumer starts again, with what it kept, as it was but for the places that it was told.
-use Rattle.std.proofs.Common.{◌≡◌, ℕ, zero, suc, ◌+◌, Bool, true, false, cond, List, [], ◌∷◌, ◌++◌, map, set, Option, Some, None, Ok, Err, Result, refl, sym, ap, subst, ◌∙◌, arith, append-nil}
-use Rattle.std.specs.Prelude.{slice_get, position, nat_eq, is_some, is_none, is_ok, ◌&&◌, ◌==◌, codes}
+use Rattle.std.proofs.Common.{◌≡◌, ℕ, zero, suc, ◌+◌, Bool, true, false, cond, List, [], ◌∷◌, ◌++◌, map, set, Option, Some, None, Ok, Err, Result, refl, sym, ap, subst, ◌∙◌, append-nil}
+use Rattle.std.specs.Prelude.{IfOk, slice_get, position, nat_eq, is_some, is_none, is_ok, ◌&&◌, ◌==◌, codes}
 use Rattle.std.specs.Option.{option_map, option_map_or}
 use Rattle.nb_units.specs.declared.ids.Price.{Price}
 use Rattle.nb_wallet.specs.declared.wallet.Wallet.{Wallet}
@@ -9,9 +9,8 @@ use Rattle.nb_seal.specs.Seal.{text_in}
 use Rattle.nb_body.specs.declared.goods_head.GoodsHead.{GoodsHead}
 use Rattle.nb_endorse.specs.declared.receipt.Receipt.{Receipt}
 use Rattle.nb_epo.specs.declared.order.Order.{Order}
-use Rattle.nb_msgs.specs.declared.message.Message.{Message}
 use Rattle.nb_msgs.specs.declared.node.Reason.{Reason}
-use Rattle.nb_wallet.specs.declared.wallet.Start.{Start}
+use Rattle.nb_msgs.specs.declared.node.Step.{Step}
 use Rattle.nb_wallet.specs.declared.item.Item.{Item}
 use Rattle.nb_wallet.specs.declared.item.Item.TheVariants as item
 use Rattle.nb_wallet.specs.declared.purchase.Stage.{Stage}
@@ -21,13 +20,14 @@ use Rattle.nb_consumer.specs.declared.rows.Owing.{Owing}
 use Rattle.nb_consumer.specs.declared.deed.Deed.{Deed}
 use Rattle.nb_consumer.specs.declared.deed.Deed.TheVariants as deed
 use Rattle.nb_wallet.specs.Stages.{raised_from, wanted_from, with_head, ordered_from, stage_ended, stage_with, stage_opened}
-use Rattle.nb_consumer.specs.State.{Buyer, new_buyer, number_of, place_of, purchase_at, purchase_of, changed, changed_at, changed_with, behind_item, fresh, remembered, raised, number_in, noted, epoid_bytes}
+use Rattle.nb_consumer.specs.State.{Buyer, new_buyer, number_of, place_of, purchase_at, purchase_of, changed, changed_at, changed_with, behind_item, fresh, remembered, raised, noted, epoid_bytes}
 use Rattle.nb_consumer.specs.Table.{step_of, after, is_ticketing, pass_of_asked, wanting_in, owing_in, is_price, receipt_fits}
 use Rattle.nb_consumer.specs.Restart.{allows, holds_for, holds_at, part_follows, order_follows, behind, behind_read, restarted_from, restarted, untold_stage, untold_purchase, untold, Kept, kept_in}
 use Rattle.nb_wallet.specs.Spelling.{item_bytes, IsItem}
-use Rattle.nb_wallet.specs.Reading.{item_of}
 use Rattle.nb_consumer.specs.Deeds.{DeedIsSpelled}
 use Rattle.nb_consumer.specs.Laws.{RowSo, KeepsRestarting}
+use Rattle.nb_consumer.specs.Runs.{Call, Starts, Hears, Waits, row_of}
+use Rattle.nb_consumer.proofs.Keeping.{rows_are_so}
 use Rattle.nb_wallet.proofs.Items.{item_reads_back}
 
 -- ---- look-ups
@@ -96,7 +96,7 @@ owing_same (stage.Paid key) test = refl
 owing_same (stage.Refused code) test = refl
 owing_same stage.Foul test = refl
 
-same_allowed : (b : Buyer) (x : Item) → allows (untold b) x ≡ allows b x
+pub same_allowed : (b : Buyer) (x : Item) → allows (untold b) x ≡ allows b x
 same_allowed b (item.Started s) = ap is_none (same_place b.purchases s.transaction)
 same_allowed b (item.Granted t pass) = holds_same b t (λ p. is_ticketing p.stage) (λ p. ticketing_same p.stage)
 same_allowed b (item.Wanted t price) = holds_same b t (λ p. is_some (pass_of_asked p.stage) && is_price price p.start.limit) (λ p. ap (λ o. is_some o && is_price price p.start.limit) (asked_same p.stage))
@@ -177,7 +177,7 @@ behind_untold (item.Ended t r) p = ap (at_stage p p.held) (end_untold r.receipt 
 abbrev with_purchases : Buyer → List (List ℕ × ℕ) → List Purchase → Buyer
 with_purchases b orders ps = record { wallet = b.wallet; purchases = ps; orders = orders }
 
-same_remembered : (b : Buyer) (x : Item) → remembered (untold b) x ≡ untold (remembered b x)
+pub same_remembered : (b : Buyer) (x : Item) → remembered (untold b) x ≡ untold (remembered b x)
 same_remembered b (item.Started s) = ap (with_purchases b b.orders) (sym (map-append untold_purchase b.purchases (fresh s ∷ [])))
 same_remembered b (item.Granted t pass) = ap (with_purchases b b.orders) (changed_same b.purchases t (behind_item (item.Granted t pass)) (behind_untold (item.Granted t pass)))
 same_remembered b (item.Wanted t price) = ap (with_purchases b b.orders) (changed_same b.purchases t (behind_item (item.Wanted t price)) (behind_untold (item.Wanted t price)))
@@ -215,7 +215,7 @@ raised_untold ps (Some i) place = by (slice_get ps i) refl
 
 -- ---- one item more
 
-buyer_is : (b c : Buyer) → (let one : Result Buyer ℕ = Ok b in one ≡ Ok c) → b ≡ c
+pub buyer_is : (b c : Buyer) → (let one : Result Buyer ℕ = Ok b in one ≡ Ok c) → b ≡ c
 buyer_is b c e = cc
 
 one_more : (n : ℕ) (b c d : Buyer) (items : List (List ℕ)) (bytes : List ℕ) → restarted_from n b items ≡ Ok c → behind c bytes ≡ Some d → restarted_from n b (items ++ bytes ∷ []) ≡ Ok d
@@ -234,7 +234,7 @@ next_known b x is allowed =
     ∙ ap (λ (test : Bool). cond test (Some (remembered (untold b) x)) None) (same_allowed b x ∙ allowed)
     ∙ ap Some (same_remembered b x)
 
-same_wallet : (b : Buyer) (x : Item) → (remembered b x).wallet ≡ b.wallet
+pub same_wallet : (b : Buyer) (x : Item) → (remembered b x).wallet ≡ b.wallet
 same_wallet b (item.Started s) = refl
 same_wallet b (item.Granted t pass) = refl
 same_wallet b (item.Wanted t price) = refl
@@ -252,11 +252,23 @@ nothing_more : (b c : Buyer) (items : List (List ℕ)) → c.wallet ≡ b.wallet
 nothing_more b c items same_w same kept =
     ap (λ (w : Wallet). restarted w (items ++ [])) same_w ∙ ap (restarted b.wallet) (append-nil items) ∙ kept ∙ ap Ok (sym same)
 
-pub keeps_restarting : KeepsRestarting
-keeps_restarting b items (Err why) so spelled kept = nothing_more b b items refl refl kept
-keeps_restarting b items (Ok (deed.Sends whom sent)) so spelled kept = nothing_more b b items refl refl kept
-keeps_restarting b items (Ok (deed.Hears t place whom sent)) so spelled kept =
+row_keeps : (b : Buyer) (items : List (List ℕ)) (row : Result Deed Reason) → RowSo b row → IfOk row DeedIsSpelled → Kept items b → Kept (items ++ kept_in (step_of row)) (after b row)
+row_keeps b items (Err why) so spelled kept = nothing_more b b items refl refl kept
+row_keeps b items (Ok (deed.Sends whom sent)) so spelled kept = nothing_more b b items refl refl kept
+row_keeps b items (Ok (deed.Hears t place whom sent)) so spelled kept =
     nothing_more b (record { wallet = b.wallet; purchases = changed b.purchases t (raised place); orders = b.orders }) items refl
     (ap (λ (ps : List Purchase). let c : Buyer = record { wallet = b.wallet; purchases = ps; orders = b.orders } in c) (raised_untold b.purchases (place_of b.purchases t) place)) kept
-keeps_restarting b items (Ok (deed.Keeps x whom sent)) so spelled kept = kept_more b items x spelled so.0 kept
-keeps_restarting b items (Ok (deed.Ends t r end)) so spelled kept = kept_more b items (item.Ended t r) spelled so.0 kept
+row_keeps b items (Ok (deed.Keeps x whom sent)) so spelled kept = kept_more b items x spelled so.0 kept
+row_keeps b items (Ok (deed.Ends t r end)) so spelled kept = kept_more b items (item.Ended t r) spelled so.0 kept
+
+pub call_so : (b : Buyer) (call : Call) → RowSo b (row_of b call)
+call_so b (Starts start) = (rows_are_so b).0 start
+call_so b (Hears message) = (rows_are_so b).1 message
+call_so b (Waits transaction) = (rows_are_so b).2 transaction
+
+pub keeps_restarting : KeepsRestarting
+keeps_restarting old new call (Ok step) items answers kept =
+    let row : Result Deed Reason = row_of old call in
+    subst (λ (c : Buyer). Kept (items ++ kept_in step) c) (sym answers.after)
+    (subst (λ (s : Step). Kept (items ++ kept_in s) (after old row)) (sym answers.told) (row_keeps old items row (call_so old call) answers.spelled kept))
+keeps_restarting old new call (Err none) items answers kept = nothing_more old new items (ap (λ (b : Buyer). b.wallet) answers.err) (ap untold answers.err) kept

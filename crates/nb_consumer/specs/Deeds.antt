@@ -61,10 +61,11 @@ abbrev pub StepKeepsRules : Step → Type 0
 StepKeepsRules (step.Move keep to message) = MessageKeepsRules message
 StepKeepsRules other = Unit {0}
 
--- a step is what a row says, and the consumer then is what it says; after want of memory all is as before
+-- a step is what a row says, and the consumer then is what it says; what it keeps is within its limits; after want of memory all is as before
 pub record Answers (old new : Buyer) (row : Result Deed Reason) (result : Result Step NoMemory) : Type 0 where
   pub told : IfOk result (λ step. step ≡ step_of row)
   pub after : OnOk result (new ≡ after old row)
+  pub spelled : OnOk result (IfOk row DeedIsSpelled)
   pub err : OnErr result (new ≡ old)
 
 -- so it is for whatever row gave the deed

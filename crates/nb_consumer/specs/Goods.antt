@@ -7,7 +7,6 @@ use Rattle.nb_consumer.specs.declared.phase.Phase.TheVariants as phase
 use Rattle.nb_wallet.specs.declared.purchase.Stage.{Stage}
 use Rattle.nb_wallet.specs.declared.purchase.Stage.TheVariants as stage
 use Rattle.nb_wallet.specs.declared.purchase.Purchase.{Purchase}
-use Rattle.nb_consumer.specs.State.{Buyer, purchase_of}
 
 -- the goods have 32 bytes less than the sealed goods
 abbrev pub phase_of : Stage → List ℕ → Phase

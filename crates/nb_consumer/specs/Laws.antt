@@ -1,5 +1,7 @@
 -- What rows keep, how purchases end, and what starting again gives.
-use Rattle.std.specs.Prelude.{◌≡◌, ℕ, List, ◌++◌, true, Some, Ok, Err, Result}
+use Rattle.std.specs.Prelude.{◌≡◌, ℕ, List, ◌++◌, true, Some, Ok, Result}
+use Rattle.std.specs.List.{AllByRecursion}
+use Rattle.nb_units.specs.Frames.{AreBytes}
 use Rattle.sha2.specs.Sha256.{sha256}
 use Rattle.nb_epo.specs.declared.order.Order.{Order}
 use Rattle.nb_epo.specs.Spelling.{order_bytes}
@@ -12,7 +14,11 @@ use Rattle.nb_msgs.specs.declared.message.Message.{Message}
 use Rattle.nb_msgs.specs.declared.node.End.{End}
 use Rattle.nb_msgs.specs.declared.node.End.TheVariants as end
 use Rattle.nb_msgs.specs.declared.node.Reason.{Reason}
+use Rattle.nb_msgs.specs.declared.node.RestartFault.{RestartFault}
+use Rattle.nb_msgs.specs.declared.node.Step.{Step}
+use Rattle.nb_units.specs.declared.memory.NoMemory.{NoMemory}
 use Rattle.nb_wallet.specs.declared.wallet.Start.{Start}
+use Rattle.nb_wallet.specs.declared.wallet.Wallet.{Wallet}
 use Rattle.nb_wallet.specs.declared.item.Item.TheVariants as item
 use Rattle.nb_wallet.specs.declared.purchase.Purchase.{Purchase}
 use Rattle.nb_consumer.specs.declared.rows.Wanting.{Wanting}
@@ -22,9 +28,10 @@ use Rattle.nb_consumer.specs.declared.deed.Deed.TheVariants as deed
 use Rattle.nb_wallet.specs.Stages.{end_of}
 use Rattle.nb_consumer.specs.State.{Buyer, purchase_of}
 use Rattle.nb_wallet.specs.Messages.{payment}
-use Rattle.nb_consumer.specs.Table.{step_of, after, started, heard, silent, wanting_in, owing_in, receipt_fits}
-use Rattle.nb_consumer.specs.Restart.{allows, Kept, kept_in}
-use Rattle.nb_consumer.specs.Deeds.{DeedIsSpelled}
+use Rattle.nb_consumer.specs.Table.{started, heard, silent, wanting_in, owing_in, receipt_fits}
+use Rattle.nb_consumer.specs.Restart.{allows, restarted, Restarts, Kept}
+use Rattle.nb_consumer.specs.Deeds.{Answers}
+use Rattle.nb_consumer.specs.Runs.{Call, row_of, kept_of, Event, Runs, IsJournal, GivesBack}
 use Rattle.nb_wallet.specs.declared.item.Item.{Item}
 
 -- an order that is kept behind what is known: its purchase is known and its goods are wanted; its bytes name the checksum of all sealed goods that are
@@ -67,11 +74,17 @@ PaidOpens = (r : Receipt) (sealed goods : List ℕ) → end_of r sealed ≡ end.
 
 -- ---- starting again
 
-abbrev pub RowIsSpelled : Result Deed Reason → Type 0
-RowIsSpelled (Ok deed) = DeedIsSpelled deed
-RowIsSpelled (Err why) = Unit {0}
-
--- a consumer that starts again with what it kept is as it was, but for the places that it was told: so it stays with what a row keeps more. `RowsAreSo` says
--- the first premise of every row; the second is that each number of what is kept fits its width
+-- a consumer that starts again with what it kept is as it was, but for the places that it was told: so it stays behind each call, whatever it answers
 abbrev pub KeepsRestarting : Type 0
-KeepsRestarting = (b : Buyer) (items : List (List ℕ)) (row : Result Deed Reason) → RowSo b row → RowIsSpelled row → Kept items b → Kept (items ++ kept_in (step_of row)) (after b row)
+KeepsRestarting = (old new : Buyer) (call : Call) (result : Result Step NoMemory) (items : List (List ℕ)) → Answers old new (row_of old call) result → Kept items old → Kept (items ++ kept_of result) new
+
+-- so it is behind every list of calls, with restarts between them, from a journal on that a restart takes up, as the empty one
+abbrev pub RunsRestart : Type 0
+RunsRestart = (w : Wallet) (journal : List (List ℕ)) (first : Buyer) (events : List Event) (b : Buyer) (items : List (List ℕ)) → restarted w journal ≡ Ok first
+    → Runs first journal events b items → (b.wallet ≡ w) × Kept items b
+
+-- what was kept then is a journal that rows keep: a restart gives that consumer and refuses no item, or there was no memory
+abbrev pub RestartsAsKept : Type 0
+RestartsAsKept = (w : Wallet) (journal : List (List ℕ)) (first : Buyer) (events : List Event) (b : Buyer) (items : List (List ℕ)) → AllByRecursion AreBytes journal
+    → restarted w journal ≡ Ok first → Runs first journal events b items
+    → IsJournal w items × ((result : Result Buyer RestartFault) → Restarts w items result → GivesBack b result)

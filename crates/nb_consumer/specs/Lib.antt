@@ -4,4 +4,5 @@ pub mod Deeds
 pub mod Goods
 pub mod Restart
 pub mod Recalls
+pub mod Runs
 pub mod Laws

@@ -6,21 +6,18 @@ use Rattle.sha2.specs.Sha256.{sha256}
 use Rattle.nb_body.specs.declared.goods_head.GoodsHead.{GoodsHead}
 use Rattle.nb_epo.specs.declared.order.Order.{Order}
 use Rattle.nb_units.specs.declared.ids.Price.{Price}
-use Rattle.nb_endorse.specs.declared.receipt.Receipt.{Receipt}
 use Rattle.nb_msgs.specs.declared.node.RestartFault.{RestartFault}
 use Rattle.nb_msgs.specs.declared.node.RestartFault.TheVariants as fault
 use Rattle.nb_msgs.specs.declared.node.Step.{Step}
 use Rattle.nb_msgs.specs.declared.node.Step.TheVariants as step
 use Rattle.nb_goods.specs.declared.limits.TheConstants.{MAX_SEALED}
 use Rattle.nb_wallet.specs.declared.wallet.Wallet.{Wallet}
-use Rattle.nb_wallet.specs.declared.item.SessionTicket.{SessionTicket}
 use Rattle.nb_wallet.specs.declared.item.Item.{Item}
 use Rattle.nb_wallet.specs.declared.item.Item.TheVariants as item
 use Rattle.nb_wallet.specs.declared.purchase.Stage.{Stage}
 use Rattle.nb_wallet.specs.declared.purchase.Stage.TheVariants as stage
 use Rattle.nb_wallet.specs.declared.purchase.Purchase.{Purchase}
 use Rattle.nb_consumer.specs.declared.rows.Wanting.{Wanting}
-use Rattle.nb_consumer.specs.declared.rows.Owing.{Owing}
 use Rattle.nb_wallet.specs.Reading.{item_of}
 use Rattle.nb_consumer.specs.State.{Buyer, new_buyer, place_of, purchase_of, remembered}
 use Rattle.nb_wallet.specs.Messages.{price_request_of_start}

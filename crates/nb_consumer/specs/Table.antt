@@ -1,6 +1,6 @@
 -- What a consumer does at a message, at a start and where it heard nothing for long, a row for each message and phase: its tests in order,
 -- each a line, and then what is kept and what is sent. The first test that fails gives the reason for which it does nothing.
-use Rattle.std.specs.Prelude.{ℕ, ◌+◌, ◌-◌, ◌==◌, ◌&&◌, nat_lt, nat_le, min, is_none, is_some, Bool, true, false, List, [], ◌∷◌, ◌++◌, codes, length, Option, Some, None, Result, Ok, Err, if◌then◌else◌}
+use Rattle.std.specs.Prelude.{ℕ, ◌+◌, ◌-◌, ◌==◌, ◌&&◌, nat_lt, nat_le, min, is_none, Bool, true, false, List, ◌++◌, codes, length, Option, Some, None, Result, Ok, Err, if◌then◌else◌}
 use Rattle.std.specs.Str.{bytes_eq}
 use Rattle.sha2.specs.Sha256.{sha256}
 use Rattle.nb_units.specs.Fields.{◌>>=◌}
@@ -17,7 +17,6 @@ use Rattle.nb_endorse.specs.Reading.{signed_of}
 use Rattle.nb_ticket.specs.declared.granted.Granted.{Granted}
 use Rattle.nb_ticket.specs.Reading.{granted_of}
 use Rattle.nb_goods.specs.declared.limits.TheConstants.{MAX_SEALED, PART_BYTES}
-use Rattle.nb_msgs.specs.declared.status.StatusText.{StatusText}
 use Rattle.nb_msgs.specs.StatusText.{text_of}
 use Rattle.nb_msgs.specs.declared.message.Message.{Message}
 use Rattle.nb_msgs.specs.declared.message.Message.TheVariants as message
@@ -29,7 +28,6 @@ use Rattle.nb_msgs.specs.declared.node.To.TheVariants as to
 use Rattle.nb_wallet.specs.declared.wallet.Wallet.{Wallet}
 use Rattle.nb_wallet.specs.declared.wallet.Start.{Start}
 use Rattle.nb_wallet.specs.declared.item.SessionTicket.{SessionTicket}
-use Rattle.nb_wallet.specs.declared.item.Item.{Item}
 use Rattle.nb_wallet.specs.declared.item.Item.TheVariants as item
 use Rattle.nb_wallet.specs.declared.purchase.Stage.{Stage}
 use Rattle.nb_wallet.specs.declared.purchase.Stage.TheVariants as stage

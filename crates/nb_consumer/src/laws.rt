@@ -13,8 +13,20 @@ pub fn rows_are_so()
     ensures { law.RowsAreSo }
 {}
 
-/// A law: a consumer that starts again with the items that it kept is as it was, but for the places that it was told, at the beginning and behind
-/// every row.
+/// A law: a consumer that starts again with the items that it kept is as it was, but for the places that it was told: so it stays behind every
+/// start, message and quiet time, whatever was answered.
 pub fn keeps_restarting()
     ensures { law.KeepsRestarting }
+{}
+
+/// A law: behind every list of starts, messages and quiet times, with restarts between them, a consumer that starts again with the items that were
+/// kept is as it was, but for the places that it was told. The list begins with a journal that a restart takes up, as the empty one.
+pub fn runs_restart()
+    ensures { law.RunsRestart }
+{}
+
+/// A law: what was kept in such a list is a sequence of items that rows keep, each within its limits, so that a restart with them refuses none of
+/// them: it gives the consumer that kept them, or there was no memory.
+pub fn restarts_as_kept()
+    ensures { law.RestartsAsKept }
 {}

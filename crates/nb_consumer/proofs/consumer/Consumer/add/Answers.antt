@@ -1,4 +1,4 @@
-use Rattle.std.proofs.Common.{◌≡◌, None, sym, subst, ◌∙◌, ap, List, ◌++◌}
+use Rattle.std.proofs.Common.{◌≡◌, None, sym, subst}
 use Rattle.nb_consumer.specs.State.{Buyer, place_of, fresh}
 use Rattle.nb_consumer.proofs.Purchases.{add_keeps, pushed_so}
 use Rattle.nb_consumer.proofs.consumer.Consumer.add.Goals as goal
