@@ -61,7 +61,7 @@ passes : (test : Bool) (why : Reason) (u : Unit {0}) → unless test why ≡ Ok 
 passes true why u e = refl
 passes false why u e = absurd cc
 
-both : (a b : Bool) → (a && b) ≡ true → (a ≡ true) × (b ≡ true)
+pub both : (a b : Bool) → (a && b) ≡ true → (a ≡ true) × (b ≡ true)
 both true true e = (refl, refl)
 both true false e = absurd cc
 both false b e = absurd cc
@@ -141,7 +141,7 @@ passed_so b transaction part =
 told_so : (b : Buyer) (transaction : ℕ) (p : Purchase) (o : Owing) (place : ℕ) (told : Option Signed) → purchase_of b transaction ≡ Some p → owing_in p.stage ≡ Some o
     → RowSo b (status_told transaction p o place told)
 told_so b transaction p o place (Some s) known ordered = receipt_so b transaction p o s known ordered
-told_so b transaction p o place None known ordered = tt
+told_so b transaction p o place None known ordered = record { purchase = p; owing = o; known = known; ordered = ordered; again = λ told. refl }
 
 status_so : (b : Buyer) (sealed : List ℕ) → RowSo b (told_status b sealed)
 unfolding told_status
@@ -193,11 +193,11 @@ paid_opens r sealed goods e = by_code (r.code == 0) refl e
 -- ---- goods
 
 -- what is known of a part whose head fits
-record Fits (p : Purchase) (w : Wanting) (h : GoodsHead) (part : List ℕ) : Type 0 where
-  number : h.transaction ≡ number_of p
-  fits : part_fits p.start.merchant w.head p.held h part ≡ Ok tt
+pub record Fits (p : Purchase) (w : Wanting) (h : GoodsHead) (part : List ℕ) : Type 0 where
+  pub number : h.transaction ≡ number_of p
+  pub fits : part_fits p.start.merchant w.head p.held h part ≡ Ok tt
 
-head_is : (p : Purchase) (w : Wanting) (head part : List ℕ) (h : GoodsHead) → head_told p w head part ≡ Ok h → Fits p w h part
+pub head_is : (p : Purchase) (w : Wanting) (head part : List ℕ) (h : GoodsHead) → head_told p w head part ≡ Ok h → Fits p w h part
 unfolding head_told
 head_is p w head part h e =
     let second : GoodsHead → Unit {0} → Result GoodsHead Reason = λ x n. (part_fits p.start.merchant w.head p.held x part >>= λ u. Ok x) in
@@ -209,16 +209,16 @@ head_is p w head part h e =
     (record { number = eqb-true x.transaction p.start.transaction (passes (x.transaction == p.start.transaction) (reason.Field 1) b.0 b.1); fits = c.1 })
 
 -- the tests of a part, one by one
-record Tests (merchant : PartyId) (held : Option GoodsHead) (sealed : List ℕ) (h : GoodsHead) (part : List ℕ) : Type 0 where
-  merchant_is : (h.epoid.merchant.0 == merchant.0) ≡ true
-  identifier : agrees (λ k. is_same_epoid h.epoid k.epoid) held ≡ true
-  place : h.place ≡ length sealed
-  most : h.total ≤ 67108896
-  total : agrees (λ k. h.total == k.total) held ≡ true
-  within : h.place ≤ h.total
-  long : length part ≡ min 1000000 (h.total - h.place)
+pub record Tests (merchant : PartyId) (held : Option GoodsHead) (sealed : List ℕ) (h : GoodsHead) (part : List ℕ) : Type 0 where
+  pub merchant_is : (h.epoid.merchant.0 == merchant.0) ≡ true
+  pub identifier : agrees (λ k. is_same_epoid h.epoid k.epoid) held ≡ true
+  pub place : h.place ≡ length sealed
+  pub most : h.total ≤ 67108896
+  pub total : agrees (λ k. h.total == k.total) held ≡ true
+  pub within : h.place ≤ h.total
+  pub long : length part ≡ min 1000000 (h.total - h.place)
 
-tests_are : (merchant : PartyId) (held : Option GoodsHead) (sealed : List ℕ) (h : GoodsHead) (part : List ℕ) → part_fits merchant held sealed h part ≡ Ok tt → Tests merchant held sealed h part
+pub tests_are : (merchant : PartyId) (held : Option GoodsHead) (sealed : List ℕ) (h : GoodsHead) (part : List ℕ) → part_fits merchant held sealed h part ≡ Ok tt → Tests merchant held sealed h part
 unfolding part_fits
 tests_are merchant held sealed h part e =
     let a = bind_found (field 2 (h.epoid.merchant.0 == merchant.0 && agrees (λ k. is_same_epoid h.epoid k.epoid) held)) _ tt e in

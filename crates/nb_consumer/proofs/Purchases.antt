@@ -26,7 +26,7 @@ use Rattle.nb_wallet.specs.Stages.{ordered_from}
 use Rattle.nb_consumer.specs.State.{Buyer, number_of, place_of, purchase_at, purchase_of, changed, changed_at, changed_with, noted, fresh, behind_item, remembered, epoid_bytes}
 use Rattle.nb_wallet.specs.Changes.{changed_to, Sound, StageIsSound}
 
-no_some : {A : Type 0} {B : Type 0} (x : A) → ◌≡◌ {A = Option A} None (Some x) → B
+pub no_some : {A : Type 0} {B : Type 0} (x : A) → ◌≡◌ {A = Option A} None (Some x) → B
 no_some x e = absurd cc
 
 some_is : {A : Type 0} (x y : A) → ◌≡◌ {A = Option A} (Some x) (Some y) → x ≡ y
@@ -50,7 +50,7 @@ sound_at (q ∷ ps) (suc i) p all e = sound_at ps i p all.1 e
 
 -- ---- their numbers
 
-numbers_set : (ps : List Purchase) (i : ℕ) (p q : Purchase) → slice_get ps i ≡ Some p → number_of q ≡ number_of p → map number_of (set ps i q) ≡ map number_of ps
+pub numbers_set : (ps : List Purchase) (i : ℕ) (p q : Purchase) → slice_get ps i ≡ Some p → number_of q ≡ number_of p → map number_of (set ps i q) ≡ map number_of ps
 numbers_set [] i p q e same = refl
 numbers_set (r ∷ ps) zero p q e same = ap (λ (n : ℕ). n ∷ map number_of ps) (same ∙ sym (ap number_of (some_is r p e)))
 numbers_set (r ∷ ps) (suc i) p q e same = ap (λ (ns : List ℕ). number_of r ∷ ns) (numbers_set ps i p q e same)

@@ -29,7 +29,7 @@ use Rattle.nb_consumer.proofs.Restoring.{buyer_is, same_allowed, same_remembered
 -- ---- a journal that a restart takes up
 
 -- its first item, and the rest
-first_item : (n : ℕ) (b c : Buyer) (bytes : List ℕ) (items : List (List ℕ)) → restarted_from n b (bytes ∷ items) ≡ Ok c
+pub first_item : (n : ℕ) (b c : Buyer) (bytes : List ℕ) (items : List (List ℕ)) → restarted_from n b (bytes ∷ items) ≡ Ok c
     → (x : Item) × (item_of bytes ≡ Ok x) × (allows b x ≡ true) × (restarted_from (n + 1) (remembered b x) items ≡ Ok c)
 first_item n b c bytes items e = by_read (item_of bytes) refl e
   where

@@ -2,6 +2,8 @@
 use Rattle.std.specs.Prelude.{ℕ, ◌-◌, List, length, codes, Option, Some, None}
 use Rattle.nb_seal.specs.Seal.{text_in}
 use Rattle.nb_units.specs.declared.width.TheConstants.{SEAL}
+use Rattle.nb_msgs.specs.declared.node.End.{End}
+use Rattle.nb_msgs.specs.declared.node.End.TheVariants as end
 use Rattle.nb_consumer.specs.declared.phase.Phase.{Phase}
 use Rattle.nb_consumer.specs.declared.phase.Phase.TheVariants as phase
 use Rattle.nb_wallet.specs.declared.purchase.Stage.{Stage}
@@ -18,6 +20,12 @@ phase_of (stage.Paid key) sealed = phase.Paid (length sealed - SEAL)
 phase_of (stage.Refused code) sealed = phase.Refused code
 phase_of stage.Foul sealed = phase.Foul
 
+-- as an end says it
+abbrev pub phase_at : End → Phase
+phase_at (end.Paid goods) = phase.Paid (length goods)
+phase_at (end.Refused code) = phase.Refused code
+phase_at end.Foul = phase.Foul
+
 abbrev pub phase_in : Option Purchase → Option Phase
 phase_in (Some p) = Some (phase_of p.stage p.held)
 phase_in None = None
@@ -26,6 +34,11 @@ phase_in None = None
 abbrev pub goods_of : Stage → List ℕ → Option (List ℕ)
 goods_of (stage.Paid key) sealed = text_in key (codes "good") sealed
 goods_of other sealed = None
+
+-- the goods that an end tells
+abbrev pub goods_at : End → Option (List ℕ)
+goods_at (end.Paid goods) = Some goods
+goods_at other = None
 
 abbrev pub goods_in : Option Purchase → Option (List ℕ)
 goods_in (Some p) = goods_of p.stage p.held

@@ -1,5 +1,5 @@
 -- What rows keep, how purchases end, and what starting again gives.
-use Rattle.std.specs.Prelude.{◌≡◌, ℕ, List, ◌++◌, true, Some, Ok, Result}
+use Rattle.std.specs.Prelude.{◌≡◌, ℕ, List, ◌∷◌, ◌++◌, length, codes, true, Some, None, Ok, Result}
 use Rattle.std.specs.List.{AllByRecursion}
 use Rattle.nb_units.specs.Frames.{AreBytes}
 use Rattle.sha2.specs.Sha256.{sha256}
@@ -9,12 +9,13 @@ use Rattle.nb_epo.specs.Places.{checksum_in}
 use Rattle.nb_endorse.specs.declared.receipt.TheConstants.{PAID_CODE}
 use Rattle.nb_endorse.specs.declared.receipt.Receipt.{Receipt}
 use Rattle.nb_endorse.specs.declared.receipt.Signed.{Signed}
-use Rattle.nb_goods.specs.Goods.{OpensTo}
+use Rattle.nb_goods.specs.Goods.{OpensTo, OpensToNothing}
 use Rattle.nb_msgs.specs.declared.message.Message.{Message}
 use Rattle.nb_msgs.specs.declared.node.End.{End}
 use Rattle.nb_msgs.specs.declared.node.End.TheVariants as end
 use Rattle.nb_msgs.specs.declared.node.Reason.{Reason}
 use Rattle.nb_msgs.specs.declared.node.RestartFault.{RestartFault}
+use Rattle.nb_msgs.specs.declared.node.To.{To}
 use Rattle.nb_msgs.specs.declared.node.Step.{Step}
 use Rattle.nb_units.specs.declared.memory.NoMemory.{NoMemory}
 use Rattle.nb_wallet.specs.declared.wallet.Start.{Start}
@@ -26,9 +27,18 @@ use Rattle.nb_consumer.specs.declared.rows.Owing.{Owing}
 use Rattle.nb_consumer.specs.declared.deed.Deed.{Deed}
 use Rattle.nb_consumer.specs.declared.deed.Deed.TheVariants as deed
 use Rattle.nb_wallet.specs.Stages.{end_of}
-use Rattle.nb_consumer.specs.State.{Buyer, purchase_of}
+use Rattle.nb_consumer.specs.State.{Buyer, purchase_of, ordered_with, epoid_bytes, remembered, number_in}
+use Rattle.nb_endorse.specs.Reading.{signed_of}
+use Rattle.nb_msgs.specs.declared.status.StatusText.{StatusText}
+use Rattle.nb_msgs.specs.StatusText.{text_of}
+use Rattle.nb_msgs.specs.declared.message.Message.TheVariants as message
+use Rattle.nb_wallet.specs.Tests.{opened}
 use Rattle.nb_wallet.specs.Messages.{payment}
-use Rattle.nb_consumer.specs.Table.{started, heard, silent, wanting_in, owing_in, receipt_fits}
+use Rattle.nb_consumer.specs.Table.{started, heard, silent, wanting_in, owing_in, receipt_fits, status_told}
+use Rattle.nb_consumer.specs.declared.phase.Phase.TheVariants as phase
+use Rattle.nb_consumer.specs.Goods.{phase_in, phase_at, goods_in, goods_at}
+use Rattle.nb_consumer.specs.Known.{AllSo}
+use Rattle.nb_wallet.specs.Reading.{item_of}
 use Rattle.nb_consumer.specs.Restart.{allows, restarted, Restarts, Kept}
 use Rattle.nb_consumer.specs.Deeds.{Answers}
 use Rattle.nb_consumer.specs.Runs.{Call, row_of, kept_of, Event, Runs, IsJournal, GivesBack}
@@ -54,6 +64,14 @@ pub record EndSo (b : Buyer) (transaction : ℕ) (receipt : Signed) (how : End) 
   pub fits : receipt_fits owing.order receipt.receipt ≡ Ok tt
   pub end : how ≡ end_of receipt.receipt purchase.held
 
+-- a purchase is ordered, and at each status without a receipt this is sent to this party
+pub record PaysAgain (b : Buyer) (transaction : ℕ) (to : To) (message : Message) : Type 0 where
+  pub purchase : Purchase
+  pub owing : Owing
+  pub known : purchase_of b transaction ≡ Some purchase
+  pub ordered : owing_in purchase.stage ≡ Some owing
+  pub again : (place : ℕ) → status_told transaction purchase owing place None ≡ Ok (deed.Hears transaction place to message)
+
 abbrev pub KeepsSo : Buyer → Item → Message → Type 0
 KeepsSo b (item.Ordered transaction order part) sent = OrderSo b transaction order part sent
 KeepsSo b other sent = Unit {0}
@@ -62,6 +80,7 @@ KeepsSo b other sent = Unit {0}
 abbrev pub RowSo : Buyer → Result Deed Reason → Type 0
 RowSo b (Ok (deed.Keeps item to message)) = (allows b item ≡ true) × KeepsSo b item message
 RowSo b (Ok (deed.Ends transaction receipt end)) = (allows b (item.Ended transaction receipt) ≡ true) × EndSo b transaction receipt end
+RowSo b (Ok (deed.Hears transaction place to message)) = PaysAgain b transaction to message
 RowSo b other = Unit {0}
 
 -- so it is at every start, message and quiet time
@@ -71,6 +90,60 @@ RowsAreSo = (b : Buyer) → ((s : Start) → RowSo b (started b s)) × ((m : Mes
 -- a purchase ends paid only where the receipt's code is that of paid orders and its key opens the sealed goods to the goods that are told
 abbrev pub PaidOpens : Type 0
 PaidOpens = (r : Receipt) (sealed goods : List ℕ) → end_of r sealed ≡ end.Paid goods → (key : List ℕ) × (r.code ≡ PAID_CODE) × (r.key ≡ Some key) × OpensTo key sealed goods
+
+-- how a purchase ends: with another code it is refused; with that of paid orders it is paid where the key opens the sealed goods, and else foul
+abbrev pub EndsAre : Type 0
+EndsAre = (r : Receipt) (sealed : List ℕ) → (¬ (r.code ≡ PAID_CODE) → end_of r sealed ≡ end.Refused r.code)
+    × ((key goods : List ℕ) → r.code ≡ PAID_CODE → r.key ≡ Some key → OpensTo key sealed goods → end_of r sealed ≡ end.Paid goods)
+    × ((key : List ℕ) → r.code ≡ PAID_CODE → r.key ≡ Some key → OpensToNothing key sealed → end_of r sealed ≡ end.Foul)
+
+-- a purchase ends at a receipt that was sealed under the consumer's key: one that was passed on to it, or that stands in the status of its order
+abbrev pub EndsHeard : Buyer → Message → ℕ → Signed → Type 0
+EndsHeard b (message.Passed number part) transaction receipt = (transaction ≡ number) × (opened signed_of b.wallet.key (codes "rcpt") part ≡ Ok receipt)
+EndsHeard b (message.Status sealed) transaction receipt = (text : StatusText) × (opened text_of b.wallet.key (codes "stat") sealed ≡ Ok text) × (text.receipt ≡ Some receipt)
+    × (ordered_with b.orders (epoid_bytes text.epoid) ≡ Some transaction)
+EndsHeard b other transaction receipt = ⊥
+
+abbrev pub EndsAreHeard : Type 0
+EndsAreHeard = (b : Buyer) (m : Message) (transaction : ℕ) (receipt : Signed) (how : End) → heard b m ≡ Ok (deed.Ends transaction receipt how) → EndsHeard b m transaction receipt
+
+-- behind an end its phase and its goods are told
+abbrev pub EndIsTold : Type 0
+EndIsTold = (b : Buyer) (transaction : ℕ) (receipt : Signed) (how : End) → EndSo b transaction receipt how → let c = remembered b (item.Ended transaction receipt) in
+    (phase_in (purchase_of c transaction) ≡ Some (phase_at how)) × (goods_in (purchase_of c transaction) ≡ goods_at how)
+
+-- ---- what is known
+
+-- of each purchase of a consumer that starts again with what it kept
+abbrev pub KnownIsSo : Type 0
+KnownIsSo = (items : List (List ℕ)) (b : Buyer) → Kept items b → AllSo b
+
+-- such a purchase has goods exactly where its phase is that it was paid, and as many bytes as that says
+abbrev pub PaidHasGoods : Type 0
+PaidHasGoods = (items : List (List ℕ)) (b : Buyer) (transaction : ℕ) → Kept items b
+    → ((n : ℕ) → phase_in (purchase_of b transaction) ≡ Some (phase.Paid n) → (goods : List ℕ) × (goods_in (purchase_of b transaction) ≡ Some goods) × (length goods ≡ n))
+    × ((goods : List ℕ) → goods_in (purchase_of b transaction) ≡ Some goods → phase_in (purchase_of b transaction) ≡ Some (phase.Paid (length goods)))
+
+-- an order in a journal that a restart takes up names, in its bytes, the checksum of what is held of its purchase behind the items before it and of the part in its item
+abbrev pub KeptOrderIsSo : Type 0
+KeptOrderIsSo = (w : Wallet) (front back : List (List ℕ)) (bytes : List ℕ) (b : Buyer) (transaction : ℕ) (order : Order) (part : List ℕ) → restarted w (front ++ bytes ∷ back) ≡ Ok b
+    → item_of bytes ≡ Ok (item.Ordered transaction order part)
+    → (before : Buyer) × (p : Purchase) × (restarted w front ≡ Ok before) × (purchase_of before transaction ≡ Some p) × (checksum_in (order_bytes order) ≡ sha256 (p.held ++ part))
+
+-- ---- what is said again
+
+-- behind an item a quiet time says this again; behind an order, a status without a receipt does
+abbrev pub SaidAgain : Buyer → Item → To → Message → Type 0
+SaidAgain b (item.Ordered transaction order part) to message = PaysAgain b transaction to message
+SaidAgain b other to message = silent b (number_in other) ≡ Ok (deed.Sends to message)
+
+abbrev pub RowSaysAgain : Buyer → Result Deed Reason → Type 0
+RowSaysAgain b (Ok (deed.Keeps item to message)) = SaidAgain (remembered b item) item to message
+RowSaysAgain b other = Unit {0}
+
+-- what is sent with an item is what is said again behind it
+abbrev pub SaysAgain : Type 0
+SaysAgain = (items : List (List ℕ)) (b : Buyer) (call : Call) → Kept items b → RowSaysAgain b (row_of b call)
 
 -- ---- starting again
 

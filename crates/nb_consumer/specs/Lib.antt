@@ -5,4 +5,5 @@ pub mod Goods
 pub mod Restart
 pub mod Recalls
 pub mod Runs
+pub mod Known
 pub mod Laws

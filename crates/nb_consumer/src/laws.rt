@@ -7,6 +7,46 @@ pub fn paid_opens()
     ensures { law.PaidOpens }
 {}
 
+/// A law: a purchase is refused with the code of a receipt that is not that of paid orders; else it is paid where the receipt's key opens the sealed
+/// goods, and foul where it opens nothing.
+pub fn ends_are()
+    ensures { law.EndsAre }
+{}
+
+/// A law: a purchase ends at a receipt that was sealed under the consumer's key, one that was passed on for it or one in the status of its order.
+pub fn ends_are_heard()
+    ensures { law.EndsAreHeard }
+{}
+
+/// A law: behind an end [`state`](crate::Consumer::state) and [`goods`](crate::Consumer::goods) tell it: the goods and their length, the code, or that
+/// it is foul.
+pub fn end_is_told()
+    ensures { law.EndIsTold }
+{}
+
+/// A law: a purchase of a consumer that starts again with what it kept has goods exactly where it was paid, and they have the length that is told.
+pub fn paid_has_goods()
+    ensures { law.PaidHasGoods }
+{}
+
+/// A law: of each purchase of a consumer that starts again with what it kept, what is held is what its stage says: nothing before a part came, less
+/// than all before the last came, all that the order names the checksum of, and what the key of a paid one opens.
+pub fn known_is_so()
+    ensures { law.KnownIsSo }
+{}
+
+/// A law: an order in a journal that a restart takes up names, in its bytes, the checksum of what is held behind the items before it and of the part
+/// in its item.
+pub fn kept_order_is_so()
+    ensures { law.KeptOrderIsSo }
+{}
+
+/// A law: the message that is sent with an item is the one that is sent again where nothing is heard behind it; with an order, the one that is sent
+/// again at a status without a receipt. So nothing is sent that a consumer which stopped behind the item, and started again, does not send.
+pub fn says_again()
+    ensures { law.SaysAgain }
+{}
+
 /// A law: what a row keeps may stand behind what is known. An order that is kept names, in its bytes, the checksum of all sealed goods that are held
 /// then, and is what is sent; a receipt that is kept fits the order.
 pub fn rows_are_so()

@@ -18,7 +18,7 @@ use Rattle.nb_epo.proofs.Layouts.{order_reads_back, order_spells_back, lengths}
 use Rattle.nb_endorse.specs.declared.receipt.Signed.{Signed}
 use Rattle.nb_endorse.specs.Spelling.{IsSigned, signed_bytes}
 use Rattle.nb_endorse.specs.Reading.{signed_of}
-use Rattle.nb_endorse.proofs.Receipts.{receipt_reads_back, receipt_spells_back}
+use Rattle.nb_endorse.proofs.Receipts.{receipt_reads_back, receipt_spells_back, receipt_is_as_long}
 use Rattle.nb_msgs.specs.declared.fault.BodyFault.{BodyFault}
 use Rattle.nb_wallet.specs.declared.wallet.Start.{Start}
 use Rattle.nb_units.specs.declared.ids.Price.{Price}
@@ -27,7 +27,7 @@ use Rattle.nb_wallet.specs.declared.item.Item.{Item}
 use Rattle.nb_wallet.specs.declared.item.Item.TheVariants as item
 use Rattle.nb_wallet.specs.Spelling.{IsItem, item_bytes, started_bytes, granted_item_bytes, wanted_bytes, ordered_front, ordered_bytes, ended_bytes, part_front, part_bytes, forgotten_bytes}
 use Rattle.nb_wallet.specs.Reading.{item_of, of_kind, started_of, granted_item_of, wanted_of, ordered_of, order_within, ended_of, receipt_within, from_place, part_of, forgotten_of}
-use Rattle.nb_wallet.specs.Laws.{ItemReadsBack, ItemSpellsBack, OneItem}
+use Rattle.nb_wallet.specs.Laws.{ItemReadsBack, ItemSpellsBack, OneItem, ItemKindsAre, ItemIsShort}
 
 -- an item that the bytes are of
 abbrev Spelled : List ℕ → Item → Type 0
@@ -396,3 +396,50 @@ item_spells_back bytes x are e =
 
 pub one_item : OneItem
 one_item a b first second same = ok_is a b (sym (item_reads_back a first) ∙ ap item_of same ∙ item_reads_back b second)
+
+-- ---- numbers
+
+pub item_kinds : ItemKindsAre
+item_kinds = refl
+
+start_short : (s : Start) → IsItem (item.Started s) → length (item_bytes (item.Started s)) ≤ 1000297
+start_short s is =
+    let p : StartParts = ((((((1, s.transaction), s.merchant.0), s.product), s.limit.0), s.request), s.memo) in
+    omega (arith, is_start_row.long 0 p (((((((omega arith, refl), is.transaction), is.merchant), is.product), is.limit), is.request), is.memo), ap length (start_spelled_so p refl), is.request, is.memo)
+
+grant_short : (t : ℕ) (pass : SessionTicket) → IsItem (item.Granted t pass) → length (item_bytes (item.Granted t pass)) ≤ 1000297
+grant_short t pass is =
+    let p : GrantParts = (((2, t), pass.session), pass.ticket) in
+    omega (arith, is_grant_row.long 0 p ((((omega arith, refl), is.0), is.1.session), is.1.ticket), ap length (grant_spelled_so p refl), is.1.ticket)
+
+price_short : (t : ℕ) (price : Price) → IsItem (item.Wanted t price) → length (item_bytes (item.Wanted t price)) ≤ 1000297
+price_short t price is =
+    omega (arith, is_price_row.long 0 ((3, t), price.0) (((omega arith, refl), is.0), is.1), ap length (price_spelled_so ((3, t), price.0) refl))
+
+order_short : (t : ℕ) (o : Order) (part : List ℕ) → IsItem (item.Ordered t o part) → length (item_bytes (item.Ordered t o part)) ≤ 1000297
+order_short t o part is =
+    let p : OrderParts = (((4, t), order_bytes o), part) in
+    let short : length (order_bytes o) ≤ 280 = omega (arith, lengths.0 o is.1, is.1.hidden) in
+    omega (arith, is_order_row.long 0 p ((((omega arith, refl), is.0), short), is.2), ap length (order_spelled_so p refl), short, is.2)
+
+end_short : (t : ℕ) (s : Signed) → IsItem (item.Ended t s) → length (item_bytes (item.Ended t s)) ≤ 1000297
+end_short t s is =
+    let p : ℕ × ℕ = (5, t) in
+    omega (arith, end_long p ((omega arith, refl), is.0), ap length (end_spelled_so p s refl), length-append (end_row.spelled p) (signed_bytes s), receipt_is_as_long s is.1)
+
+part_short : (h : GoodsHead) (part : List ℕ) → IsItem (item.Part h part) → length (item_bytes (item.Part h part)) ≤ 1000297
+part_short h part is =
+    let p : PartParts = ((((((6, h.transaction), h.epoid), h.total), h.checksum), h.place), part) in
+    omega (arith, is_part_row.long 0 p (((((((omega arith, refl), is.0.transaction), is.0.epoid), is.0.total), is.0.checksum), is.0.place), is.1), ap length (part_spelled_so p refl), is.1)
+
+forgotten_short : (t : ℕ) → IsItem (item.Forgotten t) → length (item_bytes (item.Forgotten t)) ≤ 1000297
+forgotten_short t is = omega (arith, is_forgotten_row.long 0 (8, t) ((omega arith, refl), is), ap length (forgotten_spelled_so (8, t) refl))
+
+pub item_is_short : ItemIsShort
+item_is_short (item.Started start) is = start_short start is
+item_is_short (item.Granted transaction pass) is = grant_short transaction pass is
+item_is_short (item.Wanted transaction price) is = price_short transaction price is
+item_is_short (item.Ordered transaction order part) is = order_short transaction order part is
+item_is_short (item.Ended transaction receipt) is = end_short transaction receipt is
+item_is_short (item.Part head part) is = part_short head part is
+item_is_short (item.Forgotten transaction) is = forgotten_short transaction is

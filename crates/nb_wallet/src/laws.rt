@@ -16,3 +16,13 @@ pub fn item_spells_back()
 pub fn one_item()
     ensures { law.OneItem }
 {}
+
+/// A law: the kinds of items, in numbers.
+pub fn item_kinds()
+    ensures { law.ItemKindsAre }
+{}
+
+/// A law: no item has more than 1,000,297 bytes.
+pub fn item_is_short()
+    ensures { law.ItemIsShort }
+{}
