@@ -2,7 +2,7 @@
 //! `bench ROW SIZE TIMES`. It prints the SHA-256 digest of what the work made, in hexadecimal.
 //!
 //! The work begins with SIZE bytes of a pattern; a turn and a lock have no bytes, and SIZE is the number of threads; of look-ups it is
-//! how many keys there are, and of a shelf how many products. Each round works on what the last one made, so that none can be left out.
+//! how many keys there are, of a shelf how many products, and of a consumer and a merchant how many purchases. Each round works on what the last one made, so that none can be left out.
 //! `bench answer JOURNAL REQUESTS` answers the frames on standard input over a journal, so many in a turn, and prints how many bytes their
 //! replies have; `bench ask JOURNAL REQUESTS THREADS` asks a desk for them, by 1, 2 or 4 threads. A file has one subject and its rows: a
 //! new row touches that file alone. How long a round takes is no claim of the proofs, and no clause says more than its safety needs:
@@ -17,6 +17,7 @@ mod hashing;
 mod indexing;
 mod keystream;
 mod messages;
+mod nodes;
 mod pattern;
 mod sealing;
 mod shelves;
@@ -36,6 +37,7 @@ const USAGE: &str =
     "usage: bench sha|hmac|seal|unseal|stream|parts|openparts|lookup|shelf SIZE TIMES
        bench frames1|frames100|frames65536|copy SIZE TIMES
        bench writegoods|readgoods SIZE TIMES
+       bench consumer|merchant SIZE TIMES
        bench turn|lock THREADS TIMES
        bench answer JOURNAL REQUESTS
        bench ask JOURNAL REQUESTS THREADS";
@@ -128,6 +130,10 @@ fn run<R: Threads + Wait + Sync>(
         Made::Unknown => {}
     }
     match shelves::run(alloc, row, size, times)? {
+        Made::Bytes(bytes) => return Ok(Made::Bytes(bytes)),
+        Made::Unknown => {}
+    }
+    match nodes::run(alloc, row, size, times)? {
         Made::Bytes(bytes) => return Ok(Made::Bytes(bytes)),
         Made::Unknown => {}
     }

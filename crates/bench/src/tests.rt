@@ -128,6 +128,22 @@ fn lines(rt: HostRuntime) -> Result<(), Fail> {
             "4d75f61869104baa4ccff5be73311be9bdd6cc31779301dfc699479403c8a786",
         ),
         (
+            "consumer 10 3",
+            "395dd2b78f03940aa0e469aa1c57157fdf95879248af71b9786230b59969aa60",
+        ),
+        (
+            "consumer 1 2",
+            "1804288a9ff7a2ee397613f7840a4b2957d1b7583f93a2b3d5ec1456a0fefa2d",
+        ),
+        (
+            "merchant 10 3",
+            "86bf9ad9f6fbaaf5e79cefab9f058d758ba6623c2b46791bc4e784f7e780ee22",
+        ),
+        (
+            "merchant 3 2",
+            "6cb506246130866a9dd9f9e7d0516b754d2c9a65117dcca0c4e64ef63583b0e2",
+        ),
+        (
             "turn 1 100",
             "5fcba2633bef1c29420e0eed7b037ced8b00466b0e8f1c5ce1cad2e97e117aad",
         ),
