@@ -4,6 +4,7 @@ use super::*;
 use nb_body::GoodsHead;
 use nb_goods::{checksum, goods_key, sealed};
 use nb_units::Epoid;
+use std::process::Abort;
 
 const MASTER: Secret = [0x66; 32];
 
@@ -198,21 +199,43 @@ fn keeps_part(
     Ok((consumer, done.told))
 }
 
+// What is kept behind the first part.
+fn first_kept(rt: &impl Abort, alloc: Global, goods: &Goods) -> Result<Vec<Blob>, Fail> {
+    let mut items = blobs(alloc, ITEMS.get(..3).ok_or("few")?)?;
+    let head = goods.head_at(alloc, 0, None)?;
+    let (_consumer, told) = keeps_part(alloc, &mut items, &head, goods.first())?;
+    assert_eq!(rt; told, Keeps(6, 0x03));
+    Ok(items)
+}
+
+// The consumer behind the second part, which it orders.
+fn second_kept(
+    rt: &impl Abort,
+    alloc: Global,
+    goods: &Goods,
+    items: &mut Vec<Blob>,
+) -> Result<Consumer, Fail> {
+    let head = goods.head_at(alloc, 1_000_000, None)?;
+    let (consumer, told) = keeps_part(alloc, items, &head, goods.second())?;
+    assert_eq!(rt; told, Keeps(4, 0x05));
+    Ok(consumer)
+}
+
+// Whether the purchase has these goods.
+fn has_goods(consumer: &Consumer, goods: &Goods) -> Result<bool, Fail> {
+    let opened = consumer.goods(1)?.ok_or("not opened")?;
+    Ok(opened.as_slice() == goods.plain.as_slice())
+}
+
 // Both parts come as they are, and before each the consumer starts again with what it kept.
 #[test]
 fn whole_goods(rt: HostRuntime) -> Result<(), Fail> {
     let alloc = rt.alloc();
     let goods = goods_of(alloc)?;
-    let mut items = blobs(alloc, ITEMS.get(..3).ok_or("few")?)?;
-    let head = goods.head_at(alloc, 0, None)?;
-    let (_consumer, told) = keeps_part(alloc, &mut items, &head, goods.first())?;
-    assert_eq!(rt; told, Keeps(6, 0x03));
-    let head = goods.head_at(alloc, 1_000_000, None)?;
-    let (mut consumer, told) = keeps_part(alloc, &mut items, &head, goods.second())?;
-    assert_eq!(rt; told, Keeps(4, 0x05));
+    let mut items = first_kept(&rt, alloc, &goods)?;
+    let mut consumer = second_kept(&rt, alloc, &goods, &mut items)?;
     let done = hear_text(alloc, &mut consumer, &HEARD[3])?;
     assert_eq!(rt; done.told, Paid(1_000_000));
-    let opened = consumer.goods(1)?.ok_or("not opened")?;
-    assert!(rt; opened.as_slice() == goods.plain.as_slice());
+    assert!(rt; has_goods(&consumer, &goods)?);
     Ok(())
 }
