@@ -1,4 +1,5 @@
-ghost use Rattle.std.specs.Prelude.{◌≡◌, ◌≤◌, ◌+◌, length, codes, take, drop};
+ghost use Rattle.std.specs.Prelude.{◌≡◌, ◌≤◌, ◌+◌, ◌++◌, length, codes, take, drop, vec_capacity};
+ghost use Rattle.nb_units.specs.Room.{spare_of};
 ghost use Rattle.nb_seal.specs.declared.limits.TheConstants.{CODE_BYTES, MAX_TEXT};
 ghost use Rattle.nb_seal.specs.Seal.{seal_of};
 ghost use Rattle.nb_endorse.specs.Keys.{key_in, no_keys};
@@ -11,7 +12,7 @@ use crate::receipt::{
     sign_receipt_with,
 };
 use crate::refusal::Refusal;
-use nb_seal::{KeyState, seal_to};
+use nb_seal::{KeyState, seal_spare, seal_to};
 use nb_units::{AcctId, Epoid, PartyId, Secret};
 use std::marker::Model;
 
@@ -178,6 +179,20 @@ impl ReplyStates {
         match &self.first {
             Some(key) => key.seal_to(label, plain, buf),
             None => seal_to(&NO_KEY, label, plain, buf),
+        }
+    }
+
+    /// Appends the seal of a text under the first key, as `seal_spare` of nb_seal does.
+    pub fn seal_text_spare(&self, label: &[u8; 4], plain: &[u8], out: &mut Vec<u8>)
+        requires short { length plain.now ≤ MAX_TEXT }
+        requires spare { CODE_BYTES + length plain.now ≤ spare_of out.old }
+        ensures sealed { out.new.items ≡ out.old.items ++ seal_of self.now.first label.now plain.now }
+        ensures spare { spare_of out.old ≤ spare_of out.new + (CODE_BYTES + length plain.now) }
+        ensures room { vec_capacity out.new ≡ vec_capacity out.old }
+    {
+        match &self.first {
+            Some(key) => key.seal_spare(label, plain, out),
+            None => seal_spare(&NO_KEY, label, plain, out),
         }
     }
 

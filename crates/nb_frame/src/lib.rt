@@ -7,7 +7,7 @@
 //!
 //! All memory is taken by [`Frames::new`]. What waits is moved to the front at most once a feed.
 //!
-//! [`write_frame`] appends the one spelling of a frame.
+//! [`write_frame`] appends the one spelling of a frame, and [`write_header`] its header alone, for a body that is made in its place behind it.
 //!
 //! Left to others: where pieces come from, what a frame asks for, and what a frame is, which `nb_units` says.
 #![tactic(auto)]
@@ -20,7 +20,7 @@ mod writing;
 
 pub use fault::FrameFault;
 pub use stream::{FrameAt, Frames, MAX_HELD, MAX_PIECE, Next};
-pub use writing::write_frame;
+pub use writing::{write_frame, write_header};
 
 #[cfg(test)]
 mod tests;

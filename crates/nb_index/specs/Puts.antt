@@ -4,8 +4,8 @@ use Rattle.std.specs.List.{HoldsAt, AllByRecursion}
 use Rattle.std.specs.Str.{bytes_eq}
 use Rattle.nb_index.specs.declared.put.Put.{Put}
 
--- what does not change as an index is used: how many slots it has, its own key, by which keys fall on slots, and for how many puts each of
--- its two lists has memory
+-- what does not change as an index is used: how many slots it has, its own key, by which keys fall on slots, and for how many items each of
+-- its three lists has memory: its slots, its puts, and the put before each
 pub record Shape : Type 0 where
   pub slots : ℕ
   pub key : List ℕ
@@ -16,7 +16,7 @@ pub record Indexed : Type 0 where
   pub puts : List Put
   pub shape : Shape
 
--- so many slots, this key, and memory in each list for as many puts as such an index may have
+-- so many slots, this key, and memory in each list for as many items as such an index may have puts
 pub record IsShaped (slots : ℕ) (key : List ℕ) (shape : Shape) : Type 0 where
   pub slots_are : shape.slots ≡ slots
   pub key_is : shape.key ≡ key

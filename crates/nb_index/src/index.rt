@@ -30,7 +30,7 @@ impl Model for FixedIndex {
 
     ghost Value = { Indexed };
 
-    ghost view = { λ x. record { puts = x.puts.items; shape = record { slots = vec_len x.lasts; key = x.key; places = vec_capacity x.puts ∷ vec_capacity x.before ∷ [] } } };
+    ghost view = { λ x. record { puts = x.puts.items; shape = record { slots = vec_len x.lasts; key = x.key; places = vec_capacity x.lasts ∷ vec_capacity x.puts ∷ vec_capacity x.before ∷ [] } } };
 
     ghost invariant = { λ x. record {
       some : 2 ≤ vec_len x.lasts;

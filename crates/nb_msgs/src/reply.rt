@@ -1,8 +1,9 @@
 ghost use Rattle.std.specs.Prelude.{◌≡◌, ◌≤◌, ◌<◌, ◌^◌, ◌++◌, codes, length, vec_capacity, IfSome};
 ghost use Rattle.nb_seal.specs.Seal.{seal_of};
 ghost use Rattle.nb_units.specs.Room.{spare_of};
-ghost use Rattle.nb_units.specs.declared.frames.TheConstants.{LAST_KIND};
+ghost use Rattle.nb_units.specs.declared.frames.TheConstants.{HEADER};
 ghost use Rattle.nb_units.specs.Epoid.{IsEpoid};
+ghost use Rattle.nb_endorse.specs.declared.reply.Reply.TheVariants as reply;
 ghost use Rattle.nb_endorse.specs.Replies.{HasLawfulReceipts, ReceiptKeepsRules};
 ghost use Rattle.nb_endorse.specs.Spelling.{IsReceipt};
 ghost use Rattle.nb_endorse.specs.Tags.{signed_receipt};
@@ -14,13 +15,13 @@ ghost use Rattle.nb_msgs.specs.declared.reply.TheConstants.{MOST_BODY, REPLY_ROO
 ghost use Rattle.nb_msgs.specs.declared.status.TheConstants.{MOST_STATUS};
 
 use crate::grant::grant_body;
-use crate::status::{MOST_STATUS, StatusText};
+use crate::status::StatusText;
 use nb_endorse::{RECEIPT_BYTES, Receipt, Refusal, Reply, ReplyKeys, ReplyStates, Signed};
-use nb_frame::write_frame;
+use nb_frame::{write_frame, write_header};
 use nb_units::frames::{
     DONE_REPLY, GRANT_REPLY, HEADER, REFUSED_REPLY, RESULT_REPLY, STATUS_REPLY,
 };
-use nb_units::width::LENGTH;
+use nb_units::width::{LENGTH, SEAL};
 use nb_units::{AcctId, Buffer, Epoid};
 
 /// The room that is asked for a reply's frame.
@@ -58,47 +59,32 @@ pub fn write_reply_with(reply: &Reply, keys: &ReplyStates, out: &mut Vec<u8>)
     ensures short { length (layout.reply_bytes keys.now reply.now) ≤ LONGEST_REPLY }
     ensures room { vec_capacity out.new ≡ vec_capacity out.old }
 {
-    write_frame(kind_of(reply), body_of(reply, keys).as_slice(), out);
-}
-
-// The kind of a reply's frame.
-fn kind_of(reply: &Reply) -> u8
-    ensures kind { (keys : ReplyKeys) → result ≡ (layout.reply_frame keys reply.now).kind }
-    ensures least { 1 ≤ result }
-    ensures most { result ≤ LAST_KIND }
-{
     match reply {
-        Reply::Result { .. } => RESULT_REPLY,
-        Reply::Status { .. } => STATUS_REPLY,
-        Reply::Grant { .. } => GRANT_REPLY,
-        Reply::Done { .. } => DONE_REPLY,
-        Reply::Refused(_) => REFUSED_REPLY,
-    }
-}
-
-// The body of a reply's frame.
-fn body_of(reply: &Reply, keys: &ReplyStates) -> Buffer
-    requires { HasLawfulReceipts reply.now }
-    ensures bytes { result ≡ (layout.reply_frame keys.now reply.now).body }
-    ensures fits { IsReply reply.now }
-    ensures short { length result ≤ MOST_BODY }
-{
-    match reply {
-        Reply::Result { merchant, consumer } => result_body(merchant, consumer, keys),
+        Reply::Result { merchant, consumer } => {
+            let body = result_body(merchant, consumer, keys);
+            write_frame(RESULT_REPLY, body.as_slice(), out);
+        }
         Reply::Status {
             place,
             epoid,
             receipt,
-        } => status_body(*place, epoid, receipt, keys),
+        } => write_status(*place, epoid, receipt, keys, out),
         Reply::Grant {
             consumer,
             merchant,
             nonce,
             until,
             session,
-        } => grant_body(*consumer, *merchant, *nonce, *until, session, keys),
-        Reply::Done { acct, at, balance } => done_body(*acct, *at, *balance),
-        Reply::Refused(refusal) => refusal_body(refusal),
+        } => {
+            let body = grant_body(*consumer, *merchant, *nonce, *until, session, keys);
+            write_frame(GRANT_REPLY, body.as_slice(), out);
+        }
+        Reply::Done { acct, at, balance } => {
+            write_frame(DONE_REPLY, done_body(*acct, *at, *balance).as_slice(), out);
+        }
+        Reply::Refused(refusal) => {
+            write_frame(REFUSED_REPLY, refusal_body(refusal).as_slice(), out);
+        }
     }
 }
 
@@ -151,19 +137,24 @@ fn seal_second(signed: &Signed, receipt: &Receipt, keys: &ReplyStates) -> [u8; R
     keys.seal_second(signed)
 }
 
-// The body that gives the status of an order, sealed for who asked.
-fn status_body(place: u64, epoid: &Epoid, receipt: &Option<Receipt>, keys: &ReplyStates) -> Buffer
-    requires { IfSome receipt.now ReceiptKeepsRules }
-    ensures bytes { result ≡ (layout.status_frame keys.now place epoid.now receipt.now).body }
+// Appends the frame of a status, which is sealed for who asked in its place behind the header.
+fn write_status(
+    place: u64,
+    epoid: &Epoid,
+    receipt: &Option<Receipt>,
+    keys: &ReplyStates,
+    out: &mut Vec<u8>,
+)
+    requires lawful { IfSome receipt.now ReceiptKeepsRules }
+    requires room { REPLY_ROOM ≤ spare_of out.old }
+    ensures bytes { out.new.items ≡ out.old.items ++ layout.reply_bytes keys.now (reply.Status place epoid.now receipt.now) }
     ensures fits { (place < 2 ^ 64) × IsEpoid epoid.now × IfSome receipt.now IsReceipt }
-    ensures short { length result ≤ MOST_STATUS }
+    ensures short { length (layout.reply_bytes keys.now (reply.Status place epoid.now receipt.now)) ≤ HEADER + MOST_STATUS }
+    ensures room { vec_capacity out.new ≡ vec_capacity out.old }
 {
-    let plain = told(place, epoid, receipt, keys).spelled();
-    let mut sealed = [0u8; MOST_STATUS];
-    let n = keys.seal_text_first(&STATUS_SEAL_LABEL, plain.as_slice(), &mut sealed);
-    let mut body = Buffer::new();
-    body.raw(sealed.split_at(n).0);
-    body
+    let text = told(place, epoid, receipt, keys).spelled();
+    write_header(STATUS_REPLY, (SEAL + text.as_slice().len()) as u32, out);
+    keys.seal_text_spare(&STATUS_SEAL_LABEL, text.as_slice(), out);
 }
 
 // What is told of an order. A receipt is signed by the house.

@@ -1,7 +1,7 @@
-ghost use Rattle.std.specs.Prelude.{◌≡◌, ◌≤◌, ◌<◌, ◌+◌, ◌^◌, ◌++◌, ◌∷◌, [], length, vec_capacity, IsOk, OnOk, OnErr};
+ghost use Rattle.std.specs.Prelude.{◌≡◌, ◌≤◌, ◌<◌, ◌+◌, ◌^◌, ◌++◌, length, vec_capacity, IsOk, OnOk, OnErr};
 ghost use Rattle.nb_units.specs.Room.{spare_of};
 ghost use Rattle.nb_units.specs.Fields.{be4, be8, sized};
-ghost use Rattle.nb_units.specs.declared.frames.TheConstants.{FIRST_MAGIC, SECOND_MAGIC, VERSION, HEADER};
+ghost use Rattle.nb_units.specs.declared.frames.TheConstants.{HEADER};
 ghost use Rattle.nb_body.specs.declared.limits.TheConstants.{MAX_ENDORSED};
 ghost use Rattle.nb_goods.specs.declared.limits.TheConstants.{PART_BYTES};
 ghost use Rattle.nb_body.specs.Spelling.{endorsed_bytes, IsEndorsedOrder};
@@ -11,7 +11,8 @@ ghost use Rattle.nb_msgs.specs.Bodies as bodies;
 use crate::message::Message;
 use crate::reply::{done_body, refusal_body};
 use nb_body::EndorsedOrder;
-use nb_units::frames::{FIRST_MAGIC, SECOND_MAGIC, VERSION};
+use nb_frame::write_header;
+use nb_units::frames::HEADER;
 use nb_units::{Blob, Buffer, NoMemory, PartyId};
 
 /// Appends the frame of a message. No text in it may be longer than its limit, a role must be one of the two, and an amount in its
@@ -28,24 +29,11 @@ pub fn write_message(m: &Message, out: &mut Vec<u8>) -> Result<(), NoMemory>
     let front = front_of(m);
     let front = front.as_slice();
     let part = part_of(m);
-    let header = header(m.kind(), (front.len() + part.len()) as u32);
-    let header = header.as_slice();
-    out.reserve(header.len() + front.len() + part.len())?;
-    out.extend_from_slice(header).unwrap();
+    out.reserve(HEADER + front.len() + part.len())?;
+    write_header(m.kind(), (front.len() + part.len()) as u32, out);
     out.extend_from_slice(front).unwrap();
     out.extend_from_slice(part).unwrap();
     Ok(())
-}
-
-// The header of a frame.
-fn header(kind: u8, len: u32) -> Buffer
-    ensures bytes { result ≡ FIRST_MAGIC ∷ SECOND_MAGIC ∷ VERSION ∷ kind ∷ be4 len }
-    ensures long { length result ≡ HEADER }
-{
-    let mut bytes = Buffer::new();
-    bytes.raw(&[FIRST_MAGIC, SECOND_MAGIC, VERSION, kind]);
-    bytes.u32(len);
-    bytes
 }
 
 // The part of goods at the end of a message's body, where it has one.
