@@ -1,14 +1,14 @@
 -- The bodies as rows of fields.
-use Rattle.std.proofs.Common.{◌≡◌, ℕ, ◌+◌, ◌<◌, ◌≤◌, ◌^◌, Bool, true, false, cond, ltb, List, ◌++◌, length, Ok, Err, Result, refl, sym, ap, subst, ◌∙◌, arith}
+use Rattle.std.proofs.Common.{◌≡◌, ℕ, ◌<◌, ◌≤◌, ◌^◌, Bool, true, false, cond, ltb, List, ◌++◌, length, Ok, Err, refl, sym, subst, ◌∙◌, arith}
 use Rattle.std.proofs.lemmas.Bool.{ltb-false, le-ltb}
 use Rattle.nb_units.proofs.Rows.{Row, IsRow, ◌&◌, and_row, byte, byte_row, number4, number4_row, number8, number8_row, raw, raw_row, text, text_row, whole, whole_found, whole_reads, ok_is}
-use Rattle.nb_units.specs.Fields.{be4, be8, sized}
+use Rattle.nb_units.specs.Fields.{be8, sized}
 use Rattle.nb_units.specs.Frames.{AreBytes}
 use Rattle.nb_goods.specs.declared.limits.TheConstants.{PART_BYTES}
 use Rattle.nb_msgs.specs.declared.lengths.TheConstants.{MAX_SEALED_HEAD}
 use Rattle.nb_msgs.specs.declared.message.Message.{Message}
 use Rattle.nb_msgs.specs.declared.message.Message.TheVariants as message
-use Rattle.nb_msgs.specs.Bodies.{IsMessage, IsRefusal, kind_of, body_bytes}
+use Rattle.nb_msgs.specs.Bodies.{IsMessage, kind_of, body_bytes}
 use Rattle.nb_msgs.specs.Reading.{two_texts_of, numbered_text_of, whole_of, goods_of, done_of, refusal_of}
 
 -- ---- two texts

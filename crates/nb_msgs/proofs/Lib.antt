@@ -3,3 +3,4 @@ pub mod Messages
 pub mod Places
 pub mod StatusTexts
 pub mod ReplyMessages
+pub mod Framing

@@ -1,11 +1,11 @@
 -- That messages read back and spell back, one kind after the other.
-use Rattle.std.proofs.Common.{◌≡◌, ℕ, ◌+◌, ◌<◌, ◌≤◌, ◌^◌, ◌⊎◌, Bool, true, false, cond, List, [], ◌∷◌, ◌++◌, length, drop, get_or, Ok, Err, Result, refl, sym, ap, subst, ◌∙◌, inl, inr, arith, length-append}
+use Rattle.std.proofs.Common.{◌≡◌, ℕ, ◌+◌, ◌<◌, ◌≤◌, ◌^◌, ◌⊎◌, Bool, true, false, cond, List, ◌++◌, length, drop, get_or, Ok, Err, Result, refl, sym, ap, subst, ◌∙◌, inl, inr, arith, length-append}
 use Rattle.std.proofs.lemmas.Bool.{eqb-true}
 use Rattle.std.specs.Prelude.{◌==◌, IfOk}
 use Rattle.nb_units.proofs.FrameLaws.{whole_front}
 use Rattle.nb_units.proofs.Rows.{ok_is}
 use Rattle.nb_units.specs.Fields.{be8, sized}
-use Rattle.nb_units.specs.Frames.{AreBytes, Frame, IsFrame}
+use Rattle.nb_units.specs.Frames.{AreBytes, IsFrame}
 use Rattle.nb_body.proofs.Layouts.{endorsed_reads_back, endorsed_spells_back, endorsed_is_as_long, query_reads_back, query_spells_back, query_is_as_long, enrolment_reads_back, enrolment_spells_back, enrolment_is_as_long, funding_reads_back, funding_spells_back, funding_is_as_long}
 use Rattle.nb_body.specs.Reading.{endorsed_of, query_of, enrolment_of, funding_of}
 use Rattle.nb_ticket.proofs.Layouts.{ask_reads_back, ask_spells_back}
@@ -16,9 +16,9 @@ use Rattle.nb_msgs.specs.declared.fault.BodyFault.{BodyFault}
 use Rattle.nb_msgs.specs.declared.fault.BodyFault.TheVariants as fault
 use Rattle.nb_msgs.specs.declared.message.Message.{Message}
 use Rattle.nb_msgs.specs.declared.message.Message.TheVariants as message
-use Rattle.nb_msgs.specs.Bodies.{IsMessage, MessageKeepsRules, kind_of, body_bytes, message_frame, message_bytes}
+use Rattle.nb_msgs.specs.Bodies.{IsMessage, MessageKeepsRules, kind_of, body_bytes, message_frame}
 use Rattle.nb_msgs.specs.Laws.{MessageReadsBack, MessageSpellsBack, OneMessage, MessageIsFrame}
-use Rattle.nb_msgs.specs.Reading.{two_texts_of, numbered_text_of, whole_of, goods_of, done_of, refusal_of, made, message_of, ReadsBody}
+use Rattle.nb_msgs.specs.Reading.{two_texts_of, numbered_text_of, whole_of, made, message_of, ReadsBody}
 use Rattle.nb_msgs.proofs.Layouts.{two_texts_found, two_texts_read, numbered_text_found, numbered_text_read, whole_of_found, whole_of_reads, goods_found, goods_reads, done_found, done_reads, refusal_found, refusal_reads, Spelled}
 
 -- ---- reading back

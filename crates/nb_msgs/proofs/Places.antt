@@ -1,9 +1,8 @@
 -- The bad place of bytes that are no receipt lies within the bytes that a receipt and its tag have, or right behind them.
-use Rattle.std.proofs.Common.{◌≡◌, ℕ, ◌<◌, ◌≤◌, Bool, true, false, cond, ltb, List, length, drop, take, get_or, Result, Ok, Err, refl, sym, subst, arith}
+use Rattle.std.proofs.Common.{◌≡◌, ℕ, ◌≤◌, Bool, true, false, cond, ltb, List, length, drop, take, get_or, Result, Ok, Err, refl, sym, subst, arith}
 use Rattle.std.specs.Bool.{then_some}
 use Rattle.std.specs.Int.{w32, w64, from_be_bytes}
 use Rattle.std.specs.Prelude.{◌==◌, bytes_eq, None}
-use Rattle.nb_units.specs.declared.cut.CutFault.{CutFault}
 use Rattle.nb_units.specs.declared.cut.CutFault.TheVariants.{Short, Extra}
 use Rattle.nb_units.specs.Fields.{◌>>=◌, raw_at, u8_at, u32_at, u64_at, done_at, or_place, allowed}
 use Rattle.nb_units.specs.Epoid.{epoid_of}

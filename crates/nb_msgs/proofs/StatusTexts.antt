@@ -8,7 +8,7 @@ use Rattle.nb_units.proofs.EpoidLaws.{length-epoid_bytes}
 use Rattle.nb_units.proofs.Rows.{Row, IsRow, ◌&◌, and_row, tested, tested_row, byte, byte_row, number8, number8_row, epoid, epoid_row, ok_is}
 use Rattle.nb_units.specs.declared.cut.CutFault.TheVariants.{Extra}
 use Rattle.nb_units.specs.declared.epoid.Epoid.{Epoid}
-use Rattle.nb_units.specs.Epoid.{IsEpoid, epoid_bytes}
+use Rattle.nb_units.specs.Epoid.{epoid_bytes}
 use Rattle.nb_units.specs.Fields.{◌>>=◌, be8, done_at, or_place}
 use Rattle.nb_units.specs.Frames.{AreBytes}
 use Rattle.nb_endorse.specs.declared.receipt.Signed.{Signed}

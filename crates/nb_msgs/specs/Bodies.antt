@@ -4,7 +4,6 @@ use Rattle.std.specs.Prelude.{◌≡◌, ℕ, ◌<◌, ◌≤◌, ◌^◌, List,
 use Rattle.nb_units.specs.Fields.{be4, be8, sized}
 use Rattle.nb_units.specs.Frames.{Frame, frame}
 use Rattle.nb_units.specs.declared.frames.TheConstants.{PRICE_REQUEST, QUOTE_REPLY, GOODS_REQUEST, GOODS_REPLY, PAYMENT_REQUEST, ORDER_REQUEST, RESULT_REPLY, PAYMENT_REPLY, STATUS_REQUEST, STATUS_REPLY, TICKET_REQUEST, GRANT_REPLY, ENROL_REQUEST, FUND_REQUEST, DONE_REPLY, REFUSED_REPLY}
-use Rattle.nb_units.specs.declared.ids.PartyId.{PartyId}
 use Rattle.nb_body.specs.declared.limits.TheConstants.{MAX_AMOUNT, MAX_ENDORSED}
 use Rattle.nb_body.specs.Spelling.{IsRole, IsEndorsedOrder, endorsed_bytes, IsQuery, query_bytes, IsEnrolment, enrolment_bytes, IsFunding, funding_bytes}
 use Rattle.nb_endorse.specs.declared.receipt.TheConstants.{RECEIPT_BYTES}

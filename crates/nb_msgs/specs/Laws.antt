@@ -1,7 +1,7 @@
 -- What a message is written as and what is read are the two sides of one thing.
 use Rattle.std.specs.Prelude.{◌≡◌, ℕ, List, ◌++◌, length, Option, Some, None, Ok}
 use Rattle.nb_endorse.specs.declared.receipt.Signed.{Signed}
-use Rattle.nb_units.specs.Frames.{AreBytes, IsFrame, Front, Whole, front_of}
+use Rattle.nb_units.specs.Frames.{AreBytes, IsFrame, Whole, front_of}
 use Rattle.nb_msgs.specs.declared.lengths.TheConstants as limit
 use Rattle.nb_msgs.specs.declared.status.TheConstants.{MOST_STATUS}
 use Rattle.nb_msgs.specs.declared.status.StatusText.{StatusText}

@@ -1,7 +1,6 @@
 -- The bytes of a reply: its one frame. What is for one party alone is sealed under that party's key.
 use Rattle.std.specs.Prelude.{ℕ, List, [], ◌∷◌, ◌++◌, codes, Option, Some, None}
 use Rattle.nb_units.specs.Fields.{be4, be8, sized}
-use Rattle.nb_units.specs.Epoid.{epoid_bytes}
 use Rattle.nb_units.specs.Frames.{Frame, frame}
 use Rattle.nb_units.specs.declared.frames.TheConstants.{RESULT_REPLY, STATUS_REPLY, GRANT_REPLY, DONE_REPLY, REFUSED_REPLY}
 use Rattle.nb_units.specs.declared.ids.AcctId.{AcctId}
