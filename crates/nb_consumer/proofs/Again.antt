@@ -3,7 +3,7 @@ use Rattle.std.proofs.Common.{◌≡◌, ℕ, zero, suc, ◌+◌, ◌-◌, ◌�
 use Rattle.std.specs.Prelude.{slice_get, position, nat_eq, nat_lt, not, is_none, codes, ◌==◌}
 use Rattle.std.specs.List.{position_or_len, prefix_len}
 use Rattle.std.specs.Str.{bytes_eq}
-use Rattle.std.proofs.lemmas.Bool.{eqb-true, eq-eqb, lt-ltb, ltb-false}
+use Rattle.std.proofs.lemmas.Bool.{eqb-true, eq-eqb, lt-ltb, ltb-false, le-leb}
 use Rattle.sha2.specs.Sha256.{sha256}
 use Rattle.nb_units.specs.Fields.{◌>>=◌}
 use Rattle.nb_seal.specs.Seal.{text_in}
@@ -41,12 +41,14 @@ use Rattle.nb_consumer.specs.declared.rows.Wanting.{Wanting}
 use Rattle.nb_consumer.specs.declared.rows.Owing.{Owing}
 use Rattle.nb_consumer.specs.Goods.{phase_of, phase_in, goods_of, goods_in, phase_at, goods_at}
 use Rattle.nb_consumer.specs.State.{Buyer, number_of, place_of, purchase_at, purchase_of, ordered_with, epoid_bytes, changed, changed_at, changed_with, behind_item, fresh, remembered}
-use Rattle.nb_consumer.specs.Table.{started, granted, quoted, price_quoted, pass_of, is_ticketing, pass_of_asked, delivered, head_told, goods_came, goods_wrong, goods_ordered, part_kept, order_made, wanting_in, owing_in, passed, told_status, status_told, receipt_told, receipt_fits, silent, unheard, heard}
+use Rattle.nb_consumer.specs.Table.{started, granted, quoted, price_quoted, pass_of, is_ticketing, pass_of_asked, delivered, head_told, goods_came, goods_wrong, goods_ordered, part_kept, order_made, wanting_in, owing_in, passed, told_status, status_told, receipt_told, receipt_fits, silent, unheard, heard, is_same_epoid}
+use Rattle.nb_consumer.specs.Restart.{is_rest, is_short}
+use Rattle.nb_epo.specs.declared.order.Order.{Order}
 use Rattle.nb_consumer.specs.Known.{HeldSo, PurchaseSo, AllSo}
 use Rattle.nb_consumer.specs.Runs.{Starts, Hears, Waits}
-use Rattle.nb_consumer.specs.Laws.{RowSaysAgain, SaysAgain, EndIsTold, EndsAre, PaidHasGoods}
+use Rattle.nb_consumer.specs.Laws.{RowSaysAgain, SaysAgain, EndIsTold, EndsAre, PaidHasGoods, RestIsShort}
 use Rattle.nb_consumer.proofs.Purchases.{no_some, found_some, found_number, numbers_set}
-use Rattle.nb_consumer.proofs.Keeping.{Fits, head_is, tests_are}
+use Rattle.nb_consumer.proofs.Keeping.{Fits, head_is, tests_are, both}
 use Rattle.nb_consumer.proofs.Knowing.{all_at, known_is_so}
 
 -- ---- the purchase of a number, behind a change of it
@@ -171,6 +173,18 @@ wanting_is (stage.Ordered pass order least) w e = absurd cc
 wanting_is (stage.Paid key) w e = absurd cc
 wanting_is (stage.Refused code) w e = absurd cc
 wanting_is stage.Foul w e = absurd cc
+
+-- the last part is the rest of what is held
+rest_short : (head : Option GoodsHead) (pass : SessionTicket) (price : Price) (held : List ℕ) (o : Order) (part : List ℕ) → HeldSo (stage.Wanted pass price head) held
+    → is_rest head held o part ≡ true → length part ≤ 1000000 → is_short held part ≡ true
+rest_short None pass price held o part so rest long = le-leb (length held + length part) 67108896 (omega (arith, ap length so, long))
+rest_short (Some k) pass price held o part so rest long =
+    let same : length part ≡ k.total - length held = eqb-true (length part) (k.total - length held) (both (is_same_epoid o.epoid k.epoid) (length part == k.total - length held) rest).1 in
+    le-leb (length held + length part) 67108896 (omega (arith, same, so.1, so.2))
+
+pub rest_is_short : RestIsShort
+rest_is_short items b t p v o part kept known wanted rest long =
+    rest_short v.head v.pass v.price p.held o part (subst (λ (s : Stage). HeldSo s p.held) (wanting_is p.stage v wanted) (so_of b t p (known_is_so items b kept) known)) rest long
 
 -- goods are asked for from the place where what is held ends
 asks_again : (c : Buyer) (t : ℕ) (p q : Purchase) (pass : SessionTicket) (price : Price) (head : Option GoodsHead) (n : ℕ) → purchase_of c t ≡ Some q

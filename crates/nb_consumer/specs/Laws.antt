@@ -1,5 +1,5 @@
 -- What rows keep, how purchases end, and what starting again gives.
-use Rattle.std.specs.Prelude.{◌≡◌, ℕ, List, ◌∷◌, ◌++◌, length, codes, true, Some, None, Ok, Result}
+use Rattle.std.specs.Prelude.{◌≡◌, ◌≤◌, ℕ, List, ◌∷◌, ◌++◌, length, codes, true, Some, None, Ok, Result}
 use Rattle.std.specs.List.{AllByRecursion}
 use Rattle.nb_units.specs.Frames.{AreBytes}
 use Rattle.sha2.specs.Sha256.{sha256}
@@ -39,7 +39,8 @@ use Rattle.nb_consumer.specs.declared.phase.Phase.TheVariants as phase
 use Rattle.nb_consumer.specs.Goods.{phase_in, phase_at, goods_in, goods_at}
 use Rattle.nb_consumer.specs.Known.{AllSo}
 use Rattle.nb_wallet.specs.Reading.{item_of}
-use Rattle.nb_consumer.specs.Restart.{allows, restarted, Restarts, Kept}
+use Rattle.nb_goods.specs.declared.limits.TheConstants.{PART_BYTES}
+use Rattle.nb_consumer.specs.Restart.{allows, is_rest, is_short, restarted, Restarts, Kept}
 use Rattle.nb_consumer.specs.Deeds.{Answers}
 use Rattle.nb_consumer.specs.Runs.{Call, row_of, kept_of, Event, Runs, IsJournal, GivesBack}
 use Rattle.nb_wallet.specs.declared.item.Item.{Item}
@@ -123,6 +124,11 @@ abbrev pub PaidHasGoods : Type 0
 PaidHasGoods = (items : List (List ℕ)) (b : Buyer) (transaction : ℕ) → Kept items b
     → ((n : ℕ) → phase_in (purchase_of b transaction) ≡ Some (phase.Paid n) → (goods : List ℕ) × (goods_in (purchase_of b transaction) ≡ Some goods) × (length goods ≡ n))
     × ((goods : List ℕ) → goods_in (purchase_of b transaction) ≡ Some goods → phase_in (purchase_of b transaction) ≡ Some (phase.Paid (length goods)))
+
+-- the last part is then the rest of what is held, so that all parts have no more bytes than sealed goods may have: a restart's test of that refuses nothing more
+abbrev pub RestIsShort : Type 0
+RestIsShort = (items : List (List ℕ)) (b : Buyer) (transaction : ℕ) (p : Purchase) (v : Wanting) (order : Order) (part : List ℕ) → Kept items b → purchase_of b transaction ≡ Some p
+    → wanting_in p.stage ≡ Some v → is_rest v.head p.held order part ≡ true → length part ≤ PART_BYTES → is_short p.held part ≡ true
 
 -- an order in a journal that a restart takes up names, in its bytes, the checksum of what is held of its purchase behind the items before it and of the part in its item
 abbrev pub KeptOrderIsSo : Type 0

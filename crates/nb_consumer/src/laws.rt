@@ -35,6 +35,12 @@ pub fn known_is_so()
     ensures { law.KnownIsSo }
 {}
 
+/// A law: of such a consumer, a last part that is the rest of what is held makes all parts no longer than sealed goods may be, so that a restart's
+/// test of that refuses nothing more.
+pub fn rest_is_short()
+    ensures { law.RestIsShort }
+{}
+
 /// A law: an order in a journal that a restart takes up names, in its bytes, the checksum of what is held behind the items before it and of the part
 /// in its item.
 pub fn kept_order_is_so()

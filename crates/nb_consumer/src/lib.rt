@@ -24,6 +24,3 @@ mod rows;
 pub use consumer::Consumer;
 pub use deed::Deed;
 pub use phase::Phase;
-
-#[cfg(test)]
-mod tests;

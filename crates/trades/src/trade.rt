@@ -1,0 +1,248 @@
+ghost use Rattle.nb_consumer.specs.Deeds.{StepKeepsRules};
+ghost use Rattle.nb_msgs.specs.Bodies.{MessageKeepsRules};
+
+use crate::{bytes, telling};
+use nb_consumer::Consumer;
+use nb_goods::checksum;
+use nb_msgs::{Message, RestartFault, Step};
+use nb_units::{AcctId, Blob, NoMemory, PartyId};
+use nb_wallet::Wallet;
+use std::alloc::Global;
+
+const WALLET: Wallet = Wallet {
+    id: PartyId(1),
+    acct: AcctId(1),
+    nonce: 7,
+    key: [0x44; 32],
+};
+
+// The most bytes of an item that are shown.
+const SHOWN: usize = 1000;
+
+/// A consumer, and what it kept and sent.
+#[derive(Drop)]
+pub struct Trade {
+    alloc: Global,
+    // The items that the script names by their numbers.
+    known: Vec<Blob>,
+    // All items that the consumer kept.
+    items: Vec<Blob>,
+    consumer: Consumer,
+    // What the last step kept and sent.
+    kept: Vec<u8>,
+    sent: Vec<u8>,
+    goods: Blob,
+}
+
+impl Trade {
+    /// A consumer that kept nothing.
+    pub fn new(alloc: Global) -> Trade {
+        Trade {
+            alloc,
+            known: Vec::new(alloc),
+            items: Vec::new(alloc),
+            consumer: Consumer::new(alloc, WALLET),
+            kept: Vec::new(alloc),
+            sent: Vec::new(alloc),
+            goods: Blob::from_vec(Vec::new(alloc)),
+        }
+    }
+
+    /// Where memory comes from.
+    pub fn alloc(&self) -> Global {
+        self.alloc
+    }
+
+    fn nothing(&self) -> Result<String, NoMemory> {
+        Ok(String::new(self.alloc))
+    }
+
+    /// `item HEX`: this item has the next number, from 0 on.
+    pub fn item(&mut self, text: &str) -> Result<String, NoMemory> {
+        let item = Blob::from_vec(bytes::spelled(self.alloc, text));
+        self.known.push(item)?;
+        self.nothing()
+    }
+
+    // The item of a number, or the one that a longer word spells.
+    fn named(&self, word: &str) -> Result<Blob, NoMemory> {
+        if word.len() > 1 {
+            return Ok(Blob::from_vec(bytes::spelled(self.alloc, word)));
+        }
+        let at = word.parse::<usize>().unwrap_or(usize::MAX);
+        match self.known.get(at) {
+            Some(item) => Blob::of(self.alloc, item.as_slice()),
+            None => Ok(Blob::from_vec(Vec::new(self.alloc))),
+        }
+    }
+
+    /// `kept ITEM..`: a consumer starts with these items, each a number or spelled.
+    pub fn kept(&mut self, words: &[&str]) -> Result<String, NoMemory> {
+        self.items.clear();
+        for word in words.iter().skip(1) {
+            let item = self.named(*word)?;
+            self.items.push(item)?;
+        }
+        self.again()
+    }
+
+    /// `again`: the consumer starts again with all items that it kept.
+    pub fn again(&mut self) -> Result<String, NoMemory> {
+        if self.items.len() > 100 {
+            return telling::unclear(self.alloc);
+        }
+        match Consumer::restart(self.alloc, WALLET, &self.items) {
+            Ok(consumer) => {
+                self.consumer = consumer;
+                self.nothing()
+            }
+            Err(RestartFault::BadItem { item }) => {
+                Ok(format!(in self.alloc; "bad item {item}")?)
+            }
+            Err(RestartFault::NoMemory) => Err(NoMemory),
+        }
+    }
+
+    // Remembers what a step keeps and sends, and tells it.
+    fn did(&mut self, step: &Step) -> Result<String, NoMemory>
+        requires { StepKeepsRules step.now }
+    {
+        match step {
+            Step::Move { keep, message, .. } => {
+                self.keep(keep)?;
+                self.sent = telling::frame(self.alloc, message)?;
+                telling::moved(self.alloc, &self.kept, message)
+            }
+            Step::Ended { keep, end } => {
+                self.keep_item(keep)?;
+                self.sent = Vec::new(self.alloc);
+                telling::end(self.alloc, end)
+            }
+            Step::Ignored(why) => telling::why(self.alloc, *why),
+        }
+    }
+
+    fn keep(&mut self, keep: &Option<Blob>) -> Result<(), NoMemory> {
+        match keep {
+            Some(item) => self.keep_item(item),
+            None => {
+                self.kept = Vec::new(self.alloc);
+                Ok(())
+            }
+        }
+    }
+
+    fn keep_item(&mut self, item: &Blob) -> Result<(), NoMemory> {
+        self.kept = Vec::from_slice(self.alloc, item.as_slice())?;
+        self.items.push(Blob::of(self.alloc, item.as_slice())?)?;
+        Ok(())
+    }
+
+    /// `start NUMBER LIMIT`: a purchase starts.
+    pub fn start(&mut self, number: &str, limit: &str) -> Result<String, NoMemory> {
+        let (Ok(number), Ok(limit)) = (number.parse::<u64>(), limit.parse::<u64>()) else {
+            return telling::unclear(self.alloc);
+        };
+        let step = self.consumer.start(&bytes::wish(number, limit))?;
+        self.did(&step)
+    }
+
+    /// `hear KIND BODY`: a message comes.
+    pub fn hear(&mut self, kind: &str, body: &str) -> Result<String, NoMemory> {
+        let kind = bytes::spelled(self.alloc, kind)
+            .first()
+            .copied()
+            .unwrap_or(0);
+        self.hear_body(kind, &bytes::spelled(self.alloc, body))
+    }
+
+    fn hear_body(&mut self, kind: u8, body: &[u8]) -> Result<String, NoMemory> {
+        match bytes::message(self.alloc, kind, body) {
+            Some(message) => self.hear_message(&message),
+            None => telling::unclear(self.alloc),
+        }
+    }
+
+    fn hear_message(&mut self, message: &Message) -> Result<String, NoMemory>
+        requires { MessageKeepsRules message.now }
+    {
+        let step = self.consumer.on(message)?;
+        self.did(&step)
+    }
+
+    /// `quiet NUMBER`: nothing was heard of a purchase for long.
+    pub fn quiet(&mut self, number: &str) -> Result<String, NoMemory> {
+        let Ok(number) = number.parse::<u64>() else {
+            return telling::unclear(self.alloc);
+        };
+        let step = self.consumer.quiet(number)?;
+        self.did(&step)
+    }
+
+    /// `phase NUMBER`: how far a purchase has come.
+    pub fn phase(&self, number: &str) -> Result<String, NoMemory> {
+        let Ok(number) = number.parse::<u64>() else {
+            return telling::unclear(self.alloc);
+        };
+        telling::phase(self.alloc, self.consumer.state(number))
+    }
+
+    /// `goods NUMBER`: the goods of a purchase, by their number of bytes and their digest.
+    pub fn goods(&self, number: &str) -> Result<String, NoMemory> {
+        let Ok(number) = number.parse::<u64>() else {
+            return telling::unclear(self.alloc);
+        };
+        match self.consumer.goods(number)? {
+            Some(goods) => {
+                let goods = self.shown(goods.as_slice())?;
+                Ok(format!(in self.alloc; "goods {goods}")?)
+            }
+            None => Ok("no goods".to_string(self.alloc)?),
+        }
+    }
+
+    // Bytes, or of many their number and their digest.
+    fn shown(&self, bytes: &[u8]) -> Result<String, NoMemory> {
+        if bytes.is_empty() {
+            return Ok("nothing".to_string(self.alloc)?);
+        }
+        if bytes.len() <= SHOWN {
+            return Ok(hex::encode(self.alloc, bytes)?);
+        }
+        let digest = hex::encode(self.alloc, checksum(bytes))?;
+        Ok(format!(in self.alloc; "{} bytes, {digest}", bytes.len())?)
+    }
+
+    /// `bytes`: the item that the last step kept, and the frame that it sent.
+    pub fn bytes(&self) -> Result<String, NoMemory> {
+        let kept = self.shown(&self.kept)?;
+        let sent = self.shown(&self.sent)?;
+        Ok(format!(in self.alloc; "kept {kept}\nsent {sent}")?)
+    }
+
+    /// `seal BYTES`: so many bytes of goods, which count up, are sealed for purchase 1. They are told by their number and their digest.
+    pub fn seal(&mut self, len: &str) -> Result<String, NoMemory> {
+        let Ok(len) = len.parse::<usize>() else {
+            return telling::unclear(self.alloc);
+        };
+        self.goods = bytes::counting(self.alloc, len)?;
+        self.shown(self.goods.as_slice())
+    }
+
+    /// `part HEAD FROM TO BENT`: a part of these goods comes, under this sealed head, with the last bit of one of its bytes turned.
+    pub fn part(
+        &mut self,
+        head: &str,
+        from: &str,
+        to: &str,
+        bent: &str,
+    ) -> Result<String, NoMemory> {
+        let (Ok(from), Ok(to)) = (from.parse::<usize>(), to.parse::<usize>()) else {
+            return telling::unclear(self.alloc);
+        };
+        let goods = self.goods.as_slice();
+        let part = bytes::piece(self.alloc, goods, from, to, bent.parse::<usize>().ok())?;
+        let body = bytes::goods_body(self.alloc, &bytes::spelled(self.alloc, head), &part)?;
+        self.hear_body(0x04, &body)
+    }
+}
