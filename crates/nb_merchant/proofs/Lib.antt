@@ -3,3 +3,4 @@ pub mod Following
 pub mod Serials
 pub mod Sent
 pub mod Restarting
+pub mod Shelves
