@@ -4,3 +4,4 @@ pub mod Serials
 pub mod Sent
 pub mod Restarting
 pub mod Shelves
+pub mod Serving

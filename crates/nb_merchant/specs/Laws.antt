@@ -1,13 +1,15 @@
 -- What holds of every merchant: a restart gives back what was kept.
-use Rattle.std.specs.Prelude.{◌≡◌, ◌≢◌, ◌⊎◌, ℕ, ◌+◌, true, List, [], ◌∷◌, ◌++◌, length, map, slice_get, is_some, Option, Some, None, option_map, Result, Ok, Err}
+use Rattle.std.specs.Prelude.{◌≡◌, ◌≢◌, ◌⊎◌, ℕ, ◌+◌, true, List, [], ◌∷◌, ◌++◌, length, map, slice_get, is_some, Option, Some, None, option_map, IfSome, Result, Ok, Err}
 use Rattle.std.specs.List.{AllByRecursion}
 use Rattle.nb_units.specs.Frames.{AreBytes}
 use Rattle.nb_units.specs.declared.epoid.Epoid.{Epoid}
+use Rattle.nb_units.specs.declared.ids.PartyId.{PartyId}
 use Rattle.nb_units.specs.declared.ids.Price.{Price}
 use Rattle.nb_goods.specs.Collision.{Collision}
 use Rattle.nb_price.specs.Products.{Product, product_in}
 use Rattle.nb_msgs.specs.declared.message.Message.{Message}
 use Rattle.nb_msgs.specs.declared.node.Reason.{Reason}
+use Rattle.nb_msgs.specs.declared.node.To.TheVariants as to
 use Rattle.nb_merchant.specs.declared.answer.Answer.{Answer}
 use Rattle.nb_stall.specs.declared.delivery.Delivery.{Delivery}
 use Rattle.nb_stall.specs.declared.purchase.Purchase.{Purchase}
@@ -21,7 +23,7 @@ use Rattle.nb_stall.specs.Spelling.{IsItem, item_bytes}
 use Rattle.nb_stall.specs.Reading.{purchase_of}
 use Rattle.nb_stall.specs.Sales.{sale_in, stage_of, epoid_in, deliveries_in}
 use Rattle.nb_merchant.specs.Shop.{Shop, new_shop, goods_in, sealed_for}
-use Rattle.nb_merchant.specs.Table.{heard, heard_of_house, silent, after}
+use Rattle.nb_merchant.specs.Table.{heard, heard_of_house, silent, asker_in, after}
 use Rattle.nb_merchant.specs.Keeping.{IsKept, restarted}
 
 -- what a journal has of a merchant
@@ -115,3 +117,14 @@ OtherGoodsAreBad = (shop : Shop) (others : List Product) (front back : List Item
     → goods_in others sale.product ≢ goods_in shop.products sale.product
     → (restarted (new_shop shop.stall others) 0 (kept_bytes shop) ≡ Err (length front))
     ⊎ Collision (sealed_for shop.stall others epoid.serial sale.product) (sealed_for shop.stall shop.products epoid.serial sale.product)
+
+-- ---- whom it serves
+
+-- what is done at a consumer's message is done for the consumer whose ticket it shows: what is kept is of that one, and what is sent goes to it or is for the house. Where it shows nobody's, it is ignored
+abbrev pub IsServed : PartyId → Answer → Type 0
+IsServed consumer a = IfSome a.keep (λ x. (purchase_of x).consumer ≡ consumer) × ((a.to ≡ to.Consumer consumer) ⊎ (a.to ≡ to.Server))
+
+abbrev pub AskerIsServed : Type 0
+AskerIsServed = (shop : Shop) (m : Message) (moment : ℕ)
+    → ((a : Answer) → heard shop m moment ≡ Ok a → (consumer : PartyId) × (asker_in shop m moment ≡ Some consumer) × IsServed consumer a)
+    × (asker_in shop m moment ≡ None → (why : Reason) × (heard shop m moment ≡ Err why))

@@ -49,3 +49,9 @@ pub fn lost_product_is_bad()
 pub fn other_goods_are_bad()
     ensures { law.OtherGoodsAreBad }
 {}
+
+/// A law: what is done at a consumer's message is done for the one that [`asker`](crate::Merchant::asker) names: what is kept is of that consumer, and
+/// what is sent is for it, or for the house. Where it names nobody the message is ignored.
+pub fn asker_is_served()
+    ensures { law.AskerIsServed }
+{}
