@@ -3,3 +3,5 @@ pub mod Following
 pub mod Serials
 pub mod Sent
 pub mod Restarting
+pub mod Shelves
+pub mod Serving

@@ -1,10 +1,10 @@
 -- Restarts over what was kept, and runs.
-use Rattle.std.proofs.Common.{◌≡◌, ℕ, ◌+◌, Bool, true, ◌&&◌, List, [], ◌∷◌, ◌++◌, map, Option, Some, None, IfSome, Result, Ok, Err, refl, sym, ap, subst, ◌∙◌, append_assoc, append-nil}
+use Rattle.std.proofs.Common.{◌≡◌, ℕ, ◌+◌, Bool, true, false, cond, ◌&&◌, List, [], ◌∷◌, ◌++◌, map, Option, Some, None, IfSome, Result, Ok, Err, refl, sym, ap, subst, ◌∙◌, append_assoc, append-nil}
 use Rattle.std.specs.Prelude.{is_none}
 use Rattle.std.specs.Result.{is_ok}
 use Rattle.std.specs.List.{AllByRecursion}
 use Rattle.sha2.specs.Sha256.{sha256}
-use Rattle.nb_units.specs.declared.epoid.Epoid.{Epoid}
+use Rattle.nb_units.specs.Frames.{AreBytes}
 use Rattle.nb_goods.specs.Goods.{sealed_goods}
 use Rattle.nb_price.specs.Products.{Product}
 use Rattle.nb_msgs.specs.declared.node.Reason.{Reason}
@@ -22,9 +22,9 @@ use Rattle.nb_merchant.specs.Shop.{Shop, new_shop, with_item, goods_in}
 use Rattle.nb_stall.specs.Messages.{key_of}
 use Rattle.nb_merchant.specs.Table.{after, listed, order_taken}
 use Rattle.nb_merchant.specs.Keeping.{delivery_follows, order_follows, of_sale, follows, all_follow, taken_up, or_bad, restarted, IsKept}
-use Rattle.nb_merchant.specs.Laws.{RestartGivesBack, Event, done_at, run, RunsAreKept, SameGoods, PricesMayChange}
+use Rattle.nb_merchant.specs.Laws.{RestartGivesBack, RestartKeepsItems, Event, done_at, run, RunsAreKept}
 use Rattle.nb_merchant.specs.Laws.Event.{OfConsumer, OfHouse, Nothing}
-use Rattle.nb_stall.proofs.Layouts.{item_reads_back}
+use Rattle.nb_stall.proofs.Layouts.{item_reads_back, item_spells_back}
 use Rattle.nb_stall.proofs.Serials.{both_true}
 use Rattle.nb_merchant.proofs.Keeping.{follow_more}
 use Rattle.nb_merchant.proofs.Following.{Follows, heard_follows, heard_of_house_follows, silence_follows}
@@ -42,6 +42,54 @@ restarts start (x ∷ items) i all follow =
 
 pub restart_gives_back : RestartGivesBack
 restart_gives_back shop kept = restarts (new_shop shop.stall shop.products) shop.items 0 kept.all kept.follow
+
+-- ---- a restart over any items
+
+-- the items that a restart took up behind those that it had
+record Took (start : Shop) (journal : List (List ℕ)) (shop : Shop) : Type 0 where
+  items : List Item
+  is : shop ≡ record start { items = start.items ++ items }
+  spelled : map item_bytes items ≡ journal
+  all : AllByRecursion IsItem items
+  follow : all_follow start items ≡ true
+
+pub shop_is : (a b : Shop) → (let r : Result Shop ℕ = Ok a in r ≡ Ok b) → b ≡ a
+shop_is a b e = cc
+
+took : (start : Shop) (journal : List (List ℕ)) (i : ℕ) (shop : Shop) → AllByRecursion AreBytes journal → restarted start i journal ≡ Ok shop → Took start journal shop
+took start [] i shop are e =
+    record { items = []; is = shop_is start shop e ∙ ap (λ (xs : List Item). record start { items = xs }) (sym (append-nil start.items)); spelled = refl; all = tt; follow = refl }
+took start (bytes ∷ more) i shop are e = by (λ next rest. took next more (i + 1) shop are.1 rest) (item_of bytes) refl e
+  where
+    up : (x : Item) → item_of bytes ≡ Ok x → follows start x ≡ true → Took (with_item start x) more shop → Took start (bytes ∷ more) shop
+    up x is next rest =
+        let spells = item_spells_back bytes x are.0 is in
+        record {
+          items = x ∷ rest.items;
+          is = rest.is ∙ ap (λ (xs : List Item). record start { items = xs }) (append_assoc start.items (x ∷ []) rest.items);
+          spelled = rw (← spells.1, rest.spelled) refl;
+          all = (spells.0, rest.all);
+          follow = rw (next, rest.follow) refl;
+        }
+    may : ((next : Shop) → restarted next (i + 1) more ≡ Ok shop → Took next more shop) → (x : Item) → item_of bytes ≡ Ok x → (b : Bool) → follows start x ≡ b
+        → or_bad i (λ next. restarted next (i + 1) more) (cond b (Some (with_item start x)) None) ≡ Ok shop → Took start (bytes ∷ more) shop
+    may rest x is true next e = up x is next (rest (with_item start x) e)
+    may rest x is false next e = absurd cc
+    by : ((next : Shop) → restarted next (i + 1) more ≡ Ok shop → Took next more shop) → (read : Result Item ℕ) → item_of bytes ≡ read
+        → or_bad i (λ next. restarted next (i + 1) more) (taken_up start read) ≡ Ok shop → Took start (bytes ∷ more) shop
+    by rest (Ok x) is e = may rest x is (follows start x) refl e
+    by rest (Err place) is e = absurd cc
+
+pub restart_keeps_items : RestartKeepsItems
+restart_keeps_items stall products journal shop are e =
+    let t = took (new_shop stall products) journal 0 shop are e in
+    let spells : map item_bytes shop.items ≡ journal = ap (λ (s : Shop). map item_bytes s.items) t.is ∙ t.spelled in
+    (
+      ap (λ (s : Shop). s.stall) t.is,
+      ap (λ (s : Shop). s.products) t.is,
+      spells,
+      subst IsKept (sym t.is) (record { all = t.all; follow = t.follow }),
+    )
 
 -- ---- runs
 
@@ -69,38 +117,3 @@ pub runs_are_kept : RunsAreKept
 runs_are_kept stall products events fits =
     let kept : IsKept (run (new_shop stall products) events) = record { all = fits; follow = run_follows (new_shop stall products) events refl } in
     (kept, restart_gives_back (run (new_shop stall products) events) kept)
-
--- ---- other prices
-
-delivered_same : (shop : Shop) (others : List Product) → SameGoods shop.products others → (p : Purchase) (order : Epoid) (checksum : List ℕ) (o : Option Sale)
-    → of_sale (λ sale. delivery_follows shop.stall (goods_in others sale.product) (next_serial shop.items) order checksum sale.progress) o
-    ≡ of_sale (λ sale. delivery_follows shop.stall (goods_in shop.products sale.product) (next_serial shop.items) order checksum sale.progress) o
-delivered_same shop others same p order checksum None = refl
-delivered_same shop others same p order checksum (Some sale) = ap (λ (goods : List ℕ). delivery_follows shop.stall goods (next_serial shop.items) order checksum sale.progress) (same sale.product).1
-
-endorsed_same : (shop : Shop) (others : List Product) → SameGoods shop.products others → (p : Purchase) (order : List ℕ) (sale : Sale) (before : Progress)
-    → order_follows (record shop { products = others }) p order sale before ≡ order_follows shop p order sale before
-endorsed_same shop others same p order sale progress.Quoted = refl
-endorsed_same shop others same p order sale (progress.Delivered e) =
-    ap (λ (goods : List ℕ). is_ok (order_taken shop.stall p sale e (sha256 (sealed_goods (key_of shop.stall e.serial) goods)) order)) (same sale.product).1
-endorsed_same shop others same p order sale (progress.Endorsed e kept) = refl
-endorsed_same shop others same p order sale (progress.Settled e kept part) = refl
-
-follows_same : (shop : Shop) (others : List Product) → SameGoods shop.products others → (x : Item) → follows (record shop { products = others }) x ≡ follows shop x
-follows_same shop others same (item.Quoted p product price request) = ap (λ (known : Bool). is_none (sale_in shop.items p) && known) (same product).0
-follows_same shop others same (item.Delivered p order checksum) = delivered_same shop others same p order checksum (sale_in shop.items p)
-follows_same shop others same (item.Endorsed p order) = by (sale_in shop.items p)
-  where
-    by : (o : Option Sale) → of_sale (λ sale. order_follows (record shop { products = others }) p order sale sale.progress) o ≡ of_sale (λ sale. order_follows shop p order sale sale.progress) o
-    by None = refl
-    by (Some sale) = endorsed_same shop others same p order sale sale.progress
-follows_same shop others same (item.Settled p part) = refl
-
-all_same : (start : Shop) (others : List Product) → SameGoods start.products others → (items : List Item) → all_follow start items ≡ true → all_follow (record start { products = others }) items ≡ true
-all_same start others same [] all = refl
-all_same start others same (x ∷ items) all =
-    let parts = both_true (follows start x) (all_follow (with_item start x) items) all in
-    rw (follows_same start others same x, parts.0, all_same (with_item start x) others same items parts.1) refl
-
-pub prices_may_change : PricesMayChange
-prices_may_change shop others kept same = record { all = kept.all; follow = all_same (new_shop shop.stall shop.products) others same shop.items kept.follow }

@@ -1,17 +1,29 @@
 -- What holds of every merchant: a restart gives back what was kept.
-use Rattle.std.specs.Prelude.{◌≡◌, ℕ, ◌+◌, List, [], ◌∷◌, map, slice_get, is_some, Some, Result, Ok}
+use Rattle.std.specs.Prelude.{◌≡◌, ◌≢◌, ◌⊎◌, ℕ, ◌+◌, true, List, [], ◌∷◌, ◌++◌, length, map, slice_get, is_some, Option, Some, None, option_map, IfSome, Result, Ok, Err}
 use Rattle.std.specs.List.{AllByRecursion}
+use Rattle.nb_units.specs.Frames.{AreBytes}
+use Rattle.nb_units.specs.declared.epoid.Epoid.{Epoid}
+use Rattle.nb_units.specs.declared.ids.PartyId.{PartyId}
+use Rattle.nb_units.specs.declared.ids.Price.{Price}
+use Rattle.nb_goods.specs.Collision.{Collision}
 use Rattle.nb_price.specs.Products.{Product, product_in}
 use Rattle.nb_msgs.specs.declared.message.Message.{Message}
 use Rattle.nb_msgs.specs.declared.node.Reason.{Reason}
+use Rattle.nb_msgs.specs.declared.node.To.TheVariants as to
 use Rattle.nb_merchant.specs.declared.answer.Answer.{Answer}
 use Rattle.nb_stall.specs.declared.delivery.Delivery.{Delivery}
 use Rattle.nb_stall.specs.declared.purchase.Purchase.{Purchase}
 use Rattle.nb_stall.specs.declared.stall.Stall.{Stall}
+use Rattle.nb_stall.specs.declared.sale.Sale.{Sale}
+use Rattle.nb_stall.specs.declared.sale.Stage.{Stage}
+use Rattle.nb_stall.specs.declared.sale.Stage.TheVariants as stage
+use Rattle.nb_stall.specs.declared.item.Item.{Item}
+use Rattle.nb_stall.specs.declared.item.Item.TheVariants as item
 use Rattle.nb_stall.specs.Spelling.{IsItem, item_bytes}
-use Rattle.nb_stall.specs.Sales.{deliveries_in}
-use Rattle.nb_merchant.specs.Shop.{Shop, new_shop, goods_in}
-use Rattle.nb_merchant.specs.Table.{heard, heard_of_house, silent, after}
+use Rattle.nb_stall.specs.Reading.{purchase_of}
+use Rattle.nb_stall.specs.Sales.{sale_in, stage_of, epoid_in, deliveries_in}
+use Rattle.nb_merchant.specs.Shop.{Shop, new_shop, goods_in, sealed_for}
+use Rattle.nb_merchant.specs.Table.{heard, heard_of_house, silent, asker_in, after}
 use Rattle.nb_merchant.specs.Keeping.{IsKept, restarted}
 
 -- what a journal has of a merchant
@@ -51,10 +63,68 @@ SerialsFollow = (shop : Shop) → IsKept shop → (i : ℕ) (d : Delivery) → s
 abbrev pub IdentifiersDiffer : Type 0
 IdentifiersDiffer = (shop : Shop) → IsKept shop → (i j : ℕ) (d e : Delivery) → slice_get (deliveries_in shop.items) i ≡ Some d → slice_get (deliveries_in shop.items) j ≡ Some e → d.epoid ≡ e.epoid → i ≡ j
 
--- the same products are there, with the same goods
-abbrev pub SameGoods : List Product → List Product → Type 0
-SameGoods products others = (id : ℕ) → (is_some (product_in others id) ≡ is_some (product_in products id)) × (goods_in others id ≡ goods_in products id)
+-- ---- restarts
 
--- the same items are taken up with them
-abbrev pub PricesMayChange : Type 0
-PricesMayChange = (shop : Shop) (others : List Product) → IsKept shop → SameGoods shop.products others → IsKept (record shop { products = others })
+-- a restart reads its items: the merchant that it gives is who it is, sells what it sells and kept exactly what the bytes spell, in their order
+abbrev pub RestartKeepsItems : Type 0
+RestartKeepsItems = (stall : Stall) (products : List Product) (journal : List (List ℕ)) (shop : Shop) → AllByRecursion AreBytes journal → restarted (new_shop stall products) 0 journal ≡ Ok shop
+    → (shop.stall ≡ stall) × (shop.products ≡ products) × (kept_bytes shop ≡ journal) × IsKept shop
+
+-- how far a purchase is by what was kept, as `state` tells it
+abbrev pub stage_in : List Item → Purchase → Option Stage
+stage_in items p = option_map (λ sale. stage_of sale.progress) (sale_in items p)
+
+-- how far a purchase is behind an item of it
+abbrev pub stage_behind : Item → Stage
+stage_behind (item.Quoted p product price request) = stage.Quoted
+stage_behind (item.Delivered p epoid checksum) = stage.Delivered
+stage_behind (item.Endorsed p order) = stage.Endorsed
+stage_behind (item.Settled p part) = stage.Settled
+
+-- no item is of a purchase
+abbrev pub NoneOf : Purchase → List Item → Type 0
+NoneOf p items = AllByRecursion (λ (x : Item). purchase_of x ≢ p) items
+
+-- a purchase is as far as its last item says; one without an item is not there
+abbrev pub LastItemTells : Type 0
+LastItemTells = (shop : Shop) → IsKept shop
+    → ((front back : List Item) (x : Item) → shop.items ≡ front ++ x ∷ back → NoneOf (purchase_of x) back → stage_in shop.items (purchase_of x) ≡ Some (stage_behind x))
+    × ((p : Purchase) → NoneOf p shop.items → stage_in shop.items p ≡ None)
+
+-- a shelf serves a sale: it has its product, and once goods were sealed it has the same goods of it
+pub record Serves (products others : List Product) (sale : Sale) : Type 0 where
+  pub there : is_some (product_in others sale.product) ≡ true
+  pub same : (epoid : Epoid) → epoid_in sale.progress ≡ Some epoid → goods_in others sale.product ≡ goods_in products sale.product
+
+-- and each sale of the items
+abbrev pub ServesAll : List Product → List Product → List Item → Type 0
+ServesAll products others items = (p : Purchase) (sale : Sale) → sale_in items p ≡ Some sale → Serves products others sale
+
+-- another shelf that serves each sale, with whatever prices and further products, takes up the same items
+abbrev pub ShelvesMayChange : Type 0
+ShelvesMayChange = (shop : Shop) (others : List Product) → IsKept shop → ServesAll shop.products others shop.items → IsKept (record shop { products = others })
+
+-- one that lost a product tells the first item that it is quoted in
+abbrev pub LostProductIsBad : Type 0
+LostProductIsBad = (shop : Shop) (others : List Product) (front back : List Item) (p : Purchase) (product : ℕ) (price : Price) (request : List ℕ) → IsKept shop
+    → shop.items ≡ front ++ item.Quoted p product price request ∷ back → ServesAll shop.products others front → product_in others product ≡ None
+    → restarted (new_shop shop.stall others) 0 (kept_bytes shop) ≡ Err (length front)
+
+-- one that has other goods of a product tells the first item for which they were sealed, or both have one digest when they are sealed
+abbrev pub OtherGoodsAreBad : Type 0
+OtherGoodsAreBad = (shop : Shop) (others : List Product) (front back : List Item) (p : Purchase) (epoid : Epoid) (checksum : List ℕ) (sale : Sale) → IsKept shop
+    → shop.items ≡ front ++ item.Delivered p epoid checksum ∷ back → ServesAll shop.products others front → sale_in front p ≡ Some sale
+    → goods_in others sale.product ≢ goods_in shop.products sale.product
+    → (restarted (new_shop shop.stall others) 0 (kept_bytes shop) ≡ Err (length front))
+    ⊎ Collision (sealed_for shop.stall others epoid.serial sale.product) (sealed_for shop.stall shop.products epoid.serial sale.product)
+
+-- ---- whom it serves
+
+-- what is done at a consumer's message is done for the consumer whose ticket it shows: what is kept is of that one, and what is sent goes to it or is for the house. Where it shows nobody's, it is ignored
+abbrev pub IsServed : PartyId → Answer → Type 0
+IsServed consumer a = IfSome a.keep (λ x. (purchase_of x).consumer ≡ consumer) × ((a.to ≡ to.Consumer consumer) ⊎ (a.to ≡ to.Server))
+
+abbrev pub AskerIsServed : Type 0
+AskerIsServed = (shop : Shop) (m : Message) (moment : ℕ)
+    → ((a : Answer) → heard shop m moment ≡ Ok a → (consumer : PartyId) × (asker_in shop m moment ≡ Some consumer) × IsServed consumer a)
+    × (asker_in shop m moment ≡ None → (why : Reason) × (heard shop m moment ≡ Err why))

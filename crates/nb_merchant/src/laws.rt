@@ -23,7 +23,35 @@ pub fn identifiers_differ()
     ensures { law.IdentifiersDiffer }
 {}
 
-/// A law: a restart with another catalogue that has the same products with the same goods, at whatever prices, takes up the same items.
-pub fn prices_may_change()
-    ensures { law.PricesMayChange }
+/// A law: a restart that gives a merchant gives the one that kept exactly the items that the bytes spell, in their order.
+pub fn restart_keeps_items()
+    ensures { law.RestartKeepsItems }
+{}
+
+/// A law: [`state`](crate::Merchant::state) tells of a purchase what its last kept item says, and nothing of one without an item.
+pub fn last_item_tells()
+    ensures { law.LastItemTells }
+{}
+
+/// A law: a restart takes up the same items with another catalogue that has each product that was quoted, with the same goods where they were sealed,
+/// at whatever prices, and with whatever further products.
+pub fn shelves_may_change()
+    ensures { law.ShelvesMayChange }
+{}
+
+/// A law: with a catalogue that lost a product, and had each one before, a restart tells the first item in which it was quoted.
+pub fn lost_product_is_bad()
+    ensures { law.LostProductIsBad }
+{}
+
+/// A law: with a catalogue that has other goods of a product, and served each purchase before, a restart tells the first item for which they were
+/// sealed; or the goods, as they are sealed, are a collision.
+pub fn other_goods_are_bad()
+    ensures { law.OtherGoodsAreBad }
+{}
+
+/// A law: what is done at a consumer's message is done for the one that [`asker`](crate::Merchant::asker) names: what is kept is of that consumer, and
+/// what is sent is for it, or for the house. Where it names nobody the message is ignored.
+pub fn asker_is_served()
+    ensures { law.AskerIsServed }
 {}
