@@ -3,10 +3,12 @@
 //!
 //! The work begins with SIZE bytes of a pattern; a turn and a lock have no bytes, and SIZE is the number of threads; of look-ups it is
 //! how many keys there are, and of a shelf how many products. Each round works on what the last one made, so that none can be left out.
+//! `bench rows` does what each line of standard input says, in the same words.
 //! `bench answer JOURNAL REQUESTS` answers the frames on standard input over a journal, so many in a turn, and prints how many bytes their
 //! replies have; `bench ask JOURNAL REQUESTS THREADS` asks a desk for them, by 1, 2 or 4 threads. A file has one subject and its rows: a
 //! new row touches that file alone. How long a round takes is no claim of the proofs, and no clause says more than its safety needs:
-//! bench/run measures from outside, and the tests compare what is made with other programs.
+//! bench/run measures from outside. What the rows make is compared with other programs: the digests in `stdout` are from Python over hashlib, hmac
+//! and another ChaCha20, for parts from openssl, and sums of frames and of look-ups from ones that read no frames and have no index.
 #![tactic(auto)]
 
 mod answering;
@@ -20,13 +22,11 @@ mod messages;
 mod pattern;
 mod sealing;
 mod shelves;
-#[cfg(test)]
-mod tests;
 mod turning;
 
 use anyhow::anyhow;
 use nb_seal::{NoMemory, sha};
-use std::alloc::Global;
+use std::alloc::{AllocError, Global};
 use std::env;
 use std::process::ExitCode;
 use std::sync::Wait;
@@ -38,7 +38,8 @@ const USAGE: &str =
        bench writegoods|readgoods SIZE TIMES
        bench turn|lock THREADS TIMES
        bench answer JOURNAL REQUESTS
-       bench ask JOURNAL REQUESTS THREADS";
+       bench ask JOURNAL REQUESTS THREADS
+       bench rows";
 
 // The words are none of the program's.
 const BAD_WORDS: u8 = 2;
@@ -68,6 +69,12 @@ fn main(rt: HostRuntime) -> anyhow::Result<ExitCode> {
         println!(rt; "{}", asking::run(&rt, &rt, name.as_str(), turn, threads)?)?;
         return Ok(ExitCode::SUCCESS);
     }
+    if let [row] = words.as_slice()
+        && row.as_str() == "rows"
+    {
+        do_rows(&rt, &rt)?;
+        return Ok(ExitCode::SUCCESS);
+    }
     let line = line_of(&rt, rt.alloc(), words.as_slice()).map_err(|_| anyhow!("out of memory"))?;
     let Some(line) = line else {
         eprintln!(rt; "{USAGE}")?;
@@ -75,6 +82,25 @@ fn main(rt: HostRuntime) -> anyhow::Result<ExitCode> {
     };
     println!(rt; "{line}")?;
     Ok(ExitCode::SUCCESS)
+}
+
+// Does what each line of standard input says, and prints the line and the digest of what it made.
+fn do_rows<R: Threads + Wait + Sync>(rt: &HostRuntime, threads: &R) -> anyhow::Result<()> {
+    for line in rt.lines(rt.alloc()) {
+        let line = line?;
+        let words: Vec<String> = words_of(rt.alloc(), line.as_str())
+            .map_err(|_| anyhow!("out of memory"))?;
+        let made = line_of(threads, rt.alloc(), words.as_slice()).map_err(|_| anyhow!("out of memory"))?;
+        let made = made.as_deref().unwrap_or("no such row");
+        println!(rt; "{line}: {made}")?;
+    }
+    Ok(())
+}
+
+fn words_of(alloc: Global, line: &str) -> Result<Vec<String>, AllocError> {
+    line.split(' ')
+        .map(|word| String::from_str(alloc, word))
+        .try_collect(alloc)
 }
 
 // Does what the words say, and gives the digest of what it made, where the words are a row, a size and a number of times.
