@@ -5,3 +5,4 @@ pub mod Sent
 pub mod Restarting
 pub mod Shelves
 pub mod Serving
+pub mod Running

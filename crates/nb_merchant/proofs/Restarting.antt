@@ -1,33 +1,15 @@
--- Restarts over what was kept, and runs.
-use Rattle.std.proofs.Common.{◌≡◌, ℕ, ◌+◌, Bool, true, false, cond, ◌&&◌, List, [], ◌∷◌, ◌++◌, map, Option, Some, None, IfSome, Result, Ok, Err, refl, sym, ap, subst, ◌∙◌, append_assoc, append-nil}
-use Rattle.std.specs.Prelude.{is_none}
-use Rattle.std.specs.Result.{is_ok}
+-- Restarts over what was kept, and over any items.
+use Rattle.std.proofs.Common.{◌≡◌, ℕ, ◌+◌, Bool, true, false, cond, List, [], ◌∷◌, ◌++◌, map, Some, None, Result, Ok, Err, refl, sym, ap, subst, ◌∙◌, append_assoc, append-nil}
 use Rattle.std.specs.List.{AllByRecursion}
-use Rattle.sha2.specs.Sha256.{sha256}
 use Rattle.nb_units.specs.Frames.{AreBytes}
-use Rattle.nb_goods.specs.Goods.{sealed_goods}
-use Rattle.nb_price.specs.Products.{Product}
-use Rattle.nb_msgs.specs.declared.node.Reason.{Reason}
-use Rattle.nb_merchant.specs.declared.answer.Answer.{Answer}
-use Rattle.nb_stall.specs.declared.purchase.Purchase.{Purchase}
 use Rattle.nb_stall.specs.declared.item.Item.{Item}
-use Rattle.nb_stall.specs.declared.item.Item.TheVariants as item
-use Rattle.nb_stall.specs.declared.sale.Progress.{Progress}
-use Rattle.nb_stall.specs.declared.sale.Progress.TheVariants as progress
-use Rattle.nb_stall.specs.declared.sale.Sale.{Sale}
 use Rattle.nb_stall.specs.Spelling.{IsItem, item_bytes}
 use Rattle.nb_stall.specs.Reading.{item_of}
-use Rattle.nb_stall.specs.Sales.{sale_in, next_serial}
-use Rattle.nb_merchant.specs.Shop.{Shop, new_shop, with_item, goods_in}
-use Rattle.nb_stall.specs.Messages.{key_of}
-use Rattle.nb_merchant.specs.Table.{after, listed, order_taken}
-use Rattle.nb_merchant.specs.Keeping.{delivery_follows, order_follows, of_sale, follows, all_follow, taken_up, or_bad, restarted, IsKept}
-use Rattle.nb_merchant.specs.Laws.{RestartGivesBack, RestartKeepsItems, Event, done_at, run, RunsAreKept}
-use Rattle.nb_merchant.specs.Laws.Event.{OfConsumer, OfHouse, Nothing}
+use Rattle.nb_merchant.specs.Shop.{Shop, new_shop, with_item}
+use Rattle.nb_merchant.specs.Keeping.{follows, all_follow, taken_up, or_bad, restarted, IsKept}
+use Rattle.nb_merchant.specs.Laws.{RestartGivesBack, RestartKeepsItems}
 use Rattle.nb_stall.proofs.Layouts.{item_reads_back, item_spells_back}
 use Rattle.nb_stall.proofs.Serials.{both_true}
-use Rattle.nb_merchant.proofs.Keeping.{follow_more}
-use Rattle.nb_merchant.proofs.Following.{Follows, heard_follows, heard_of_house_follows, silence_follows}
 
 -- ---- a restart over what was kept
 
@@ -71,10 +53,12 @@ took start (bytes ∷ more) i shop are e = by (λ next rest. took next more (i +
           all = (spells.0, rest.all);
           follow = rw (next, rest.follow) refl;
         }
+
     may : ((next : Shop) → restarted next (i + 1) more ≡ Ok shop → Took next more shop) → (x : Item) → item_of bytes ≡ Ok x → (b : Bool) → follows start x ≡ b
         → or_bad i (λ next. restarted next (i + 1) more) (cond b (Some (with_item start x)) None) ≡ Ok shop → Took start (bytes ∷ more) shop
     may rest x is true next e = up x is next (rest (with_item start x) e)
     may rest x is false next e = absurd cc
+
     by : ((next : Shop) → restarted next (i + 1) more ≡ Ok shop → Took next more shop) → (read : Result Item ℕ) → item_of bytes ≡ read
         → or_bad i (λ next. restarted next (i + 1) more) (taken_up start read) ≡ Ok shop → Took start (bytes ∷ more) shop
     by rest (Ok x) is e = may rest x is (follows start x) refl e
@@ -83,37 +67,9 @@ took start (bytes ∷ more) i shop are e = by (λ next rest. took next more (i +
 pub restart_keeps_items : RestartKeepsItems
 restart_keeps_items stall products journal shop are e =
     let t = took (new_shop stall products) journal 0 shop are e in
-    let spells : map item_bytes shop.items ≡ journal = ap (λ (s : Shop). map item_bytes s.items) t.is ∙ t.spelled in
-    (
+    let spells : map item_bytes shop.items ≡ journal = ap (λ (s : Shop). map item_bytes s.items) t.is ∙ t.spelled in (
       ap (λ (s : Shop). s.stall) t.is,
       ap (λ (s : Shop). s.products) t.is,
       spells,
       subst IsKept (sym t.is) (record { all = t.all; follow = t.follow }),
     )
-
--- ---- runs
-
-abbrev AllFollow : Shop → Type 0
-AllFollow shop = all_follow (new_shop shop.stall shop.products) shop.items ≡ true
-
-after_follows : (shop : Shop) (row : Result Answer Reason) → ((a : Answer) → row ≡ Ok a → Follows shop a) → AllFollow shop → AllFollow (after shop row)
-after_follows shop (Err why) each all = subst (λ (items : List Item). all_follow (new_shop shop.stall shop.products) items ≡ true) (sym (append-nil shop.items)) all
-after_follows shop (Ok a) each all = by a.keep (each a refl).0
-  where
-    by : (keep : Option Item) → IfSome keep (λ x. follows shop x ≡ true) → all_follow (new_shop shop.stall shop.products) (shop.items ++ listed keep) ≡ true
-    by None next = subst (λ (items : List Item). all_follow (new_shop shop.stall shop.products) items ≡ true) (sym (append-nil shop.items)) all
-    by (Some x) next = follow_more (new_shop shop.stall shop.products) shop.items x all next
-
-event_follows : (shop : Shop) (e : Event) (a : Answer) → done_at shop e ≡ Ok a → Follows shop a
-event_follows shop (OfConsumer m moment) a is = heard_follows shop m moment a is
-event_follows shop (OfHouse m) a is = heard_of_house_follows shop m a is
-event_follows shop (Nothing p) a is = silence_follows shop p a is
-
-run_follows : (shop : Shop) (events : List Event) → AllFollow shop → AllFollow (run shop events)
-run_follows shop [] all = all
-run_follows shop (e ∷ events) all = run_follows (after shop (done_at shop e)) events (after_follows shop (done_at shop e) (event_follows shop e) all)
-
-pub runs_are_kept : RunsAreKept
-runs_are_kept stall products events fits =
-    let kept : IsKept (run (new_shop stall products) events) = record { all = fits; follow = run_follows (new_shop stall products) events refl } in
-    (kept, restart_gives_back (run (new_shop stall products) events) kept)

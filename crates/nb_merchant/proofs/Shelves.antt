@@ -1,5 +1,5 @@
 -- What items say behind others, and other shelves under them.
-use Rattle.std.proofs.Common.{◌≡◌, ◌≢◌, ◌⊎◌, inl, inr, ℕ, zero, suc, ◌+◌, Bool, true, false, cond, ◌==◌, ◌&&◌, List, [], ◌∷◌, ◌++◌, length, map, Option, Some, None, option_map, Result, Ok, Err, refl, sym, ap, subst, ◌∙◌, append_assoc, append-nil, arith}
+use Rattle.std.proofs.Common.{◌≡◌, ◌≢◌, ◌⊎◌, inl, inr, ℕ, ◌+◌, Bool, true, false, cond, ◌==◌, ◌&&◌, List, [], ◌∷◌, ◌++◌, length, map, Option, Some, None, option_map, Result, Err, refl, sym, ap, subst, ◌∙◌, append_assoc, append-nil, arith}
 use Rattle.std.proofs.lemmas.Bool.{false≢true}
 use Rattle.std.proofs.lemmas.Slice.Eq.{bytes_eq-Decides}
 use Rattle.std.specs.Prelude.{codes, is_some, is_none, nat_le}
@@ -15,7 +15,6 @@ use Rattle.nb_goods.specs.Goods.{sealed_goods}
 use Rattle.nb_goods.specs.Collision.{Collision}
 use Rattle.nb_price.specs.Products.{Product, product_in}
 use Rattle.nb_stall.specs.declared.purchase.Purchase.{Purchase}
-use Rattle.nb_stall.specs.declared.stall.Stall.{Stall}
 use Rattle.nb_stall.specs.declared.item.Item.{Item}
 use Rattle.nb_stall.specs.declared.item.Item.TheVariants as item
 use Rattle.nb_stall.specs.declared.sale.Progress.{Progress}
@@ -90,6 +89,7 @@ stage_now shop (item.Delivered p epoid checksum) may = by (sale_in shop.items p)
     at sale (progress.Delivered e) may = absurd (false≢true may)
     at sale (progress.Endorsed e o) may = absurd (false≢true may)
     at sale (progress.Settled e o r) may = absurd (false≢true may)
+
     by : (o : Option Sale) → of_sale (λ sale. delivery_follows shop.stall (goods_in shop.products sale.product) (next_serial shop.items) epoid checksum sale.progress) o ≡ true
         → option_map (λ (sale : Sale). stage_of sale.progress) (moved o (item.Delivered p epoid checksum)) ≡ Some (stage_behind (item.Delivered p epoid checksum))
     by None may = absurd (false≢true may)
@@ -101,6 +101,7 @@ stage_now shop (item.Endorsed p order) may = by (sale_in shop.items p) may
     at sale (progress.Delivered e) may = refl
     at sale (progress.Endorsed e o) may = absurd (false≢true may)
     at sale (progress.Settled e o r) may = absurd (false≢true may)
+
     by : (o : Option Sale) → of_sale (λ sale. order_follows shop p order sale sale.progress) o ≡ true
         → option_map (λ (sale : Sale). stage_of sale.progress) (moved o (item.Endorsed p order)) ≡ Some (stage_behind (item.Endorsed p order))
     by None may = absurd (false≢true may)
@@ -112,6 +113,7 @@ stage_now shop (item.Settled p part) may = by (sale_in shop.items p) may
     at (progress.Delivered e) may = absurd (false≢true may)
     at (progress.Endorsed e o) may = refl
     at (progress.Settled e o r) may = absurd (false≢true may)
+
     by : (o : Option Sale) → of_sale (λ sale. result_follows sale.progress) o ≡ true
         → option_map (λ (sale : Sale). stage_of sale.progress) (moved o (item.Settled p part)) ≡ Some (stage_behind (item.Settled p part))
     by None may = absurd (false≢true may)
@@ -158,8 +160,7 @@ sale_stays : (p : Purchase) (sale : Sale) (items : List Item) → (t : Sale) × 
 sale_stays p sale [] = (sale, refl, record { product = refl; epoid = λ e is. is })
 sale_stays p sale (x ∷ items) =
     let next = told_stays p sale x in
-    let last = sale_stays p next.0 items in
-    (
+    let last = sale_stays p next.0 items in (
       last.0,
       ap (λ (s : Option Sale). sale_from p s items) next.1 ∙ last.1,
       record { product = last.2.product ∙ next.2.product; epoid = λ e is. last.2.epoid e (next.2.epoid e is) },
@@ -282,10 +283,13 @@ other_goods_are_bad shop others front back p epoid checksum sale kept is serves 
   where
     x : Item
     x = item.Delivered p epoid checksum
+
     key : List ℕ
     key = key_of shop.stall epoid.serial
+
     front_of : List ℕ → Bool
     front_of goods = epoid.merchant.0 == shop.stall.id.0 && epoid.serial == next_serial front && nat_le (length goods) MAX_GOODS
+
     compared : sale.progress ≡ progress.Quoted → checksum ≡ sha256 (sealed_goods key (goods_in shop.products sale.product)) → (same : Bool) → bytes_eq checksum (sha256 (sealed_goods key (goods_in others sale.product))) ≡ same
         → (restarted (new_shop shop.stall others) 0 (map item_bytes shop.items) ≡ Err (length front))
         ⊎ Collision (sealed_for shop.stall others epoid.serial sale.product) (sealed_for shop.stall shop.products epoid.serial sale.product)
@@ -299,6 +303,7 @@ other_goods_are_bad shop others front back p epoid checksum sale kept is serves 
         let bad : is_sealed_next shop.stall (goods_in others sale.product) (next_serial front) epoid checksum ≡ false = and_false (front_of (goods_in others sale.product)) _ e in
         let not : follows (record { stall = shop.stall; products = others; items = front }) x ≡ false = rw (there, quoted) bad in
         inl (is_bad shop others front back x kept is serves not)
+
     by : (before : Progress) → sale.progress ≡ before → delivery_follows shop.stall (goods_in shop.products sale.product) (next_serial front) epoid checksum before ≡ true
         → (restarted (new_shop shop.stall others) 0 (map item_bytes shop.items) ≡ Err (length front))
         ⊎ Collision (sealed_for shop.stall others epoid.serial sale.product) (sealed_for shop.stall shop.products epoid.serial sale.product)

@@ -1,5 +1,5 @@
 -- What holds of every merchant: a restart gives back what was kept.
-use Rattle.std.specs.Prelude.{◌≡◌, ◌≢◌, ◌⊎◌, ℕ, ◌+◌, true, List, [], ◌∷◌, ◌++◌, length, map, slice_get, is_some, Option, Some, None, option_map, IfSome, Result, Ok, Err}
+use Rattle.std.specs.Prelude.{◌≡◌, ◌≢◌, ◌⊎◌, ℕ, ◌+◌, ◌<◌, true, List, [], ◌∷◌, ◌++◌, length, map, slice_get, Contains, is_some, Option, Some, None, option_map, IfSome, Result, Ok, Err}
 use Rattle.std.specs.List.{AllByRecursion}
 use Rattle.nb_units.specs.Frames.{AreBytes}
 use Rattle.nb_units.specs.declared.epoid.Epoid.{Epoid}
@@ -8,6 +8,7 @@ use Rattle.nb_units.specs.declared.ids.Price.{Price}
 use Rattle.nb_goods.specs.Collision.{Collision}
 use Rattle.nb_price.specs.Products.{Product, product_in}
 use Rattle.nb_msgs.specs.declared.message.Message.{Message}
+use Rattle.nb_msgs.specs.declared.message.Message.TheVariants as message
 use Rattle.nb_msgs.specs.declared.node.Reason.{Reason}
 use Rattle.nb_msgs.specs.declared.node.To.TheVariants as to
 use Rattle.nb_merchant.specs.declared.answer.Answer.{Answer}
@@ -23,7 +24,7 @@ use Rattle.nb_stall.specs.Spelling.{IsItem, item_bytes}
 use Rattle.nb_stall.specs.Reading.{purchase_of}
 use Rattle.nb_stall.specs.Sales.{sale_in, stage_of, epoid_in, deliveries_in}
 use Rattle.nb_merchant.specs.Shop.{Shop, new_shop, goods_in, sealed_for}
-use Rattle.nb_merchant.specs.Table.{heard, heard_of_house, silent, asker_in, after}
+use Rattle.nb_merchant.specs.Table.{heard, heard_of_house, silent, asker_in, kept_by, after}
 use Rattle.nb_merchant.specs.Keeping.{IsKept, restarted}
 
 -- what a journal has of a merchant
@@ -35,25 +36,46 @@ abbrev pub RestartGivesBack : Type 0
 RestartGivesBack = (shop : Shop) → IsKept shop → restarted (new_shop shop.stall shop.products) 0 (kept_bytes shop) ≡ Ok shop
 
 -- what a merchant hears
-pub data Event : Type 0 where
-  OfConsumer : Message → ℕ → Event
-  OfHouse : Message → Event
-  Nothing : Purchase → Event
+pub data Word : Type 0 where
+  OfConsumer : Message → ℕ → Word
+  OfHouse : Message → Word
+  Nothing : Purchase → Word
 
--- what it does, and the merchant behind events
-abbrev pub done_at : Shop → Event → Result Answer Reason
+-- what it does
+abbrev pub done_at : Shop → Word → Result Answer Reason
 done_at shop (OfConsumer m moment) = heard shop m moment
 done_at shop (OfHouse m) = heard_of_house shop m
 done_at shop (Nothing p) = silent shop p
 
-abbrev pub run : Shop → List Event → Shop
-run shop [] = shop
-run shop (e ∷ events) = run (after shop (done_at shop e)) events
+-- it hears something; or it stops, and starts again with a catalogue
+pub data Event : Type 0 where
+  Hears : Word → Event
+  Starts : List Product → Event
 
--- behind every list of events a restart gives the merchant, as long as each field of what was kept has its width, as the numbers and texts of programs have
+-- the merchant behind an event. Each field of what is kept has its width, as the numbers and texts of programs have; a start is over what was kept
+abbrev pub Leads : Shop → Event → Shop → Type 0
+Leads old (Hears w) new = (new ≡ after old (done_at old w)) × AllByRecursion IsItem (kept_by (done_at old w))
+Leads old (Starts products) new = restarted (new_shop old.stall products) 0 (kept_bytes old) ≡ Ok new
+
+-- and behind events
+abbrev pub Runs : Shop → List Event → Shop → Type 0
+Runs old [] new = new ≡ old
+Runs old (e ∷ events) new = (next : Shop) × Leads old e next × Runs next events new
+
+-- behind every list of events, with restarts in it, what was kept may stand as it does, and a restart gives the merchant
 abbrev pub RunsAreKept : Type 0
-RunsAreKept = (stall : Stall) (products : List Product) (events : List Event) → let shop = run (new_shop stall products) events in
-    AllByRecursion IsItem shop.items → IsKept shop × (restarted (new_shop shop.stall shop.products) 0 (kept_bytes shop) ≡ Ok shop)
+RunsAreKept = (first : Shop) (events : List Event) (shop : Shop) → IsKept first → Runs first events shop
+    → IsKept shop × (shop.stall ≡ first.stall) × (restarted (new_shop shop.stall shop.products) 0 (kept_bytes shop) ≡ Ok shop)
+
+-- all that was kept stays, and goods that are sealed later have higher serial numbers than those before
+abbrev pub NoSerialAgain : Type 0
+NoSerialAgain = (first : Shop) (events : List Event) (shop : Shop) → IsKept first → Runs first events shop → (more : List Item) × (shop.items ≡ first.items ++ more)
+    × ((i j : ℕ) (d e : Delivery) → slice_get (deliveries_in first.items) i ≡ Some d → slice_get (deliveries_in more) j ≡ Some e → d.epoid.serial < e.epoid.serial)
+
+-- what is passed on, behind every list of events, is the consumer's part of a message that came from the house
+abbrev pub PassedIsHeard : Type 0
+PassedIsHeard = (stall : Stall) (products : List Product) (events : List Event) (shop : Shop) (w : Word) (a : Answer) (transaction : ℕ) (part : List ℕ) → Runs (new_shop stall products) events shop
+    → done_at shop w ≡ Ok a → a.message ≡ message.Passed transaction part → (merchant : List ℕ) × Contains (events ++ Hears w ∷ []) (Hears (OfHouse (message.Result merchant part)))
 
 -- the goods that were sealed have the numbers 1, 2 and so on, and identifiers of this merchant
 abbrev pub SerialsFollow : Type 0

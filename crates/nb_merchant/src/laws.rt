@@ -7,8 +7,8 @@ pub fn restart_gives_back()
     ensures { law.RestartGivesBack }
 {}
 
-/// A law: behind every list of messages and words, in whatever order they came, what was kept may stand as it does, so that a
-/// restart over it gives the merchant.
+/// A law: behind every list of messages and words, in whatever order they came, with restarts between them, what was kept may stand as it does, so that
+/// a restart over it gives the merchant.
 pub fn runs_are_kept()
     ensures { law.RunsAreKept }
 {}
@@ -16,6 +16,17 @@ pub fn runs_are_kept()
 /// A law: the goods that a merchant sealed have the serial numbers 1, 2 and so on, each once, and identifiers of that merchant.
 pub fn serials_follow()
     ensures { law.SerialsFollow }
+{}
+
+/// A law: behind every such list all that was kept before it is still kept, and goods that were sealed in it have higher serial numbers than all before:
+/// none comes again, also where the merchant started again.
+pub fn no_serial_again()
+    ensures { law.NoSerialAgain }
+{}
+
+/// A law: a result that is passed on, behind every such list, is the consumer's part of a message of the house in it, unchanged.
+pub fn passed_is_heard()
+    ensures { law.PassedIsHeard }
 {}
 
 /// A law: no two of them have one identifier.

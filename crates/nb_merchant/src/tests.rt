@@ -20,7 +20,6 @@ use std::test::Fail;
 mod changes;
 mod kept;
 mod purchases;
-mod seals;
 
 const STALL: Stall = Stall {
     id: PartyId(2),
