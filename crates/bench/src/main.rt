@@ -88,9 +88,12 @@ fn main(rt: HostRuntime) -> anyhow::Result<ExitCode> {
 fn do_rows<R: Threads + Wait + Sync>(rt: &HostRuntime, threads: &R) -> anyhow::Result<()> {
     for line in rt.lines(rt.alloc()) {
         let line = line?;
-        let words: Vec<String> = words_of(rt.alloc(), line.as_str())
-            .map_err(|_| anyhow!("out of memory"))?;
-        let made = line_of(threads, rt.alloc(), words.as_slice()).map_err(|_| anyhow!("out of memory"))?;
+        let words: Vec<String> = words_of(rt.alloc(), line.as_str()).map_err(|_| anyhow!(
+            "out of memory"
+        ))?;
+        let made = line_of(threads, rt.alloc(), words.as_slice()).map_err(|_| anyhow!(
+            "out of memory"
+        ))?;
         let made = made.as_deref().unwrap_or("no such row");
         println!(rt; "{line}: {made}")?;
     }
