@@ -65,7 +65,7 @@ pub record EndSo (b : Buyer) (transaction : ℕ) (receipt : Signed) (how : End) 
   pub fits : receipt_fits owing.order receipt.receipt ≡ Ok tt
   pub end : how ≡ end_of receipt.receipt purchase.held
 
--- a purchase is ordered, and at each status without a receipt this is sent to this party
+-- a purchase is ordered, and at each status of it without a receipt this is sent to this party
 pub record PaysAgain (b : Buyer) (transaction : ℕ) (to : To) (message : Message) : Type 0 where
   pub purchase : Purchase
   pub owing : Owing

@@ -51,7 +51,8 @@ abbrev pub is_rest : Option GoodsHead → List ℕ → Order → List ℕ → Bo
 is_rest None held o part = true
 is_rest (Some k) held o part = is_same_epoid o.epoid k.epoid && length part == k.total - length held
 
--- all parts have no more bytes than sealed goods may have: what rows keep is always so
+-- all parts have no more bytes than sealed goods may have. No row keeps an order for which it decides (`RestIsShort`): it has the bound at hand where the
+-- part is held
 abbrev pub is_short : List ℕ → List ℕ → Bool
 is_short held part = nat_le (length held + length part) MAX_SEALED
 

@@ -42,7 +42,7 @@ impl Consumer {
         self.answer(deed)
     }
 
-    /// Hears a message. Each of its texts has at most as many bytes as it may have.
+    /// Hears a message. Each of its texts has at most as many bytes as it may have, a role is one of the two, and an amount in its range.
     pub fn on(&mut self, message: &Message) -> Result<Step, NoMemory>
         requires { MessageKeepsRules message.now }
         // The row of the table; an ignored message changes nothing, and neither does want of memory.

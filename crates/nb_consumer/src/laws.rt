@@ -48,7 +48,7 @@ pub fn kept_order_is_so()
 {}
 
 /// A law: the message that is sent with an item is the one that is sent again where nothing is heard behind it; with an order, the one that is sent
-/// again at a status without a receipt. So nothing is sent that a consumer which stopped behind the item, and started again, does not send.
+/// again at a status of this purchase without a receipt. A status names an order's identifier, and is of the first purchase that was ordered under it.
 pub fn says_again()
     ensures { law.SaysAgain }
 {}

@@ -1,4 +1,4 @@
--- What holds of every merchant: a restart gives back what was kept.
+-- What holds of every merchant: its runs and restarts, its serial numbers, the shelves that it may start with, what it passes on, and whom it serves.
 use Rattle.std.specs.Prelude.{◌≡◌, ◌≢◌, ◌⊎◌, ℕ, ◌+◌, ◌<◌, true, List, [], ◌∷◌, ◌++◌, length, map, slice_get, Contains, is_some, Option, Some, None, option_map, IfSome, Result, Ok, Err}
 use Rattle.std.specs.List.{AllByRecursion}
 use Rattle.nb_units.specs.Frames.{AreBytes}

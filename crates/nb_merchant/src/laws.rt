@@ -24,12 +24,13 @@ pub fn no_serial_again()
     ensures { law.NoSerialAgain }
 {}
 
-/// A law: a result that is passed on, behind every such list, is the consumer's part of a message of the house in it, unchanged.
+/// A law: a result that is passed on, behind every such list from a merchant on that kept nothing, is the consumer's part of a message of the house in
+/// it, unchanged.
 pub fn passed_is_heard()
     ensures { law.PassedIsHeard }
 {}
 
-/// A law: no two of them have one identifier.
+/// A law: no two sales of which a merchant sealed the goods have one identifier.
 pub fn identifiers_differ()
     ensures { law.IdentifiersDiffer }
 {}

@@ -95,7 +95,8 @@ impl Merchant {
     /// What the merchant does at a message of a consumer that came at this moment, in seconds since 1970-01-01 00:00 UTC. Each text of the
     /// message is within its limit.
     ///
-    /// The step is that of the table in `specs/Table.antt`, and what is kept is the step's item. Messages of other kinds are ignored.
+    /// A role in it is one of the two, and an amount in its range. The step is that of the table in `specs/Table.antt`, and what is kept is the step's
+    /// item. Messages of other kinds are ignored.
     /// Answers [`NoMemory`] where there is none for what has to be made or kept: then nothing changes.
     pub fn on_consumer(
         &mut self,
@@ -108,7 +109,7 @@ impl Merchant {
         ensures kept { OnOk result (self.new ≡ table.after self.old (table.heard self.old message.now moment)) }
         ensures err { OnErr result (self.new ≡ self.old) }
 
-        // What is sent is as it was kept, and what is endorsed opens the goods.
+        // What is sent is as it was kept, and what is endorsed opens the goods, or there is a collision.
         ensures sent { IfOk result (StepIs self.new) }
     {
         let planned = self.hear(alloc, message, moment);
@@ -125,7 +126,7 @@ impl Merchant {
         ensures kept { OnOk result (self.new ≡ table.after self.old (table.heard_of_house self.old message.now)) }
         ensures err { OnErr result (self.new ≡ self.old) }
 
-        // What is sent is as it was kept, and what is endorsed opens the goods.
+        // What is sent is as it was kept, and what is endorsed opens the goods, or there is a collision.
         ensures sent { IfOk result (StepIs self.new) }
     {
         let planned = self.hear_house(alloc, message);
@@ -146,7 +147,7 @@ impl Merchant {
         ensures kept { OnOk result (self.new ≡ table.after self.old (table.silent self.old (table.purchase_by consumer transaction))) }
         ensures err { OnErr result (self.new ≡ self.old) }
 
-        // What is sent is as it was kept, and what is endorsed opens the goods.
+        // What is sent is as it was kept, and what is endorsed opens the goods, or there is a collision.
         ensures sent { IfOk result (StepIs self.new) }
     {
         let planned = self.silent(
