@@ -1,32 +1,25 @@
--- A word is one number, and words are one job.
-use Rattle.std.proofs.Common.{◌≡◌, ℕ, List, sym, ap, subst, ◌∙◌, arith}
+-- Words have one number for a cap, and are one job.
+use Rattle.std.proofs.Common.{◌≡◌, ℕ, ◌<◌, ◌^◌, List, [], ◌∷◌, refl, sym, ap, ◌∙◌, arith, codes, slice_index_or}
+use Rattle.std.specs.Fmt.{decimal}
 use Rattle.std.proofs.lemmas.Fmt.{decimal_injective}
-use Rattle.nb_run.specs.declared.ending.Outcome.{Outcome}
-use Rattle.nb_run.specs.declared.ending.Outcome.TheVariants.{Done, Work}
+use Rattle.nb_run.specs.declared.ending.Outcome.TheVariants.{Work}
 use Rattle.nb_run.specs.declared.ending.Job.TheVariants.{Serve}
-use Rattle.nb_run.specs.Words.{IsNumber, IsServe}
+use Rattle.nb_words.specs.Words.{IsInit, IsServe}
+use Rattle.nb_words.proofs.Whole.{sessions_small}
 
-pub one_number : (word : List ℕ) (m n : ℕ) → IsNumber word m → IsNumber word n → m ≡ n
-one_number word m n first second = decimal_injective m n (omega (arith, first.1)) (omega (arith, second.1)) (sym first.0 ∙ second.0)
+-- words that are the same have the same number at a place
+same_number : (place : ℕ) (words other : List (List ℕ)) (m n : ℕ) → m < 2 ^ 64 → n < 2 ^ 64 → words ≡ other
+    → slice_index_or words place [] ≡ decimal m → slice_index_or other place [] ≡ decimal n → m ≡ n
+same_number place words other m n few less same is are =
+    decimal_injective m n few less (sym is ∙ ap (λ (ws : List (List ℕ)). slice_index_or ws place []) same ∙ are)
 
--- the numbers of a job that is left
-abbrev workers_in : Outcome → ℕ
-workers_in (Done ending) = 0
-workers_in (Work (Serve workers sessions)) = workers
-
-abbrev sessions_in : Outcome → ℕ
-sessions_in (Done ending) = 0
-sessions_in (Work (Serve workers sessions)) = sessions
+-- words have one cap
+pub one_cap : (words : List (List ℕ)) (m n : ℕ) → IsInit words m → IsInit words n → m ≡ n
+one_cap words m n is other = same_number 2 _ _ m n (omega (arith, is.3)) (omega (arith, other.3)) (sym is.1 ∙ other.1) refl refl
 
 -- words that are a server's with these numbers are so with no others
-pub one_job : (words : List (List ℕ)) (w s v t : ℕ) → IsServe words w s
-    → (Work (Serve w s) ≡ Work (Serve v t) → IsServe words v t) × (IsServe words v t → Work (Serve w s) ≡ Work (Serve v t))
-one_job words w s v t is = (same_is, is_same)
-  where
-    same_is : Work (Serve w s) ≡ Work (Serve v t) → IsServe words v t
-    same_is same = subst (λ (n : ℕ). IsServe words n t) (ap workers_in same) (subst (IsServe words w) (ap sessions_in same) is)
-
-    is_same : IsServe words v t → Work (Serve w s) ≡ Work (Serve v t)
-    is_same other =
-        ap (λ (n : ℕ). Work (Serve n s)) (one_number _ w v is.workers_are other.workers_are)
-        ∙ ap (λ (n : ℕ). Work (Serve v n)) (one_number _ s t is.sessions_are other.sessions_are)
+pub one_job : (words : List (List ℕ)) (w s v t : ℕ) → IsServe words w s → IsServe words v t → Work (Serve w s) ≡ Work (Serve v t)
+one_job words w s v t is other =
+    let same : codes "serve" ∷ is.0 ∷ is.1 ∷ decimal w ∷ decimal s ∷ [] ≡ codes "serve" ∷ other.0 ∷ other.1 ∷ decimal v ∷ decimal t ∷ [] = sym is.2 ∙ other.2 in
+    ap (λ (n : ℕ). Work (Serve n s)) (same_number 3 _ _ w v (omega (arith, is.5.1)) (omega (arith, other.5.1)) same refl refl)
+    ∙ ap (λ (n : ℕ). Work (Serve v n)) (same_number 4 _ _ s t (sessions_small w s is.5.0 is.5.3) (sessions_small v t other.5.0 other.5.3) same refl refl)

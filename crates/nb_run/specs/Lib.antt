@@ -1,5 +1,4 @@
 pub mod Ending
 pub mod Init
-pub mod Words
 pub mod Run
 pub mod Numbers

@@ -3,7 +3,7 @@
 ghost use Rattle.std.specs.Prelude.{◌≡◌};
 ghost use Rattle.nb_run.specs.Ending.{at_no_place};
 ghost use Rattle.nb_run.specs.Run.{unopened};
-ghost use Rattle.nb_run.specs.Numbers.{LimitsAre, StatusesAre};
+ghost use Rattle.nb_run.specs.Numbers.{StatusesAre};
 
 use nb_vault::VaultFault;
 
@@ -77,9 +77,9 @@ impl Ending {
 pub enum Job {
     /// `serve JOURNAL ADDRESS WORKERS SESSIONS`: answer the links of so many workers, so many of each.
     Serve {
-        /// From 1 to [`MAX_WORKERS`](crate::MAX_WORKERS).
+        /// From 1 to [`MAX_WORKERS`](nb_words::MAX_WORKERS).
         workers: u32,
-        /// The links of each worker, at least 1: over all workers at most [`MAX_LINKS`](crate::MAX_LINKS).
+        /// The links of each worker, at least 1: over all workers at most [`MAX_LINKS`](nb_words::MAX_LINKS).
         sessions: u32,
     },
 }
@@ -96,9 +96,4 @@ pub enum Outcome {
 /// A law: the statuses in numbers.
 pub fn statuses()
     ensures { StatusesAre }
-{}
-
-/// A law: the limits of a server in numbers.
-pub fn limits()
-    ensures { LimitsAre }
 {}

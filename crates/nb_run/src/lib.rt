@@ -1,7 +1,7 @@
 //! What the program does, on its words: `init JOURNAL CAP` makes a journal whose head is the input, `batch JOURNAL` answers the
 //! frames of the input, in order, over the house that the journal holds, and `serve JOURNAL ADDRESS WORKERS SESSIONS` is told as a [`Job`].
 //!
-//! [`command_of`] reads the words. For `init` the head is read and the journal made; for `batch` the vault is opened, and
+//! [`nb_words::command_of`] reads the words. For `init` the head is read and the journal made; for `batch` the vault is opened, and
 //! [`nb_batch::serve`] answers. [`run`] is all of it over any source, sink, disk and clock. Its contract says how it ends and why
 //! (`specs/Run.antt`, `specs/Init.antt`), what is written to the output, byte for byte, and what a stop at any moment of a batch
 //! leaves of the disk.
@@ -12,11 +12,9 @@
 mod ending;
 mod init;
 mod program;
-mod words;
 
 pub use ending::{
     BAD_INPUT, BAD_WORDS, CLEAN, DISK_FAILED, Ending, FRAME_LIMIT, Job, NO_JOURNAL, NOT_MADE,
-    OUT_OF_MEMORY, Outcome, PORT_FAILED, SINK_FAILED, SOURCE_FAILED, limits, statuses,
+    OUT_OF_MEMORY, Outcome, PORT_FAILED, SINK_FAILED, SOURCE_FAILED, statuses,
 };
 pub use program::run;
-pub use words::{Command, MAX_LINKS, MAX_WORKERS, command_of, journal_of};

@@ -1,4 +1,4 @@
-ghost use Rattle.std.specs.Prelude.{◌≡◌, ◌≢◌, ◌≤◌, ◌↔◌, ◌⊎◌, ℕ, map, string_bytes};
+ghost use Rattle.std.specs.Prelude.{◌≡◌, ◌≤◌, ◌⊎◌, ℕ, map, string_bytes};
 ghost use Rattle.nb_port.specs.Faults.{Rose};
 ghost use Rattle.nb_journal.specs.Making.{SparesJournal, IsCap};
 ghost use Rattle.nb_run.specs.declared.ending.TheConstants.{CLEAN, BAD_WORDS, SOURCE_FAILED, SINK_FAILED, OUT_OF_MEMORY, DISK_FAILED, NO_JOURNAL};
@@ -7,7 +7,7 @@ ghost use Rattle.nb_run.specs.declared.ending.Outcome.TheVariants as outcomes;
 ghost use Rattle.nb_run.specs.declared.ending.Job.{Job};
 ghost use Rattle.nb_run.specs.declared.ending.Job.TheVariants as jobs;
 ghost use Rattle.nb_run.specs.Ending as endings;
-ghost use Rattle.nb_run.specs.Words.{IsBatch, IsInit, IsServe, IsCommand};
+ghost use Rattle.nb_words.specs.Words.{IsBatch, IsInit, IsServe, IsCommand};
 ghost use Rattle.nb_run.specs.Init.{IsHeadInput, HasNoJournal};
 ghost use Rattle.nb_run.specs.Run as runs;
 
@@ -16,10 +16,11 @@ use crate::ending::{
     SOURCE_FAILED,
 };
 use crate::init::make_journal;
-use crate::words::{Command, command_of};
 use nb_batch::{BatchEnd, serve};
 use nb_port::{Clock, Disk, Sink, Source};
+use nb_units::NoMemory;
 use nb_vault::Vault;
+use nb_words::{Command, command_of};
 use std::alloc::Global;
 
 /// Runs the program on its words, over the input, the output, the journal's disk and the clock. The disk is handed
@@ -33,14 +34,19 @@ pub fn run<S: Source, K: Sink, D: Disk, C: Clock>(
     disk: D,
     clock: &mut C,
 ) -> (Outcome, D)
-    // Where it ends, with one of these statuses; else a server's work is left to do, exactly at a server's words.
+    // Where it ends, with one of these statuses; else a server's work is left to do, at a server's words alone, and there always, unless
+    // there was no memory to read them.
     ensures status { (status : ℕ) → EndsWith result.0 status → runs.IsStatus status }
-    ensures work { (workers sessions : ℕ) → (result.0 ≡ outcomes.Work (jobs.Serve workers sessions)) ↔ IsServe (map string_bytes words.now) workers sessions }
+    ensures work { (workers sessions : ℕ) → result.0 ≡ outcomes.Work (jobs.Serve workers sessions) → IsServe (map string_bytes words.now) workers sessions }
+    ensures serve { (workers sessions : ℕ) → IsServe (map string_bytes words.now) workers sessions
+        → (result.0 ≡ outcomes.Work (jobs.Serve workers sessions)) ⊎ runs.Unbegun result.0 source.old source.new sink.old sink.new disk result.1 clock.old clock.new }
 
-    // Status 2: the words, and nothing else. Nothing is touched then, and where work is left to do.
-    ensures words { EndsWith result.0 BAD_WORDS ↔ (IsCommand (map string_bytes words.now) → ⊥) }
+    // Status 2: the words, and nothing else; and there always, unless there was no memory to read them. Nothing is touched at words that
+    // are no command, and where work is left to do.
+    ensures words { EndsWith result.0 BAD_WORDS → IsCommand (map string_bytes words.now) → ⊥ }
+    ensures none { (IsCommand (map string_bytes words.now) → ⊥) → EndsWith result.0 BAD_WORDS ⊎ runs.Unbegun result.0 source.old source.new sink.old sink.new disk result.1 clock.old clock.new }
     ensures nowhere { EndsWith result.0 BAD_WORDS → Ends result.0 (λ ending. ending.place ≡ 0) }
-    ensures untouched { EndsWith result.0 BAD_WORDS ⊎ ((job : Job) × (result.0 ≡ outcomes.Work job)) → result.1 ≡ disk }
+    ensures untouched { (IsCommand (map string_bytes words.now) → ⊥) ⊎ ((job : Job) × (result.0 ≡ outcomes.Work job)) → result.1 ≡ disk }
 
     // No count of faults falls.
     ensures counts { (S.faults source.old ≤ S.faults source.new) × (K.faults sink.old ≤ K.faults sink.new) × (D.tells.faults disk ≤ D.tells.faults result.1) }
@@ -52,14 +58,16 @@ pub fn run<S: Source, K: Sink, D: Disk, C: Clock>(
 
     // What making a journal comes to. It sends nothing and asks for no moment, and nothing is written over a journal that is there.
     ensures init { (cap : ℕ) → IsInit (map string_bytes words.now) cap
-        → Ends result.0 (runs.InitIs D.tells (S.left source.old) (S.left source.new) (S.faults source.old) (S.faults source.new) disk result.1 cap) }
+        → Ends result.0 (runs.InitIs D.tells (S.left source.old) (S.left source.new) (S.faults source.old) (S.faults source.new) disk result.1 cap)
+        ⊎ runs.Unbegun result.0 source.old source.new sink.old sink.new disk result.1 clock.old clock.new }
     ensures silent { (cap : ℕ) → IsInit (map string_bytes words.now) cap
         → (sink.new ≡ sink.old) × (clock.new ≡ clock.old) × SparesJournal D.tells disk result.1 }
 
-    // A head alone, a cap in its range, a disk without a journal, and nothing that fails: a journal is made.
+    // A head alone, a cap in its range, a disk without a journal, and nothing that fails: a journal is made, unless there was no memory to
+    // read the words.
     ensures makes { (cap : ℕ) → IsInit (map string_bytes words.now) cap → IsCap cap → IsHeadInput (S.left source.old) → HasNoJournal (D.tells.content disk)
         → (Rose (S.faults source.old) (S.faults source.new) → ⊥) → (Rose (D.tells.faults disk) (D.tells.faults result.1) → ⊥)
-        → EndsWith result.0 CLEAN }
+        → EndsWith result.0 CLEAN ⊎ runs.Unbegun result.0 source.old source.new sink.old sink.new disk result.1 clock.old clock.new }
 
     // What a batch comes to.
     ensures batch { IsBatch (map string_bytes words.now)
@@ -67,8 +75,8 @@ pub fn run<S: Source, K: Sink, D: Disk, C: Clock>(
         (record { left = S.left source.old; sent = K.sent sink.old; moments = C.moments clock.old })
         (record { left = S.left source.new; sent = K.sent sink.new; moments = C.moments clock.new })) }
 
-    // Nothing is taken, sent or asked for where the words are bad, work is left to do, or a batch ends with 7 or 8.
-    ensures closed { EndsWith result.0 BAD_WORDS ⊎ EndsWith result.0 NO_JOURNAL ⊎ (EndsWith result.0 DISK_FAILED × IsBatch (map string_bytes words.now)) ⊎ ((job : Job) × (result.0 ≡ outcomes.Work job))
+    // Nothing is taken, sent or asked for where the words are no command, work is left to do, or a batch ends with 7 or 8.
+    ensures closed { (IsCommand (map string_bytes words.now) → ⊥) ⊎ EndsWith result.0 NO_JOURNAL ⊎ (EndsWith result.0 DISK_FAILED × IsBatch (map string_bytes words.now)) ⊎ ((job : Job) × (result.0 ≡ outcomes.Work job))
         → (source.new ≡ source.old) × (sink.new ≡ sink.old) × (clock.new ≡ clock.old) }
 
     // Whole frames alone over a journal, and nothing that fails: all is done, unless memory is wanting.
@@ -76,20 +84,21 @@ pub fn run<S: Source, K: Sink, D: Disk, C: Clock>(
         → (Rose (S.faults source.old) (S.faults source.new) → ⊥) → (Rose (K.faults sink.old) (K.faults sink.new) → ⊥) → (Rose (D.tells.faults disk) (D.tells.faults result.1) → ⊥)
         → EndsWith result.0 CLEAN ⊎ EndsWith result.0 OUT_OF_MEMORY }
 {
-    match command_of(words) {
-        Some(Command::Init { cap }) => {
+    match command_of(alloc, words) {
+        Ok(Some(Command::Init { cap })) => {
             let mut disk = disk;
             let end = make_journal(source, &mut disk, cap);
             (Outcome::Done(end.ending()), disk)
         }
-        Some(Command::Batch) => {
+        Ok(Some(Command::Batch)) => {
             let (ending, disk) = answer_batch(alloc, source, sink, disk, clock);
             (Outcome::Done(ending), disk)
         }
-        Some(Command::Serve { workers, sessions }) => {
+        Ok(Some(Command::Serve { workers, sessions })) => {
             (Outcome::Work(Job::Serve { workers, sessions }), disk)
         }
-        None => (Outcome::Done(Ending::at_no_place(BAD_WORDS)), disk),
+        Ok(None) => (Outcome::Done(Ending::at_no_place(BAD_WORDS)), disk),
+        Err(NoMemory) => (Outcome::Done(Ending::at_no_place(OUT_OF_MEMORY)), disk),
     }
 }
 

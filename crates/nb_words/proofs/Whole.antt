@@ -76,7 +76,7 @@ named_by ((x ∷ xs) ∷ words) all some none name rows told = elim (known x xs 
 -- ---- each command is taken
 
 -- as many links as a server takes at most are few
-sessions_small : (workers sessions : ℕ) → 1 ≤ workers → workers * sessions ≤ 10000 → sessions < 2 ^ 64
+pub sessions_small : (workers sessions : ℕ) → 1 ≤ workers → workers * sessions ≤ 10000 → sessions < 2 ^ 64
 sessions_small workers sessions some few = omega (arith, mul_least workers sessions some, few)
   where
     mul_least : (w s : ℕ) → 1 ≤ w → s ≤ w * s

@@ -11,4 +11,4 @@
 mod table;
 mod words;
 
-pub use words::{Command, MAX_LINKS, MAX_WORKERS, command_of};
+pub use words::{Command, MAX_LINKS, MAX_WORKERS, command_of, limits};

@@ -5,6 +5,7 @@ ghost use Rattle.clap.specs.Walk.{first_of};
 ghost use Rattle.clap.specs.Words.{rows_of, found_of, subcommand_rows_of};
 ghost use Rattle.nb_words.specs.Words.{IsName, AreServed, CommandIs};
 ghost use Rattle.nb_words.specs.Table as table;
+ghost use Rattle.nb_words.specs.Numbers.{LimitsAre};
 ghost use Rattle.clap.specs.declared.error.kind.ErrorKind.TheVariants as errors;
 
 use crate::table::program;
@@ -29,6 +30,11 @@ pub const MAX_WORKERS: u32 = 64;
 
 /// The most links that a server takes, over all workers.
 pub const MAX_LINKS: u32 = 10_000;
+
+/// A law: the limits of a server in numbers.
+pub fn limits()
+    ensures { LimitsAre }
+{}
 
 /// The command that the words are, where they are one. A name is not empty and does not begin with `-`, and so is an address; a number is
 /// decimal, below 2^32, and has no sign and no leading zero. A server has from 1 to [`MAX_WORKERS`] workers, of at least one link each

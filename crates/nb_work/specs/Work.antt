@@ -18,7 +18,7 @@ use Rattle.nb_run.specs.declared.ending.Job.TheVariants.{Serve}
 use Rattle.nb_run.specs.declared.ending.TheConstants.{CLEAN, OUT_OF_MEMORY, PORT_FAILED}
 use Rattle.nb_run.specs.Ending.{at_no_place}
 use Rattle.nb_run.specs.Run.{unopened}
-use Rattle.nb_run.specs.declared.words.TheConstants.{MAX_WORKERS}
+use Rattle.nb_words.specs.declared.words.TheConstants.{MAX_WORKERS}
 
 -- there are as many workers as the job says, and as many as a server may have
 abbrev pub IsStaffed : Job → ℕ → Type 0

@@ -1,5 +1,5 @@
 ghost use Rattle.std.specs.Prelude.{◌≡◌, ◌≤◌, [], None, vec_len};
-ghost use Rattle.nb_run.specs.declared.words.TheConstants.{MAX_WORKERS};
+ghost use Rattle.nb_words.specs.declared.words.TheConstants.{MAX_WORKERS};
 ghost use Rattle.nb_work.specs.Work.{IsStaffed, ServesAs, StoppedAs, workers_seen};
 
 use nb_link::{Gate, Link, Port};

@@ -347,8 +347,11 @@ static FAULTS: [Case<'static>; 3] = [
 ];
 
 // Words that are no command.
-static WORDS: [&'static [&'static str]; 29] = [
+static WORDS: [&'static [&'static str]; 32] = [
     &[],
+    &["help"],
+    &["help", "init"],
+    &["--", "batch", "house.journal"],
     &["fly"],
     &["fly", "house.journal"],
     &["Batch", "house.journal"],
@@ -702,6 +705,20 @@ fn words_are_read(rt: HostRuntime) -> Result<(), Fail> {
         expect(&rt, case as u64, &ran, (2, 0), &[], &[]);
         assert_eq!(rt; ran.disk.calls(), 0, "{words:?}");
         assert_eq!(rt; source.read(&mut [0]), ReadOut::Failed, "{words:?}");
+    }
+    Ok(())
+}
+
+// A journal may have the name of a command.
+#[test]
+fn a_journal_has_any_name(rt: HostRuntime) -> Result<(), Fail> {
+    let alloc = rt.alloc();
+    let journal = bytes(alloc, &[JOURNAL])?;
+    for (case, name) in ["batch", "help"].iter().enumerate() {
+        let mut source = source_of(alloc, &[ENROL_1], 1000, &[])?;
+        let words = ["batch", *name];
+        let ran = words_over(alloc, &words, &mut source, 1000, journal.as_slice(), &[])?;
+        assert_eq!(rt; ran.ending, GOOD, "case {case}");
     }
     Ok(())
 }
