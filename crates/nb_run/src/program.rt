@@ -7,7 +7,7 @@ ghost use Rattle.nb_run.specs.declared.ending.Outcome.TheVariants as outcomes;
 ghost use Rattle.nb_run.specs.declared.ending.Job.{Job};
 ghost use Rattle.nb_run.specs.declared.ending.Job.TheVariants as jobs;
 ghost use Rattle.nb_run.specs.Ending as endings;
-ghost use Rattle.nb_words.specs.Words.{IsBatch, IsInit, IsServe, IsCommand};
+ghost use Rattle.nb_words.specs.Words.{IsBatch, IsInit, IsServe, IsCommand, MayBeRead};
 ghost use Rattle.nb_run.specs.Init.{IsHeadInput, HasNoJournal};
 ghost use Rattle.nb_run.specs.Run as runs;
 
@@ -41,10 +41,11 @@ pub fn run<S: Source, K: Sink, D: Disk, C: Clock>(
     ensures serve { (workers sessions : ℕ) → IsServe (map string_bytes words.now) workers sessions
         → (result.0 ≡ outcomes.Work (jobs.Serve workers sessions)) ⊎ runs.Unbegun result.0 source.old source.new sink.old sink.new disk result.1 clock.old clock.new }
 
-    // Status 2: the words, and nothing else; and there always, unless there was no memory to read them. Nothing is touched at words that
-    // are no command, and where work is left to do.
+    // Status 2: the words, and nothing else; and there always, unless there was no memory to read them, which no words, a word that is no name
+    // and a call for help do not take. Nothing is touched at words that are no command, and where work is left to do.
     ensures words { EndsWith result.0 BAD_WORDS → IsCommand (map string_bytes words.now) → ⊥ }
-    ensures none { (IsCommand (map string_bytes words.now) → ⊥) → EndsWith result.0 BAD_WORDS ⊎ runs.Unbegun result.0 source.old source.new sink.old sink.new disk result.1 clock.old clock.new }
+    ensures none { (IsCommand (map string_bytes words.now) → ⊥)
+        → EndsWith result.0 BAD_WORDS ⊎ (runs.Unbegun result.0 source.old source.new sink.old sink.new disk result.1 clock.old clock.new × MayBeRead (map string_bytes words.now)) }
     ensures nowhere { EndsWith result.0 BAD_WORDS → Ends result.0 (λ ending. ending.place ≡ 0) }
     ensures untouched { (IsCommand (map string_bytes words.now) → ⊥) ⊎ ((job : Job) × (result.0 ≡ outcomes.Work job)) → result.1 ≡ disk }
 
@@ -69,11 +70,12 @@ pub fn run<S: Source, K: Sink, D: Disk, C: Clock>(
         → (Rose (S.faults source.old) (S.faults source.new) → ⊥) → (Rose (D.tells.faults disk) (D.tells.faults result.1) → ⊥)
         → EndsWith result.0 CLEAN ⊎ runs.Unbegun result.0 source.old source.new sink.old sink.new disk result.1 clock.old clock.new }
 
-    // What a batch comes to.
+    // What a batch comes to, unless there was no memory to read the words.
     ensures batch { IsBatch (map string_bytes words.now)
         → Ends result.0 (runs.BatchIs D.tells disk result.1
         (record { left = S.left source.old; sent = K.sent sink.old; moments = C.moments clock.old })
-        (record { left = S.left source.new; sent = K.sent sink.new; moments = C.moments clock.new })) }
+        (record { left = S.left source.new; sent = K.sent sink.new; moments = C.moments clock.new }))
+        ⊎ runs.Unbegun result.0 source.old source.new sink.old sink.new disk result.1 clock.old clock.new }
 
     // Nothing is taken, sent or asked for where the words are no command, work is left to do, or a batch ends with 7 or 8.
     ensures closed { (IsCommand (map string_bytes words.now) → ⊥) ⊎ EndsWith result.0 NO_JOURNAL ⊎ (EndsWith result.0 DISK_FAILED × IsBatch (map string_bytes words.now)) ⊎ ((job : Job) × (result.0 ≡ outcomes.Work job))

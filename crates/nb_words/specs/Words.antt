@@ -1,5 +1,6 @@
 -- The words that the program takes.
-use Rattle.std.specs.Prelude.{◌≡◌, ◌≢◌, ℕ, ◌*◌, ◌≤◌, ◌<◌, ◌^◌, ◌⊎◌, List, [], ◌∷◌, length, codes, slice_index, Option, Some, None}
+use Rattle.std.specs.Prelude.{◌≡◌, ◌≢◌, ℕ, ◌*◌, ◌≤◌, ◌<◌, ◌^◌, ◌⊎◌, List, [], ◌∷◌, length, codes, slice_index, slice_index_or, Option, Some, None}
+use Rattle.std.specs.List.{AllByRecursion}
 use Rattle.std.specs.Fmt.{decimal}
 use Rattle.nb_words.specs.declared.words.TheConstants.{MAX_WORKERS, MAX_LINKS}
 use Rattle.nb_words.specs.declared.words.Command.{Command}
@@ -41,3 +42,7 @@ CommandIs words (Some (Init cap)) = IsInit words cap
 CommandIs words (Some Batch) = IsBatch words
 CommandIs words (Some (Serve workers sessions)) = IsServe words workers sessions
 CommandIs words None = IsCommand words → ⊥
+
+-- words that take memory to be read: there are some, each is a name, and the first does not ask for help
+abbrev pub MayBeRead : List (List ℕ) → Type 0
+MayBeRead words = (0 < length words) × AllByRecursion IsName words × (slice_index_or words 0 [] ≢ codes "help")

@@ -1,9 +1,9 @@
-ghost use Rattle.std.specs.Prelude.{◌≡◌, ◌↔◌, ◌<◌, ◌^◌, ℕ, map, codes, string_bytes, IsTrue, IfOk, IfSome, IsErr, Some, None, List};
+ghost use Rattle.std.specs.Prelude.{◌≡◌, ◌↔◌, ◌<◌, ◌^◌, ℕ, map, codes, string_bytes, IsTrue, IfOk, IfSome, IsErr, OnErr, Some, None, List};
 ghost use Rattle.std.specs.List.{AllByRecursion};
 ghost use Rattle.std.specs.Fmt.{decimal};
 ghost use Rattle.clap.specs.Walk.{first_of};
 ghost use Rattle.clap.specs.Words.{rows_of, found_of, subcommand_rows_of};
-ghost use Rattle.nb_words.specs.Words.{IsName, AreServed, CommandIs};
+ghost use Rattle.nb_words.specs.Words.{IsName, AreServed, CommandIs, MayBeRead};
 ghost use Rattle.nb_words.specs.Table as table;
 ghost use Rattle.nb_words.specs.Numbers.{LimitsAre};
 ghost use Rattle.clap.specs.declared.error.kind.ErrorKind.TheVariants as errors;
@@ -40,12 +40,18 @@ pub fn limits()
 /// decimal, below 2^32, and has no sign and no leading zero. A server has from 1 to [`MAX_WORKERS`] workers, of at least one link each
 /// and at most [`MAX_LINKS`] over all.
 pub fn command_of(alloc: Global, words: &[String]) -> Result<Option<Command>, NoMemory>
-    ensures { IfOk result (CommandIs (map string_bytes words.now)) }
+    ensures command { IfOk result (CommandIs (map string_bytes words.now)) }
+
+    // No words, a word that is no name, and a call for help are no command, and no memory is taken to see it.
+    ensures err { OnErr result (MayBeRead (map string_bytes words.now)) }
 {
     if words.is_empty() {
         return Ok(None);
     }
     if !are_names(words) {
+        return Ok(None);
+    }
+    if is_help(words[0].as_str()) {
         return Ok(None);
     }
     let matches = match program(alloc)?.try_get_matches_from(words) {
@@ -105,6 +111,12 @@ fn are_names(words: &[String]) -> bool
         }
     }
     true
+}
+
+fn is_help(word: &str) -> bool
+    ensures { IsTrue result ↔ (word.now ≡ codes "help") }
+{
+    word == "help"
 }
 
 fn is_init(word: &str) -> bool

@@ -13,14 +13,14 @@ returns-in-Ok-Some-Init-clause-init g c = λ cap is.
     inl
     (subst (λ (n : ℕ). InitIs g.D.Disk.tells (g.S.Source.left c.args.source.now) (g.S.Source.left c.make_journal-end.new.source) (g.S.Source.faults c.args.source.now)
     (g.S.Source.faults c.make_journal-end.new.source) c.args.disk c.make_journal-end.new.disk n c.ending.result)
-    (one_cap words c.in-Ok-Some-Init.cap cap (subst (CommandIs words) (c.in-Ok-Some-Init.field-0-is ∙ ap Some c.in-Ok-Some-Init.field-0-0-is) c.in-Ok-Some-Init.ensures) is)
+    (one_cap words c.in-Ok-Some-Init.cap cap (subst (CommandIs words) (c.in-Ok-Some-Init.field-0-is ∙ ap Some c.in-Ok-Some-Init.field-0-0-is) c.in-Ok-Some-Init.ensures.command) is)
     (c.make_journal-end.result, c.ending.ensures, c.make_journal-end.ensures.made))
 
 pub returns-in-Ok-Some-Init-clause-makes : goal.returns-in-Ok-Some-Init-clause-makes
 returns-in-Ok-Some-Init-clause-makes g c = λ cap is range input none no_source no_disk.
     let words : List (List ℕ) = map string_bytes c.args.words.now in
     let same : c.in-Ok-Some-Init.cap ≡ cap =
-    one_cap words c.in-Ok-Some-Init.cap cap (subst (CommandIs words) (c.in-Ok-Some-Init.field-0-is ∙ ap Some c.in-Ok-Some-Init.field-0-0-is) c.in-Ok-Some-Init.ensures) is in
+    one_cap words c.in-Ok-Some-Init.cap cap (subst (CommandIs words) (c.in-Ok-Some-Init.field-0-is ∙ ap Some c.in-Ok-Some-Init.field-0-0-is) c.in-Ok-Some-Init.ensures.command) is in
     inl
     (ap (λ e. e.status) c.ending.ensures
     ∙ makes_clean g.D.Disk.tells (g.S.Source.left c.args.source.now) (g.S.Source.left c.make_journal-end.new.source) (g.S.Source.faults c.args.source.now)
@@ -34,9 +34,9 @@ returns-in-Ok-Some-Serve-clause-serve g c = λ workers sessions is.
     let words : List (List ℕ) = map string_bytes c.args.words.now in
     inl
     (one_job words c.in-Ok-Some-Serve.workers c.in-Ok-Some-Serve.sessions workers sessions
-    (subst (CommandIs words) (c.in-Ok-Some-Serve.field-0-is ∙ ap Some c.in-Ok-Some-Serve.field-0-0-is) c.in-Ok-Some-Serve.ensures) is)
+    (subst (CommandIs words) (c.in-Ok-Some-Serve.field-0-is ∙ ap Some c.in-Ok-Some-Serve.field-0-0-is) c.in-Ok-Some-Serve.ensures.command) is)
 
 pub returns-in-Ok-None-clause-serve : goal.returns-in-Ok-None-clause-serve
 returns-in-Ok-None-clause-serve g c = λ workers sessions is.
     let words : List (List ℕ) = map string_bytes c.args.words.now in
-    absurd (subst (CommandIs words) c.in-Ok-None.field-0-is c.in-Ok-None.ensures (inr (inr (workers, sessions, is))))
+    absurd (subst (CommandIs words) c.in-Ok-None.field-0-is c.in-Ok-None.ensures.command (inr (inr (workers, sessions, is))))

@@ -9,21 +9,21 @@ use Rattle.nb_words.proofs.Listing.{none_are, some_are}
 use Rattle.nb_words.proofs.Whole.{taken, command_is, refused_are, only_memory}
 use Rattle.nb_words.proofs.words.command_of.Goals as goal
 
-pub returns-then-is_empty : goal.returns-then-is_empty
-returns-then-is_empty c = λ is. none_are string_bytes c.args.words.now c.if-is_empty.ensures (taken _ is).2
+pub returns-then-is_empty-clause-command : goal.returns-then-is_empty-clause-command
+returns-then-is_empty-clause-command c = λ is. none_are string_bytes c.args.words.now c.if-is_empty.ensures (taken _ is).2
 
-pub returns-then-not-are_names : goal.returns-then-not-are_names
-returns-then-not-are_names c = λ is. true≢false (sym (subst IsTrue c.if-not-are_names.true (c.are_names.ensures.1 (taken _ is).0)))
+pub returns-then-not-are_names-clause-command : goal.returns-then-not-are_names-clause-command
+returns-then-not-are_names-clause-command c = λ is. true≢false (sym (subst IsTrue c.if-not-are_names.true (c.are_names.ensures.1 (taken _ is).0)))
 
-pub returns-in-Err : goal.returns-in-Err
-returns-in-Err c =
+pub returns-in-Err-clause-command : goal.returns-in-Err-clause-command
+returns-in-Err-clause-command c =
     let app = c.in_ok-program.ensures in
     let words : List Text = map string_bytes c.args.words.now in
     refused_are words c.refused.result c.refused.ensures.none
     (λ is. c.refused.ensures.why (c.kind.ensures ∙ only_memory _ c.in-Err.error (ap (λ (a : App). fault_of a words) app ∙ (taken words is).1) (c.in-Err.ensures.kinds (ap is_simple_and_free app ∙ simple_and_free))))
 
-pub returns : goal.returns
-returns c =
+pub returns-clause-command : goal.returns-clause-command
+returns-clause-command c =
     let app = c.in_ok-program.ensures in
     let words : List Text = map string_bytes c.args.words.now in
     let none = sym (ap (λ (a : App). fault_of a words) app) ∙ c.in-Ok.ensures.kinds (ap is_simple_and_free app ∙ simple_and_free) in
