@@ -1,0 +1,238 @@
+-- The commands, one by one: clap takes as many words as a command has positions, and no others.
+use Rattle.std.proofs.Common.{◌≡◌, ℕ, ◌+◌, ◌%◌, ◌<◌, ◌^◌, ◌⊎◌, Bool, List, [], ◌∷◌, ◌++◌, ◌==◌, true, false, refl, ap, sym, ◌∙◌, subst, codes, length, Option, Some, None, arith, inl, inr, ne_eqb}
+use Rattle.std.specs.Prelude.{fold}
+use Rattle.std.specs.List.{AllByRecursion}
+use Rattle.std.specs.Fmt.{decimal}
+use Rattle.std.proofs.lemmas.Fmt.{decimal_by_steps}
+use Rattle.clap.specs.Walk.{Held, Row, Rule, Text, Walk, walk, walked, nothing_held, first_of, rows_after, finished}
+use Rattle.clap.specs.Simple.{App, Shape}
+use Rattle.clap.specs.Kinds.{Kinds, or_else}
+use Rattle.clap.specs.Faults.{fault_of, walk_fault, level_fault}
+use Rattle.clap.specs.Words.{subcommand_of}
+use Rattle.clap.specs.declared.error.kind.ErrorKind.{ErrorKind}
+use Rattle.clap.specs.declared.error.kind.ErrorKind.TheVariants.{UnknownArgument, MissingRequiredArgument}
+use Rattle.clap.proofs.OnLiterals.{clap_on_literals}
+use Rattle.nb_words.specs.Table.{program}
+use Rattle.nb_words.specs.Words.{IsName}
+use Rattle.nb_words.proofs.Reading.{IsBegin, IsNamed, leaf, at, level, next_faults, next_walk, called, entered_as}
+
+-- the first byte of a name
+pub begins : (x : ℕ) (xs : Text) → IsName (x ∷ xs) → IsBegin x
+begins x xs is = ne_eqb x 45 is.1
+
+-- no word is not one
+pub not_nothing : IsName [] → ⊥
+not_nothing is = omega (arith, is.0)
+
+pub faulty : (k : ErrorKind) (ks faults : Kinds) → faults ≡ k ∷ ks → faults ≡ [] → ⊥
+faulty k ks faults is none = cc
+
+-- a number is read as a name
+pub number_named : (n : ℕ) → n < 2 ^ 64 → IsName (decimal n)
+number_named = decimal_by_steps (λ n ds. IsName ds) (λ n small. (omega arith, λ e. omega (arith, e))) (λ n ds large is. more ds (48 + n % 10) is)
+  where
+    more : (ds : List ℕ) (d : ℕ) → IsName ds → IsName (ds ++ (d ∷ []))
+    more [] d is = absurd (not_nothing is)
+    more (x ∷ ds) d is = (omega arith, is.1)
+
+-- ---- init JOURNAL CAP
+
+pub init_named : IsNamed (codes "init") (codes "JOURNAL" ∷ codes "CAP" ∷ [])
+unfolding clap_on_literals
+init_named = record { met = refl; silent = refl; found = refl }
+
+abbrev init : Shape
+init = leaf (codes "init") (codes "JOURNAL" ∷ codes "CAP" ∷ [])
+
+init_none : level_fault init [] nothing_held [] false [] ≡ MissingRequiredArgument ∷ []
+unfolding clap_on_literals
+init_none = refl
+
+init_one : (x : ℕ) (xs : Text) → IsBegin x → level_fault init [] nothing_held ((x ∷ xs) ∷ []) false [] ≡ MissingRequiredArgument ∷ []
+unfolding clap_on_literals
+init_one x xs p =
+    ap (λ (k : Kinds). level init k (fold (walked init.rules []) (at 1 nothing_held) ((x ∷ xs) ∷ [])))
+    (next_faults init 1 nothing_held x xs p [])
+    ∙ ap (λ (w : Walk). level init [] w) (next_walk init 1 nothing_held x xs p [])
+
+init_taken : (x : ℕ) (xs : Text) (y : ℕ) (ys : Text) → IsBegin x → IsBegin y → level_fault init [] nothing_held ((x ∷ xs) ∷ (y ∷ ys) ∷ []) false [] ≡ []
+unfolding clap_on_literals
+init_taken x xs y ys p q =
+    ap (λ (k : Kinds). level init k (fold (walked init.rules []) (at 1 nothing_held) ((x ∷ xs) ∷ (y ∷ ys) ∷ [])))
+    (next_faults init 1 nothing_held x xs p ((y ∷ ys) ∷ []) ∙ next_faults init 2 _ y ys q [])
+    ∙ ap (λ (w : Walk). level init [] w) (next_walk init 1 nothing_held x xs p ((y ∷ ys) ∷ []) ∙ next_walk init 2 _ y ys q [])
+
+init_more : (x : ℕ) (xs : Text) (y : ℕ) (ys : Text) (z : ℕ) (zs : Text) (rest : List Text) → IsBegin x → IsBegin y → IsBegin z → level_fault init [] nothing_held ((x ∷ xs) ∷ (y ∷ ys) ∷ (z ∷ zs) ∷ rest) false [] ≡ UnknownArgument ∷ []
+unfolding clap_on_literals
+init_more x xs y ys z zs rest p q r =
+    ap (λ (k : Kinds). level init k (fold (walked init.rules []) (at 1 nothing_held) ((x ∷ xs) ∷ (y ∷ ys) ∷ (z ∷ zs) ∷ rest)))
+    (next_faults init 1 nothing_held x xs p ((y ∷ ys) ∷ (z ∷ zs) ∷ rest) ∙ next_faults init 2 _ y ys q ((z ∷ zs) ∷ rest) ∙ next_faults init 3 _ z zs r rest)
+
+init_cap : (x : ℕ) (xs : Text) (y : ℕ) (ys : Text) → IsBegin x → IsBegin y → first_of (codes "CAP") (rows_after init.rules [] ((x ∷ xs) ∷ (y ∷ ys) ∷ [])) ≡ Some (y ∷ ys)
+unfolding clap_on_literals
+init_cap x xs y ys p q = ap (λ (w : Walk). first_of (codes "CAP") (finished init.rules w.held)) (next_walk init 1 nothing_held x xs p ((y ∷ ys) ∷ []) ∙ next_walk init 2 _ y ys q [])
+
+-- clap takes no other number of words
+pub init_fits : (words : List Text) → AllByRecursion IsName words → fault_of program (codes "init" ∷ words) ≡ [] → (journal : Text) × (number : Text) × (words ≡ journal ∷ number ∷ []) × IsName journal
+init_fits words all none = go words all (sym (called (codes "init") (codes "JOURNAL" ∷ codes "CAP" ∷ []) init_named words) ∙ none)
+  where
+    go : (words : List Text) → AllByRecursion IsName words → level_fault init [] nothing_held words false [] ≡ [] → (journal : Text) × (number : Text) × (words ≡ journal ∷ number ∷ []) × IsName journal
+    go [] all none = absurd (faulty _ _ _ init_none none)
+    go ([] ∷ words) all none = absurd (not_nothing all.0)
+    go ((x ∷ xs) ∷ []) all none = absurd (faulty _ _ _ (init_one x xs (begins x xs all.0)) none)
+    go ((x ∷ xs) ∷ [] ∷ words) all none = absurd (not_nothing all.1.0)
+    go ((x ∷ xs) ∷ (y ∷ ys) ∷ []) all none = (x ∷ xs, y ∷ ys, refl, all.0)
+    go ((x ∷ xs) ∷ (y ∷ ys) ∷ [] ∷ words) all none = absurd (not_nothing all.1.1.0)
+    go ((x ∷ xs) ∷ (y ∷ ys) ∷ (z ∷ zs) ∷ words) all none = absurd (faulty _ _ _ (init_more x xs y ys z zs words (begins x xs all.0) (begins y ys all.1.0) (begins z zs all.1.1.0)) none)
+
+-- as many words as it has positions are taken, and read as they stand
+pub init_read : (journal number : Text) → IsName journal → IsName number
+    → (fault_of program (codes "init" ∷ journal ∷ number ∷ []) ≡ []) × ((rows : List Row) × (subcommand_of program (codes "init" ∷ journal ∷ number ∷ []) ≡ Some (codes "init", rows)) × (first_of (codes "CAP") rows ≡ Some number))
+init_read [] number p q = absurd (not_nothing p)
+init_read (x ∷ xs) [] p q = absurd (not_nothing q)
+init_read (x ∷ xs) (y ∷ ys) p q = (
+  called (codes "init") (codes "JOURNAL" ∷ codes "CAP" ∷ []) init_named ((x ∷ xs) ∷ (y ∷ ys) ∷ []) ∙ init_taken x xs y ys (begins x xs p) (begins y ys q),
+  (
+    rows_after init.rules [] ((x ∷ xs) ∷ (y ∷ ys) ∷ []),
+    entered_as (codes "init") (codes "JOURNAL" ∷ codes "CAP" ∷ []) init_named ((x ∷ xs) ∷ (y ∷ ys) ∷ []),
+    init_cap x xs y ys (begins x xs p) (begins y ys q),
+  ),
+)
+
+-- ---- batch JOURNAL
+
+pub batch_named : IsNamed (codes "batch") (codes "JOURNAL" ∷ [])
+unfolding clap_on_literals
+batch_named = record { met = refl; silent = refl; found = refl }
+
+abbrev batch : Shape
+batch = leaf (codes "batch") (codes "JOURNAL" ∷ [])
+
+batch_none : level_fault batch [] nothing_held [] false [] ≡ MissingRequiredArgument ∷ []
+unfolding clap_on_literals
+batch_none = refl
+
+batch_taken : (x : ℕ) (xs : Text) → IsBegin x → level_fault batch [] nothing_held ((x ∷ xs) ∷ []) false [] ≡ []
+unfolding clap_on_literals
+batch_taken x xs p =
+    ap (λ (k : Kinds). level batch k (fold (walked batch.rules []) (at 1 nothing_held) ((x ∷ xs) ∷ [])))
+    (next_faults batch 1 nothing_held x xs p [])
+    ∙ ap (λ (w : Walk). level batch [] w) (next_walk batch 1 nothing_held x xs p [])
+
+batch_more : (x : ℕ) (xs : Text) (y : ℕ) (ys : Text) (rest : List Text) → IsBegin x → IsBegin y → level_fault batch [] nothing_held ((x ∷ xs) ∷ (y ∷ ys) ∷ rest) false [] ≡ UnknownArgument ∷ []
+unfolding clap_on_literals
+batch_more x xs y ys rest p q =
+    ap (λ (k : Kinds). level batch k (fold (walked batch.rules []) (at 1 nothing_held) ((x ∷ xs) ∷ (y ∷ ys) ∷ rest)))
+    (next_faults batch 1 nothing_held x xs p ((y ∷ ys) ∷ rest) ∙ next_faults batch 2 _ y ys q rest)
+
+-- clap takes no other number of words
+pub batch_fits : (words : List Text) → AllByRecursion IsName words → fault_of program (codes "batch" ∷ words) ≡ [] → (journal : Text) × (words ≡ journal ∷ []) × IsName journal
+batch_fits words all none = go words all (sym (called (codes "batch") (codes "JOURNAL" ∷ []) batch_named words) ∙ none)
+  where
+    go : (words : List Text) → AllByRecursion IsName words → level_fault batch [] nothing_held words false [] ≡ [] → (journal : Text) × (words ≡ journal ∷ []) × IsName journal
+    go [] all none = absurd (faulty _ _ _ batch_none none)
+    go ([] ∷ words) all none = absurd (not_nothing all.0)
+    go ((x ∷ xs) ∷ []) all none = (x ∷ xs, refl, all.0)
+    go ((x ∷ xs) ∷ [] ∷ words) all none = absurd (not_nothing all.1.0)
+    go ((x ∷ xs) ∷ (y ∷ ys) ∷ words) all none = absurd (faulty _ _ _ (batch_more x xs y ys words (begins x xs all.0) (begins y ys all.1.0)) none)
+
+-- as many words as it has positions are taken, and read as they stand
+pub batch_read : (journal : Text) → IsName journal
+    → (fault_of program (codes "batch" ∷ journal ∷ []) ≡ []) × ((rows : List Row) × (subcommand_of program (codes "batch" ∷ journal ∷ []) ≡ Some (codes "batch", rows)))
+batch_read [] p = absurd (not_nothing p)
+batch_read (x ∷ xs) p = (
+  called (codes "batch") (codes "JOURNAL" ∷ []) batch_named ((x ∷ xs) ∷ []) ∙ batch_taken x xs (begins x xs p),
+  (
+    rows_after batch.rules [] ((x ∷ xs) ∷ []),
+    entered_as (codes "batch") (codes "JOURNAL" ∷ []) batch_named ((x ∷ xs) ∷ []),
+  ),
+)
+
+-- ---- serve JOURNAL ADDRESS WORKERS SESSIONS
+
+pub serve_named : IsNamed (codes "serve") (codes "JOURNAL" ∷ codes "ADDRESS" ∷ codes "WORKERS" ∷ codes "SESSIONS" ∷ [])
+unfolding clap_on_literals
+serve_named = record { met = refl; silent = refl; found = refl }
+
+abbrev serve : Shape
+serve = leaf (codes "serve") (codes "JOURNAL" ∷ codes "ADDRESS" ∷ codes "WORKERS" ∷ codes "SESSIONS" ∷ [])
+
+serve_none : level_fault serve [] nothing_held [] false [] ≡ MissingRequiredArgument ∷ []
+unfolding clap_on_literals
+serve_none = refl
+
+serve_one : (x : ℕ) (xs : Text) → IsBegin x → level_fault serve [] nothing_held ((x ∷ xs) ∷ []) false [] ≡ MissingRequiredArgument ∷ []
+unfolding clap_on_literals
+serve_one x xs p =
+    ap (λ (k : Kinds). level serve k (fold (walked serve.rules []) (at 1 nothing_held) ((x ∷ xs) ∷ [])))
+    (next_faults serve 1 nothing_held x xs p [])
+    ∙ ap (λ (w : Walk). level serve [] w) (next_walk serve 1 nothing_held x xs p [])
+
+serve_two : (x : ℕ) (xs : Text) (y : ℕ) (ys : Text) → IsBegin x → IsBegin y → level_fault serve [] nothing_held ((x ∷ xs) ∷ (y ∷ ys) ∷ []) false [] ≡ MissingRequiredArgument ∷ []
+unfolding clap_on_literals
+serve_two x xs y ys p q =
+    ap (λ (k : Kinds). level serve k (fold (walked serve.rules []) (at 1 nothing_held) ((x ∷ xs) ∷ (y ∷ ys) ∷ [])))
+    (next_faults serve 1 nothing_held x xs p ((y ∷ ys) ∷ []) ∙ next_faults serve 2 _ y ys q [])
+    ∙ ap (λ (w : Walk). level serve [] w) (next_walk serve 1 nothing_held x xs p ((y ∷ ys) ∷ []) ∙ next_walk serve 2 _ y ys q [])
+
+serve_three : (x : ℕ) (xs : Text) (y : ℕ) (ys : Text) (z : ℕ) (zs : Text) → IsBegin x → IsBegin y → IsBegin z → level_fault serve [] nothing_held ((x ∷ xs) ∷ (y ∷ ys) ∷ (z ∷ zs) ∷ []) false [] ≡ MissingRequiredArgument ∷ []
+unfolding clap_on_literals
+serve_three x xs y ys z zs p q r =
+    ap (λ (k : Kinds). level serve k (fold (walked serve.rules []) (at 1 nothing_held) ((x ∷ xs) ∷ (y ∷ ys) ∷ (z ∷ zs) ∷ [])))
+    (next_faults serve 1 nothing_held x xs p ((y ∷ ys) ∷ (z ∷ zs) ∷ []) ∙ next_faults serve 2 _ y ys q ((z ∷ zs) ∷ []) ∙ next_faults serve 3 _ z zs r [])
+    ∙ ap (λ (w : Walk). level serve [] w) (next_walk serve 1 nothing_held x xs p ((y ∷ ys) ∷ (z ∷ zs) ∷ []) ∙ next_walk serve 2 _ y ys q ((z ∷ zs) ∷ []) ∙ next_walk serve 3 _ z zs r [])
+
+serve_taken : (x : ℕ) (xs : Text) (y : ℕ) (ys : Text) (z : ℕ) (zs : Text) (u : ℕ) (us : Text) → IsBegin x → IsBegin y → IsBegin z → IsBegin u → level_fault serve [] nothing_held ((x ∷ xs) ∷ (y ∷ ys) ∷ (z ∷ zs) ∷ (u ∷ us) ∷ []) false [] ≡ []
+unfolding clap_on_literals
+serve_taken x xs y ys z zs u us p q r s =
+    ap (λ (k : Kinds). level serve k (fold (walked serve.rules []) (at 1 nothing_held) ((x ∷ xs) ∷ (y ∷ ys) ∷ (z ∷ zs) ∷ (u ∷ us) ∷ [])))
+    (next_faults serve 1 nothing_held x xs p ((y ∷ ys) ∷ (z ∷ zs) ∷ (u ∷ us) ∷ []) ∙ next_faults serve 2 _ y ys q ((z ∷ zs) ∷ (u ∷ us) ∷ []) ∙ next_faults serve 3 _ z zs r ((u ∷ us) ∷ []) ∙ next_faults serve 4 _ u us s [])
+    ∙ ap (λ (w : Walk). level serve [] w) (next_walk serve 1 nothing_held x xs p ((y ∷ ys) ∷ (z ∷ zs) ∷ (u ∷ us) ∷ []) ∙ next_walk serve 2 _ y ys q ((z ∷ zs) ∷ (u ∷ us) ∷ []) ∙ next_walk serve 3 _ z zs r ((u ∷ us) ∷ []) ∙ next_walk serve 4 _ u us s [])
+
+serve_more : (x : ℕ) (xs : Text) (y : ℕ) (ys : Text) (z : ℕ) (zs : Text) (u : ℕ) (us : Text) (v : ℕ) (vs : Text) (rest : List Text) → IsBegin x → IsBegin y → IsBegin z → IsBegin u → IsBegin v → level_fault serve [] nothing_held ((x ∷ xs) ∷ (y ∷ ys) ∷ (z ∷ zs) ∷ (u ∷ us) ∷ (v ∷ vs) ∷ rest) false [] ≡ UnknownArgument ∷ []
+unfolding clap_on_literals
+serve_more x xs y ys z zs u us v vs rest p q r s t =
+    ap (λ (k : Kinds). level serve k (fold (walked serve.rules []) (at 1 nothing_held) ((x ∷ xs) ∷ (y ∷ ys) ∷ (z ∷ zs) ∷ (u ∷ us) ∷ (v ∷ vs) ∷ rest)))
+    (next_faults serve 1 nothing_held x xs p ((y ∷ ys) ∷ (z ∷ zs) ∷ (u ∷ us) ∷ (v ∷ vs) ∷ rest) ∙ next_faults serve 2 _ y ys q ((z ∷ zs) ∷ (u ∷ us) ∷ (v ∷ vs) ∷ rest) ∙ next_faults serve 3 _ z zs r ((u ∷ us) ∷ (v ∷ vs) ∷ rest) ∙ next_faults serve 4 _ u us s ((v ∷ vs) ∷ rest) ∙ next_faults serve 5 _ v vs t rest)
+
+serve_workers : (x : ℕ) (xs : Text) (y : ℕ) (ys : Text) (z : ℕ) (zs : Text) (u : ℕ) (us : Text) → IsBegin x → IsBegin y → IsBegin z → IsBegin u → first_of (codes "WORKERS") (rows_after serve.rules [] ((x ∷ xs) ∷ (y ∷ ys) ∷ (z ∷ zs) ∷ (u ∷ us) ∷ [])) ≡ Some (z ∷ zs)
+unfolding clap_on_literals
+serve_workers x xs y ys z zs u us p q r s = ap (λ (w : Walk). first_of (codes "WORKERS") (finished serve.rules w.held)) (next_walk serve 1 nothing_held x xs p ((y ∷ ys) ∷ (z ∷ zs) ∷ (u ∷ us) ∷ []) ∙ next_walk serve 2 _ y ys q ((z ∷ zs) ∷ (u ∷ us) ∷ []) ∙ next_walk serve 3 _ z zs r ((u ∷ us) ∷ []) ∙ next_walk serve 4 _ u us s [])
+
+serve_sessions : (x : ℕ) (xs : Text) (y : ℕ) (ys : Text) (z : ℕ) (zs : Text) (u : ℕ) (us : Text) → IsBegin x → IsBegin y → IsBegin z → IsBegin u → first_of (codes "SESSIONS") (rows_after serve.rules [] ((x ∷ xs) ∷ (y ∷ ys) ∷ (z ∷ zs) ∷ (u ∷ us) ∷ [])) ≡ Some (u ∷ us)
+unfolding clap_on_literals
+serve_sessions x xs y ys z zs u us p q r s = ap (λ (w : Walk). first_of (codes "SESSIONS") (finished serve.rules w.held)) (next_walk serve 1 nothing_held x xs p ((y ∷ ys) ∷ (z ∷ zs) ∷ (u ∷ us) ∷ []) ∙ next_walk serve 2 _ y ys q ((z ∷ zs) ∷ (u ∷ us) ∷ []) ∙ next_walk serve 3 _ z zs r ((u ∷ us) ∷ []) ∙ next_walk serve 4 _ u us s [])
+
+-- clap takes no other number of words
+pub serve_fits : (words : List Text) → AllByRecursion IsName words → fault_of program (codes "serve" ∷ words) ≡ [] → (journal : Text) × (address : Text) × (workers : Text) × (sessions : Text) × (words ≡ journal ∷ address ∷ workers ∷ sessions ∷ []) × IsName journal × IsName address
+serve_fits words all none = go words all (sym (called (codes "serve") (codes "JOURNAL" ∷ codes "ADDRESS" ∷ codes "WORKERS" ∷ codes "SESSIONS" ∷ []) serve_named words) ∙ none)
+  where
+    go : (words : List Text) → AllByRecursion IsName words → level_fault serve [] nothing_held words false [] ≡ [] → (journal : Text) × (address : Text) × (workers : Text) × (sessions : Text) × (words ≡ journal ∷ address ∷ workers ∷ sessions ∷ []) × IsName journal × IsName address
+    go [] all none = absurd (faulty _ _ _ serve_none none)
+    go ([] ∷ words) all none = absurd (not_nothing all.0)
+    go ((x ∷ xs) ∷ []) all none = absurd (faulty _ _ _ (serve_one x xs (begins x xs all.0)) none)
+    go ((x ∷ xs) ∷ [] ∷ words) all none = absurd (not_nothing all.1.0)
+    go ((x ∷ xs) ∷ (y ∷ ys) ∷ []) all none = absurd (faulty _ _ _ (serve_two x xs y ys (begins x xs all.0) (begins y ys all.1.0)) none)
+    go ((x ∷ xs) ∷ (y ∷ ys) ∷ [] ∷ words) all none = absurd (not_nothing all.1.1.0)
+    go ((x ∷ xs) ∷ (y ∷ ys) ∷ (z ∷ zs) ∷ []) all none = absurd (faulty _ _ _ (serve_three x xs y ys z zs (begins x xs all.0) (begins y ys all.1.0) (begins z zs all.1.1.0)) none)
+    go ((x ∷ xs) ∷ (y ∷ ys) ∷ (z ∷ zs) ∷ [] ∷ words) all none = absurd (not_nothing all.1.1.1.0)
+    go ((x ∷ xs) ∷ (y ∷ ys) ∷ (z ∷ zs) ∷ (u ∷ us) ∷ []) all none = (x ∷ xs, y ∷ ys, z ∷ zs, u ∷ us, refl, all.0, all.1.0)
+    go ((x ∷ xs) ∷ (y ∷ ys) ∷ (z ∷ zs) ∷ (u ∷ us) ∷ [] ∷ words) all none = absurd (not_nothing all.1.1.1.1.0)
+    go ((x ∷ xs) ∷ (y ∷ ys) ∷ (z ∷ zs) ∷ (u ∷ us) ∷ (v ∷ vs) ∷ words) all none = absurd (faulty _ _ _ (serve_more x xs y ys z zs u us v vs words (begins x xs all.0) (begins y ys all.1.0) (begins z zs all.1.1.0) (begins u us all.1.1.1.0) (begins v vs all.1.1.1.1.0)) none)
+
+-- as many words as it has positions are taken, and read as they stand
+pub serve_read : (journal address workers sessions : Text) → IsName journal → IsName address → IsName workers → IsName sessions
+    → (fault_of program (codes "serve" ∷ journal ∷ address ∷ workers ∷ sessions ∷ []) ≡ []) × ((rows : List Row) × (subcommand_of program (codes "serve" ∷ journal ∷ address ∷ workers ∷ sessions ∷ []) ≡ Some (codes "serve", rows)) × (first_of (codes "WORKERS") rows ≡ Some workers) × (first_of (codes "SESSIONS") rows ≡ Some sessions))
+serve_read [] address workers sessions p q r s = absurd (not_nothing p)
+serve_read (x ∷ xs) [] workers sessions p q r s = absurd (not_nothing q)
+serve_read (x ∷ xs) (y ∷ ys) [] sessions p q r s = absurd (not_nothing r)
+serve_read (x ∷ xs) (y ∷ ys) (z ∷ zs) [] p q r s = absurd (not_nothing s)
+serve_read (x ∷ xs) (y ∷ ys) (z ∷ zs) (u ∷ us) p q r s = (
+  called (codes "serve") (codes "JOURNAL" ∷ codes "ADDRESS" ∷ codes "WORKERS" ∷ codes "SESSIONS" ∷ []) serve_named ((x ∷ xs) ∷ (y ∷ ys) ∷ (z ∷ zs) ∷ (u ∷ us) ∷ []) ∙ serve_taken x xs y ys z zs u us (begins x xs p) (begins y ys q) (begins z zs r) (begins u us s),
+  (
+    rows_after serve.rules [] ((x ∷ xs) ∷ (y ∷ ys) ∷ (z ∷ zs) ∷ (u ∷ us) ∷ []),
+    entered_as (codes "serve") (codes "JOURNAL" ∷ codes "ADDRESS" ∷ codes "WORKERS" ∷ codes "SESSIONS" ∷ []) serve_named ((x ∷ xs) ∷ (y ∷ ys) ∷ (z ∷ zs) ∷ (u ∷ us) ∷ []),
+    serve_workers x xs y ys z zs u us (begins x xs p) (begins y ys q) (begins z zs r) (begins u us s),
+    serve_sessions x xs y ys z zs u us (begins x xs p) (begins y ys q) (begins z zs r) (begins u us s),
+  ),
+)

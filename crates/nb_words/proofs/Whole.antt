@@ -1,0 +1,167 @@
+-- The words of the program, all of them: what clap takes and reads is a command, and each command is taken.
+use Rattle.std.proofs.Common.{◌≡◌, ℕ, ◌<◌, ◌≤◌, ◌*◌, ◌^◌, ◌⊎◌, Bool, List, [], ◌∷◌, true, false, refl, ap, sym, ◌∙◌, subst, codes, length, Option, Some, None, is_some, arith, inl, inr}
+use Rattle.std.specs.Prelude.{find, option_map}
+use Rattle.std.specs.List.{AllByRecursion}
+use Rattle.std.specs.Str.{bytes_eq}
+use Rattle.std.specs.Fmt.{decimal}
+use Rattle.std.proofs.lemmas.Option.{same_Some}
+use Rattle.std.proofs.lemmas.Slice.Eq.{bytes_eq-Decides}
+use Rattle.clap.specs.Walk.{Row, Text, idle, walk, walked, walk_from, nothing_held, first_of, subcommand_met, settled, finished}
+use Rattle.clap.specs.Simple.{built, entered}
+use Rattle.clap.specs.Kinds.{Kinds, or_else}
+use Rattle.clap.specs.Faults.{fault_of, walk_fault, entered_fault, settle_fault, defaults_fault, check_fault}
+use Rattle.clap.specs.Words.{subcommand_of}
+use Rattle.clap.specs.declared.error.kind.ErrorKind.TheVariants.{UnknownArgument, InvalidSubcommand}
+use Rattle.clap.proofs.OnLiterals.{clap_on_literals}
+use Rattle.nb_words.specs.declared.words.Command.{Command}
+use Rattle.nb_words.specs.declared.words.Command.TheVariants.{Init, Batch, Serve}
+use Rattle.nb_words.specs.Words.{IsName, IsInit, IsBatch, IsServe, IsCommand, CommandIs}
+use Rattle.nb_words.specs.Table.{program, CommandIn}
+use Rattle.nb_words.proofs.Reading.{names, turned, entered_as}
+use Rattle.nb_words.proofs.Commands.{begins, not_nothing, faulty, number_named, init_named, init_fits, init_read, batch_named, batch_fits, batch_read, serve_named, serve_fits, serve_read}
+
+-- ---- a first word that is no command's
+
+stranger : (w : Text) → bytes_eq (codes "init") w ≡ false → bytes_eq (codes "batch") w ≡ false → bytes_eq (codes "serve") w ≡ false → subcommand_met names idle w ≡ None
+unfolding clap_on_literals
+stranger w i b s = rw (i, b, s) refl
+
+refused : (x : ℕ) (xs : Text) (words : List Text) → IsName (x ∷ xs) → subcommand_met names idle (x ∷ xs) ≡ None → fault_of program ((x ∷ xs) ∷ words) ≡ [] → ⊥
+unfolding walk_fault
+refused x xs words is met none =
+    let s = (built program).top in
+    let end = walk s.rules names nothing_held ((x ∷ xs) ∷ words) in
+    faulty UnknownArgument (InvalidSubcommand ∷ []) (fault_of program ((x ∷ xs) ∷ words))
+    (ap (λ (k : Kinds). or_else (or_else k (walk_fault s names (walked s.rules names (walk_from nothing_held) (x ∷ xs)) words))
+    (or_else (entered_fault (built program) end.stopped) (or_else (settle_fault s.rules s.args_override_self end.held)
+    (or_else (defaults_fault (settled s.rules end.held).rows s.rules) (check_fault s (finished s.rules end.held) (is_some (entered (built program) end.stopped)))))))
+    (turned names x xs (begins x xs is) met s 1 nothing_held)) none
+
+-- the first word is the name of one
+abbrev IsKnown : Text → Type 0
+IsKnown w = (w ≡ codes "init") ⊎ (w ≡ codes "batch") ⊎ (w ≡ codes "serve")
+
+known : (x : ℕ) (xs : Text) (words : List Text) → IsName (x ∷ xs) → fault_of program ((x ∷ xs) ∷ words) ≡ [] → IsKnown (x ∷ xs)
+known x xs words is none = first (bytes_eq (codes "init") (x ∷ xs)) refl
+  where
+    third : (i b s : Bool) → bytes_eq (codes "init") (x ∷ xs) ≡ false → bytes_eq (codes "batch") (x ∷ xs) ≡ false → bytes_eq (codes "serve") (x ∷ xs) ≡ s → IsKnown (x ∷ xs)
+    third i b true e f g = inr (inr (sym ((bytes_eq-Decides _ _).0 g)))
+    third i b false e f g = absurd (refused x xs words is (stranger (x ∷ xs) e f g) none)
+
+    second : (i b : Bool) → bytes_eq (codes "init") (x ∷ xs) ≡ false → bytes_eq (codes "batch") (x ∷ xs) ≡ b → IsKnown (x ∷ xs)
+    second i true e f = inr (inl (sym ((bytes_eq-Decides _ _).0 f)))
+    second i false e f = third false false (bytes_eq (codes "serve") (x ∷ xs)) e f refl
+
+    first : (i : Bool) → bytes_eq (codes "init") (x ∷ xs) ≡ i → IsKnown (x ∷ xs)
+    first true e = inl (sym ((bytes_eq-Decides _ _).0 e))
+    first false e = second false (bytes_eq (codes "batch") (x ∷ xs)) e refl
+
+-- what was told names the first word
+named_by : (words : List Text) → AllByRecursion IsName words → 0 < length words → fault_of program words ≡ [] → (name : Text) (rows : List Row) → subcommand_of program words ≡ Some (name, rows)
+    → (behind : List Text) × (words ≡ name ∷ behind) × AllByRecursion IsName behind
+named_by [] all some none name rows told = absurd (omega (arith, some))
+named_by ([] ∷ words) all some none name rows told = absurd (not_nothing all.0)
+named_by ((x ∷ xs) ∷ words) all some none name rows told = elim (known x xs words all.0 none) [
+      | inl is ↦ by (codes "init") is (entered_as (codes "init") _ init_named words)
+      | inr (inl is) ↦ by (codes "batch") is (entered_as (codes "batch") _ batch_named words)
+      | inr (inr is) ↦ by (codes "serve") is (entered_as (codes "serve") _ serve_named words)
+    ]
+  where
+    by : (first : Text) → (x ∷ xs) ≡ first → {other : List Row} → subcommand_of program (first ∷ words) ≡ Some (first, other) → (behind : List Text) × ((x ∷ xs) ∷ words ≡ name ∷ behind) × AllByRecursion IsName behind
+    by first is {other} entered =
+        let same : (first, other) ≡ (name, rows) = same_Some _ _ (sym entered ∙ ap (λ (w : Text). subcommand_of program (w ∷ words)) (sym is) ∙ told) in
+        (words, ap (λ (w : Text). w ∷ words) (is ∙ ap (λ (p : Text × List Row). p.0) same), all.1)
+
+-- ---- each command is taken
+
+-- as many links as a server takes at most are few
+sessions_small : (workers sessions : ℕ) → 1 ≤ workers → workers * sessions ≤ 10000 → sessions < 2 ^ 64
+sessions_small workers sessions some few = omega (arith, mul_least workers sessions some, few)
+  where
+    mul_least : (w s : ℕ) → 1 ≤ w → s ≤ w * s
+    mul_least w s some = search (arith, some)
+
+abbrev IsTaken : List Text → Type 0
+IsTaken words = AllByRecursion IsName words × (fault_of program words ≡ []) × (0 < length words)
+
+init_name : IsName (codes "init")
+init_name = (omega arith, λ e. omega (arith, e))
+
+batch_name : IsName (codes "batch")
+batch_name = (omega arith, λ e. omega (arith, e))
+
+serve_name : IsName (codes "serve")
+serve_name = (omega arith, λ e. omega (arith, e))
+
+pub taken : (words : List Text) → IsCommand words → IsTaken words
+taken words (inl b) = subst IsTaken (sym b.1) ((batch_name, (b.2, tt)), (batch_read b.0 b.2).0, omega arith)
+taken words (inr (inl i)) =
+    let cap = number_named i.0 (omega (arith, i.1.3)) in
+    subst IsTaken (sym i.1.1) ((init_name, (i.1.2, (cap, tt))), (init_read i.1.0 (decimal i.0) i.1.2 cap).0, omega arith)
+taken words (inr (inr s)) =
+    let is = s.2 in
+    let workers = number_named s.0 (omega (arith, is.5.1)) in
+    let sessions = number_named s.1 (sessions_small s.0 s.1 is.5.0 is.5.3) in
+    subst IsTaken (sym is.2) ((serve_name, (is.3, (is.4, (workers, (sessions, tt))))), (serve_read is.0 is.1 (decimal s.0) (decimal s.1) is.3 is.4 workers sessions).0, omega arith)
+
+-- ---- what was told is the command
+
+-- two rows that were told are the same
+same_rows : (told : Option (Text × List Row)) (name : Text) (rows other : List Row) → told ≡ Some (name, rows) → told ≡ Some (name, other) → rows ≡ other
+same_rows told name rows other first second = ap (λ (p : Text × List Row). p.1) (same_Some _ _ (sym first ∙ second))
+
+told_init : (words : List Text) → AllByRecursion IsName words → fault_of program (codes "init" ∷ words) ≡ [] → (rows : List Row) → subcommand_of program (codes "init" ∷ words) ≡ Some (codes "init", rows)
+    → (journal : Text) × (number : Text) × (words ≡ journal ∷ number ∷ []) × IsName journal × (first_of (codes "CAP") rows ≡ Some number)
+told_init words all none rows told =
+    let fits = init_fits words all none in
+    let P : List Text → Type 0 = λ ws. AllByRecursion IsName ws in
+    let each = subst P fits.2 all in
+    let read = (init_read fits.0 fits.1 each.0 each.1.0).1 in
+    let same = same_rows (subcommand_of program (codes "init" ∷ words)) (codes "init") read.0 rows (ap (λ (ws : List Text). subcommand_of program (codes "init" ∷ ws)) fits.2 ∙ read.1) told in
+    (fits.0, fits.1, fits.2, fits.3, subst (λ (rs : List Row). first_of (codes "CAP") rs ≡ Some fits.1) same read.2)
+
+told_serve : (words : List Text) → AllByRecursion IsName words → fault_of program (codes "serve" ∷ words) ≡ [] → (rows : List Row) → subcommand_of program (codes "serve" ∷ words) ≡ Some (codes "serve", rows)
+    → (journal address workers sessions : Text) × (words ≡ journal ∷ address ∷ workers ∷ sessions ∷ []) × IsName journal × IsName address
+    × (first_of (codes "WORKERS") rows ≡ Some workers) × (first_of (codes "SESSIONS") rows ≡ Some sessions)
+told_serve words all none rows told =
+    let fits = serve_fits words all none in
+    let P : List Text → Type 0 = λ ws. AllByRecursion IsName ws in
+    let each = subst P fits.4 all in
+    let read = (serve_read fits.0 fits.1 fits.2 fits.3 each.0 each.1.0 each.1.1.0 each.1.1.1.0).1 in
+    let same = same_rows (subcommand_of program (codes "serve" ∷ words)) (codes "serve") read.0 rows (ap (λ (ws : List Text). subcommand_of program (codes "serve" ∷ ws)) fits.4 ∙ read.1) told in
+    (fits.0, fits.1, fits.2, fits.3, fits.4, fits.5, fits.6,
+    subst (λ (rs : List Row). first_of (codes "WORKERS") rs ≡ Some fits.2) same read.2, subst (λ (rs : List Row). first_of (codes "SESSIONS") rs ≡ Some fits.3) same read.3)
+
+-- none was told, so that the words are none
+untold : (words : List Text) → CommandIn (subcommand_of program words) None → IsCommand words → ⊥
+untold words none (inl b) =
+    let read = (batch_read b.0 b.2).1 in
+    none.1 read.0 (ap (subcommand_of program) b.1 ∙ read.1)
+untold words none (inr (inl i)) =
+    let read = (init_read i.1.0 (decimal i.0) i.1.2 (number_named i.0 (omega (arith, i.1.3)))).1 in
+    none.0 read.0 i.0 (ap (subcommand_of program) i.1.1 ∙ read.1) (read.2, i.1.3)
+untold words none (inr (inr s)) =
+    let is = s.2 in
+    let read = (serve_read is.0 is.1 (decimal s.0) (decimal s.1) is.3 is.4 (number_named s.0 (omega (arith, is.5.1))) (number_named s.1 (sessions_small s.0 s.1 is.5.0 is.5.3))).1 in
+    none.2 read.0 s.0 s.1 (ap (subcommand_of program) is.2 ∙ read.1) (read.2, read.3, is.5)
+
+pub command_is : (words : List Text) → AllByRecursion IsName words → 0 < length words → fault_of program words ≡ [] → (c : Option Command) → CommandIn (subcommand_of program words) c → CommandIs words c
+command_is words all some none None is = untold words is
+command_is words all some none (Some Batch) is =
+    let n = named_by words all some none (codes "batch") is.0 is.1 in
+    let fits = batch_fits n.0 n.2 (ap (fault_of program) (sym n.1) ∙ none) in
+    (fits.0, n.1 ∙ ap (λ (ws : List Text). codes "batch" ∷ ws) fits.1, fits.2)
+command_is words all some none (Some (Init cap)) is =
+    let n = named_by words all some none (codes "init") is.0 is.1 in
+    let told = told_init n.0 n.2 (ap (fault_of program) (sym n.1) ∙ none) is.0 (ap (subcommand_of program) (sym n.1) ∙ is.1) in
+    let number = same_Some _ _ (sym told.4 ∙ is.2.0) in
+    (told.0, n.1 ∙ ap (λ (ws : List Text). codes "init" ∷ ws) told.2 ∙ ap (λ (w : Text). codes "init" ∷ told.0 ∷ w ∷ []) number, told.3, is.2.1)
+command_is words all some none (Some (Serve workers sessions)) is =
+    let n = named_by words all some none (codes "serve") is.0 is.1 in
+    let told = told_serve n.0 n.2 (ap (fault_of program) (sym n.1) ∙ none) is.0 (ap (subcommand_of program) (sym n.1) ∙ is.1) in
+    let first = same_Some _ _ (sym told.7 ∙ is.2.0) in
+    let second = same_Some _ _ (sym told.8 ∙ is.2.1) in
+    (told.0, told.1,
+    n.1 ∙ ap (λ (ws : List Text). codes "serve" ∷ ws) told.4 ∙ ap (λ (w : Text). codes "serve" ∷ told.0 ∷ told.1 ∷ w ∷ told.3 ∷ []) first
+    ∙ ap (λ (w : Text). codes "serve" ∷ told.0 ∷ told.1 ∷ decimal workers ∷ w ∷ []) second,
+    told.5, told.6, is.2.2)

@@ -1,0 +1,53 @@
+-- The table of the commands as clap has it, and what clap tells of words.
+use Rattle.std.specs.Prelude.{◌≡◌, ℕ, true, false, ◌<◌, ◌^◌, List, [], ◌∷◌, map, codes, Option, Some, None}
+use Rattle.std.specs.Fmt.{decimal}
+use Rattle.clap.specs.Walk.{Row, Rule, Text, first_of}
+use Rattle.clap.specs.Simple.{App, Shape, new_rule, new_shape, with_subcommand}
+use Rattle.nb_words.specs.declared.words.Command.{Command}
+use Rattle.nb_words.specs.declared.words.Command.TheVariants.{Init, Batch, Serve}
+use Rattle.nb_words.specs.Words.{AreServed}
+
+-- ---- for the contracts of private functions alone
+
+-- a position that has to be there, read as a text
+abbrev pub position : Text → Rule
+position id = record (new_rule id) { required = true }
+
+-- a command with this name and these positions
+abbrev pub shape : Text → List Text → Shape
+shape name ids = record (new_shape name) { rules = map position ids }
+
+-- the program without commands: nothing but a command is asked for, and clap adds none
+abbrev pub bare : App
+bare = record {
+  top = record (new_shape (codes "netbill")) { no_binary_name = true; disable_help_flag = true; disable_help_subcommand = true; subcommand_required = true };
+  subs = [];
+}
+
+abbrev pub program : App
+program =
+    with_subcommand
+    (with_subcommand
+    (with_subcommand bare
+    (shape (codes "init") (codes "JOURNAL" ∷ codes "CAP" ∷ [])))
+    (shape (codes "batch") (codes "JOURNAL" ∷ [])))
+    (shape (codes "serve") (codes "JOURNAL" ∷ codes "ADDRESS" ∷ codes "WORKERS" ∷ codes "SESSIONS" ∷ []))
+
+-- a number for a cap was read
+abbrev pub InitIn : List Row → ℕ → Type 0
+InitIn rows cap = (first_of (codes "CAP") rows ≡ Some (decimal cap)) × (cap < 2 ^ 32)
+
+-- numbers for a server were read
+abbrev pub ServeIn : List Row → ℕ → ℕ → Type 0
+ServeIn rows workers sessions =
+    (first_of (codes "WORKERS") rows ≡ Some (decimal workers)) × (first_of (codes "SESSIONS") rows ≡ Some (decimal sessions)) × AreServed workers sessions
+
+-- the command in what was read: its name, and what stands at its positions
+abbrev pub CommandIn : Option (Text × List Row) → Option Command → Type 0
+CommandIn told (Some (Init cap)) = (rows : List Row) × (told ≡ Some (codes "init", rows)) × InitIn rows cap
+CommandIn told (Some Batch) = (rows : List Row) × (told ≡ Some (codes "batch", rows))
+CommandIn told (Some (Serve workers sessions)) = (rows : List Row) × (told ≡ Some (codes "serve", rows)) × ServeIn rows workers sessions
+CommandIn told None =
+    ((rows : List Row) (cap : ℕ) → told ≡ Some (codes "init", rows) → InitIn rows cap → ⊥)
+    × ((rows : List Row) → told ≡ Some (codes "batch", rows) → ⊥)
+    × ((rows : List Row) (workers sessions : ℕ) → told ≡ Some (codes "serve", rows) → ServeIn rows workers sessions → ⊥)

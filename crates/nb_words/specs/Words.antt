@@ -1,0 +1,48 @@
+-- The words that the program takes.
+use Rattle.std.specs.Prelude.{◌≡◌, ◌≢◌, ℕ, ◌*◌, ◌≤◌, ◌<◌, ◌^◌, ◌⊎◌, List, [], ◌∷◌, length, codes, slice_index, Option, Some, None}
+use Rattle.std.specs.Fmt.{decimal}
+use Rattle.nb_words.specs.declared.words.TheConstants.{MAX_WORKERS, MAX_LINKS}
+use Rattle.nb_words.specs.declared.words.Command.{Command}
+use Rattle.nb_words.specs.declared.words.Command.TheVariants.{Init, Batch, Serve}
+
+-- the byte of a minus
+abbrev pub minus : ℕ
+minus = slice_index (codes "-") 0
+
+-- a name is not empty and does not begin with a minus
+abbrev pub IsName : List ℕ → Type 0
+IsName word = (0 < length word) × (slice_index word 0 ≢ minus)
+
+-- init JOURNAL CAP: the cap is below 2^32, in decimal
+abbrev pub IsInit : List (List ℕ) → ℕ → Type 0
+IsInit words cap = (journal : List ℕ) × (words ≡ codes "init" ∷ journal ∷ decimal cap ∷ []) × IsName journal × (cap < 2 ^ 32)
+
+-- batch JOURNAL
+abbrev pub IsBatch : List (List ℕ) → Type 0
+IsBatch words = (journal : List ℕ) × (words ≡ codes "batch" ∷ journal ∷ []) × IsName journal
+
+-- a server may have so many workers, of so many links each
+abbrev pub AreServed : ℕ → ℕ → Type 0
+AreServed workers sessions = (1 ≤ workers) × (workers ≤ MAX_WORKERS) × (1 ≤ sessions) × (workers * sessions ≤ MAX_LINKS)
+
+-- serve JOURNAL ADDRESS WORKERS SESSIONS
+abbrev pub IsServe : List (List ℕ) → ℕ → ℕ → Type 0
+IsServe words workers sessions =
+    (journal address : List ℕ) × (words ≡ codes "serve" ∷ journal ∷ address ∷ decimal workers ∷ decimal sessions ∷ [])
+    × IsName journal × IsName address × AreServed workers sessions
+
+-- one of these
+abbrev pub IsCommand : List (List ℕ) → Type 0
+IsCommand words = IsBatch words ⊎ ((cap : ℕ) × IsInit words cap) ⊎ (workers : ℕ) × (sessions : ℕ) × IsServe words workers sessions
+
+-- the words are this command, or none
+abbrev pub CommandIs : List (List ℕ) → Option Command → Type 0
+CommandIs words (Some (Init cap)) = IsInit words cap
+CommandIs words (Some Batch) = IsBatch words
+CommandIs words (Some (Serve workers sessions)) = IsServe words workers sessions
+CommandIs words None = IsCommand words → ⊥
+
+-- the word behind the first one, or nothing
+abbrev pub second : List (List ℕ) → List ℕ
+second (first ∷ word ∷ more) = word
+second words = []
