@@ -1,13 +1,13 @@
 -- The commands, one by one: clap takes as many words as a command has positions, and no others.
-use Rattle.std.proofs.Common.{◌≡◌, ℕ, ◌+◌, ◌%◌, ◌<◌, ◌^◌, ◌⊎◌, Bool, List, [], ◌∷◌, ◌++◌, ◌==◌, true, false, refl, ap, sym, ◌∙◌, subst, codes, length, Option, Some, None, arith, inl, inr, ne_eqb}
+use Rattle.std.proofs.Common.{◌≡◌, ℕ, ◌+◌, ◌%◌, ◌<◌, ◌^◌, List, [], ◌∷◌, ◌++◌, false, refl, ap, sym, ◌∙◌, codes, Some, arith, ne_eqb}
 use Rattle.std.specs.Prelude.{fold}
 use Rattle.std.specs.List.{AllByRecursion}
 use Rattle.std.specs.Fmt.{decimal}
 use Rattle.std.proofs.lemmas.Fmt.{decimal_by_steps}
-use Rattle.clap.specs.Walk.{Held, Row, Rule, Text, Walk, walk, walked, nothing_held, first_of, rows_after, finished}
-use Rattle.clap.specs.Simple.{App, Shape}
-use Rattle.clap.specs.Kinds.{Kinds, or_else}
-use Rattle.clap.specs.Faults.{fault_of, walk_fault, level_fault}
+use Rattle.clap.specs.Walk.{Row, Text, Walk, walked, nothing_held, first_of, rows_after, finished}
+use Rattle.clap.specs.Simple.{Shape}
+use Rattle.clap.specs.Kinds.{Kinds}
+use Rattle.clap.specs.Faults.{fault_of, level_fault}
 use Rattle.clap.specs.Words.{subcommand_of}
 use Rattle.clap.specs.declared.error.kind.ErrorKind.{ErrorKind}
 use Rattle.clap.specs.declared.error.kind.ErrorKind.TheVariants.{UnknownArgument, MissingRequiredArgument}

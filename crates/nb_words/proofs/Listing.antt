@@ -1,5 +1,5 @@
 -- What holds of each element, as a loop goes over them.
-use Rattle.std.proofs.Common.{◌≡◌, ℕ, ◌+◌, ◌<◌, zero, suc, List, [], ◌∷◌, ◌++◌, length, map, take, slice_index_or, Option, Some, None, sym, subst, arith}
+use Rattle.std.proofs.Common.{◌≡◌, ℕ, ◌+◌, ◌<◌, zero, suc, List, [], ◌∷◌, ◌++◌, length, map, take, slice_index_or, Option, Some, None, true, false, true≢false, ne_eqb, ◌==◌, ◌∙◌, sym, subst, arith}
 use Rattle.std.specs.Prelude.{IfSome}
 use Rattle.std.specs.List.{AllByRecursion}
 use Rattle.std.proofs.lemmas.List.{map_more}
@@ -23,3 +23,13 @@ module _ {X Y : Type 0} (P : Y → Type 0) (f : X → Y) where
 pub weaker : {X : Type 0} (o : Option X) (P Q : X → Type 0) → ((x : X) → P x → Q x) → IfSome o P → IfSome o Q
 weaker None P Q follows is = is
 weaker (Some x) P Q follows is = follows x is
+
+-- a list that is not empty
+pub some_are : {X Y : Type 0} (f : X → Y) (xs : List X) → false ≡ (length xs == 0) → 0 < length (map f xs)
+some_are f [] e = absurd cc
+some_are f (x ∷ xs) e = omega arith
+
+-- and one that is
+pub none_are : {X Y : Type 0} (f : X → Y) (xs : List X) → true ≡ (length xs == 0) → 0 < length (map f xs) → ⊥
+none_are f [] e some = omega (arith, some)
+none_are f (x ∷ xs) e some = absurd (true≢false (e ∙ ne_eqb (length (x ∷ xs)) 0 (λ is. omega (arith, is))))

@@ -1,11 +1,11 @@
 -- How clap reads words of which none is empty or begins with a minus.
-use Rattle.std.proofs.Common.{◌≡◌, ℕ, Bool, List, [], ◌∷◌, ◌++◌, ◌==◌, true, false, refl, ap, sym, ◌∙◌, codes, Option, Some, None, is_some, append_assoc, append-nil}
+use Rattle.std.proofs.Common.{◌≡◌, ℕ, Bool, List, [], ◌∷◌, ◌++◌, ◌==◌, true, false, refl, ap, sym, ◌∙◌, Option, Some, None, is_some, append_assoc, append-nil}
 use Rattle.std.specs.Prelude.{if◌then◌else◌, fold, find, option_map}
 use Rattle.std.specs.Option.{option_map_or}
 use Rattle.std.specs.Str.{bytes_eq}
-use Rattle.clap.specs.Lexer.{strip_byte, long_of, short_of}
-use Rattle.clap.specs.Walk.{Held, Names, Row, Rule, Step, Text, Waiting, Walk, idle, value, trailing, word_met, subcommand_met, subcommand_or_other, after_step, long_or_other, short_or_plain, plain_word, walked, walk_from, walk, answers_to, settled, finished, nothing_held, to_positional, arg_by_index, rows_after}
-use Rattle.clap.specs.Simple.{App, Shape, built, built_leaf, inherited, names_of, label_of, entered, rows_at, is_simple}
+use Rattle.clap.specs.Lexer.{long_of, short_of}
+use Rattle.clap.specs.Walk.{Held, Names, Rule, Step, Text, Walk, idle, value, trailing, word_met, subcommand_met, subcommand_or_other, after_step, long_or_other, short_or_plain, walked, walk_from, walk, answers_to, settled, finished, nothing_held, to_positional, arg_by_index, rows_after}
+use Rattle.clap.specs.Simple.{Shape, built, built_leaf, inherited, names_of, label_of, entered, rows_at, is_simple}
 use Rattle.clap.specs.Kinds.{Kinds, or_else}
 use Rattle.clap.specs.Faults.{entered_fault, settle_fault, defaults_fault, check_fault, fault_of, is_simple_and_free, turn_fault, walk_fault, word_fault, other_fault, flag_word_fault, bundle_fault, step_fault, positional_fault, stray_fault, level_fault}
 use Rattle.clap.specs.Words.{subcommand_of}

@@ -1,6 +1,6 @@
 -- The words of the program, all of them: what clap takes and reads is a command, and each command is taken.
-use Rattle.std.proofs.Common.{◌≡◌, ℕ, ◌<◌, ◌≤◌, ◌*◌, ◌^◌, ◌⊎◌, Bool, List, [], ◌∷◌, true, false, refl, ap, sym, ◌∙◌, subst, codes, length, Option, Some, None, is_some, arith, inl, inr}
-use Rattle.std.specs.Prelude.{find, option_map}
+use Rattle.std.proofs.Common.{◌≡◌, ℕ, ◌<◌, ◌≤◌, ◌*◌, ◌^◌, ◌⊎◌, Bool, List, [], ◌∷◌, true, false, true≢false, refl, ap, sym, ◌∙◌, subst, codes, length, Option, Some, None, is_some, arith, inl, inr}
+use Rattle.std.specs.Prelude.{Result, Ok, Err, IfOk, IsErr}
 use Rattle.std.specs.List.{AllByRecursion}
 use Rattle.std.specs.Str.{bytes_eq}
 use Rattle.std.specs.Fmt.{decimal}
@@ -8,14 +8,15 @@ use Rattle.std.proofs.lemmas.Option.{same_Some}
 use Rattle.std.proofs.lemmas.Slice.Eq.{bytes_eq-Decides}
 use Rattle.clap.specs.Walk.{Row, Text, idle, walk, walked, walk_from, nothing_held, first_of, subcommand_met, settled, finished}
 use Rattle.clap.specs.Simple.{built, entered}
-use Rattle.clap.specs.Kinds.{Kinds, or_else}
+use Rattle.clap.specs.Kinds.{Kinds, HasKind, or_else}
+use Rattle.clap.specs.declared.error.Error.{Error}
 use Rattle.clap.specs.Faults.{fault_of, walk_fault, entered_fault, settle_fault, defaults_fault, check_fault}
-use Rattle.clap.specs.Words.{subcommand_of}
-use Rattle.clap.specs.declared.error.kind.ErrorKind.TheVariants.{UnknownArgument, InvalidSubcommand}
+use Rattle.clap.specs.Words.{subcommand_of, kind_of}
+use Rattle.clap.specs.declared.error.kind.ErrorKind.TheVariants.{UnknownArgument, InvalidSubcommand, OutOfMemory}
 use Rattle.clap.proofs.OnLiterals.{clap_on_literals}
 use Rattle.nb_words.specs.declared.words.Command.{Command}
 use Rattle.nb_words.specs.declared.words.Command.TheVariants.{Init, Batch, Serve}
-use Rattle.nb_words.specs.Words.{IsName, IsInit, IsBatch, IsServe, IsCommand, CommandIs}
+use Rattle.nb_words.specs.Words.{IsName, IsCommand, CommandIs}
 use Rattle.nb_words.specs.Table.{program, CommandIn}
 use Rattle.nb_words.proofs.Reading.{names, turned, entered_as}
 use Rattle.nb_words.proofs.Commands.{begins, not_nothing, faulty, number_named, init_named, init_fits, init_read, batch_named, batch_fits, batch_read, serve_named, serve_fits, serve_read}
@@ -62,10 +63,10 @@ named_by : (words : List Text) → AllByRecursion IsName words → 0 < length wo
 named_by [] all some none name rows told = absurd (omega (arith, some))
 named_by ([] ∷ words) all some none name rows told = absurd (not_nothing all.0)
 named_by ((x ∷ xs) ∷ words) all some none name rows told = elim (known x xs words all.0 none) [
-      | inl is ↦ by (codes "init") is (entered_as (codes "init") _ init_named words)
-      | inr (inl is) ↦ by (codes "batch") is (entered_as (codes "batch") _ batch_named words)
-      | inr (inr is) ↦ by (codes "serve") is (entered_as (codes "serve") _ serve_named words)
-    ]
+  | inl is ↦ by (codes "init") is (entered_as (codes "init") _ init_named words)
+  | inr (inl is) ↦ by (codes "batch") is (entered_as (codes "batch") _ batch_named words)
+  | inr (inr is) ↦ by (codes "serve") is (entered_as (codes "serve") _ serve_named words)
+]
   where
     by : (first : Text) → (x ∷ xs) ≡ first → {other : List Row} → subcommand_of program (first ∷ words) ≡ Some (first, other) → (behind : List Text) × ((x ∷ xs) ∷ words ≡ name ∷ behind) × AllByRecursion IsName behind
     by first is {other} entered =
@@ -128,9 +129,17 @@ told_serve words all none rows told =
     let P : List Text → Type 0 = λ ws. AllByRecursion IsName ws in
     let each = subst P fits.4 all in
     let read = (serve_read fits.0 fits.1 fits.2 fits.3 each.0 each.1.0 each.1.1.0 each.1.1.1.0).1 in
-    let same = same_rows (subcommand_of program (codes "serve" ∷ words)) (codes "serve") read.0 rows (ap (λ (ws : List Text). subcommand_of program (codes "serve" ∷ ws)) fits.4 ∙ read.1) told in
-    (fits.0, fits.1, fits.2, fits.3, fits.4, fits.5, fits.6,
-    subst (λ (rs : List Row). first_of (codes "WORKERS") rs ≡ Some fits.2) same read.2, subst (λ (rs : List Row). first_of (codes "SESSIONS") rs ≡ Some fits.3) same read.3)
+    let same = same_rows (subcommand_of program (codes "serve" ∷ words)) (codes "serve") read.0 rows (ap (λ (ws : List Text). subcommand_of program (codes "serve" ∷ ws)) fits.4 ∙ read.1) told in (
+      fits.0,
+      fits.1,
+      fits.2,
+      fits.3,
+      fits.4,
+      fits.5,
+      fits.6,
+      subst (λ (rs : List Row). first_of (codes "WORKERS") rs ≡ Some fits.2) same read.2,
+      subst (λ (rs : List Row). first_of (codes "SESSIONS") rs ≡ Some fits.3) same read.3,
+    )
 
 -- none was told, so that the words are none
 untold : (words : List Text) → CommandIn (subcommand_of program words) None → IsCommand words → ⊥
@@ -160,8 +169,21 @@ command_is words all some none (Some (Serve workers sessions)) is =
     let n = named_by words all some none (codes "serve") is.0 is.1 in
     let told = told_serve n.0 n.2 (ap (fault_of program) (sym n.1) ∙ none) is.0 (ap (subcommand_of program) (sym n.1) ∙ is.1) in
     let first = same_Some _ _ (sym told.7 ∙ is.2.0) in
-    let second = same_Some _ _ (sym told.8 ∙ is.2.1) in
-    (told.0, told.1,
-    n.1 ∙ ap (λ (ws : List Text). codes "serve" ∷ ws) told.4 ∙ ap (λ (w : Text). codes "serve" ∷ told.0 ∷ told.1 ∷ w ∷ told.3 ∷ []) first
-    ∙ ap (λ (w : Text). codes "serve" ∷ told.0 ∷ told.1 ∷ decimal workers ∷ w ∷ []) second,
-    told.5, told.6, is.2.2)
+    let second = same_Some _ _ (sym told.8 ∙ is.2.1) in (
+      told.0,
+      told.1,
+      n.1 ∙ ap (λ (ws : List Text). codes "serve" ∷ ws) told.4 ∙ ap (λ (w : Text). codes "serve" ∷ told.0 ∷ told.1 ∷ w ∷ told.3 ∷ []) first
+          ∙ ap (λ (w : Text). codes "serve" ∷ told.0 ∷ told.1 ∷ decimal workers ∷ w ∷ []) second,
+      told.5,
+      told.6,
+      is.2.2,
+    )
+
+-- clap refused the words, and so they are no command, unless there was no memory
+pub refused_are : {E : Type 0} (words : List Text) (r : Result (Option Command) E) → IfOk r (λ command. command ≡ None) → (IsCommand words → IsErr r) → IfOk r (CommandIs words)
+refused_are words (Ok command) none why = subst (CommandIs words) (sym none) (λ is. true≢false (sym (why is)))
+refused_are words (Err error) none why = tt
+
+-- an error that has none of the kinds of a fault came of no memory
+pub only_memory : (kinds : Kinds) (e : Error) → kinds ≡ [] → HasKind kinds e → kind_of e ≡ OutOfMemory
+only_memory kinds e none has = elim (subst (λ (ks : Kinds). HasKind ks e) none has) [ inl is ↦ is | inr never ↦ absurd never ]

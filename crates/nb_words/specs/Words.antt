@@ -41,8 +41,3 @@ CommandIs words (Some (Init cap)) = IsInit words cap
 CommandIs words (Some Batch) = IsBatch words
 CommandIs words (Some (Serve workers sessions)) = IsServe words workers sessions
 CommandIs words None = IsCommand words → ⊥
-
--- the word behind the first one, or nothing
-abbrev pub second : List (List ℕ) → List ℕ
-second (first ∷ word ∷ more) = word
-second words = []

@@ -1,4 +1,11 @@
-//! The words of the program.
+//! The words of the program: which command they are, and with which numbers.
+//!
+//! [`command_of`] reads them. It looks itself for an empty word and for one that begins with `-`; `clap` reads what is left, as one command
+//! with one level of commands below it, each with positions that have to be there and are read as texts; the numbers are read from these.
+//! `src/table.rt` has a row for each command. Its contract is over the words alone (`specs/Words.antt`): what is told of `clap` on the way
+//! stands in `specs/Table.antt`, and is no part of it.
+//!
+//! Left to others: which file the words name, and what is done.
 #![tactic(auto)]
 
 mod table;

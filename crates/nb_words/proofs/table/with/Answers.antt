@@ -1,8 +1,8 @@
-use Rattle.std.proofs.Common.{rules, ◌≡◌, IfOk, map, ℕ, ◌+◌, List, [], ◌∷◌, ◌++◌, slice_index_or, Bor, true, false, ap, ap₂, sym, ◌∙◌, subst, length, take, ◌<◌, ◌≤◌, arith}
+use Rattle.std.proofs.Common.{rules, ◌≡◌, map, ℕ, ◌+◌, List, [], ◌∷◌, ◌++◌, slice_index_or, Bor, ap, ap₂, sym, ◌∙◌, length, take, ◌<◌}
 use Rattle.std.proofs.lemmas.Result.{IfOk-weaker}
 use Rattle.std.proofs.lemmas.List.{map-append, map_more, take_all}
 use Rattle.clap.specs.Words.{app_of, rule_of, with_rule, with_subcommand}
-use Rattle.clap.specs.Simple.{App, Shape, new_shape}
+use Rattle.clap.specs.Simple.{App, new_shape}
 use Rattle.clap.specs.Walk.{Text, Rule}
 use Rattle.clap.proofs.WalkLemmas.{both}
 use Rattle.clap.proofs.SimpleLemmas.{is_false}

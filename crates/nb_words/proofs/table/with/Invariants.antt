@@ -1,6 +1,5 @@
-use Rattle.std.proofs.Common.{◌≡◌, map, take, [], List}
+use Rattle.std.proofs.Common.{◌≡◌, map, take, []}
 use Rattle.clap.specs.Words.{app_of}
-use Rattle.clap.specs.Simple.{App}
 use Rattle.nb_words.specs.Table.{shape}
 use Rattle.nb_words.proofs.table.with.Given as goal
 

@@ -1,7 +1,6 @@
-use Rattle.std.proofs.Common.{◌≡◌, ℕ, Some, sym, ◌∙◌, ap, option_map}
+use Rattle.std.proofs.Common.{Some, sym, ◌∙◌, ap, option_map}
 use Rattle.std.proofs.lemmas.Option.{same_Some}
 use Rattle.nb_words.proofs.Listing.{weaker}
-use Rattle.std.specs.Fmt.{decimal}
 use Rattle.clap.specs.Words.{found_of}
 use Rattle.clap.proofs.WalkLemmas.{first_value-rows}
 use Rattle.nb_words.proofs.words.number_in.Goals as goal
