@@ -1,4 +1,4 @@
-ghost use Rattle.std.specs.Prelude.{◌≡◌, ◌≤◌, ◌<◌, ◌^◌, ◌++◌, ◌∷◌, ℕ, List, length, IfSome, IsNone};
+ghost use Rattle.std.specs.Prelude.{◌≡◌, ◌≤◌, ◌<◌, ◌^◌, ◌++◌, ◌∷◌, ℕ, List, length, IfSome, IsNone, Some};
 ghost use Rattle.std.specs.Fmt.{decimal};
 ghost use Rattle.nb_price.specs.Fields.{IsFree, IsNoDigit, IsNumbered};
 
@@ -27,6 +27,17 @@ pub(crate) fn numbered(bytes: &[u8], mark: u8) -> Option<(u32, &[u8])>
     ensures each { (n : ℕ) (rest : List ℕ) → n < 2 ^ 32 → bytes.now ≡ decimal n ++ mark ∷ rest → IsNumbered result n rest }
 {
     let (word, rest) = split(bytes, mark, MAX_DIGITS)?;
-    let n = decimal_of(word)?;
+    let n = number_of(word)?;
     Some((n, rest))
+}
+
+// The number of 32 bits that the word is in decimal.
+fn number_of(word: &[u8]) -> Option<u32>
+    ensures some { IfSome result (λ n. word.now ≡ decimal n) }
+    ensures each { (n : ℕ) → n < 2 ^ 32 → word.now ≡ decimal n → result ≡ Some n }
+{
+    match u32::try_from(decimal_of(word)?) {
+        Ok(n) => Some(n),
+        Err(_) => None,
+    }
 }

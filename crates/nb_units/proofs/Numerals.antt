@@ -14,23 +14,23 @@ pub digits : IsNumeralModel (AllDigits 10) (digits_value 10)
 digits = numerals_by_value (AllDigits 10) tells_digits
 
 -- what is written of a number is plain
-plain_decimal : (n : ℕ) → n < 2 ^ 32 → IsPlain (decimal n)
+plain_decimal : (n : ℕ) → n < 2 ^ 64 → IsPlain (decimal n)
 plain_decimal zero small = subst IsPlain (sym (decimal_digit 0 (omega arith))) (omega arith, omega arith, inr refl)
 plain_decimal (suc n) small =
     let first = first_decimal (suc n) (omega arith) (omega (arith, small)) in
     (decimal_nonempty (suc n) (omega (arith, small)), λ e. absurd (omega (arith, first, e)), inl (λ e. absurd (omega (arith, first, e))))
 
-pub plain : (word : List ℕ) (n : ℕ) → n < 2 ^ 32 → word ≡ decimal n → IsPlain word
+pub plain : (word : List ℕ) (n : ℕ) → n < 2 ^ 64 → word ≡ decimal n → IsPlain word
 plain word n small is = subst IsPlain (sym is) (plain_decimal n small)
 
 -- what is written of a number is text
-pub is_text : (word : List ℕ) (n : ℕ) → n < 2 ^ 32 → word ≡ decimal n → IsUtf8 word
+pub is_text : (word : List ℕ) (n : ℕ) → n < 2 ^ 64 → word ≡ decimal n → IsUtf8 word
 is_text word n small is = subst IsUtf8 (sym is) (IsUtf8-from_ascii (decimal n) (IsAscii-decimal n (omega (arith, small))))
 
 -- a plain word that is parsed is what is written of the number
-pub parsed : {E : Type 0} (word : List ℕ) (r : Result ℕ E) (n : ℕ) → ParsesUnsigned 32 10 word r → r ≡ Ok n → IsPlain word → word ≡ decimal n
+pub parsed : {E : Type 0} (word : List ℕ) (r : Result ℕ E) (n : ℕ) → ParsesUnsigned 64 10 word r → r ≡ Ok n → IsPlain word → word ≡ decimal n
 parsed word r n parses is plain =
-    let p = OkIff-at_ok r _ (digits_value 10 word) n (parse_plain digits 32 word r parses plain.1) is in
+    let p = OkIff-at_ok r _ (digits_value 10 word) n (parse_plain digits 64 word r parses plain.1) is in
     sym (ap decimal p.1 ∙ decimal-digits_value digits word p.0.0 p.0.1 (λ zero_first. ⊎_elim (λ other. absurd (other zero_first)) (λ one. one) plain.2) (omega (arith, p.0.2)))
 
 -- a result has one value, and no error then

@@ -27,16 +27,16 @@ pub(crate) fn u64_of(bytes: &[u8]) -> u64
     u64::from_be_bytes(word)
 }
 
-/// The number below 2^32 that the word is in decimal, with no sign and no leading zero.
-pub fn decimal_of(word: &[u8]) -> Option<u32>
+/// The number below 2^64 that the word is in decimal, with no sign and no leading zero.
+pub fn decimal_of(word: &[u8]) -> Option<u64>
     ensures some { IfSome result (λ n. word.now ≡ decimal n) }
-    ensures each { (n : ℕ) → n < 2 ^ 32 → word.now ≡ decimal n → result ≡ Some n }
+    ensures each { (n : ℕ) → n < 2 ^ 64 → word.now ≡ decimal n → result ≡ Some n }
 {
     if !is_plain(word) {
         return None;
     }
     match str::from_utf8(word) {
-        Ok(text) => match text.parse::<u32>() {
+        Ok(text) => match text.parse::<u64>() {
             Ok(n) => Some(n),
             Err(_) => None,
         },

@@ -80,10 +80,10 @@ fn holds_values(rt: HostRuntime) -> Result<(), Fail> {
 
 #[test]
 fn reads_decimal_words(rt: HostRuntime) -> Result<(), Fail> {
-    let cases: [(&[u8], Option<u32>); 8] = [
+    let cases: [(&[u8], Option<u64>); 8] = [
         (b"0", Some(0)),
-        (b"4294967295", Some(u32::MAX)),
-        (b"4294967296", None),
+        (b"18446744073709551615", Some(u64::MAX)),
+        (b"18446744073709551616", None),
         (b"", None),
         (b"+1", None),
         (b"-1", None),

@@ -15,11 +15,11 @@ returns-in-Ok-parse-clause-some c =
 
 pub returns-in-Ok-parse-clause-each : goal.returns-in-Ok-parse-clause-each
 returns-in-Ok-parse-clause-each c n small is =
-    ap Some (one_value c.parse.result c.in-Ok-parse.n n c.in-Ok-parse.is (parse-decimal 32 n c.in-Ok.text.now c.parse.result small (omega (arith, small)) (c.in-Ok.ensures.cases.0 ∙ is) c.parse.ensures.value.0))
+    ap Some (one_value c.parse.result c.in-Ok-parse.n n c.in-Ok-parse.is (parse-decimal 64 n c.in-Ok.text.now c.parse.result small (omega (arith, small)) (c.in-Ok.ensures.cases.0 ∙ is) c.parse.ensures.value.0))
 
 pub returns-in-Err-parse-clause-each : goal.returns-in-Err-parse-clause-each
 returns-in-Err-parse-clause-each c n small is =
-    absurd (no_error c.parse.result _ n c.in-Err-parse.is (parse-decimal 32 n c.in-Ok.text.now c.parse.result small (omega (arith, small)) (c.in-Ok.ensures.cases.0 ∙ is) c.parse.ensures.value.0))
+    absurd (no_error c.parse.result _ n c.in-Err-parse.is (parse-decimal 64 n c.in-Ok.text.now c.parse.result small (omega (arith, small)) (c.in-Ok.ensures.cases.0 ∙ is) c.parse.ensures.value.0))
 
 pub returns-in-Err-clause-each : goal.returns-in-Err-clause-each
 returns-in-Err-clause-each c n small is = absurd (c.in-Err.ensures.cases.0 (is_text c.args.word.now n small is))
