@@ -1,2 +1,4 @@
 pub mod Jumping
 pub mod Framing
+pub mod Feeding
+pub mod Lengths

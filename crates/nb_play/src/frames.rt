@@ -5,6 +5,7 @@ ghost use Rattle.nb_body.specs.Spelling.{IsRole, funding_bytes};
 ghost use Rattle.nb_epo.specs.Spelling.{order_bytes};
 ghost use Rattle.nb_play.specs.declared.frames.TheConstants.{CONSUMERS, FUNDED, MAX_ORDERS, PARTIES};
 ghost use Rattle.nb_play.specs.Drill as drill;
+ghost use Rattle.nb_play.specs.Feed.{cap_of, count_of};
 
 use crate::draws::draw;
 use nb_body::{CONSUMER_ROLE, EndorsedOrder, Enrolment, Funding, MERCHANT_ROLE};
@@ -30,7 +31,7 @@ pub const PARTIES: u32 = CONSUMERS + MERCHANTS;
 pub const MOMENT: u64 = 1_000_000;
 
 // The consumers have the first numbers, and each its money.
-const CONSUMERS: u32 = 8;
+pub(crate) const CONSUMERS: u32 = 8;
 
 const MERCHANTS: u32 = 8;
 
@@ -54,6 +55,24 @@ const ENROL_LABEL: [u8; 4] = *b"enro";
 
 const FUND_LABEL: [u8; 4] = *b"fund";
 
+/// How many frames a drill with so many orders has, at most [`MAX_ORDERS`]: one for each party, one for each consumer's money, and two for
+/// each order.
+pub fn frame_count(orders: u32) -> u32
+    requires { orders ≤ MAX_ORDERS }
+    ensures { result ≡ count_of orders }
+{
+    PARTIES + CONSUMERS + 2 * orders
+}
+
+/// How many entries they make at most, which is the cap of the drill's house: one for each party, one for each consumer's money, and one for
+/// each order.
+pub fn entry_count(orders: u32) -> u32
+    requires { orders ≤ MAX_ORDERS }
+    ensures { result ≡ cap_of orders }
+{
+    PARTIES + CONSUMERS + orders
+}
+
 /// The head of the house of a drill: the house's key, the operator's, and 16 zeros.
 pub fn drill_head(seed: u64) -> [u8; 80]
     ensures { result ≡ drill.head_of seed }
@@ -67,11 +86,11 @@ pub fn drill_head(seed: u64) -> [u8; 80]
     head
 }
 
-/// Frame `i` of a drill with so many orders, at most [`MAX_ORDERS`]: there are 24 frames more than two for each order.
+/// Frame `i` of a drill with so many orders, at most [`MAX_ORDERS`], of the frames that [`frame_count`] counts.
 #[tactic(auto, using(crate::proofs::Framing::funds, crate::proofs::Framing::orders))]
 pub fn drill_frames(alloc: Global, seed: u64, orders: u32, i: u32) -> Result<Blob, NoMemory>
     requires few { orders ≤ MAX_ORDERS }
-    requires within { i < 2 * orders + (PARTIES + CONSUMERS) }
+    requires within { i < count_of orders }
     ensures { IfOk result (λ blob. blob ≡ drill.frame_bytes seed i) }
 {
     if i < PARTIES {

@@ -2,14 +2,22 @@
 //!
 //! [`drill_frames`] gives the frame at a place. Eight consumers and eight merchants are enrolled, each consumer's account is funded, and
 //! each order is sent twice. Who buys from whom, and for what price, is drawn by a linear congruential generator ([`number_at`]). What
-//! each frame is stands in `specs/Drill.antt`, as a function of the seed and the place.
+//! each frame is stands in `specs/Drill.antt`, as a function of the seed and the place. [`DrillSource`] gives all of them one behind the other, as bytes;
+//! [`DrillClock`] stands at the moment of each request, and [`NullSink`] takes the replies.
 #![tactic(auto)]
 
+mod clock;
 mod draws;
 mod frames;
+pub mod laws;
+mod sink;
+mod source;
 
+pub use clock::DrillClock;
 pub use draws::{draw, number_at};
-pub use frames::{MAX_ORDERS, MOMENT, PARTIES, drill_frames, drill_head};
+pub use frames::{MAX_ORDERS, MOMENT, PARTIES, drill_frames, drill_head, entry_count, frame_count};
+pub use sink::NullSink;
+pub use source::DrillSource;
 
 #[cfg(test)]
 mod tests;
