@@ -148,6 +148,75 @@ batch_read (x ∷ xs) p = (
   ),
 )
 
+-- ---- drill SEED ORDERS
+
+pub drill_named : IsNamed (codes "drill") (codes "SEED" ∷ codes "ORDERS" ∷ [])
+unfolding clap_on_literals
+drill_named = record { met = refl; silent = refl; found = refl }
+
+abbrev drill : Shape
+drill = leaf (codes "drill") (codes "SEED" ∷ codes "ORDERS" ∷ [])
+
+drill_none : level_fault drill [] nothing_held [] false [] ≡ MissingRequiredArgument ∷ []
+unfolding clap_on_literals
+drill_none = refl
+
+drill_one : (x : ℕ) (xs : Text) → IsBegin x → level_fault drill [] nothing_held ((x ∷ xs) ∷ []) false [] ≡ MissingRequiredArgument ∷ []
+unfolding clap_on_literals
+drill_one x xs p =
+    ap (λ (k : Kinds). level drill k (fold (walked drill.rules []) (at 1 nothing_held) ((x ∷ xs) ∷ [])))
+    (next_faults drill 1 nothing_held x xs p [])
+    ∙ ap (λ (w : Walk). level drill [] w) (next_walk drill 1 nothing_held x xs p [])
+
+drill_taken : (x : ℕ) (xs : Text) (y : ℕ) (ys : Text) → IsBegin x → IsBegin y → level_fault drill [] nothing_held ((x ∷ xs) ∷ (y ∷ ys) ∷ []) false [] ≡ []
+unfolding clap_on_literals
+drill_taken x xs y ys p q =
+    ap (λ (k : Kinds). level drill k (fold (walked drill.rules []) (at 1 nothing_held) ((x ∷ xs) ∷ (y ∷ ys) ∷ [])))
+    (next_faults drill 1 nothing_held x xs p ((y ∷ ys) ∷ []) ∙ next_faults drill 2 _ y ys q [])
+    ∙ ap (λ (w : Walk). level drill [] w) (next_walk drill 1 nothing_held x xs p ((y ∷ ys) ∷ []) ∙ next_walk drill 2 _ y ys q [])
+
+drill_more : (x : ℕ) (xs : Text) (y : ℕ) (ys : Text) (z : ℕ) (zs : Text) (rest : List Text) → IsBegin x → IsBegin y → IsBegin z → level_fault drill [] nothing_held ((x ∷ xs) ∷ (y ∷ ys) ∷ (z ∷ zs) ∷ rest) false [] ≡ UnknownArgument ∷ []
+unfolding clap_on_literals
+drill_more x xs y ys z zs rest p q r =
+    ap (λ (k : Kinds). level drill k (fold (walked drill.rules []) (at 1 nothing_held) ((x ∷ xs) ∷ (y ∷ ys) ∷ (z ∷ zs) ∷ rest)))
+    (next_faults drill 1 nothing_held x xs p ((y ∷ ys) ∷ (z ∷ zs) ∷ rest) ∙ next_faults drill 2 _ y ys q ((z ∷ zs) ∷ rest) ∙ next_faults drill 3 _ z zs r rest)
+
+drill_seed : (x : ℕ) (xs : Text) (y : ℕ) (ys : Text) → IsBegin x → IsBegin y → first_of (codes "SEED") (rows_after drill.rules [] ((x ∷ xs) ∷ (y ∷ ys) ∷ [])) ≡ Some (x ∷ xs)
+unfolding clap_on_literals
+drill_seed x xs y ys p q = ap (λ (w : Walk). first_of (codes "SEED") (finished drill.rules w.held)) (next_walk drill 1 nothing_held x xs p ((y ∷ ys) ∷ []) ∙ next_walk drill 2 _ y ys q [])
+
+drill_orders : (x : ℕ) (xs : Text) (y : ℕ) (ys : Text) → IsBegin x → IsBegin y → first_of (codes "ORDERS") (rows_after drill.rules [] ((x ∷ xs) ∷ (y ∷ ys) ∷ [])) ≡ Some (y ∷ ys)
+unfolding clap_on_literals
+drill_orders x xs y ys p q = ap (λ (w : Walk). first_of (codes "ORDERS") (finished drill.rules w.held)) (next_walk drill 1 nothing_held x xs p ((y ∷ ys) ∷ []) ∙ next_walk drill 2 _ y ys q [])
+
+-- clap takes no other number of words
+pub drill_fits : (words : List Text) → AllByRecursion IsName words → fault_of program (codes "drill" ∷ words) ≡ [] → (seed : Text) × (orders : Text) × (words ≡ seed ∷ orders ∷ [])
+drill_fits words all none = go words all (sym (called (codes "drill") (codes "SEED" ∷ codes "ORDERS" ∷ []) drill_named words) ∙ none)
+  where
+    go : (words : List Text) → AllByRecursion IsName words → level_fault drill [] nothing_held words false [] ≡ [] → (seed : Text) × (orders : Text) × (words ≡ seed ∷ orders ∷ [])
+    go [] all none = absurd (faulty _ _ _ drill_none none)
+    go ([] ∷ words) all none = absurd (not_nothing all.0)
+    go ((x ∷ xs) ∷ []) all none = absurd (faulty _ _ _ (drill_one x xs (begins x xs all.0)) none)
+    go ((x ∷ xs) ∷ [] ∷ words) all none = absurd (not_nothing all.1.0)
+    go ((x ∷ xs) ∷ (y ∷ ys) ∷ []) all none = (x ∷ xs, y ∷ ys, refl)
+    go ((x ∷ xs) ∷ (y ∷ ys) ∷ [] ∷ words) all none = absurd (not_nothing all.1.1.0)
+    go ((x ∷ xs) ∷ (y ∷ ys) ∷ (z ∷ zs) ∷ words) all none = absurd (faulty _ _ _ (drill_more x xs y ys z zs words (begins x xs all.0) (begins y ys all.1.0) (begins z zs all.1.1.0)) none)
+
+-- as many words as it has positions are taken, and read as they stand
+pub drill_read : (seed orders : Text) → IsName seed → IsName orders
+    → (fault_of program (codes "drill" ∷ seed ∷ orders ∷ []) ≡ []) × ((rows : List Row) × (subcommand_of program (codes "drill" ∷ seed ∷ orders ∷ []) ≡ Some (codes "drill", rows)) × (first_of (codes "SEED") rows ≡ Some seed) × (first_of (codes "ORDERS") rows ≡ Some orders))
+drill_read [] orders p q = absurd (not_nothing p)
+drill_read (x ∷ xs) [] p q = absurd (not_nothing q)
+drill_read (x ∷ xs) (y ∷ ys) p q = (
+  called (codes "drill") (codes "SEED" ∷ codes "ORDERS" ∷ []) drill_named ((x ∷ xs) ∷ (y ∷ ys) ∷ []) ∙ drill_taken x xs y ys (begins x xs p) (begins y ys q),
+  (
+    rows_after drill.rules [] ((x ∷ xs) ∷ (y ∷ ys) ∷ []),
+    entered_as (codes "drill") (codes "SEED" ∷ codes "ORDERS" ∷ []) drill_named ((x ∷ xs) ∷ (y ∷ ys) ∷ []),
+    drill_seed x xs y ys (begins x xs p) (begins y ys q),
+    drill_orders x xs y ys (begins x xs p) (begins y ys q),
+  ),
+)
+
 -- ---- serve JOURNAL ADDRESS WORKERS SESSIONS
 
 pub serve_named : IsNamed (codes "serve") (codes "JOURNAL" ∷ codes "ADDRESS" ∷ codes "WORKERS" ∷ codes "SESSIONS" ∷ [])

@@ -15,17 +15,17 @@ use Rattle.clap.specs.Words.{subcommand_of, kind_of}
 use Rattle.clap.specs.declared.error.kind.ErrorKind.TheVariants.{UnknownArgument, InvalidSubcommand, OutOfMemory}
 use Rattle.clap.proofs.OnLiterals.{clap_on_literals}
 use Rattle.nb_words.specs.declared.words.Command.{Command}
-use Rattle.nb_words.specs.declared.words.Command.TheVariants.{Init, Batch, Serve}
+use Rattle.nb_words.specs.declared.words.Command.TheVariants.{Init, Batch, Drill, Serve}
 use Rattle.nb_words.specs.Words.{IsName, IsCommand, CommandIs}
 use Rattle.nb_words.specs.Table.{program, CommandIn}
 use Rattle.nb_words.proofs.Reading.{names, turned, entered_as}
-use Rattle.nb_words.proofs.Commands.{begins, not_nothing, faulty, number_named, init_named, init_fits, init_read, batch_named, batch_fits, batch_read, serve_named, serve_fits, serve_read}
+use Rattle.nb_words.proofs.Commands.{begins, not_nothing, faulty, number_named, init_named, init_fits, init_read, batch_named, batch_fits, batch_read, drill_named, drill_fits, drill_read, serve_named, serve_fits, serve_read}
 
 -- ---- a first word that is no command's
 
-stranger : (w : Text) → bytes_eq (codes "init") w ≡ false → bytes_eq (codes "batch") w ≡ false → bytes_eq (codes "serve") w ≡ false → subcommand_met names idle w ≡ None
+stranger : (w : Text) → bytes_eq (codes "init") w ≡ false → bytes_eq (codes "batch") w ≡ false → bytes_eq (codes "drill") w ≡ false → bytes_eq (codes "serve") w ≡ false → subcommand_met names idle w ≡ None
 unfolding clap_on_literals
-stranger w i b s = rw (i, b, s) refl
+stranger w i b d s = rw (i, b, d, s) refl
 
 refused : (x : ℕ) (xs : Text) (words : List Text) → IsName (x ∷ xs) → subcommand_met names idle (x ∷ xs) ≡ None → fault_of program ((x ∷ xs) ∷ words) ≡ [] → ⊥
 unfolding walk_fault
@@ -40,22 +40,26 @@ refused x xs words is met none =
 
 -- the first word is the name of one
 abbrev IsKnown : Text → Type 0
-IsKnown w = (w ≡ codes "init") ⊎ (w ≡ codes "batch") ⊎ (w ≡ codes "serve")
+IsKnown w = (w ≡ codes "init") ⊎ (w ≡ codes "batch") ⊎ (w ≡ codes "drill") ⊎ (w ≡ codes "serve")
 
 known : (x : ℕ) (xs : Text) (words : List Text) → IsName (x ∷ xs) → fault_of program ((x ∷ xs) ∷ words) ≡ [] → IsKnown (x ∷ xs)
 known x xs words is none = first (bytes_eq (codes "init") (x ∷ xs)) refl
   where
-    third : (i b s : Bool) → bytes_eq (codes "init") (x ∷ xs) ≡ false → bytes_eq (codes "batch") (x ∷ xs) ≡ false → bytes_eq (codes "serve") (x ∷ xs) ≡ s → IsKnown (x ∷ xs)
-    third i b true e f g = inr (inr (sym ((bytes_eq-Decides _ _).0 g)))
-    third i b false e f g = absurd (refused x xs words is (stranger (x ∷ xs) e f g) none)
+    fourth : (s : Bool) → bytes_eq (codes "init") (x ∷ xs) ≡ false → bytes_eq (codes "batch") (x ∷ xs) ≡ false → bytes_eq (codes "drill") (x ∷ xs) ≡ false → bytes_eq (codes "serve") (x ∷ xs) ≡ s → IsKnown (x ∷ xs)
+    fourth true e f g h = inr (inr (inr (sym ((bytes_eq-Decides _ _).0 h))))
+    fourth false e f g h = absurd (refused x xs words is (stranger (x ∷ xs) e f g h) none)
 
-    second : (i b : Bool) → bytes_eq (codes "init") (x ∷ xs) ≡ false → bytes_eq (codes "batch") (x ∷ xs) ≡ b → IsKnown (x ∷ xs)
-    second i true e f = inr (inl (sym ((bytes_eq-Decides _ _).0 f)))
-    second i false e f = third false false (bytes_eq (codes "serve") (x ∷ xs)) e f refl
+    third : (d : Bool) → bytes_eq (codes "init") (x ∷ xs) ≡ false → bytes_eq (codes "batch") (x ∷ xs) ≡ false → bytes_eq (codes "drill") (x ∷ xs) ≡ d → IsKnown (x ∷ xs)
+    third true e f g = inr (inr (inl (sym ((bytes_eq-Decides _ _).0 g))))
+    third false e f g = fourth (bytes_eq (codes "serve") (x ∷ xs)) e f g refl
+
+    second : (b : Bool) → bytes_eq (codes "init") (x ∷ xs) ≡ false → bytes_eq (codes "batch") (x ∷ xs) ≡ b → IsKnown (x ∷ xs)
+    second true e f = inr (inl (sym ((bytes_eq-Decides _ _).0 f)))
+    second false e f = third (bytes_eq (codes "drill") (x ∷ xs)) e f refl
 
     first : (i : Bool) → bytes_eq (codes "init") (x ∷ xs) ≡ i → IsKnown (x ∷ xs)
     first true e = inl (sym ((bytes_eq-Decides _ _).0 e))
-    first false e = second false (bytes_eq (codes "batch") (x ∷ xs)) e refl
+    first false e = second (bytes_eq (codes "batch") (x ∷ xs)) e refl
 
 -- what was told names the first word
 named_by : (words : List Text) → AllByRecursion IsName words → 0 < length words → fault_of program words ≡ [] → (name : Text) (rows : List Row) → subcommand_of program words ≡ Some (name, rows)
@@ -65,7 +69,8 @@ named_by ([] ∷ words) all some none name rows told = absurd (not_nothing all.0
 named_by ((x ∷ xs) ∷ words) all some none name rows told = elim (known x xs words all.0 none) [
   | inl is ↦ by (codes "init") is (entered_as (codes "init") _ init_named words)
   | inr (inl is) ↦ by (codes "batch") is (entered_as (codes "batch") _ batch_named words)
-  | inr (inr is) ↦ by (codes "serve") is (entered_as (codes "serve") _ serve_named words)
+  | inr (inr (inl is)) ↦ by (codes "drill") is (entered_as (codes "drill") _ drill_named words)
+  | inr (inr (inr is)) ↦ by (codes "serve") is (entered_as (codes "serve") _ serve_named words)
 ]
   where
     by : (first : Text) → (x ∷ xs) ≡ first → {other : List Row} → subcommand_of program (first ∷ words) ≡ Some (first, other) → (behind : List Text) × ((x ∷ xs) ∷ words ≡ name ∷ behind) × AllByRecursion IsName behind
@@ -91,6 +96,9 @@ init_name = (omega arith, λ e. omega (arith, e))
 batch_name : IsName (codes "batch")
 batch_name = (omega arith, λ e. omega (arith, e))
 
+drill_name : IsName (codes "drill")
+drill_name = (omega arith, λ e. omega (arith, e))
+
 serve_name : IsName (codes "serve")
 serve_name = (omega arith, λ e. omega (arith, e))
 
@@ -99,7 +107,11 @@ taken words (inl b) = subst IsTaken (sym b.1) ((batch_name, (b.2, tt)), (batch_r
 taken words (inr (inl i)) =
     let cap = number_named i.0 (omega (arith, i.1.3)) in
     subst IsTaken (sym i.1.1) ((init_name, (i.1.2, (cap, tt))), (init_read i.1.0 (decimal i.0) i.1.2 cap).0, omega arith)
-taken words (inr (inr s)) =
+taken words (inr (inr (inl d))) =
+    let seed = number_named d.0 d.2.1 in
+    let orders = number_named d.1 (omega (arith, d.2.2)) in
+    subst IsTaken (sym d.2.0) ((drill_name, (seed, (orders, tt))), (drill_read (decimal d.0) (decimal d.1) seed orders).0, omega arith)
+taken words (inr (inr (inr s))) =
     let is = s.2 in
     let workers = number_named s.0 (omega (arith, is.5.1)) in
     let sessions = number_named s.1 (sessions_small s.0 s.1 is.5.0 is.5.3) in
@@ -120,6 +132,21 @@ told_init words all none rows told =
     let read = (init_read fits.0 fits.1 each.0 each.1.0).1 in
     let same = same_rows (subcommand_of program (codes "init" ∷ words)) (codes "init") read.0 rows (ap (λ (ws : List Text). subcommand_of program (codes "init" ∷ ws)) fits.2 ∙ read.1) told in
     (fits.0, fits.1, fits.2, fits.3, subst (λ (rs : List Row). first_of (codes "CAP") rs ≡ Some fits.1) same read.2)
+
+told_drill : (words : List Text) → AllByRecursion IsName words → fault_of program (codes "drill" ∷ words) ≡ [] → (rows : List Row) → subcommand_of program (codes "drill" ∷ words) ≡ Some (codes "drill", rows)
+    → (seed orders : Text) × (words ≡ seed ∷ orders ∷ []) × (first_of (codes "SEED") rows ≡ Some seed) × (first_of (codes "ORDERS") rows ≡ Some orders)
+told_drill words all none rows told =
+    let fits = drill_fits words all none in
+    let P : List Text → Type 0 = λ ws. AllByRecursion IsName ws in
+    let each = subst P fits.2 all in
+    let read = (drill_read fits.0 fits.1 each.0 each.1.0).1 in
+    let same = same_rows (subcommand_of program (codes "drill" ∷ words)) (codes "drill") read.0 rows (ap (λ (ws : List Text). subcommand_of program (codes "drill" ∷ ws)) fits.2 ∙ read.1) told in (
+      fits.0,
+      fits.1,
+      fits.2,
+      subst (λ (rs : List Row). first_of (codes "SEED") rs ≡ Some fits.0) same read.2,
+      subst (λ (rs : List Row). first_of (codes "ORDERS") rs ≡ Some fits.1) same read.3,
+    )
 
 told_serve : (words : List Text) → AllByRecursion IsName words → fault_of program (codes "serve" ∷ words) ≡ [] → (rows : List Row) → subcommand_of program (codes "serve" ∷ words) ≡ Some (codes "serve", rows)
     → (journal address workers sessions : Text) × (words ≡ journal ∷ address ∷ workers ∷ sessions ∷ []) × IsName journal × IsName address
@@ -149,10 +176,13 @@ untold words none (inl b) =
 untold words none (inr (inl i)) =
     let read = (init_read i.1.0 (decimal i.0) i.1.2 (number_named i.0 (omega (arith, i.1.3)))).1 in
     none.0 read.0 i.0 (ap (subcommand_of program) i.1.1 ∙ read.1) (read.2, i.1.3)
-untold words none (inr (inr s)) =
+untold words none (inr (inr (inl d))) =
+    let read = (drill_read (decimal d.0) (decimal d.1) (number_named d.0 d.2.1) (number_named d.1 (omega (arith, d.2.2)))).1 in
+    none.2 read.0 d.0 d.1 (ap (subcommand_of program) d.2.0 ∙ read.1) (read.2, read.3, d.2.1, d.2.2)
+untold words none (inr (inr (inr s))) =
     let is = s.2 in
     let read = (serve_read is.0 is.1 (decimal s.0) (decimal s.1) is.3 is.4 (number_named s.0 (omega (arith, is.5.1))) (number_named s.1 (sessions_small s.0 s.1 is.5.0 is.5.3))).1 in
-    none.2 read.0 s.0 s.1 (ap (subcommand_of program) is.2 ∙ read.1) (read.2, read.3, is.5)
+    none.3 read.0 s.0 s.1 (ap (subcommand_of program) is.2 ∙ read.1) (read.2, read.3, is.5)
 
 pub command_is : (words : List Text) → AllByRecursion IsName words → 0 < length words → fault_of program words ≡ [] → (c : Option Command) → CommandIn (subcommand_of program words) c → CommandIs words c
 command_is words all some none None is = untold words is
@@ -165,6 +195,16 @@ command_is words all some none (Some (Init cap)) is =
     let told = told_init n.0 n.2 (ap (fault_of program) (sym n.1) ∙ none) is.0 (ap (subcommand_of program) (sym n.1) ∙ is.1) in
     let number = same_Some _ _ (sym told.4 ∙ is.2.0) in
     (told.0, n.1 ∙ ap (λ (ws : List Text). codes "init" ∷ ws) told.2 ∙ ap (λ (w : Text). codes "init" ∷ told.0 ∷ w ∷ []) number, told.3, is.2.1)
+command_is words all some none (Some (Drill seed orders)) is =
+    let n = named_by words all some none (codes "drill") is.0 is.1 in
+    let told = told_drill n.0 n.2 (ap (fault_of program) (sym n.1) ∙ none) is.0 (ap (subcommand_of program) (sym n.1) ∙ is.1) in
+    let first = same_Some _ _ (sym told.3 ∙ is.2.0) in
+    let second = same_Some _ _ (sym told.4 ∙ is.2.1) in (
+      n.1 ∙ ap (λ (ws : List Text). codes "drill" ∷ ws) told.2 ∙ ap (λ (w : Text). codes "drill" ∷ w ∷ told.1 ∷ []) first
+          ∙ ap (λ (w : Text). codes "drill" ∷ decimal seed ∷ w ∷ []) second,
+      is.2.2,
+      is.2.3,
+    )
 command_is words all some none (Some (Serve workers sessions)) is =
     let n = named_by words all some none (codes "serve") is.0 is.1 in
     let told = told_serve n.0 n.2 (ap (fault_of program) (sym n.1) ∙ none) is.0 (ap (subcommand_of program) (sym n.1) ∙ is.1) in

@@ -1,10 +1,11 @@
 -- The table of the commands as clap has it, and what clap tells of words.
-use Rattle.std.specs.Prelude.{◌≡◌, ℕ, true, ◌<◌, ◌^◌, List, [], ◌∷◌, map, codes, Option, Some, None}
+use Rattle.std.specs.Prelude.{◌≡◌, ℕ, true, ◌≤◌, ◌<◌, ◌^◌, List, [], ◌∷◌, map, codes, Option, Some, None}
 use Rattle.std.specs.Fmt.{decimal}
 use Rattle.clap.specs.Walk.{Row, Rule, Text, first_of}
 use Rattle.clap.specs.Simple.{App, Shape, new_rule, new_shape, with_subcommand}
+use Rattle.nb_play.specs.declared.frames.TheConstants.{MAX_ORDERS}
 use Rattle.nb_words.specs.declared.words.Command.{Command}
-use Rattle.nb_words.specs.declared.words.Command.TheVariants.{Init, Batch, Serve}
+use Rattle.nb_words.specs.declared.words.Command.TheVariants.{Init, Batch, Drill, Serve}
 use Rattle.nb_words.specs.Words.{AreServed}
 
 -- ---- for the contracts of private functions alone
@@ -28,14 +29,25 @@ abbrev pub program : App
 program =
     with_subcommand
     (with_subcommand
+    (with_subcommand
     (with_subcommand bare
     (shape (codes "init") (codes "JOURNAL" ∷ codes "CAP" ∷ [])))
     (shape (codes "batch") (codes "JOURNAL" ∷ [])))
+    (shape (codes "drill") (codes "SEED" ∷ codes "ORDERS" ∷ [])))
     (shape (codes "serve") (codes "JOURNAL" ∷ codes "ADDRESS" ∷ codes "WORKERS" ∷ codes "SESSIONS" ∷ []))
+
+-- a number that is at most this was read at a position
+abbrev pub IsSmallAt : Text → List Row → ℕ → ℕ → Type 0
+IsSmallAt position rows most n = (first_of position rows ≡ Some (decimal n)) × (n ≤ most)
 
 -- a number for a cap was read
 abbrev pub InitIn : List Row → ℕ → Type 0
 InitIn rows cap = (first_of (codes "CAP") rows ≡ Some (decimal cap)) × (cap < 2 ^ 32)
+
+-- numbers for a drill were read
+abbrev pub DrillIn : List Row → ℕ → ℕ → Type 0
+DrillIn rows seed orders =
+    (first_of (codes "SEED") rows ≡ Some (decimal seed)) × (first_of (codes "ORDERS") rows ≡ Some (decimal orders)) × (seed < 2 ^ 64) × (orders ≤ MAX_ORDERS)
 
 -- numbers for a server were read
 abbrev pub ServeIn : List Row → ℕ → ℕ → Type 0
@@ -46,8 +58,10 @@ ServeIn rows workers sessions =
 abbrev pub CommandIn : Option (Text × List Row) → Option Command → Type 0
 CommandIn told (Some (Init cap)) = (rows : List Row) × (told ≡ Some (codes "init", rows)) × InitIn rows cap
 CommandIn told (Some Batch) = (rows : List Row) × (told ≡ Some (codes "batch", rows))
+CommandIn told (Some (Drill seed orders)) = (rows : List Row) × (told ≡ Some (codes "drill", rows)) × DrillIn rows seed orders
 CommandIn told (Some (Serve workers sessions)) = (rows : List Row) × (told ≡ Some (codes "serve", rows)) × ServeIn rows workers sessions
 CommandIn told None =
     ((rows : List Row) (cap : ℕ) → told ≡ Some (codes "init", rows) → InitIn rows cap → ⊥)
     × ((rows : List Row) → told ≡ Some (codes "batch", rows) → ⊥)
+    × ((rows : List Row) (seed orders : ℕ) → told ≡ Some (codes "drill", rows) → DrillIn rows seed orders → ⊥)
     × ((rows : List Row) (workers sessions : ℕ) → told ≡ Some (codes "serve", rows) → ServeIn rows workers sessions → ⊥)

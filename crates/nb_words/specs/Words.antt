@@ -2,9 +2,10 @@
 use Rattle.std.specs.Prelude.{◌≡◌, ◌≢◌, ℕ, ◌*◌, ◌≤◌, ◌<◌, ◌^◌, ◌⊎◌, List, [], ◌∷◌, length, codes, slice_index, slice_index_or, Option, Some, None}
 use Rattle.std.specs.List.{AllByRecursion}
 use Rattle.std.specs.Fmt.{decimal}
+use Rattle.nb_play.specs.declared.frames.TheConstants.{MAX_ORDERS}
 use Rattle.nb_words.specs.declared.words.TheConstants.{MAX_WORKERS, MAX_LINKS}
 use Rattle.nb_words.specs.declared.words.Command.{Command}
-use Rattle.nb_words.specs.declared.words.Command.TheVariants.{Init, Batch, Serve}
+use Rattle.nb_words.specs.declared.words.Command.TheVariants.{Init, Batch, Drill, Serve}
 
 -- the byte of a minus
 abbrev pub minus : ℕ
@@ -22,6 +23,10 @@ IsInit words cap = (journal : List ℕ) × (words ≡ codes "init" ∷ journal �
 abbrev pub IsBatch : List (List ℕ) → Type 0
 IsBatch words = (journal : List ℕ) × (words ≡ codes "batch" ∷ journal ∷ []) × IsName journal
 
+-- drill SEED ORDERS: the seed is below 2^64, and there are at most so many orders, both in decimal
+abbrev pub IsDrill : List (List ℕ) → ℕ → ℕ → Type 0
+IsDrill words seed orders = (words ≡ codes "drill" ∷ decimal seed ∷ decimal orders ∷ []) × (seed < 2 ^ 64) × (orders ≤ MAX_ORDERS)
+
 -- a server may have so many workers, of so many links each
 abbrev pub AreServed : ℕ → ℕ → Type 0
 AreServed workers sessions = (1 ≤ workers) × (workers ≤ MAX_WORKERS) × (1 ≤ sessions) × (workers * sessions ≤ MAX_LINKS)
@@ -34,12 +39,14 @@ IsServe words workers sessions =
 
 -- one of these
 abbrev pub IsCommand : List (List ℕ) → Type 0
-IsCommand words = IsBatch words ⊎ ((cap : ℕ) × IsInit words cap) ⊎ (workers : ℕ) × (sessions : ℕ) × IsServe words workers sessions
+IsCommand words =
+    IsBatch words ⊎ ((cap : ℕ) × IsInit words cap) ⊎ ((seed orders : ℕ) × IsDrill words seed orders) ⊎ (workers : ℕ) × (sessions : ℕ) × IsServe words workers sessions
 
 -- the words are this command, or none
 abbrev pub CommandIs : List (List ℕ) → Option Command → Type 0
 CommandIs words (Some (Init cap)) = IsInit words cap
 CommandIs words (Some Batch) = IsBatch words
+CommandIs words (Some (Drill seed orders)) = IsDrill words seed orders
 CommandIs words (Some (Serve workers sessions)) = IsServe words workers sessions
 CommandIs words None = IsCommand words → ⊥
 

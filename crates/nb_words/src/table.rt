@@ -1,21 +1,28 @@
-ghost use Rattle.std.specs.Prelude.{◌≡◌, IfOk, map};
-ghost use Rattle.clap.specs.Words.{app_of, with_subcommand};
+ghost use Rattle.std.specs.Prelude.{◌≡◌, ◌↔◌, ◌≤◌, ◌<◌, ◌^◌, ℕ, codes, map, IsTrue, IfOk, IfSome, Some};
+ghost use Rattle.std.specs.Fmt.{decimal};
+ghost use Rattle.clap.specs.Walk.{first_of};
+ghost use Rattle.clap.specs.Words.{app_of, found_of, rows_of, subcommand_rows_of, with_subcommand};
 ghost use Rattle.nb_words.specs.Table as table;
+ghost use Rattle.nb_words.specs.Words.{AreServed};
 
-use clap::{Arg, Command};
+use crate::words::{Command, MAX_LINKS, MAX_WORKERS};
+use clap::{Arg, ArgMatches, Command as Shape};
+use nb_play::MAX_ORDERS;
+use nb_units::decimal_of;
 use std::alloc::{AllocError, Global};
 
 /// The program, as clap reads its words: each row is a command, with its name and the names of what stands behind it.
-pub(crate) fn program<'a>(alloc: Global) -> Result<Command<'a>, AllocError>
+pub(crate) fn program<'a>(alloc: Global) -> Result<Shape<'a>, AllocError>
     ensures { IfOk result (λ program. app_of program ≡ table.program) }
 {
-    let program = Command::new(alloc, "netbill")
+    let program = Shape::new(alloc, "netbill")
         .no_binary_name(true)
         .disable_help_flag(true)
         .disable_help_subcommand(true)
         .subcommand_required(true);
     let program = with(alloc, program, "init", &["JOURNAL", "CAP"])?;
     let program = with(alloc, program, "batch", &["JOURNAL"])?;
+    let program = with(alloc, program, "drill", &["SEED", "ORDERS"])?;
     with(
         alloc,
         program,
@@ -24,18 +31,99 @@ pub(crate) fn program<'a>(alloc: Global) -> Result<Command<'a>, AllocError>
     )
 }
 
+/// The command that was read: each row is a command, with the ranges of its numbers.
+pub(crate) fn command_in(matches: &ArgMatches<'_>) -> Option<Command>
+    ensures { table.CommandIn (subcommand_rows_of matches.now) result }
+{
+    let (name, given) = matches.subcommand()?;
+    if is_init(name) {
+        let cap = small_in(given, "CAP", u32::MAX)?;
+        return Some(Command::Init { cap });
+    }
+    if is_batch(name) {
+        return Some(Command::Batch);
+    }
+    if is_drill(name) {
+        let seed = number_in(given, "SEED")?;
+        let orders = small_in(given, "ORDERS", MAX_ORDERS)?;
+        return Some(Command::Drill { seed, orders });
+    }
+    if is_serve(name) {
+        let workers = small_in(given, "WORKERS", MAX_WORKERS)?;
+        let sessions = small_in(given, "SESSIONS", MAX_LINKS)?;
+        if is_served(workers, sessions) {
+            return Some(Command::Serve { workers, sessions });
+        }
+    }
+    None
+}
+
 // The program with one command more. Each of its positions has to be there, and is read as a text.
 fn with<'a>(
     alloc: Global,
-    program: Command<'a>,
+    program: Shape<'a>,
     name: &'static str,
     positions: &[&'static str],
-) -> Result<Command<'a>, AllocError>
+) -> Result<Shape<'a>, AllocError>
     ensures { IfOk result (λ more. app_of more ≡ with_subcommand (app_of program.entry) (table.shape name.now (map (λ id. id.now) positions.now))) }
 {
-    let mut command = Command::new(alloc, name);
+    let mut command = Shape::new(alloc, name);
     'adding: for position in positions {
         command = command.arg(Arg::new(alloc, position).required(true))?;
     }
     program.subcommand(command)
+}
+
+// The number at a position, of 64 bits.
+fn number_in(given: &ArgMatches<'_>, position: &str) -> Option<u64>
+    ensures some { IfSome result (λ n. first_of position.now (rows_of (found_of given.now)) ≡ Some (decimal n)) }
+    ensures each { (n : ℕ) → n < 2 ^ 64 → first_of position.now (rows_of (found_of given.now)) ≡ Some (decimal n) → result ≡ Some n }
+{
+    decimal_of(given.get_str(position)?.as_bytes())
+}
+
+// The number at a position, where it is at most this.
+fn small_in(given: &ArgMatches<'_>, position: &str, most: u32) -> Option<u32>
+    ensures some { IfSome result (λ n. table.IsSmallAt position.now (rows_of (found_of given.now)) most n) }
+    ensures each { (n : ℕ) → table.IsSmallAt position.now (rows_of (found_of given.now)) most n → result ≡ Some n }
+{
+    let n = number_in(given, position)?;
+    if n > u64::from(most) {
+        return None;
+    }
+    Some(n as u32)
+}
+
+fn is_init(word: &str) -> bool
+    ensures { IsTrue result ↔ (word.now ≡ codes "init") }
+{
+    word == "init"
+}
+
+fn is_batch(word: &str) -> bool
+    ensures { IsTrue result ↔ (word.now ≡ codes "batch") }
+{
+    word == "batch"
+}
+
+fn is_drill(word: &str) -> bool
+    ensures { IsTrue result ↔ (word.now ≡ codes "drill") }
+{
+    word == "drill"
+}
+
+fn is_serve(word: &str) -> bool
+    ensures { IsTrue result ↔ (word.now ≡ codes "serve") }
+{
+    word == "serve"
+}
+
+// Whether a server may have so many workers of so many links.
+fn is_served(workers: u32, sessions: u32) -> bool
+    ensures { IsTrue result ↔ AreServed workers sessions }
+{
+    1 <= workers
+        && workers <= MAX_WORKERS
+        && 1 <= sessions
+        && u64::from(workers) * u64::from(sessions) <= u64::from(MAX_LINKS)
 }

@@ -8,10 +8,9 @@ ghost use Rattle.nb_words.specs.Table as table;
 ghost use Rattle.nb_words.specs.Numbers.{LimitsAre};
 ghost use Rattle.clap.specs.declared.error.kind.ErrorKind.TheVariants as errors;
 
-use crate::table::program;
-use clap::ArgMatches;
+use crate::table::{command_in, program};
 use clap::error::ErrorKind;
-use nb_units::{NoMemory, decimal_of};
+use nb_units::NoMemory;
 use std::alloc::Global;
 
 /// What the words tell the program to do.
@@ -21,6 +20,8 @@ pub enum Command {
     Init { cap: u32 },
     /// `batch JOURNAL`: answer the frames of the input in order.
     Batch,
+    /// `drill SEED ORDERS`: answer the frames of a drill with so many orders over a journal of its own.
+    Drill { seed: u64, orders: u32 },
     /// `serve JOURNAL ADDRESS WORKERS SESSIONS`: answer the links of so many workers, so many of each.
     Serve { workers: u32, sessions: u32 },
 }
@@ -37,8 +38,8 @@ pub fn limits()
 {}
 
 /// The command that the words are, where they are one. A name is not empty and does not begin with `-`, and so is an address; a number is
-/// decimal, below 2^32, and has no sign and no leading zero. A server has from 1 to [`MAX_WORKERS`] workers, of at least one link each
-/// and at most [`MAX_LINKS`] over all.
+/// decimal, and has no sign and no leading zero: a cap is below 2^32 and a seed below 2^64, a drill has at most [`nb_play::MAX_ORDERS`] orders, and a
+/// server from 1 to [`MAX_WORKERS`] workers, of at least one link each and at most [`MAX_LINKS`] over all.
 pub fn command_of(alloc: Global, words: &[String]) -> Result<Option<Command>, NoMemory>
     ensures command { IfOk result (CommandIs (map string_bytes words.now)) }
 
@@ -72,35 +73,6 @@ fn refused(kind: ErrorKind) -> Result<Option<Command>, NoMemory>
     }
 }
 
-// The command that was read.
-fn command_in(matches: &ArgMatches<'_>) -> Option<Command>
-    ensures { table.CommandIn (subcommand_rows_of matches.now) result }
-{
-    let (name, given) = matches.subcommand()?;
-    if is_batch(name) {
-        return Some(Command::Batch);
-    }
-    if is_init(name) {
-        return number_in(given, "CAP").map(|cap| Command::Init { cap });
-    }
-    if is_serve(name) {
-        let workers = number_in(given, "WORKERS")?;
-        let sessions = number_in(given, "SESSIONS")?;
-        if is_served(workers, sessions) {
-            return Some(Command::Serve { workers, sessions });
-        }
-    }
-    None
-}
-
-// The number at a position.
-fn number_in(given: &ArgMatches<'_>, position: &str) -> Option<u32>
-    ensures some { IfSome result (λ n. first_of position.now (rows_of (found_of given.now)) ≡ Some (decimal n)) }
-    ensures each { (n : ℕ) → n < 2 ^ 32 → first_of position.now (rows_of (found_of given.now)) ≡ Some (decimal n) → result ≡ Some n }
-{
-    decimal_of(given.get_str(position)?.as_bytes())
-}
-
 // Whether each word is a name.
 fn are_names(words: &[String]) -> bool
     ensures { IsTrue result ↔ AllByRecursion IsName (map string_bytes words.now) }
@@ -117,34 +89,6 @@ fn is_help(word: &str) -> bool
     ensures { IsTrue result ↔ (word.now ≡ codes "help") }
 {
     word == "help"
-}
-
-fn is_init(word: &str) -> bool
-    ensures { IsTrue result ↔ (word.now ≡ codes "init") }
-{
-    word == "init"
-}
-
-fn is_batch(word: &str) -> bool
-    ensures { IsTrue result ↔ (word.now ≡ codes "batch") }
-{
-    word == "batch"
-}
-
-fn is_serve(word: &str) -> bool
-    ensures { IsTrue result ↔ (word.now ≡ codes "serve") }
-{
-    word == "serve"
-}
-
-// Whether a server may have so many workers of so many links.
-fn is_served(workers: u32, sessions: u32) -> bool
-    ensures { IsTrue result ↔ AreServed workers sessions }
-{
-    1 <= workers
-        && workers <= MAX_WORKERS
-        && 1 <= sessions
-        && u64::from(workers) * u64::from(sessions) <= u64::from(MAX_LINKS)
 }
 
 fn is_name(word: &str) -> bool

@@ -3,7 +3,7 @@ use Rattle.std.proofs.lemmas.Option.{same_Some}
 use Rattle.nb_words.proofs.Listing.{weaker}
 use Rattle.clap.specs.Words.{found_of}
 use Rattle.clap.proofs.WalkLemmas.{first_value-rows}
-use Rattle.nb_words.proofs.words.number_in.Goals as goal
+use Rattle.nb_words.proofs.table.number_in.Goals as goal
 
 pub returns-in_err-get_str-clause-each : goal.returns-in_err-get_str-clause-each
 returns-in_err-get_str-clause-each c =
