@@ -19,3 +19,4 @@ pub mod laws;
 mod send;
 
 pub use batch::{BatchEnd, MOST_FRAMES, limit, serve};
+pub use send::{Sent, send_all};

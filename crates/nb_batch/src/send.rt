@@ -8,7 +8,9 @@ use nb_vault::Vault;
 /// How sending went.
 #[derive(Clone, Copy, PartialEq, Eq, Debug)]
 pub enum Sent {
+    /// All of the piece.
     All,
+    /// A write failed, and a part of the piece was sent, from its front.
     Failed,
 }
 
@@ -19,11 +21,11 @@ pub fn send_reply<D: Disk, K: Sink>(_house: &Vault<D>, sink: &mut K, reply: &[u8
     ensures sent { SentIs (K.faults sink.old) (K.faults sink.new) (K.sent sink.old) (K.sent sink.new) reply.now result }
     ensures count { K.faults sink.old ≤ K.faults sink.new }
 {
-    send(sink, reply)
+    send_all(sink, reply)
 }
 
-// Sends all of the piece, in as many writes as the sink wants.
-fn send<K: Sink>(sink: &mut K, piece: &[u8]) -> Sent
+/// Sends all of the piece, in as many writes as the sink wants, up to one that fails.
+pub fn send_all<K: Sink>(sink: &mut K, piece: &[u8]) -> Sent
     ensures sent { SentIs (K.faults sink.old) (K.faults sink.new) (K.sent sink.old) (K.sent sink.new) piece.now result }
     ensures count { K.faults sink.old ≤ K.faults sink.new }
 {

@@ -1,5 +1,5 @@
 -- An input of whole frames alone ends a batch well, unless something failed or memory was wanting.
-use Rattle.std.proofs.Common.{◌≡◌, ℕ, ◌⊎◌, List, [], ◌∷◌, ◌++◌, length, Option, None, Some, Err, refl, sym, ap, subst, ◌∙◌, append_assoc, append-nil, arith, inl, inr}
+use Rattle.std.proofs.Common.{◌≡◌, ◌≢◌, ℕ, ◌⊎◌, List, [], ◌∷◌, ◌++◌, length, Option, None, Some, Err, refl, sym, ap, subst, ◌∙◌, append_assoc, append-nil, arith, inl, inr}
 use Rattle.std.specs.Prelude.{map}
 use Rattle.std.specs.List.{flat_map, AllByRecursion}
 use Rattle.std.specs.Io.KnownBytes.{Consumes, IsAtEnd}
@@ -9,7 +9,7 @@ use Rattle.nb_port.specs.Tells.{DiskTells}
 use Rattle.nb_port.specs.Faults.{Rose}
 use Rattle.nb_units.specs.Frames.{Whole, Empty, Partial, Bad, HeaderFault, Frame, frame, IsFrame, front_of, Splits}
 use Rattle.nb_units.proofs.FrameLaws.{longest, whole_front, bad_stays, empty_bad}
-use Rattle.nb_run.specs.declared.ending.TheConstants.{CLEAN, OUT_OF_MEMORY}
+use Rattle.nb_run.specs.declared.ending.TheConstants.{CLEAN, OUT_OF_MEMORY, NO_JOURNAL, DISK_FAILED}
 use Rattle.nb_batch.specs.declared.batch.BatchEnd.{BatchEnd}
 use Rattle.nb_batch.specs.declared.batch.BatchEnd.TheVariants.{Clean, Cut, BadFrame, ReadFault, WriteFault, NoMemory, FrameLimit}
 use Rattle.nb_vault.specs.declared.vault.opening.VaultFault.{VaultFault}
@@ -17,8 +17,8 @@ use Rattle.nb_vault.specs.declared.vault.opening.VaultFault.TheVariants.{Unborn,
 use Rattle.nb_vault.specs.Opens.{WholeOpens, VaultOpenFails}
 use Rattle.nb_vault.specs.Vaults.{Chronicled}
 use Rattle.nb_batch.specs.Batch.{frame_of, Outside, Served, FaultOf}
-use Rattle.nb_run.specs.Ending.{status_of}
-use Rattle.nb_run.specs.Run.{IsWholeInput, IsJournal, unopened}
+use Rattle.nb_run.specs.Ending.{ended}
+use Rattle.nb_run.specs.Run.{EndsWhole, IsWholeInput, IsJournal, unopened}
 use Rattle.nb_batch.proofs.Serving.{nothing_whole}
 
 nothing_partial : front_of [] ≡ Partial → ⊥
@@ -70,7 +70,7 @@ pub record Parts (left' : Option (List ℕ)) (frames gs : List Frame) (rest : Li
   pub all : frames ≡ gs ++ more
   pub after : rest ++ left ≡ flat_map frame more ++ []
 
-parts : (frames gs : List Frame) (rest taken : List ℕ) (left left' : Option (List ℕ)) → left ≡ Some (flat_map frame frames) → AllByRecursion IsFrame frames → Consumes left left' taken → Splits taken gs rest
+pub parts : (frames gs : List Frame) (rest taken : List ℕ) (left left' : Option (List ℕ)) → left ≡ Some (flat_map frame frames) → AllByRecursion IsFrame frames → Consumes left left' taken → Splits taken gs rest
     → Parts left' frames gs rest
 parts frames gs rest taken None left' is lawful took s = absurd cc
 parts frames gs rest taken (Some bytes) None is lawful took s = absurd took
@@ -85,35 +85,53 @@ lawful_rest : (gs more : List Frame) → AllByRecursion IsFrame (gs ++ more) →
 lawful_rest [] more all = all
 lawful_rest (g ∷ gs) more all = lawful_rest gs more all.1
 
-pub complete_end : {D : Type 0} (tells : DiskTells D) (old new : Chronicled D) (end : BatchEnd) (before after : Outside) (source source' sink sink' : ℕ)
-    → Served tells old new before after end → FaultOf source source' sink sink' end → IsWholeInput before.left → (Rose source source' → ⊥) → (Rose sink sink' → ⊥)
-    → (status_of end ≡ CLEAN) ⊎ (status_of end ≡ OUT_OF_MEMORY)
-complete_end tells old new Clean before after source source' sink sink' s fault input no_source no_sink = inl refl
-complete_end tells old new NoMemory before after source source' sink sink' s fault input no_source no_sink = inr refl
-complete_end tells old new ReadFault before after source source' sink sink' s fault input no_source no_sink = absurd (no_source fault)
-complete_end tells old new WriteFault before after source source' sink sink' s fault input no_source no_sink = absurd (no_sink fault)
-complete_end tells old new (Cut place) before after source source' sink sink' s fault input no_source no_sink =
+-- whole frames alone end a batch well, unless the source failed or memory was wanting
+pub whole_end : {D : Type 0} (tells : DiskTells D) (old new : Chronicled D) (end : BatchEnd) (before after : Outside) (source source' sink sink' : ℕ)
+    → Served tells old new before after end → FaultOf source source' sink sink' end → IsWholeInput before.left → (Rose sink sink' → ⊥) → EndsWhole (ended end)
+whole_end tells old new Clean before after source source' sink sink' s fault input no_sink = inl refl
+whole_end tells old new NoMemory before after source source' sink sink' s fault input no_sink = inr (inl refl)
+whole_end tells old new ReadFault before after source source' sink sink' s fault input no_sink = inr (inr (inl refl))
+whole_end tells old new WriteFault before after source source' sink sink' s fault input no_sink = absurd (no_sink fault)
+whole_end tells old new (Cut place) before after source source' sink sink' s fault input no_sink =
     let gs : List Frame = map frame_of s.answered ++ s.unanswered in
     let p = parts input.frames gs s.rest s.read before.left after.left input.is input.lawful s.took s.frames in
     let P : List Frame → Type 0 = λ fs. AllByRecursion IsFrame fs in
     absurd (no_cut_rest s.rest p.left p.more (lawful_rest gs p.more (subst P p.all input.lawful)) p.after s.ends.0 (subst IsAtEnd p.known s.ends.1))
-complete_end tells old new (BadFrame bad) before after source source' sink sink' s fault input no_source no_sink =
+whole_end tells old new (BadFrame bad) before after source source' sink sink' s fault input no_sink =
     let gs : List Frame = map frame_of s.answered ++ s.unanswered in
     let p = parts input.frames gs s.rest s.read before.left after.left input.is input.lawful s.took s.frames in
     let P : List Frame → Type 0 = λ fs. AllByRecursion IsFrame fs in
     absurd (no_bad_rest s.rest p.left p.more s.ends.0 (lawful_rest gs p.more (subst P p.all input.lawful)) p.after s.ends.1)
-complete_end tells old new FrameLimit before after source source' sink sink' s fault input no_source no_sink =
+whole_end tells old new FrameLimit before after source source' sink sink' s fault input no_sink =
     let gs : List Frame = map frame_of s.answered ++ s.unanswered in
     let p = parts input.frames gs s.rest s.read before.left after.left input.is input.lawful s.took s.frames in
     absurd (omega (arith, input.few, s.counted, ap length p.all, length-append gs p.more, length-append (map frame_of s.answered) s.unanswered, length-map s.answered frame_of))
 
+-- how a run ends that was not opened is told by why
+pub unopened_whole : (fault : VaultFault) → EndsWhole (unopened fault)
+unopened_whole (Unborn found) = inr (inr (inr (inl refl)))
+unopened_whole (Damaged item place) = inr (inr (inr (inl refl)))
+unopened_whole (BadEntry item) = inr (inr (inr (inl refl)))
+unopened_whole (DiskFault before after) = inr (inr (inr (inr refl)))
+unopened_whole Starved = inr (inl refl)
+
 -- a content that stands for entries is opened, unless the disk failed or memory was wanting
 pub unopened_end : {D : Type 0} (tells : DiskTells D) (disk : D) (fault : VaultFault) (new : D) → WholeOpens (tells.content disk) (Err (fault, new)) → VaultOpenFails tells disk new fault → IsJournal (tells.content disk)
-    → (Rose (tells.faults disk) (tells.faults new) → ⊥) → ((unopened fault).status ≡ CLEAN) ⊎ ((unopened fault).status ≡ OUT_OF_MEMORY)
+    → (Rose (tells.faults disk) (tells.faults new) → ⊥) → ((unopened fault).status ≢ NO_JOURNAL) × ((unopened fault).status ≢ DISK_FAILED)
 unopened_end tells disk (Unborn found) new whole why j no_disk = absurd (whole j.image j.head j.cap j.entries j.is j.stands)
 unopened_end tells disk (Damaged item place) new whole why j no_disk = absurd (whole j.image j.head j.cap j.entries j.is j.stands)
 unopened_end tells disk (BadEntry item) new whole why j no_disk = absurd (whole j.image j.head j.cap j.entries j.is j.stands)
 unopened_end tells disk (DiskFault before after) new whole why j no_disk =
     let P : ℕ → ℕ → Type 0 = λ a b. Rose a b in
     absurd (no_disk (subst (λ (b : ℕ). P (tells.faults disk) b) why.1 (subst (λ (a : ℕ). P a after) why.0 why.2)))
-unopened_end tells disk Starved new whole why j no_disk = inr refl
+unopened_end tells disk Starved new whole why j no_disk = (λ e. omega (arith, e), λ e. omega (arith, e))
+
+-- a batch that was opened ends with none of the two
+pub opened_end : (end : BatchEnd) → ((ended end).status ≢ NO_JOURNAL) × ((ended end).status ≢ DISK_FAILED)
+opened_end Clean = (λ e. omega (arith, e), λ e. omega (arith, e))
+opened_end NoMemory = (λ e. omega (arith, e), λ e. omega (arith, e))
+opened_end ReadFault = (λ e. omega (arith, e), λ e. omega (arith, e))
+opened_end WriteFault = (λ e. omega (arith, e), λ e. omega (arith, e))
+opened_end (Cut place) = (λ e. omega (arith, e), λ e. omega (arith, e))
+opened_end (BadFrame fault) = (λ e. omega (arith, e), λ e. omega (arith, e))
+opened_end FrameLimit = (λ e. omega (arith, e), λ e. omega (arith, e))

@@ -3,3 +3,5 @@ pub mod Completeness
 pub mod Numerals
 pub mod Heads
 pub mod Making
+pub mod Tallying
+pub mod Drilling

@@ -1,18 +1,22 @@
 -- A head alone, for a disk without a journal, makes one, unless something failed.
-use Rattle.std.proofs.Common.{◌≡◌, ℕ, ◌+◌, List, length, Option, None, Some, IfSome, refl, sym, ap, ◌∙◌, arith, inl, inr}
+use Rattle.std.proofs.Common.{◌≡◌, ◌≢◌, ℕ, ◌+◌, List, [], ◌∷◌, ◌++◌, length, subst, Option, None, Some, IfSome, refl, sym, ap, ◌∙◌, arith, inl, inr}
 use Rattle.std.specs.Io.KnownBytes.{IsAtEnd}
 use Rattle.std.proofs.lemmas.List.{length-append}
 use Rattle.std.proofs.lemmas.Option.{same_Some}
 use Rattle.nb_port.specs.Tells.{DiskTells}
 use Rattle.nb_port.specs.Faults.{Rose}
 use Rattle.nb_units.specs.declared.limits.TheConstants.{HEAD}
-use Rattle.nb_journal.specs.Layout.{magic}
+use Rattle.nb_port.specs.Disk.{Only, wrote_at}
+use Rattle.nb_book.specs.Legal.{Legal}
+use Rattle.nb_journal.specs.Layout.{AreTerms, front_bytes, magic}
+use Rattle.nb_journal.specs.Stands.{Stands}
+use Rattle.nb_vault.specs.Holdings.{StandsFor}
 use Rattle.nb_journal.specs.Making.{IsCap}
 use Rattle.nb_journal.specs.Reading.{found_in}
 use Rattle.nb_run.specs.declared.ending.TheConstants.{CLEAN}
 use Rattle.nb_run.specs.declared.init.InitEnd.{InitEnd}
 use Rattle.nb_run.specs.declared.init.InitEnd.TheVariants.{Made, BadCap, ReadFault, BadInput, Exists, LookFault, DiskFault}
-use Rattle.nb_run.specs.Init.{MakesAs, ending_of, TookOther, IsHeadInput, HasNoJournal}
+use Rattle.nb_run.specs.Init.{IsMade, MakesAs, ending_of, TookOther, IsHeadInput, HasNoJournal}
 
 -- an input of a head has no other length
 not_other : (left left' : Option (List ℕ)) (count : ℕ) → IsHeadInput left → TookOther left left' count → ⊥
@@ -43,3 +47,33 @@ makes_clean tells rest rest' source source' old new cap (BadInput bytes) is rang
 makes_clean tells rest rest' source source' old new cap Exists is range input none no_source no_disk = absurd (not_born (tells.content old) none is.2.born)
 makes_clean tells rest rest' source source' old new cap LookFault is range input none no_source no_disk = absurd (no_disk is.2)
 makes_clean tells rest rest' source source' old new cap DiskFault is range input none no_source no_disk = absurd (no_disk is.2)
+
+-- ---- a journal that was just made
+
+no_entries : Legal []
+no_entries = record { each = λ k h d. absurd (omega (arith, h)) }
+
+stands_for_none : (head : List ℕ) (cap : ℕ) (image : List ℕ) → AreTerms cap head → Stands (front_bytes cap head) [] image → StandsFor head cap [] image
+stands_for_none head cap image terms stands = record {
+  items = [];
+  terms = terms;
+  stands = stands;
+  joins = record { groups = []; spelled = refl; each = tt; joined = refl };
+  legal = no_entries;
+  within = omega arith;
+}
+
+pub made_of : {D : Type 0} (tells : DiskTells D) (old new : D) (head : List ℕ) (cap : ℕ) → length head ≡ HEAD → IsCap cap → IfSome (tells.content old) (λ image. found_in image ≢ magic)
+    → IfSome (tells.content new) (Stands (front_bytes cap head) []) → Only (tells.content new) (tells.allowed new) → tells.content new ≡ wrote_at (tells.content old) 0 (front_bytes cap head ++ 0 ∷ []) → IsMade tells old new head cap
+made_of tells old new head cap whole range unborn stands only bytes =
+    let terms : AreTerms cap head = record { some = range.0; most = range.1; whole = whole } in
+    record {
+      unborn = unborn;
+      bytes = bytes;
+      stands = each (tells.content new) terms stands;
+      images = λ image allowed. stands_for_none head cap image terms (subst (λ (content : Option (List ℕ)). IfSome content (Stands (front_bytes cap head) [])) (only image allowed) stands);
+    }
+  where
+    each : (content : Option (List ℕ)) → AreTerms cap head → IfSome content (Stands (front_bytes cap head) []) → IfSome content (StandsFor head cap [])
+    each None terms is = is
+    each (Some image) terms is = stands_for_none head cap image terms is

@@ -4,7 +4,7 @@ use Rattle.std.specs.Fmt.{decimal}
 use Rattle.std.proofs.lemmas.Fmt.{decimal_injective}
 use Rattle.nb_run.specs.declared.ending.Outcome.TheVariants.{Work}
 use Rattle.nb_run.specs.declared.ending.Job.TheVariants.{Serve}
-use Rattle.nb_words.specs.Words.{IsInit, IsServe}
+use Rattle.nb_words.specs.Words.{IsDrill, IsInit, IsServe}
 use Rattle.nb_words.proofs.Whole.{sessions_small}
 
 -- words that are the same have the same number at a place
@@ -16,6 +16,13 @@ same_number place words other m n few less same is are =
 -- words have one cap
 pub one_cap : (words : List (List ℕ)) (m n : ℕ) → IsInit words m → IsInit words n → m ≡ n
 one_cap words m n is other = same_number 2 _ _ m n (omega (arith, is.3)) (omega (arith, other.3)) (sym is.1 ∙ other.1) refl refl
+
+-- words have one seed and one number of orders
+pub one_drill : (words : List (List ℕ)) (s o t p : ℕ) → IsDrill words s o → IsDrill words t p → (s ≡ t) × (o ≡ p)
+one_drill words s o t p is other = (
+  same_number 1 _ _ s t is.1 other.1 (sym is.0 ∙ other.0) refl refl,
+  same_number 2 _ _ o p (omega (arith, is.2)) (omega (arith, other.2)) (sym is.0 ∙ other.0) refl refl,
+)
 
 -- words that are a server's with these numbers are so with no others
 pub one_job : (words : List (List ℕ)) (w s v t : ℕ) → IsServe words w s → IsServe words v t → Work (Serve w s) ≡ Work (Serve v t)

@@ -18,6 +18,7 @@ use Rattle.nb_frame.specs.Looks.{IsShort}
 use Rattle.nb_frame.proofs.Shortness.{short_not_bad, nothing_bad}
 use Rattle.nb_journal.specs.Time.{Unwritten}
 use Rattle.nb_turns.specs.declared.line.Line.{Line}
+use Rattle.nb_turns.specs.Lines.{entries_of}
 use Rattle.nb_vault.specs.declared.origin.Origin.{Origin}
 use Rattle.nb_vault.specs.Holdings.{StandsForEither}
 use Rattle.nb_vault.specs.Opens.{VaultOpensAs}
@@ -34,7 +35,7 @@ use Rattle.nb_batch.specs.declared.batch.BatchEnd.TheVariants.{Clean, Cut, BadFr
 use Rattle.nb_batch.specs.Batch.{at_rest, AllDecided, IsDecided, failure_in_mark, failures_told, Outside, frame_of, CountsAs, AnswersAll, Wrote, WroteShort, Served, StandsInRun, GoesThrough}
 use Rattle.nb_batch.specs.Fetch.{AheadAs, EndsAs}
 use Rattle.nb_run.specs.Ending.{ended, status_of}
-use Rattle.nb_run.specs.Run.{EndsBadly, Batch}
+use Rattle.nb_run.specs.Run.{EndsBadly, Batch, BatchLines}
 
 -- ---- where each turn decides
 
@@ -318,3 +319,12 @@ module _ {D : Type 0} (tells : DiskTells D) where
         nowhere = no_place end;
         ends = ends_as end;
       }
+
+  -- and its last entries are those at opening and then those that the lines record
+  pub batch_lines : ((d : D) (c : List ℕ) → tells.left d (tells.moment d) c → tells.allowed d c) → (end : BatchEnd) (disk : D) (opened house : Chronicled D) (before after : Outside)
+      → VaultOpensAs tells disk opened → Unwritten tells disk opened.disk → tells.faults disk ≤ tells.faults opened.disk
+      → Served tells opened house before after end → Keeps tells house → house.origin ≡ opened.origin
+      → BatchLines tells disk house.disk before after house.lines (ended end)
+  unfolding batch_of
+  batch_lines only_now end disk opened house before after opens unwritten count s keeps same =
+      inr (batch_of only_now end disk opened house before after opens unwritten count s keeps same, ap (λ (o : Origin). entries_of o.entries house.lines) same)

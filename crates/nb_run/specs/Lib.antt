@@ -1,4 +1,5 @@
 pub mod Ending
 pub mod Init
 pub mod Run
+pub mod Drill
 pub mod Numbers

@@ -17,6 +17,8 @@ use Rattle.nb_vault.specs.declared.vault.opening.VaultFault.{VaultFault}
 use Rattle.nb_vault.specs.declared.vault.opening.VaultFault.TheVariants.{Unborn, Damaged, BadEntry, DiskFault, NoMemory}
 use Rattle.nb_vault.specs.Holdings.{StandsFor, StandsForEither}
 use Rattle.nb_vault.specs.Opens.{VaultOpenFails}
+use Rattle.nb_turns.specs.declared.line.Line.{Line}
+use Rattle.nb_turns.specs.Lines.{entries_of}
 use Rattle.nb_turns.specs.Turns.{State, Answered, decided, last_state, replies}
 use Rattle.nb_turns.specs.Laws.{IsBalanced, RunOfOnes}
 use Rattle.nb_vault.specs.Rules.{house_of}
@@ -157,6 +159,18 @@ pub record Batch {D : Type 0} (tells : DiskTells D) (old new : D) (before after 
 abbrev pub BatchIs : {D : Type 0} → DiskTells D → D → D → Outside → Outside → Ending → Type 0
 BatchIs tells old new before after ending =
     NotOpened tells old new before after ending ⊎ Batch tells old new before after ending
+
+-- and these are the lines of what was done: the last entries are those at opening and then those that the lines record. Without a journal
+-- that was opened there are none
+abbrev pub BatchLines : {D : Type 0} → DiskTells D → D → D → Outside → Outside → List Line → Ending → Type 0
+BatchLines tells old new before after lines ending =
+    (NotOpened tells old new before after ending × (lines ≡ []))
+    ⊎ ((batch : Batch tells old new before after ending) × (batch.last.entries ≡ entries_of batch.opening lines))
+
+-- how a batch ends over whole frames alone, where the sink did not fail
+abbrev pub EndsWhole : Ending → Type 0
+EndsWhole ending =
+    (ending.status ≡ CLEAN) ⊎ (ending.status ≡ OUT_OF_MEMORY) ⊎ (ending.status ≡ SOURCE_FAILED) ⊎ (ending.status ≡ NO_JOURNAL) ⊎ (ending.status ≡ DISK_FAILED)
 
 -- the input is fewer than so many whole frames and nothing else
 pub record IsWholeInput (left : Option (List ℕ)) : Type 0 where

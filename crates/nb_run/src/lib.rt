@@ -9,9 +9,11 @@
 //! Left to others: the real terminal, file and clock, and the lock on the file.
 #![tactic(auto)]
 
+mod drill;
 mod ending;
 mod init;
 mod program;
+mod tally;
 
 pub use ending::{
     BAD_INPUT, BAD_WORDS, CLEAN, DISK_FAILED, Ending, FRAME_LIMIT, Job, NO_JOURNAL, NOT_MADE,

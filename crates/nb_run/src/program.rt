@@ -1,4 +1,4 @@
-ghost use Rattle.std.specs.Prelude.{◌≡◌, ◌≤◌, ◌⊎◌, ℕ, map, string_bytes};
+ghost use Rattle.std.specs.Prelude.{◌≡◌, ◌≢◌, ◌≤◌, ◌⊎◌, ℕ, map, string_bytes};
 ghost use Rattle.nb_port.specs.Faults.{Rose};
 ghost use Rattle.nb_journal.specs.Making.{SparesJournal, IsCap};
 ghost use Rattle.nb_run.specs.declared.ending.TheConstants.{CLEAN, BAD_WORDS, SOURCE_FAILED, SINK_FAILED, OUT_OF_MEMORY, DISK_FAILED, NO_JOURNAL};
@@ -7,10 +7,12 @@ ghost use Rattle.nb_run.specs.declared.ending.Outcome.TheVariants as outcomes;
 ghost use Rattle.nb_run.specs.declared.ending.Job.{Job};
 ghost use Rattle.nb_run.specs.declared.ending.Job.TheVariants as jobs;
 ghost use Rattle.nb_run.specs.Ending as endings;
-ghost use Rattle.nb_words.specs.Words.{IsBatch, IsInit, IsServe, IsCommand, MayBeRead};
+ghost use Rattle.nb_words.specs.Words.{IsBatch, IsDrill, IsInit, IsServe, IsCommand, MayBeRead};
 ghost use Rattle.nb_run.specs.Init.{IsHeadInput, HasNoJournal};
+ghost use Rattle.nb_run.specs.Drill as drills;
 ghost use Rattle.nb_run.specs.Run as runs;
 
+use crate::drill::drill;
 use crate::ending::{
     BAD_INPUT, BAD_WORDS, CLEAN, Ending, FRAME_LIMIT, Job, OUT_OF_MEMORY, Outcome, SINK_FAILED,
     SOURCE_FAILED,
@@ -18,6 +20,7 @@ use crate::ending::{
 use crate::init::make_journal;
 use nb_batch::{BatchEnd, serve};
 use nb_port::{Clock, Disk, Sink, Source};
+use nb_turns::Line;
 use nb_units::NoMemory;
 use nb_vault::Vault;
 use nb_words::{Command, command_of};
@@ -77,8 +80,21 @@ pub fn run<S: Source, K: Sink, D: Disk, C: Clock>(
         (record { left = S.left source.new; sent = K.sent sink.new; moments = C.moments clock.new }))
         ⊎ runs.Unbegun result.0 source.old source.new sink.old sink.new disk result.1 clock.old clock.new }
 
+    // What a drill comes to, unless there was no memory to read the words. It takes nothing from the source and asks for no moment, and nothing is
+    // written over a journal that is there.
+    ensures drill { (seed orders : ℕ) → IsDrill (map string_bytes words.now) seed orders
+        → Ends result.0 (drills.DrillIs D.tells disk result.1 (K.sent sink.old) (K.sent sink.new) seed orders)
+        ⊎ runs.Unbegun result.0 source.old source.new sink.old sink.new disk result.1 clock.old clock.new }
+    ensures apart { (seed orders : ℕ) → IsDrill (map string_bytes words.now) seed orders
+        → (source.new ≡ source.old) × (clock.new ≡ clock.old) × SparesJournal D.tells disk result.1 }
+
+    // A disk without a journal, and nothing that fails: the drill is done, unless memory is wanting.
+    ensures drills { (seed orders : ℕ) → IsDrill (map string_bytes words.now) seed orders → HasNoJournal (D.tells.content disk)
+        → (Rose (K.faults sink.old) (K.faults sink.new) → ⊥) → (Rose (D.tells.faults disk) (D.tells.faults result.1) → ⊥)
+        → EndsWith result.0 CLEAN ⊎ EndsWith result.0 OUT_OF_MEMORY }
+
     // Nothing is taken, sent or asked for where the words are no command, work is left to do, or a batch ends with 7 or 8.
-    ensures closed { (IsCommand (map string_bytes words.now) → ⊥) ⊎ EndsWith result.0 NO_JOURNAL ⊎ (EndsWith result.0 DISK_FAILED × IsBatch (map string_bytes words.now)) ⊎ ((job : Job) × (result.0 ≡ outcomes.Work job))
+    ensures closed { (IsCommand (map string_bytes words.now) → ⊥) ⊎ (EndsWith result.0 NO_JOURNAL × IsBatch (map string_bytes words.now)) ⊎ (EndsWith result.0 DISK_FAILED × IsBatch (map string_bytes words.now)) ⊎ ((job : Job) × (result.0 ≡ outcomes.Work job))
         → (source.new ≡ source.old) × (sink.new ≡ sink.old) × (clock.new ≡ clock.old) }
 
     // Whole frames alone over a journal, and nothing that fails: all is done, unless memory is wanting.
@@ -93,7 +109,11 @@ pub fn run<S: Source, K: Sink, D: Disk, C: Clock>(
             (Outcome::Done(end.ending()), disk)
         }
         Ok(Some(Command::Batch)) => {
-            let (ending, disk) = answer_batch(alloc, source, sink, disk, clock);
+            let (ending, disk) = answer_batch(alloc, source, sink, disk, clock).without_lines();
+            (Outcome::Done(ending), disk)
+        }
+        Ok(Some(Command::Drill { seed, orders })) => {
+            let (ending, disk) = drill(alloc, seed, orders, sink, disk);
             (Outcome::Done(ending), disk)
         }
         Ok(Some(Command::Serve { workers, sessions })) => {
@@ -104,34 +124,66 @@ pub fn run<S: Source, K: Sink, D: Disk, C: Clock>(
     }
 }
 
+// How a batch ended, the disk, and the lines of what was done in it.
+pub(crate) struct Batched<D> {
+    pub(crate) ending: Ending,
+    pub(crate) disk: D,
+    pub(crate) lines: Vec<Line>,
+}
+
+impl<D> Batched<D> {
+    // How it ended, and the disk.
+    fn without_lines(self) -> (Ending, D)
+        ensures { result ≡ (self.ending, self.disk) }
+    {
+        let Batched {
+            ending,
+            disk,
+            lines: _lines,
+        } = self;
+        (ending, disk)
+    }
+}
+
 // Opens the house on the disk, and answers the frames of the source.
-fn answer_batch<S: Source, K: Sink, D: Disk, C: Clock>(
+pub(crate) fn answer_batch<S: Source, K: Sink, D: Disk, C: Clock>(
     alloc: Global,
     source: &mut S,
     sink: &mut K,
     disk: D,
     clock: &mut C,
-) -> (Ending, D)
-    ensures batch { runs.BatchIs D.tells disk result.1
+) -> Batched<D>
+    ensures batch { runs.BatchLines D.tells disk result.disk
         (record { left = S.left source.old; sent = K.sent sink.old; moments = C.moments clock.old })
-        (record { left = S.left source.new; sent = K.sent sink.new; moments = C.moments clock.new }) result.0 }
-    ensures counts { (S.faults source.old ≤ S.faults source.new) × (K.faults sink.old ≤ K.faults sink.new) × (D.tells.faults disk ≤ D.tells.faults result.1) }
-    ensures source { result.0.status ≡ SOURCE_FAILED → Rose (S.faults source.old) (S.faults source.new) }
-    ensures sink { result.0.status ≡ SINK_FAILED → Rose (K.faults sink.old) (K.faults sink.new) }
-    ensures fault { result.0.status ≡ DISK_FAILED → Rose (D.tells.faults disk) (D.tells.faults result.1) }
-    ensures closed { (result.0.status ≡ NO_JOURNAL) ⊎ (result.0.status ≡ DISK_FAILED) → (source.new ≡ source.old) × (sink.new ≡ sink.old) × (clock.new ≡ clock.old) }
-    ensures complete { runs.IsJournal (D.tells.content disk) → runs.IsWholeInput (S.left source.old)
-        → (Rose (S.faults source.old) (S.faults source.new) → ⊥) → (Rose (K.faults sink.old) (K.faults sink.new) → ⊥) → (Rose (D.tells.faults disk) (D.tells.faults result.1) → ⊥)
-        → (result.0.status ≡ CLEAN) ⊎ (result.0.status ≡ OUT_OF_MEMORY) }
+        (record { left = S.left source.new; sent = K.sent sink.new; moments = C.moments clock.new }) result.lines.items result.ending }
+    ensures counts { (S.faults source.old ≤ S.faults source.new) × (K.faults sink.old ≤ K.faults sink.new) × (D.tells.faults disk ≤ D.tells.faults result.disk) }
+    ensures source { result.ending.status ≡ SOURCE_FAILED → Rose (S.faults source.old) (S.faults source.new) }
+    ensures sink { result.ending.status ≡ SINK_FAILED → Rose (K.faults sink.old) (K.faults sink.new) }
+    ensures fault { result.ending.status ≡ DISK_FAILED → Rose (D.tells.faults disk) (D.tells.faults result.disk) }
+    ensures closed { (result.ending.status ≡ NO_JOURNAL) ⊎ (result.ending.status ≡ DISK_FAILED) → (source.new ≡ source.old) × (sink.new ≡ sink.old) × (clock.new ≡ clock.old) }
+    ensures whole { runs.IsWholeInput (S.left source.old) → (Rose (K.faults sink.old) (K.faults sink.new) → ⊥) → runs.EndsWhole result.ending }
+    ensures opens { runs.IsJournal (D.tells.content disk) → (Rose (D.tells.faults disk) (D.tells.faults result.disk) → ⊥)
+        → (result.ending.status ≢ NO_JOURNAL) × (result.ending.status ≢ DISK_FAILED) }
 {
     let mut house = match Vault::open(alloc, disk) {
         Ok(house) => house,
-        Err((fault, disk)) => return (Ending::unopened(fault), disk),
+        Err((fault, disk)) => {
+            return Batched {
+                ending: Ending::unopened(fault),
+                disk,
+                lines: Vec::new(alloc),
+            };
+        }
     };
     let end = serve(alloc, &mut house, source, sink, clock);
     // What the disk is at rest in is what every vault keeps.
     house.witness();
-    (ended(end), house.into_disk())
+    let (disk, lines) = house.into_parts();
+    Batched {
+        ending: ended(end),
+        disk,
+        lines,
+    }
 }
 
 // How a batch ends the program.

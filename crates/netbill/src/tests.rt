@@ -4,6 +4,7 @@ ghost use Rattle.std.specs.Prelude.{Some};
 
 mod again;
 mod cuts;
+mod drills;
 mod faults;
 mod making;
 mod stops;
@@ -347,7 +348,7 @@ static FAULTS: [Case<'static>; 3] = [
 ];
 
 // Words that are no command.
-static WORDS: [&'static [&'static str]; 32] = [
+static WORDS: [&'static [&'static str]; 39] = [
     &[],
     &["help"],
     &["help", "init"],
@@ -367,6 +368,13 @@ static WORDS: [&'static [&'static str]; 32] = [
     &["init", "-j", "4"],
     &["init", "4", "house.journal"],
     &["init", "house.journal", "4", "x"],
+    &["drill", "7"],
+    &["drill", "7", "1", "1"],
+    &["drill", "7", "01"],
+    &["drill", "+7", "1"],
+    &["drill", "-7", "1"],
+    &["drill", "18446744073709551616", "1"],
+    &["drill", "7", "100001"],
     &["serve", "house.journal", "[::1]:7000", "1"],
     &["serve", "house.journal", "[::1]:7000", "1", "1", "1"],
     &["serve", "-", "[::1]:7000", "1", "1"],

@@ -1,39 +1,46 @@
-use Rattle.std.proofs.Common.{sym, subst, arith, ◌⊎◌, ◌≡◌, ◌≤◌, inr}
+use Rattle.std.proofs.Common.{sym, subst, arith, ◌≡◌, ◌≢◌, ◌≤◌, ℕ, List}
+use Rattle.nb_turns.specs.declared.line.Line.{Line}
 use Rattle.nb_run.specs.declared.ending.Ending.{Ending}
-use Rattle.nb_run.specs.declared.ending.TheConstants.{CLEAN, OUT_OF_MEMORY}
+use Rattle.nb_run.specs.declared.ending.TheConstants.{DISK_FAILED, NO_JOURNAL}
 use Rattle.nb_batch.specs.Batch.{Outside}
 use Rattle.nb_run.specs.Ending.{ended}
-use Rattle.nb_run.specs.Run.{Batch}
-use Rattle.nb_run.proofs.Completeness.{complete_end, unopened_end}
-use Rattle.nb_run.proofs.Running.{batch_of}
+use Rattle.nb_run.specs.Run.{BatchLines, EndsWhole}
+use Rattle.nb_run.proofs.Completeness.{opened_end, unopened_end, unopened_whole, whole_end}
+use Rattle.nb_run.proofs.Running.{batch_lines}
 use Rattle.nb_run.proofs.program.answer_batch.Goals as goal
 
-pub returns-in-Err-clause-complete : goal.returns-in-Err-clause-complete
-returns-in-Err-clause-complete g c = λ journal input no_source no_sink no_disk.
-    subst (λ (ending : Ending). (ending.status ≡ CLEAN) ⊎ (ending.status ≡ OUT_OF_MEMORY)) (sym c.unopened.ensures)
+pub returns-in-Err-clause-whole : goal.returns-in-Err-clause-whole
+returns-in-Err-clause-whole g c = λ input no_sink. subst EndsWhole (sym c.unopened.ensures) (unopened_whole c.in-Err.fault)
+
+pub returns-in-Err-clause-opens : goal.returns-in-Err-clause-opens
+returns-in-Err-clause-opens g c = λ journal no_disk.
+    subst (λ (ending : Ending). (ending.status ≢ NO_JOURNAL) × (ending.status ≢ DISK_FAILED)) (sym c.unopened.ensures)
     (unopened_end g.D.Disk.tells c.args.disk c.in-Err.fault c.in-Err.disk c.in-Err.ensures.whole c.in-Err.ensures.gives journal no_disk)
 
 pub returns-clause-batch : goal.returns-clause-batch
 returns-clause-batch g c =
     let before : Outside = record { left = g.S.Source.left c.args.source.now; sent = g.K.Sink.sent c.args.sink.now; moments = g.C.Clock.moments c.args.clock.now } in
     let after : Outside = record { left = g.S.Source.left c.serve-end.new.source; sent = g.K.Sink.sent c.serve-end.new.sink; moments = g.C.Clock.moments c.serve-end.new.clock } in
-    inr
-    (subst (λ (ending : Ending). Batch g.D.Disk.tells c.args.disk c.into_disk.result before after ending) (sym c.ended.ensures)
-    (subst (λ (disk : g.row.D.Denot). Batch g.D.Disk.tells c.args.disk disk before after (ended c.serve-end.result)) (sym c.into_disk.ensures)
-    (batch_of g.D.Disk.tells g.met.D.Disk.only_now c.serve-end.result c.args.disk c.in-Ok.house c.serve-end.new.house before after
+    subst (λ (ending : Ending). BatchLines g.D.Disk.tells c.args.disk c.into_parts-disk.result.0 before after c.into_parts-disk.result.1.items ending) (sym c.ended.ensures)
+    (subst (λ (lines : List Line). BatchLines g.D.Disk.tells c.args.disk c.into_parts-disk.result.0 before after lines (ended c.serve-end.result)) (sym c.into_parts-disk.ensures.lines)
+    (subst (λ (disk : g.row.D.Denot). BatchLines g.D.Disk.tells c.args.disk disk before after c.serve-end.new.house.lines (ended c.serve-end.result)) (sym c.into_parts-disk.ensures.disk)
+    (batch_lines g.D.Disk.tells g.met.D.Disk.only_now c.serve-end.result c.args.disk c.in-Ok.house c.serve-end.new.house before after
     c.in-Ok.ensures.gives c.in-Ok.ensures.nothing c.in-Ok.ensures.count c.serve-end.ensures.served c.witness.ensures.keeps c.serve-end.ensures.origin)))
 
 pub returns-clause-counts : goal.returns-clause-counts
 returns-clause-counts g c = (
   c.serve-end.ensures.source,
   c.serve-end.ensures.sink,
-  subst (λ (disk : g.row.D.Denot). g.D.Disk.tells.faults c.args.disk ≤ g.D.Disk.tells.faults disk) (sym c.into_disk.ensures) (omega (arith, c.in-Ok.ensures.count, c.serve-end.ensures.disk)),
+  subst (λ (disk : g.row.D.Denot). g.D.Disk.tells.faults c.args.disk ≤ g.D.Disk.tells.faults disk) (sym c.into_parts-disk.ensures.disk) (omega (arith, c.in-Ok.ensures.count, c.serve-end.ensures.disk)),
 )
 
-pub returns-clause-complete : goal.returns-clause-complete
-returns-clause-complete g c = λ journal input no_source no_sink no_disk.
+pub returns-clause-whole : goal.returns-clause-whole
+returns-clause-whole g c = λ input no_sink.
     let before : Outside = record { left = g.S.Source.left c.args.source.now; sent = g.K.Sink.sent c.args.sink.now; moments = g.C.Clock.moments c.args.clock.now } in
     let after : Outside = record { left = g.S.Source.left c.serve-end.new.source; sent = g.K.Sink.sent c.serve-end.new.sink; moments = g.C.Clock.moments c.serve-end.new.clock } in
-    subst (λ (ending : Ending). (ending.status ≡ CLEAN) ⊎ (ending.status ≡ OUT_OF_MEMORY)) (sym c.ended.ensures)
-    (complete_end g.D.Disk.tells c.in-Ok.house c.serve-end.new.house c.serve-end.result before after (g.S.Source.faults c.args.source.now) (g.S.Source.faults c.serve-end.new.source) (g.K.Sink.faults c.args.sink.now) (g.K.Sink.faults c.serve-end.new.sink)
-    c.serve-end.ensures.served c.serve-end.ensures.fault input no_source no_sink)
+    subst EndsWhole (sym c.ended.ensures)
+    (whole_end g.D.Disk.tells c.in-Ok.house c.serve-end.new.house c.serve-end.result before after (g.S.Source.faults c.args.source.now) (g.S.Source.faults c.serve-end.new.source) (g.K.Sink.faults c.args.sink.now) (g.K.Sink.faults c.serve-end.new.sink)
+    c.serve-end.ensures.served c.serve-end.ensures.fault input no_sink)
+
+pub returns-clause-opens : goal.returns-clause-opens
+returns-clause-opens g c = λ journal no_disk. subst (λ (ending : Ending). (ending.status ≢ NO_JOURNAL) × (ending.status ≢ DISK_FAILED)) (sym c.ended.ensures) (opened_end c.serve-end.result)

@@ -1,8 +1,9 @@
 use Rattle.std.proofs.Common.{◌≡◌, ℕ, List, Some, ap, subst, ◌∙◌, inl, inr}
 use Rattle.std.specs.Prelude.{map, string_bytes}
 use Rattle.nb_words.specs.Words.{CommandIs}
+use Rattle.nb_run.specs.Drill.{DrillIs}
 use Rattle.nb_run.specs.Run.{InitIs}
-use Rattle.nb_run.proofs.Numerals.{one_cap, one_job}
+use Rattle.nb_run.proofs.Numerals.{one_cap, one_drill, one_job}
 use Rattle.nb_run.proofs.Making.{makes_clean}
 use Rattle.nb_run.specs.Init.{MakesAs}
 use Rattle.nb_run.proofs.program.run.Goals as goal
@@ -29,6 +30,22 @@ returns-in-Ok-Some-Init-clause-makes g c = λ cap is range input none no_source 
     (g.S.Source.faults c.make_journal-end.new.source) c.args.disk c.make_journal-end.new.disk n c.make_journal-end.result) same c.make_journal-end.ensures.made)
     range input none no_source no_disk)
 
+pub returns-in-Ok-Some-Drill-clause-drill : goal.returns-in-Ok-Some-Drill-clause-drill
+returns-in-Ok-Some-Drill-clause-drill g c = λ seed orders is.
+    let words : List (List ℕ) = map string_bytes c.args.words.now in
+    let d = c.in-Ok-Some-Drill in
+    let same = one_drill words d.seed d.orders seed orders (subst (CommandIs words) (d.field-0-is ∙ ap Some d.field-0-0-is) d.ensures.command) is in
+    inl
+    (subst (λ (s : ℕ). DrillIs g.D.Disk.tells c.args.disk c.drill-disk.result.1 (g.K.Sink.sent c.args.sink.now) (g.K.Sink.sent c.drill-disk.new.sink) s orders c.drill-disk.result.0) same.0
+    (subst (λ (o : ℕ). DrillIs g.D.Disk.tells c.args.disk c.drill-disk.result.1 (g.K.Sink.sent c.args.sink.now) (g.K.Sink.sent c.drill-disk.new.sink) d.seed o c.drill-disk.result.0) same.1 c.drill-disk.ensures.drill))
+
+pub returns-in-Ok-Some-Serve-clause-none : goal.returns-in-Ok-Some-Serve-clause-none
+returns-in-Ok-Some-Serve-clause-none g c = λ never.
+    let words : List (List ℕ) = map string_bytes c.args.words.now in
+    absurd
+    (never
+    (inr (inr (inr (c.in-Ok-Some-Serve.workers, c.in-Ok-Some-Serve.sessions, subst (CommandIs words) (c.in-Ok-Some-Serve.field-0-is ∙ ap Some c.in-Ok-Some-Serve.field-0-0-is) c.in-Ok-Some-Serve.ensures.command)))))
+
 pub returns-in-Ok-Some-Serve-clause-serve : goal.returns-in-Ok-Some-Serve-clause-serve
 returns-in-Ok-Some-Serve-clause-serve g c = λ workers sessions is.
     let words : List (List ℕ) = map string_bytes c.args.words.now in
@@ -39,4 +56,4 @@ returns-in-Ok-Some-Serve-clause-serve g c = λ workers sessions is.
 pub returns-in-Ok-None-clause-serve : goal.returns-in-Ok-None-clause-serve
 returns-in-Ok-None-clause-serve g c = λ workers sessions is.
     let words : List (List ℕ) = map string_bytes c.args.words.now in
-    absurd (subst (CommandIs words) c.in-Ok-None.field-0-is c.in-Ok-None.ensures.command (inr (inr (workers, sessions, is))))
+    absurd (subst (CommandIs words) c.in-Ok-None.field-0-is c.in-Ok-None.ensures.command (inr (inr (inr (workers, sessions, is)))))

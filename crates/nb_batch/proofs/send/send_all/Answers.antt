@@ -1,6 +1,6 @@
 use Rattle.std.proofs.Common.{arith}
 use Rattle.nb_batch.proofs.Sending.{sent_more}
-use Rattle.nb_batch.proofs.send.send.Goals as goal
+use Rattle.nb_batch.proofs.send.send_all.Goals as goal
 
 pub sending-preserved : goal.sending-preserved
 sending-preserved g c = record {

@@ -1,6 +1,6 @@
 use Rattle.std.proofs.Common.{◌-◌, ◌≤◌, length, take}
 use Rattle.std.specs.Io.KnownBytes.{Appends}
-use Rattle.nb_batch.proofs.send.send.Given as goal
+use Rattle.nb_batch.proofs.send.send_all.Given as goal
 
 -- what was sent so far is the piece up to here
 abbrev pub invariant-sending : goal.invariant-sending

@@ -1,0 +1,120 @@
+ghost use Rattle.std.specs.Prelude.{◌≡◌, ◌≤◌, ◌<◌, ◌^◌, ◌⊎◌, MatchResult};
+ghost use Rattle.nb_book.specs.Money.{total};
+ghost use Rattle.nb_journal.specs.Making.{InitFails, SparesJournal};
+ghost use Rattle.nb_play.specs.Feed.{cap_of};
+ghost use Rattle.nb_play.specs.declared.frames.TheConstants.{MAX_ORDERS};
+ghost use Rattle.nb_port.specs.Faults.{Rose};
+ghost use Rattle.nb_run.specs.declared.ending.TheConstants.{CLEAN, SINK_FAILED, OUT_OF_MEMORY, DISK_FAILED};
+ghost use Rattle.nb_run.specs.Drill as drills;
+ghost use Rattle.nb_run.specs.Init.{HasNoJournal, IsMade};
+
+use crate::ending::{
+    CLEAN, DISK_FAILED, Ending, NOT_MADE, OUT_OF_MEMORY, SINK_FAILED, SOURCE_FAILED,
+};
+use crate::program::{Batched, answer_batch};
+use crate::tally::tally_of;
+use nb_batch::{Sent, send_all};
+use nb_journal::{HEAD, InitFault, init};
+use nb_play::{DrillClock, DrillSource, NullSink, drill_head, entry_count};
+use nb_port::{Disk, Sink};
+use nb_turns::Line;
+use nb_units::NoMemory;
+use std::alloc::Global;
+
+/// Makes a journal on the disk, answers the frames of a drill over it, and tells in one line what came of it.
+pub fn drill<K: Sink, D: Disk>(
+    alloc: Global,
+    seed: u64,
+    orders: u32,
+    sink: &mut K,
+    disk: D,
+) -> (Ending, D)
+    requires { orders ≤ MAX_ORDERS }
+    ensures drill { drills.DrillIs D.tells disk result.1 (K.sent sink.old) (K.sent sink.new) seed orders result.0 }
+    ensures spares { SparesJournal D.tells disk result.1 }
+    ensures counts { (K.faults sink.old ≤ K.faults sink.new) × (D.tells.faults disk ≤ D.tells.faults result.1) }
+    ensures sink { result.0.status ≡ SINK_FAILED → Rose (K.faults sink.old) (K.faults sink.new) }
+    ensures fault { result.0.status ≡ DISK_FAILED → Rose (D.tells.faults disk) (D.tells.faults result.1) }
+    ensures complete { HasNoJournal (D.tells.content disk) → (Rose (K.faults sink.old) (K.faults sink.new) → ⊥) → (Rose (D.tells.faults disk) (D.tells.faults result.1) → ⊥)
+        → (result.0.status ≡ CLEAN) ⊎ (result.0.status ≡ OUT_OF_MEMORY) }
+{
+    let mut disk = disk;
+    match make(&mut disk, &drill_head(seed), orders) {
+        Ok(()) => answer(alloc, seed, orders, sink, disk),
+        Err(fault) => (unmade(fault), disk),
+    }
+}
+
+// Makes a journal for so many orders with this head, without entries.
+fn make<D: Disk>(disk: &mut D, head: &[u8; HEAD], orders: u32) -> Result<(), InitFault>
+    requires { orders ≤ MAX_ORDERS }
+    ensures made { MatchResult result (λ done. IsMade D.tells disk.old disk.new head.now (cap_of orders)) (λ fault. InitFails D.tells disk.old disk.new (cap_of orders) fault) }
+    ensures spares { SparesJournal D.tells disk.old disk.new }
+    ensures count { D.tells.faults disk.old ≤ D.tells.faults disk.new }
+{
+    match init(disk, head, entry_count(orders)) {
+        Ok(()) => Ok(()),
+        Err(fault) => Err(fault),
+    }
+}
+
+// How a run ends where no journal was made.
+fn unmade(fault: InitFault) -> Ending
+    ensures { result ≡ drills.unmade fault }
+{
+    match fault {
+        InitFault::DiskFault { .. } | InitFault::LookFailed { .. } => Ending::at_no_place(
+            DISK_FAILED,
+        ),
+        InitFault::BadCap { .. } | InitFault::Exists { .. } => Ending::at_no_place(NOT_MADE),
+    }
+}
+
+// Answers the frames of a drill over the journal that was made, and tells what came of it.
+fn answer<K: Sink, D: Disk>(
+    alloc: Global,
+    seed: u64,
+    orders: u32,
+    sink: &mut K,
+    disk: D,
+) -> (Ending, D)
+    requires { orders ≤ MAX_ORDERS }
+    ensures answered { drills.Answers D.tells disk result.1 (K.sent sink.old) (K.sent sink.new) seed orders result.0 }
+    ensures counts { (K.faults sink.old ≤ K.faults sink.new) × (D.tells.faults disk ≤ D.tells.faults result.1) }
+    ensures sink { result.0.status ≡ SINK_FAILED → Rose (K.faults sink.old) (K.faults sink.new) }
+    ensures fault { result.0.status ≡ DISK_FAILED → Rose (D.tells.faults disk) (D.tells.faults result.1) }
+    ensures complete { drills.IsFresh (D.tells.content disk) seed orders → (Rose (K.faults sink.old) (K.faults sink.new) → ⊥) → (Rose (D.tells.faults disk) (D.tells.faults result.1) → ⊥)
+        → (result.0.status ≡ CLEAN) ⊎ (result.0.status ≡ OUT_OF_MEMORY) }
+{
+    let mut source = DrillSource::new(alloc, seed, orders);
+    let mut clock = DrillClock::new();
+    let Batched {
+        ending,
+        disk,
+        lines,
+    } = answer_batch(alloc, &mut source, &mut NullSink, disk, &mut clock);
+    if ending.status == CLEAN && clock.tells() {
+        return (tell(alloc, orders, lines.as_slice(), sink), disk);
+    }
+    // a frame was wanting, or the clock's count of moments was at its end
+    if ending.status == CLEAN || ending.status == SOURCE_FAILED {
+        return (Ending::at_no_place(OUT_OF_MEMORY), disk);
+    }
+    (ending, disk)
+}
+
+// Tells in one line what the entries come to that these lines record.
+fn tell<K: Sink>(alloc: Global, orders: u32, lines: &[Line], sink: &mut K) -> Ending
+    requires { total (drills.recorded lines.now) < 2 ^ 64 }
+    ensures line { drills.TellsLine (K.sent sink.old) (K.sent sink.new) (drills.line_with orders (drills.tally (drills.recorded lines.now))) result }
+    ensures count { K.faults sink.old ≤ K.faults sink.new }
+    ensures fault { result.status ≡ SINK_FAILED → Rose (K.faults sink.old) (K.faults sink.new) }
+{
+    let Ok(line) = tally_of(lines).line(alloc, orders) else {
+        return Ending::at_no_place(OUT_OF_MEMORY);
+    };
+    match send_all(sink, line.as_bytes()) {
+        Sent::All => Ending::at_no_place(CLEAN),
+        Sent::Failed => Ending::at_no_place(SINK_FAILED),
+    }
+}
