@@ -3,16 +3,26 @@ use super::*;
 
 // What is on the disk, the calls of the disk and of the sink that fail, the status, and what was sent.
 static DRILLS: [(&[u8], &[u64], &[u64], u8, &[u8]); 7] = [
-    (b"", &[], &[], 0, LINE),
-    (b"no journal", &[], &[], 0, LINE),
+    (
+        b"",
+        &[],
+        &[],
+        0,
+        b"orders 3 paid 3 refused 0 total 8000000\n",
+    ),
+    (
+        b"no journal",
+        &[],
+        &[],
+        0,
+        b"orders 3 paid 3 refused 0 total 8000000\n",
+    ),
     (b"NBJRNL01", &[], &[], 9, b""),
     (b"NBJRNL01 and what follows it", &[], &[], 9, b""),
     (b"", &[1], &[], 7, b""),
     (b"", &[4], &[], 7, b""),
     (b"", &[], &[1], 4, b""),
 ];
-
-static LINE: &[u8] = b"orders 3 paid 3 refused 0 total 8000000\n";
 
 #[test]
 fn drills_are_told(rt: HostRuntime) -> Result<(), Fail> {
