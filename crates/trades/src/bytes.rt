@@ -31,6 +31,19 @@ pub(crate) fn first(alloc: Global, text: &str) -> u8 {
     spelled(alloc, text).first().copied().unwrap_or(0)
 }
 
+// The bytes of an item, where there is one.
+pub(crate) fn kept(alloc: Global, keep: &Option<Blob>) -> Result<Vec<u8>, NoMemory> {
+    match keep {
+        Some(item) => Ok(Vec::from_slice(alloc, item.as_slice())?),
+        None => Ok(Vec::new(alloc)),
+    }
+}
+
+// What a shelf without products sells.
+pub(crate) fn empty_catalogue(alloc: Global) -> Result<Catalogue, NoMemory> {
+    Catalogue::read(alloc, b"").map_err(|_| NoMemory)
+}
+
 // The message that a kind and a body spell, both in hexadecimal.
 pub(crate) fn said(alloc: Global, kind: &str, body: &str) -> Option<Message>
     ensures { IfSome result MessageKeepsRules }

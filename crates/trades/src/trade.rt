@@ -49,7 +49,7 @@ impl Trade {
             items: Vec::new(alloc),
             consumer: Consumer::new(alloc, WALLET),
             shelf: Vec::new(alloc),
-            merchant: selling::new_merchant(alloc)?,
+            merchant: selling::new_merchant(alloc, bytes::empty_catalogue(alloc)?),
             kept: Vec::new(alloc),
             sent: Vec::new(alloc),
             goods: Blob::from_vec(Vec::new(alloc)),

@@ -18,12 +18,9 @@ const STALL: Stall = Stall {
     master: [0x66; 32],
 };
 
-// A merchant that sells nothing, and kept nothing.
-pub(crate) fn new_merchant(alloc: Global) -> Result<Merchant, NoMemory> {
-    match bytes::catalogue(alloc, &[])? {
-        Some(catalogue) => Ok(Merchant::new(alloc, STALL, catalogue)),
-        None => Err(NoMemory),
-    }
+// A merchant that sells this, and kept nothing.
+pub(crate) fn new_merchant(alloc: Global, catalogue: Catalogue) -> Merchant {
+    Merchant::new(alloc, STALL, catalogue)
 }
 
 impl Trade {
@@ -72,21 +69,13 @@ impl Trade {
     {
         match step {
             Step::Move { keep, to, message } => {
-                self.keep_sold(keep)?;
+                self.kept = bytes::kept(self.alloc, keep)?;
                 let moved = self.moved(message)?;
                 telling::sent(self.alloc, moved.as_str(), *to)
             }
             Step::Ended { .. } => telling::unclear(self.alloc),
             Step::Ignored(why) => telling::why(self.alloc, *why),
         }
-    }
-
-    fn keep_sold(&mut self, keep: &Option<Blob>) -> Result<(), NoMemory> {
-        self.kept = match keep {
-            Some(item) => Vec::from_slice(self.alloc, item.as_slice())?,
-            None => Vec::new(self.alloc),
-        };
-        Ok(())
     }
 
     /// `consumer KIND BODY MOMENT`: a message of a consumer comes to the merchant at this moment.
