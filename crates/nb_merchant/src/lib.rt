@@ -18,6 +18,3 @@ mod merchant;
 mod rows;
 
 pub use merchant::Merchant;
-
-#[cfg(test)]
-mod tests;

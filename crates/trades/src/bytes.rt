@@ -6,6 +6,7 @@ ghost use Rattle.nb_wallet.specs.Spelling.{StartKeepsRules};
 
 use nb_goods::{goods_key, sealed};
 use nb_msgs::{Message, read_body};
+use nb_price::{Catalogue, ShelfFault};
 use nb_units::{Blob, NoMemory, PartyId, Price, Secret, Small};
 use nb_wallet::Start;
 use std::alloc::Global;
@@ -14,7 +15,7 @@ const MASTER: Secret = [0x66; 32];
 
 const MERCHANT: PartyId = PartyId(2);
 
-// The longest goods of a script.
+// The longest goods and the longest shelf of a script.
 const MOST: usize = 1_000_000;
 
 // The bytes that a text spells; none where it spells none.
@@ -23,6 +24,31 @@ pub(crate) fn spelled(alloc: Global, text: &str) -> Vec<u8> {
         Ok(bytes) => bytes,
         Err(_) => Vec::new(alloc),
     }
+}
+
+// The first byte that a text spells; 0 where it spells none.
+pub(crate) fn first(alloc: Global, text: &str) -> u8 {
+    spelled(alloc, text).first().copied().unwrap_or(0)
+}
+
+// The bytes of an item, where there is one.
+pub(crate) fn kept(alloc: Global, keep: &Option<Blob>) -> Result<Vec<u8>, NoMemory> {
+    match keep {
+        Some(item) => Ok(Vec::from_slice(alloc, item.as_slice())?),
+        None => Ok(Vec::new(alloc)),
+    }
+}
+
+// What a shelf without products sells.
+pub(crate) fn empty_catalogue(alloc: Global) -> Result<Catalogue, NoMemory> {
+    Catalogue::read(alloc, b"").map_err(|_| NoMemory)
+}
+
+// The message that a kind and a body spell, both in hexadecimal.
+pub(crate) fn said(alloc: Global, kind: &str, body: &str) -> Option<Message>
+    ensures { IfSome result MessageKeepsRules }
+{
+    message(alloc, first(alloc, kind), &spelled(alloc, body))
 }
 
 // The message that a body of this kind spells.
@@ -50,6 +76,18 @@ pub(crate) fn wish(transaction: u64, limit: u64) -> Start
         limit: Price(limit),
         request: none,
         memo: none,
+    }
+}
+
+// What a shelf sells; nothing where it is none.
+pub(crate) fn catalogue(alloc: Global, shelf: &[u8]) -> Result<Option<Catalogue>, NoMemory> {
+    if shelf.len() > MOST {
+        return Ok(None);
+    }
+    match Catalogue::read(alloc, shelf) {
+        Ok(catalogue) => Ok(Some(catalogue)),
+        Err(ShelfFault::NoMemory) => Err(NoMemory),
+        Err(_) => Ok(None),
     }
 }
 

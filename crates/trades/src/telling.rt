@@ -1,10 +1,11 @@
-// What a consumer does, in words.
+// What a consumer and a merchant do, in words.
 
 ghost use Rattle.nb_msgs.specs.Bodies.{MessageKeepsRules};
 
 use nb_consumer::Phase;
-use nb_msgs::{End, Message, Reason, write_message};
-use nb_units::NoMemory;
+use nb_msgs::{End, Message, Reason, RestartFault, To, write_message};
+use nb_stall::Stage;
+use nb_units::{NoMemory, PartyId};
 use std::alloc::Global;
 
 // A line that says nothing that can be done.
@@ -62,6 +63,42 @@ pub(crate) fn moved(alloc: Global, kept: &[u8], message: &Message) -> Result<Str
             Ok(format!(in alloc; "keeps {item}, sends {sent}")?)
         }
         None => Ok(format!(in alloc; "sends {sent}")?),
+    }
+}
+
+// Whom that is for.
+pub(crate) fn sent(alloc: Global, moved: &str, to: To) -> Result<String, NoMemory> {
+    Ok(match to {
+        To::Server => format!(in alloc; "{moved} to the house")?,
+        To::Merchant(PartyId(number)) => format!(in alloc; "{moved} to merchant {number}")?,
+        To::Consumer(PartyId(number)) => format!(in alloc; "{moved} to consumer {number}")?,
+    })
+}
+
+// How far a merchant's purchase has come.
+pub(crate) fn stage(alloc: Global, stage: Option<Stage>) -> Result<String, NoMemory> {
+    Ok(match stage {
+        None => "none".to_string(alloc)?,
+        Some(Stage::Quoted) => "quoted".to_string(alloc)?,
+        Some(Stage::Delivered) => "delivered".to_string(alloc)?,
+        Some(Stage::Endorsed) => "endorsed".to_string(alloc)?,
+        Some(Stage::Settled) => "settled".to_string(alloc)?,
+    })
+}
+
+// Whose ticket a message shows.
+pub(crate) fn asker(alloc: Global, asker: Option<PartyId>) -> Result<String, NoMemory> {
+    Ok(match asker {
+        None => "nobody".to_string(alloc)?,
+        Some(PartyId(number)) => format!(in alloc; "consumer {number}")?,
+    })
+}
+
+// Why items are not started with.
+pub(crate) fn fault(alloc: Global, fault: RestartFault) -> Result<String, NoMemory> {
+    match fault {
+        RestartFault::BadItem { item } => Ok(format!(in alloc; "bad item {item}")?),
+        RestartFault::NoMemory => Err(NoMemory),
     }
 }
 

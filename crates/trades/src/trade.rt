@@ -1,10 +1,13 @@
 ghost use Rattle.nb_consumer.specs.Deeds.{StepKeepsRules};
 ghost use Rattle.nb_msgs.specs.Bodies.{MessageKeepsRules};
 
+mod selling;
+
 use crate::{bytes, telling};
 use nb_consumer::Consumer;
 use nb_goods::checksum;
-use nb_msgs::{Message, RestartFault, Step};
+use nb_merchant::Merchant;
+use nb_msgs::{Message, Step};
 use nb_units::{AcctId, Blob, NoMemory, PartyId};
 use nb_wallet::Wallet;
 use std::alloc::Global;
@@ -19,7 +22,7 @@ const WALLET: Wallet = Wallet {
 // The most bytes of an item that are shown.
 const SHOWN: usize = 1000;
 
-/// A consumer, and what it kept and sent.
+/// A consumer and a merchant, and what the last step of one of them kept and sent.
 #[derive(Drop)]
 pub struct Trade {
     alloc: Global,
@@ -28,6 +31,9 @@ pub struct Trade {
     // All items that the consumer kept.
     items: Vec<Blob>,
     consumer: Consumer,
+    // What a merchant sells that starts.
+    shelf: Vec<u8>,
+    merchant: Merchant,
     // What the last step kept and sent.
     kept: Vec<u8>,
     sent: Vec<u8>,
@@ -35,17 +41,19 @@ pub struct Trade {
 }
 
 impl Trade {
-    /// A consumer that kept nothing.
-    pub fn new(alloc: Global) -> Trade {
-        Trade {
+    /// A consumer and a merchant that kept nothing.
+    pub fn new(alloc: Global) -> Result<Trade, NoMemory> {
+        Ok(Trade {
             alloc,
             known: Vec::new(alloc),
             items: Vec::new(alloc),
             consumer: Consumer::new(alloc, WALLET),
+            shelf: Vec::new(alloc),
+            merchant: selling::new_merchant(alloc, bytes::empty_catalogue(alloc)?),
             kept: Vec::new(alloc),
             sent: Vec::new(alloc),
             goods: Blob::from_vec(Vec::new(alloc)),
-        }
+        })
     }
 
     /// Where memory comes from.
@@ -96,10 +104,7 @@ impl Trade {
                 self.consumer = consumer;
                 self.nothing()
             }
-            Err(RestartFault::BadItem { item }) => {
-                Ok(format!(in self.alloc; "bad item {item}")?)
-            }
-            Err(RestartFault::NoMemory) => Err(NoMemory),
+            Err(fault) => telling::fault(self.alloc, fault),
         }
     }
 
@@ -110,8 +115,7 @@ impl Trade {
         match step {
             Step::Move { keep, message, .. } => {
                 self.keep(keep)?;
-                self.sent = telling::frame(self.alloc, message)?;
-                telling::moved(self.alloc, &self.kept, message)
+                self.moved(message)
             }
             Step::Ended { keep, end } => {
                 self.keep_item(keep)?;
@@ -120,6 +124,14 @@ impl Trade {
             }
             Step::Ignored(why) => telling::why(self.alloc, *why),
         }
+    }
+
+    // Remembers what a step sends, and tells it with what it keeps.
+    fn moved(&mut self, message: &Message) -> Result<String, NoMemory>
+        requires { MessageKeepsRules message.now }
+    {
+        self.sent = telling::frame(self.alloc, message)?;
+        telling::moved(self.alloc, &self.kept, message)
     }
 
     fn keep(&mut self, keep: &Option<Blob>) -> Result<(), NoMemory> {
@@ -149,10 +161,7 @@ impl Trade {
 
     /// `hear KIND BODY`: a message comes.
     pub fn hear(&mut self, kind: &str, body: &str) -> Result<String, NoMemory> {
-        let kind = bytes::spelled(self.alloc, kind)
-            .first()
-            .copied()
-            .unwrap_or(0);
+        let kind = bytes::first(self.alloc, kind);
         self.hear_body(kind, &bytes::spelled(self.alloc, body))
     }
 
