@@ -9,12 +9,12 @@ ghost use Rattle.nb_desk.specs.Desks.{IsAt, IsSameDesk};
 use crate::{Asked, AskedAll, Desk, Pass, SplitFault};
 use nb_msgs::REPLY_ROOM;
 use nb_port::{Disk, MemDisk};
-use nb_samples::{DONE_1, DONE_2, ENROL_1, ENROL_2, JOURNAL_CAP_4, STATUS_1};
+use nb_samples::{DONE_1, DONE_2, ENROL_1, ENROL_2, JOURNAL_CAP_4};
 use nb_vault::{AskAt, Vault};
 use std::alloc::Global;
+use std::process::Abort;
 use std::sync::Wait;
 use std::test::Fail;
-use std::thread::join;
 
 mod many;
 mod waiting;
@@ -71,11 +71,15 @@ fn ask_frame<R: Wait, D: Disk + Drop>(
     Some((pass, asked, out))
 }
 
+// A disk with a journal.
+fn disk_with(alloc: Global, journal: &str) -> Result<MemDisk, Fail> {
+    let content = hex::decode(alloc, journal)?;
+    Ok(MemDisk::new(alloc, content.as_slice(), &[])?)
+}
+
 #[test]
 fn a_number_is_given_once(rt: HostRuntime) -> Result<(), Fail> {
-    let content = hex::decode(rt.alloc(), JOURNAL_CAP_4)?;
-    let disk = MemDisk::new(rt.alloc(), content.as_slice(), &[])?;
-    let (mut desk, pass) = desk_over(rt.alloc(), disk)?;
+    let (mut desk, pass) = desk_over(rt.alloc(), disk_with(rt.alloc(), JOURNAL_CAP_4)?)?;
     let (first, second) = halves(&mut desk, pass, 1)?;
     let pass = desk.join(first, second);
     let Err((fault, pass)) = desk.split(pass, 1) else {
@@ -86,32 +90,73 @@ fn a_number_is_given_once(rt: HostRuntime) -> Result<(), Fail> {
     Ok(())
 }
 
+// How both requests were answered: where, and by which replies.
+#[derive(Drop)]
+struct BothAsked {
+    asked: AskedAll,
+    ats: Vec<u64>,
+    out: Vec<u8>,
+}
+
+// Asks for the requests of two frames that enrol, one behind the other, at once; or tries to.
+fn ask_both<R: Wait>(
+    rt: &R,
+    alloc: Global,
+    desk: &Desk<MemDisk>,
+    pass: Pass<MemDisk>,
+    bytes: &[u8],
+    tries: bool,
+) -> Option<(Pass<MemDisk>, BothAsked)>
+    requires pass { IsAt pass desk.now }
+    requires bytes { length bytes.now ≡ 178 }
+    ensures { IfSome result (λ r. IsAt r.0 desk.now) }
+{
+    let asks = both_asks(bytes);
+    let mut ats = Vec::with_capacity(alloc, 4).ok()?;
+    let mut out = Vec::with_capacity(alloc, 4 * REPLY_ROOM).ok()?;
+    let (pass, asked) = if tries {
+        desk.try_ask_all(pass, bytes, &asks, &mut ats, &mut out)
+    } else {
+        desk.ask_all(rt, pass, bytes, &asks, &mut ats, &mut out)
+    };
+    Some((pass, BothAsked { asked, ats, out }))
+}
+
 #[test]
 fn two_are_asked_at_once_and_then_again(rt: HostRuntime) -> Result<(), Fail> {
     let alloc = rt.alloc();
-    let content = hex::decode(alloc, JOURNAL_CAP_4)?;
-    let (desk, pass) = desk_over(alloc, MemDisk::new(alloc, content.as_slice(), &[])?)?;
-    let mut bytes = hex::decode(alloc, ENROL_1)?;
-    bytes.extend_from_slice(hex::decode(alloc, ENROL_2)?.as_slice())?;
+    let (desk, pass) = desk_over(alloc, disk_with(alloc, JOURNAL_CAP_4)?)?;
+    let bytes = joined(alloc, ENROL_1, ENROL_2)?;
     if bytes.len() != 178 {
         return Err("a frame that enrols has 89 bytes".into());
     }
-    let asks = both_asks(bytes.as_slice());
-    let mut ats = Vec::with_capacity(alloc, 4)?;
-    let mut out = Vec::with_capacity(alloc, 4 * REPLY_ROOM)?;
-    let (pass, first) = desk.ask_all(&rt, pass, bytes.as_slice(), &asks, &mut ats, &mut out);
-    assert_eq!(rt; first, AskedAll::Served);
-    assert_eq!(rt; ats.as_slice(), &[0u64, 1][..]);
-    let mut ats = Vec::with_capacity(alloc, 4)?;
-    let mut out_again = Vec::with_capacity(alloc, 4 * REPLY_ROOM)?;
-    let (pass, again) = desk.try_ask_all(pass, bytes.as_slice(), &asks, &mut ats, &mut out_again);
-    assert_eq!(rt; again, AskedAll::Served);
-    assert_eq!(rt; ats.as_slice(), &[2u64, 2][..]);
-    let mut told = hex::decode(alloc, DONE_1)?;
-    told.extend_from_slice(hex::decode(alloc, DONE_2)?.as_slice())?;
-    assert_eq!(rt; out.as_slice(), told.as_slice());
-    assert_eq!(rt; out_again.as_slice(), told.as_slice());
+    let Some((pass, first)) = ask_both(&rt, alloc, &desk, pass, bytes.as_slice(), false) else {
+        return Err("there was no memory".into());
+    };
+    hold(&rt, alloc, &first, [0, 1])?;
+    let Some((pass, again)) = ask_both(&rt, alloc, &desk, pass, bytes.as_slice(), true) else {
+        return Err("there was no memory".into());
+    };
+    hold(&rt, alloc, &again, [2, 2])?;
     assert_eq!(rt; pass.seen(), 2);
+    Ok(())
+}
+
+// The bytes of two samples, one behind the other.
+fn joined(alloc: Global, first: &str, second: &str) -> Result<Vec<u8>, Fail> {
+    let mut bytes = hex::decode(alloc, first)?;
+    bytes.extend_from_slice(hex::decode(alloc, second)?.as_slice())?;
+    Ok(bytes)
+}
+
+// Both were served at these places, and told that they are enrolled.
+fn hold(rt: &impl Abort, alloc: Global, both: &BothAsked, ats: [u64; 2]) -> Result<(), Fail> {
+    assert_eq!(rt; both.asked, AskedAll::Served);
+    assert_eq!(rt; both.ats.as_slice(), &ats[..]);
+    assert_eq!(rt;
+        both.out.as_slice(),
+        joined(alloc, DONE_1, DONE_2)?.as_slice()
+    );
     Ok(())
 }
 

@@ -22,6 +22,3 @@ mod worker;
 
 pub use server::{MAX_WORKERS, Served, serve_all};
 pub use worker::{How, Worker, WorkerEnd};
-
-#[cfg(test)]
-mod tests;

@@ -28,6 +28,3 @@ mod sending;
 
 pub use ended::{MOST_FRAMES, Record, SessionEnd};
 pub use linked::session;
-
-#[cfg(test)]
-mod tests;

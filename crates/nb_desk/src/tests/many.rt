@@ -1,6 +1,6 @@
 // Four threads that ask one desk, each 10,000 times: it funds an account under a reference of its own, and then asks for the same again.
-ghost use Rattle.std.specs.Prelude.{◌≡◌, ◌<◌, IfSome};
-ghost use Rattle.nb_desk.specs.Desks.{IsAt};
+ghost use Rattle.std.specs.Prelude.{◌≡◌, ◌<◌, IfSome, IfOk};
+ghost use Rattle.nb_desk.specs.Desks.{IsAt, IsSameDesk};
 
 use super::{MOMENT, ask_frame, desk_over, halves};
 use crate::{Asked, Desk, Pass};
@@ -11,6 +11,7 @@ use nb_samples::{ENROL_1, JOURNAL};
 use nb_seal::KeyState;
 use nb_turns::Line;
 use nb_units::AcctId;
+use nb_vault::Vault;
 use std::alloc::Global;
 use std::process::Abort;
 use std::sync::Wait;
@@ -90,130 +91,169 @@ fn ask_often<R: Wait, D: Disk + Drop>(
     desk: &Desk<D>,
     pass: Pass<D>,
     by: u64,
-) -> Option<(Pass<D>, Vec<u64>)>
+) -> Option<Vec<u64>>
     requires { IsAt pass desk.now }
-    ensures { IfSome result (λ r. IsAt r.0 desk.now) }
 {
     let operator = KeyState::new(&OPERATOR);
     let mut places = Vec::new(alloc);
     let mut pass = pass;
     for number in 0..NEW {
         let body = fund(&operator, by, number);
-        let (next, place) = ask_once(rt, alloc, desk, pass, &body)?;
-        let (next, again) = ask_once(rt, alloc, desk, next, &body)?;
+        let (next, place) = ask_twice(rt, alloc, desk, pass, &body)?;
         pass = next;
-        if again != place {
-            return None;
-        }
         places.push(place).ok()?;
     }
-    Some((pass, places))
+    Some(places)
 }
 
-// Two threads ask so.
+// Asks twice, and gives the place that both replies tell.
+fn ask_twice<R: Wait, D: Disk + Drop>(
+    rt: &R,
+    alloc: Global,
+    desk: &Desk<D>,
+    pass: Pass<D>,
+    body: &[u8],
+) -> Option<(Pass<D>, u64)>
+    requires { IsAt pass desk.now }
+    ensures { IfSome result (λ r. IsAt r.0 desk.now) }
+{
+    let (pass, place) = ask_once(rt, alloc, desk, pass, body)?;
+    let (pass, again) = ask_once(rt, alloc, desk, pass, body)?;
+    if again != place {
+        return None;
+    }
+    Some((pass, place))
+}
+
+// Two threads ask so, under this number and the next one.
 fn ask_by_two<R: Threads + Wait + Sync, D: Disk + Drop + Send>(
     rt: &R,
     alloc: Global,
     desk: &Desk<D>,
-    first: (Pass<D>, u64),
-    second: (Pass<D>, u64),
-) -> Option<((Pass<D>, Vec<u64>), (Pass<D>, Vec<u64>))>
-    requires first { IsAt first.0 desk.now }
-    requires second { IsAt second.0 desk.now }
-    ensures { IfSome result (λ r. IsAt r.0.0 desk.now × IsAt r.1.0 desk.now) }
+    passes: (Pass<D>, Pass<D>),
+    by: u64,
+) -> (Option<Vec<u64>>, Option<Vec<u64>>)
+    requires first { IsAt passes.0 desk.now }
+    requires second { IsAt passes.1 desk.now }
+    requires by { by < 8 }
 {
-    let (one, two) = join(
+    let (first, second) = passes;
+    let next = by + 1;
+    join(
         rt,
-        || -> Option<(Pass<D>, Vec<u64>)>
-            requires { IsAt first.0 desk.now }
-            ensures { IfSome result (λ r. IsAt r.0 desk.entry.now) }
-        { ask_often(rt, alloc, desk, first.0, first.1) },
-        || -> Option<(Pass<D>, Vec<u64>)>
-            requires { IsAt second.0 desk.now }
-            ensures { IfSome result (λ r. IsAt r.0 desk.entry.now) }
-        { ask_often(rt, alloc, desk, second.0, second.1) },
-    );
-    let one = one?;
-    let two = two?;
-    Some((one, two))
+        || -> Option<Vec<u64>>
+            requires { IsAt first desk.now }
+        { ask_often(rt, alloc, desk, first, by) },
+        || -> Option<Vec<u64>>
+            requires { IsAt second desk.now }
+        { ask_often(rt, alloc, desk, second, next) },
+    )
+}
+
+// Splits two passes off, of this number and the next one.
+fn two_more<D: Disk + Drop>(
+    desk: &mut Desk<D>,
+    pass: Pass<D>,
+    by: u64,
+) -> Result<(Pass<D>, (Pass<D>, Pass<D>)), Fail>
+    requires desk { IsAt pass desk.old }
+    requires by { by < 8 }
+    ensures same { IsSameDesk desk.new desk.old }
+    ensures at { IfOk result (λ r. IsAt r.0 desk.new × IsAt r.1.0 desk.new × IsAt r.1.1 desk.new) }
+{
+    let (pass, first) = halves(desk, pass, by)?;
+    let (pass, second) = halves(desk, pass, by + 1)?;
+    Ok((pass, (first, second)))
 }
 
 // Each fund that a thread was told of stands at its place in the lines, under the thread's number.
-fn tell_lines(rt: &impl Abort, vault: &nb_vault::Vault<MemDisk>, by: u64, places: &[u64]) {
+fn tell_lines(rt: &impl Abort, vault: &Vault<MemDisk>, by: u64, places: Option<Vec<u64>>) {
+    let Some(places) = places else {
+        panic!(rt; "a thread was not served");
+    };
     assert_eq!(rt; places.len(), NEW as usize);
     let mut number = 0u32;
-    for place in places {
-        let Some(
-            Line::Commit {
-                by: maker,
-                entry,
-                ..
-            },
-        ) = vault.line(*place)
-        else {
-            panic!(rt; "no line of an entry stands at the place");
-        };
-        assert_eq!(rt; maker, by);
-        assert_eq!(rt;
-            entry,
-            Entry::Fund {
-                acct: AcctId(ACCOUNT),
-                amount: 1,
-                reference: reference(by, number),
-            }
-        );
+    for place in places.as_slice() {
+        assert!(rt; is_fund(vault.line(*place), by, number));
         number = number.saturating_add(1);
     }
 }
 
-#[test]
-fn four_threads_ask_often(rt: HostRuntime) -> Result<(), Fail> {
-    let alloc = rt.alloc();
+// The line commits the thread's fund of this number.
+fn is_fund(line: Option<Line>, by: u64, number: u32) -> bool {
+    match line {
+        Some(
+            Line::Commit {
+                by: maker,
+                entry: Entry::Fund {
+                    acct,
+                    amount,
+                    reference: name,
+                },
+                ..
+            },
+        ) => {
+            maker == by && acct == AcctId(ACCOUNT) && amount == 1 && name == reference(by, number)
+        }
+        _ => false,
+    }
+}
+
+// A disk with a journal of this cap.
+fn roomy_disk(alloc: Global) -> Result<MemDisk, Fail> {
     let mut content = hex::decode(alloc, JOURNAL)?;
     if content.len() != 97 {
         return Err("the sample has no items".into());
     }
     content[8..12].copy_from_slice(&CAP.to_be_bytes());
-    let (mut desk, pass) = desk_over(alloc, MemDisk::new(alloc, content.as_slice(), &[])?)?;
-    let (pass, second) = halves(&mut desk, pass, 1)?;
-    let (pass, third) = halves(&mut desk, pass, 2)?;
-    let (first, fourth) = halves(&mut desk, pass, 3)?;
-    let Some((first, asked, _)) = ask_frame(&rt, alloc, &desk, first, ENROL_1) else {
+    Ok(MemDisk::new(alloc, content.as_slice(), &[])?)
+}
+
+// Enrols the first party, and tells what is in its account.
+fn enrolled<R: Wait>(
+    rt: &R,
+    alloc: Global,
+    desk: &Desk<MemDisk>,
+    pass: Pass<MemDisk>,
+) -> Option<(Pass<MemDisk>, u64)>
+    requires { IsAt pass desk.now }
+    ensures { IfSome result (λ r. IsAt r.0 desk.now) }
+{
+    let (pass, _, reply) = ask_frame(rt, alloc, desk, pass, ENROL_1)?;
+    let (_, balance) = reply.as_slice().split_at(reply.len().min(20));
+    let mut word = [0u8; 8];
+    if balance.len() != 8 {
+        return None;
+    }
+    word.copy_from_slice(balance);
+    Some((pass, u64::from_be_bytes(word)))
+}
+
+#[test]
+fn four_threads_ask_often(rt: HostRuntime) -> Result<(), Fail> {
+    let alloc = rt.alloc();
+    let (mut desk, pass) = desk_over(alloc, roomy_disk(alloc)?)?;
+    let (pass, low) = two_more(&mut desk, pass, 1)?;
+    let (pass, high) = two_more(&mut desk, pass, 3)?;
+    let Some((pass, 0)) = enrolled(&rt, alloc, &desk, pass) else {
         return Err("nobody was enrolled".into());
     };
-    assert_eq!(rt; asked, Asked::Served { at: 0 });
     let shared = &desk;
     let (left, right) = join(
         &rt,
-        || -> Option<((Pass<MemDisk>, Vec<u64>), (Pass<MemDisk>, Vec<u64>))>
-            requires { IsAt first shared.now × IsAt second shared.now }
-            ensures { IfSome result (λ r. IsAt r.0.0 shared.entry.now × IsAt r.1.0 shared.entry.now) }
-        { ask_by_two(&rt, alloc, shared, (first, 0), (second, 1)) },
-        || -> Option<((Pass<MemDisk>, Vec<u64>), (Pass<MemDisk>, Vec<u64>))>
-            requires { IsAt third shared.now × IsAt fourth shared.now }
-            ensures { IfSome result (λ r. IsAt r.0.0 shared.entry.now × IsAt r.1.0 shared.entry.now) }
-        { ask_by_two(&rt, alloc, shared, (third, 2), (fourth, 3)) },
+        || ask_by_two(&rt, alloc, shared, low, 1),
+        || ask_by_two(&rt, alloc, shared, high, 3),
     );
-    let Some((one, two)) = left else {
-        return Err("a thread was not served".into());
-    };
-    let Some((three, four)) = right else {
-        return Err("a thread was not served".into());
-    };
     // The money: the account holds what was put in.
-    let Some((first, _, reply)) = ask_frame(&rt, alloc, &desk, one.0, ENROL_1) else {
+    let Some((pass, balance)) = enrolled(&rt, alloc, &desk, pass) else {
         return Err("nobody was asked".into());
     };
-    let (_, balance) = reply.as_slice().split_at(reply.len().min(20));
-    assert_eq!(rt; balance, &(4 * u64::from(NEW)).to_be_bytes()[..]);
-    let left = desk.join(first, two.0);
-    let right = desk.join(three.0, four.0);
-    let pass = desk.join(left, right);
+    assert_eq!(rt; balance, 4 * u64::from(NEW));
     let vault = desk.close(&rt, pass);
-    tell_lines(&rt, &vault, 0, one.1.as_slice());
-    tell_lines(&rt, &vault, 1, two.1.as_slice());
-    tell_lines(&rt, &vault, 2, three.1.as_slice());
-    tell_lines(&rt, &vault, 3, four.1.as_slice());
+    tell_lines(&rt, &vault, 1, left.0);
+    tell_lines(&rt, &vault, 2, left.1);
+    tell_lines(&rt, &vault, 3, right.0);
+    tell_lines(&rt, &vault, 4, right.1);
     assert_eq!(rt; vault.line(4 * u64::from(NEW) + 1), None);
     Ok(())
 }

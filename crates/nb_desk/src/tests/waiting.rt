@@ -2,7 +2,7 @@
 ghost use Rattle.std.specs.Prelude.{◌≡◌, ◌<◌, ◌≤◌, ◌+◌, ◌^◌, length, IfSome};
 ghost use Rattle.nb_desk.specs.Desks.{IsAt};
 
-use super::{MOMENT, ask_frame, desk_over, halves};
+use super::{MOMENT, ask_frame, desk_over, disk_with, halves};
 use crate::{Asked, Desk, Pass};
 use nb_msgs::REPLY_ROOM;
 use nb_port::{Disk, DiskOut, DiskRead, MemDisk};
@@ -90,61 +90,66 @@ impl<R: Clock, D: Disk> Disk for SlowDisk<R, D> {
     }
 }
 
-// Tries to ask while the disk waits within another's ask, and releases it.
+// Asks for what a frame asks for, and gives the answer.
+fn ask_within<R: Wait, D: Disk + Drop>(
+    rt: &R,
+    alloc: Global,
+    desk: &Desk<D>,
+    pass: Pass<D>,
+) -> Option<Asked>
+    requires { IsAt pass desk.now }
+{
+    let (_, asked, _) = ask_frame(rt, alloc, desk, pass, ENROL_1)?;
+    Some(asked)
+}
+
+// Tries to ask while the disk waits within another's ask, and releases it. It gives the answer, and whether there is a reply.
 fn try_within<R: Clock, D: Disk + Drop>(
     rt: &R,
     alloc: Global,
     desk: &Desk<D>,
     pass: Pass<D>,
     signs: &Signs,
-) -> Option<(Pass<D>, Asked, usize)>
+) -> Option<(Asked, bool)>
     requires { IsAt pass desk.now }
-    ensures { IfSome result (λ r. IsAt r.0 desk.now) }
 {
     let frame = hex::decode(alloc, STATUS_1).ok()?;
     let mut out = Vec::with_capacity(alloc, REPLY_ROOM).ok()?;
     let (_, body) = frame.as_slice().split_at(frame.len().min(8));
     let entered = is_set(rt, &signs.entered);
-    let (pass, asked) = desk.try_ask(pass, 9, body, MOMENT, &mut out);
+    let (_, asked) = desk.try_ask(pass, 9, body, MOMENT, &mut out);
     signs.released.store(1, Ordering::SeqCst);
     if !entered {
         return None;
     }
-    Some((pass, asked, out.len()))
+    Some((asked, !out.is_empty()))
 }
 
 #[test]
 fn a_try_is_busy_while_the_disk_waits(rt: HostRuntime) -> Result<(), Fail> {
     let alloc = rt.alloc();
-    let content = hex::decode(alloc, JOURNAL_CAP_4)?;
     let signs = Arc::new(alloc, Signs::new())?;
     let disk = SlowDisk {
         rt: rt.clone()?,
-        over: MemDisk::new(alloc, content.as_slice(), &[])?,
+        over: disk_with(alloc, JOURNAL_CAP_4)?,
         signs: Arc::try_clone(&signs)?,
     };
     let (mut desk, pass) = desk_over(alloc, disk)?;
-    let (first, second) = halves(&mut desk, pass, 1)?;
+    let (pass, first) = halves(&mut desk, pass, 1)?;
+    let (pass, second) = halves(&mut desk, pass, 2)?;
     let shared = &desk;
     let shown = &*signs;
     let (one, two) = join(
         &rt,
-        || ask_frame(&rt, alloc, shared, first, ENROL_1),
+        || ask_within(&rt, alloc, shared, first),
         || try_within(&rt, alloc, shared, second, shown),
     );
-    let Some((_first, asked, _)) = one else {
-        return Err("the first did not ask".into());
-    };
-    assert_eq!(rt; asked, Asked::Served { at: 0 });
-    let Some((second, tried, told)) = two else {
-        return Err("the second did not try".into());
-    };
-    assert_eq!(rt; tried, Asked::Busy { word: 1 });
-    assert_eq!(rt; told, 0);
+    assert_eq!(rt; one, Some(Asked::Served { at: 0 }));
+    assert_eq!(rt; two, Some((Asked::Busy { word: 1 }, false)));
     assert_eq!(rt; signs.spent.load(Ordering::SeqCst), 0);
-    let Some((_second, again, _)) = try_within(&rt, alloc, shared, second, shown) else {
-        return Err("the second did not try again".into());
-    };
-    assert_eq!(rt; again, Asked::Served { at: 1 });
+    assert_eq!(rt;
+        try_within(&rt, alloc, &desk, pass, &signs),
+        Some((Asked::Served { at: 1 }, true))
+    );
     Ok(())
 }

@@ -1,0 +1,82 @@
+// What the disk of the last session holds, and what a stop leaves of it.
+
+use crate::house::House;
+use crate::telling;
+use nb_port::{Fill, MemDisk};
+use nb_units::{Blob, NoMemory};
+use nb_vault::Vault;
+use std::alloc::Global;
+
+impl House {
+    /// `calls`: how many calls of the disk were made behind those of opening.
+    pub fn calls(&self) -> Result<String, NoMemory> {
+        match &self.left {
+            Some(left) => {
+                let calls = left.disk.calls().saturating_sub(self.opening);
+                Ok(format!(in self.alloc; "{calls} calls")?)
+            }
+            None => telling::unclear(self.alloc),
+        }
+    }
+
+    /// `content`: what the disk holds.
+    pub fn content(&self) -> Result<String, NoMemory> {
+        match &self.left {
+            Some(left) => telling::shown(self.alloc, left.disk.content()),
+            None => telling::unclear(self.alloc),
+        }
+    }
+
+    // The image at so many moments behind those of opening, with what was not synced as it was, as it is, or filled with a byte.
+    fn image_at(&self, step: &str, fill: &str) -> Result<Option<Blob>, NoMemory> {
+        let moment = self
+            .opening
+            .saturating_mul(2)
+            .saturating_add(telling::number(step));
+        match &self.left {
+            Some(left) => image(self.alloc, &left.disk, moment, filled(fill)),
+            None => Ok(None),
+        }
+    }
+
+    /// `image STEP FILL`: what a stop leaves.
+    pub fn image(&self, step: &str, fill: &str) -> Result<String, NoMemory> {
+        match self.image_at(step, fill)? {
+            Some(image) => telling::shown(self.alloc, image.as_slice()),
+            None => telling::unclear(self.alloc),
+        }
+    }
+
+    /// `entries STEP FILL`: how many entries a vault has that is opened on it.
+    pub fn entries(&self, step: &str, fill: &str) -> Result<String, NoMemory> {
+        match self.image_at(step, fill)? {
+            Some(image) => opened(self.alloc, image.as_slice()),
+            None => telling::unclear(self.alloc),
+        }
+    }
+}
+
+fn filled(word: &str) -> Fill {
+    match word {
+        "old" => Fill::Old,
+        "new" => Fill::New,
+        _ => Fill::Byte(word.parse::<u8>().unwrap_or(0)),
+    }
+}
+
+// The image of a disk at a moment.
+fn image(alloc: Global, disk: &MemDisk, moment: u64, fill: Fill) -> Result<Option<Blob>, NoMemory> {
+    if moment / 2 + moment % 2 > disk.calls() {
+        return Ok(None);
+    }
+    Ok(Some(disk.image(alloc, moment, fill)?))
+}
+
+// How many entries a journal has.
+fn opened(alloc: Global, content: &[u8]) -> Result<String, NoMemory> {
+    let disk = MemDisk::new(alloc, content, &[])?;
+    match Vault::open(alloc, disk) {
+        Ok(vault) => Ok(format!(in alloc; "{} entries", vault.entries())?),
+        Err(_) => telling::unclear(alloc),
+    }
+}

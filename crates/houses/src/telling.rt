@@ -1,0 +1,125 @@
+// What a house does, in words.
+
+use nb_frame::FrameFault;
+use nb_seal::sha;
+use nb_server::How;
+use nb_session::SessionEnd;
+use nb_turns::{Line, Mark};
+use nb_units::NoMemory;
+use std::alloc::Global;
+
+// The most bytes that are shown.
+const SHOWN: usize = 1000;
+
+// The most marks and lines that are shown.
+const LAST: usize = 9;
+
+// A line that says nothing that can be done.
+pub(crate) fn unclear(alloc: Global) -> Result<String, NoMemory> {
+    Ok("no such line".to_string(alloc)?)
+}
+
+// The bytes that a text spells; none where it spells none.
+pub(crate) fn spelled(alloc: Global, text: &str) -> Vec<u8> {
+    match hex::decode(alloc, text) {
+        Ok(bytes) => bytes,
+        Err(_) => Vec::new(alloc),
+    }
+}
+
+// The number that a word is, or 0.
+pub(crate) fn number(word: &str) -> u64 {
+    word.parse::<u64>().unwrap_or(0)
+}
+
+// The numbers from a word on.
+pub(crate) fn numbers(alloc: Global, words: &[&str], from: usize) -> Result<Vec<u64>, NoMemory> {
+    let mut numbers = Vec::new(alloc);
+    for word in words.iter().skip(from) {
+        numbers.push(number(*word))?;
+    }
+    Ok(numbers)
+}
+
+// Bytes, or of many their number and their digest.
+pub(crate) fn shown(alloc: Global, bytes: &[u8]) -> Result<String, NoMemory> {
+    if bytes.is_empty() {
+        return Ok("nothing".to_string(alloc)?);
+    }
+    if bytes.len() <= SHOWN {
+        return Ok(hex::encode(alloc, bytes)?);
+    }
+    let digest = hex::encode(alloc, sha(bytes))?;
+    Ok(format!(in alloc; "{} bytes, {digest}", bytes.len())?)
+}
+
+// How a session ended.
+pub(crate) fn end(alloc: Global, end: SessionEnd) -> Result<String, NoMemory> {
+    Ok(match end {
+        SessionEnd::Clean => "clean".to_string(alloc)?,
+        SessionEnd::Cut { place } => format!(in alloc; "cut at {place}")?,
+        SessionEnd::BadFrame(fault) => bad_frame(alloc, fault)?,
+        SessionEnd::ReadFault => "read fault".to_string(alloc)?,
+        SessionEnd::WriteFault => "write fault".to_string(alloc)?,
+        SessionEnd::Spent => "spent".to_string(alloc)?,
+        SessionEnd::NoMemory => "no memory".to_string(alloc)?,
+    })
+}
+
+fn bad_frame(alloc: Global, fault: FrameFault) -> Result<String, NoMemory> {
+    Ok(match fault {
+        FrameFault::BadMagic { place, found } => {
+            format!(in alloc; "bad magic {found} at {place}")?
+        }
+        FrameFault::BadVersion { place, found } => {
+            format!(in alloc; "bad version {found} at {place}")?
+        }
+        FrameFault::BadKind { place, found } => format!(in alloc; "bad kind {found} at {place}")?,
+        FrameFault::TooLong { place, len } => format!(in alloc; "too long {len} at {place}")?,
+    })
+}
+
+// Why a worker stopped.
+pub(crate) fn how(how: How) -> &'static str {
+    match how {
+        How::Closed => "closed",
+        How::PortFault => "port fault",
+        How::NoMemory => "no memory",
+    }
+}
+
+fn mark(alloc: Global, mark: Mark) -> Result<String, NoMemory> {
+    Ok(match mark {
+        Mark::At(place) => format!(in alloc; " {place}")?,
+        Mark::Fault { before, after } => format!(in alloc; " fault {before}-{after}")?,
+        Mark::Worn => " worn".to_string(alloc)?,
+    })
+}
+
+// The last marks of a session.
+pub(crate) fn marks(alloc: Global, marks: &[Mark]) -> Result<String, NoMemory> {
+    let mut told = format!(in alloc; "{} marks:", marks.len())?;
+    for one in marks.iter().skip(marks.len().saturating_sub(LAST)) {
+        told.push_str(mark(alloc, *one)?.as_str())?;
+    }
+    Ok(told)
+}
+
+fn kind(line: &Line) -> &'static str {
+    match *line {
+        Line::Commit { .. } => "commit",
+        Line::Adopted { .. } => "adopted",
+        Line::Doubt { .. } => "doubt",
+        Line::Fault { .. } => "fault",
+    }
+}
+
+// The last lines of a vault: what each tells of, its turn, and who asked.
+pub(crate) fn lines(alloc: Global, lines: &[Line]) -> Result<String, NoMemory> {
+    let mut told = format!(in alloc; "{} lines:", lines.len())?;
+    for line in lines.iter().skip(lines.len().saturating_sub(LAST)) {
+        let one = format!(in alloc; " {} {} by {}", kind(line), line.turn(), line.by())?;
+        told.push_str(one.as_str())?;
+    }
+    Ok(told)
+}
