@@ -1,6 +1,6 @@
 // Requests answered over a journal in a file: each by itself, or up to 32 of them in a turn.
 
-ghost use Rattle.std.specs.Prelude.{IsTrue};
+ghost use Rattle.std.specs.Prelude.{◌≡◌, ◌<◌, [], IfOk, IsTrue};
 ghost use Rattle.std.specs.List.{All};
 ghost use Rattle.nb_vault.specs.Asking.{IsWithin};
 
@@ -18,37 +18,80 @@ use std::io::Read;
 /// Answers the frames on standard input over the journal of this name, so many in a turn, or each by itself where that is 0. What is
 /// made is the number of bytes of all replies.
 pub fn run(rt: &HostRuntime, name: &str, turn: usize) -> anyhow::Result<usize> {
-    let alloc = rt.alloc();
+    let mut vault = opened(rt, name)?;
+    let bytes = given(rt)?;
+    let asks = asks_now(rt, &bytes)?;
+    if turn == 0 {
+        answer_each(rt.alloc(), &mut vault, &bytes, asks.as_slice())
+    } else {
+        answer_turns(rt.alloc(), &mut vault, &bytes, asks.as_slice(), turn)
+    }
+}
+
+// A vault over the journal of this name.
+pub(crate) fn opened(rt: &HostRuntime, name: &str) -> anyhow::Result<Vault<FileDisk<StdFile>>>
+    ensures { IfOk result (λ v. v.lines ≡ []) }
+{
     let file = OpenOptions::new().read(true).write(true).open(rt, name)?;
     let disk = FileDisk::over(file, File::open(rt, ".")?);
-    let mut vault = match Vault::open(alloc, disk) {
-        Ok(vault) => vault,
-        Err((fault, _)) => return Err(anyhow!("{fault}")),
-    };
-    let mut bytes = Vec::new(alloc);
+    match Vault::open(rt.alloc(), disk) {
+        Ok(vault) => Ok(vault),
+        Err((fault, _)) => Err(anyhow!("{fault}")),
+    }
+}
+
+// What stands on standard input.
+pub(crate) fn given(rt: &HostRuntime) -> anyhow::Result<Vec<u8>> {
+    let mut bytes = Vec::new(rt.alloc());
     rt.stdin().read_to_end(&mut bytes)?;
+    Ok(bytes)
+}
+
+// The requests in these frames, all at this moment.
+pub(crate) fn asks_now(rt: &HostRuntime, bytes: &[u8]) -> anyhow::Result<Vec<AskAt>> {
     let moment = SystemClock::over(rt.clone()?).now();
-    let asks = asks_of(alloc, &bytes, moment)?;
+    asks_of(rt.alloc(), bytes, moment)
+}
+
+// Answers each request by itself.
+fn answer_each(
+    alloc: Global,
+    vault: &mut Vault<FileDisk<StdFile>>,
+    bytes: &[u8],
+    asks: &[AskAt],
+) -> anyhow::Result<usize> {
+    let mut out = Vec::new(alloc);
+    let mut told = 0usize;
+    for ask in asks {
+        answer(vault, bytes, ask, &mut out)?;
+        told = told.saturating_add(out.len());
+    }
+    Ok(told)
+}
+
+// Answers so many requests in a turn.
+fn answer_turns(
+    alloc: Global,
+    vault: &mut Vault<FileDisk<StdFile>>,
+    bytes: &[u8],
+    asks: &[AskAt],
+    turn: usize,
+) -> anyhow::Result<usize>
+    requires { 0 < turn }
+{
     let mut ats = Vec::new(alloc);
     let mut out = Vec::new(alloc);
     let mut told = 0usize;
-    if turn == 0 {
-        for ask in asks.as_slice() {
-            answer(&mut vault, &bytes, ask, &mut out)?;
-            told = told.saturating_add(out.len());
-        }
-    } else {
-        for group in asks.as_slice().chunks(turn) {
-            answer_all(&mut vault, &bytes, group, &mut ats, &mut out)?;
-            told = told.saturating_add(out.len());
-        }
+    for group in asks.chunks(turn) {
+        answer_all(vault, bytes, group, &mut ats, &mut out)?;
+        told = told.saturating_add(out.len());
     }
     Ok(told)
 }
 
 // The requests in these frames, one behind the other, all at one moment. A header has the kind in its fourth byte and the number of the
 // body's bytes in the four behind it. It ends where no whole frame is left.
-pub(crate) fn asks_of(alloc: Global, bytes: &[u8], moment: u64) -> anyhow::Result<Vec<AskAt>> {
+fn asks_of(alloc: Global, bytes: &[u8], moment: u64) -> anyhow::Result<Vec<AskAt>> {
     let mut asks = Vec::new(alloc);
     let mut rest = bytes;
     let mut at = 0usize;

@@ -1,19 +1,17 @@
 // Requests asked of a desk over a journal in a file, by one thread or by several at once, up to 32 of them in a turn.
 
-ghost use Rattle.std.specs.Prelude.{◌<◌, IfSome};
+ghost use Rattle.std.specs.Prelude.{◌≡◌, ◌<◌, [], IfSome};
 ghost use Rattle.nb_desk.specs.Desks.{IsAt};
 
-use crate::answering::{are_within, asks_of};
+use crate::answering::{are_within, asks_now, given, opened};
 use anyhow::anyhow;
 use nb_desk::{AskedAll, Desk, Pass};
 use nb_msgs::REPLY_ROOM;
-use nb_port::{Clock, Disk};
-use nb_system::{FileDisk, StdFile, SystemClock};
+use nb_port::Disk;
+use nb_system::{FileDisk, StdFile};
 use nb_turns::MAX_REQUESTS;
 use nb_vault::{AskAt, Vault};
 use std::alloc::Global;
-use std::fs::{File, OpenOptions};
-use std::io::Read;
 use std::sync::Wait;
 use std::thread::{Threads, join};
 
@@ -37,96 +35,111 @@ pub fn run<R: Threads + Wait + Sync>(
     turn: usize,
     threads: u32,
 ) -> anyhow::Result<usize> {
-    let alloc = rt.alloc();
-    let file = OpenOptions::new().read(true).write(true).open(rt, name)?;
-    let disk = FileDisk::over(file, File::open(rt, ".")?);
-    let mut bytes = Vec::new(alloc);
-    rt.stdin().read_to_end(&mut bytes)?;
-    let moment = SystemClock::over(rt.clone()?).now();
-    let asks = asks_of(alloc, &bytes, moment)?;
-    let vault = match Vault::open(alloc, disk) {
-        Ok(vault) => vault,
-        Err((fault, _)) => return Err(anyhow!("{fault}")),
-    };
-    let Ok((desk, pass)) = Desk::open(alloc, vault) else {
-        return Err(anyhow!("out of memory"));
-    };
     if turn == 0 {
         return Err(anyhow!("a turn has from 1 to 32 requests"));
     }
-    let (front, orders) = asks.as_slice().split_at(asks.len().min(BEFORE));
-    let before = Part {
-        bytes: &bytes,
-        asks: front,
+    let vault = opened(rt, name)?;
+    let bytes = given(rt)?;
+    let asks = asks_now(rt, &bytes)?;
+    match ask_over(
+        many,
+        rt.alloc(),
+        vault,
+        &bytes,
+        asks.as_slice(),
         turn,
-    };
-    let part = Part {
-        bytes: &bytes,
-        asks: orders,
-        turn,
-    };
-    match ask_by(many, alloc, desk, pass, before, part, threads) {
+        threads,
+    ) {
         Some(told) => Ok(told),
-        None => Err(anyhow!("the disk failed")),
+        None => Err(anyhow!("the disk failed, or the memory is used up")),
     }
 }
 
-// Asks for what stands before the orders, and then for the orders by so many threads.
+// Asks a desk over the vault, for what stands before the orders, and then for the orders by so many threads.
+fn ask_over<R: Threads + Wait + Sync>(
+    rt: &R,
+    alloc: Global,
+    vault: Vault<FileDisk<StdFile>>,
+    bytes: &[u8],
+    asks: &[AskAt],
+    turn: usize,
+    threads: u32,
+) -> Option<usize>
+    requires new { vault.lines ≡ [] }
+    requires turn { 0 < turn }
+{
+    let (desk, pass) = Desk::open(alloc, vault).ok()?;
+    let (front, orders) = asks.split_at(asks.len().min(BEFORE));
+    let before = Part {
+        bytes,
+        asks: front,
+        turn,
+    };
+    let (pass, front) = ask_part(rt, alloc, &desk, pass, before)?;
+    let part = Part {
+        bytes,
+        asks: orders,
+        turn,
+    };
+    let told = ask_by(rt, alloc, desk, pass, part, threads)?;
+    Some(front.saturating_add(told))
+}
+
+// Asks for a part by so many threads: 1, 2 or 4.
 fn ask_by<R: Threads + Wait + Sync>(
     rt: &R,
     alloc: Global,
-    desk: Desk<FileDisk<StdFile>>,
+    mut desk: Desk<FileDisk<StdFile>>,
     pass: Pass<FileDisk<StdFile>>,
-    before: Part<'_>,
     part: Part<'_>,
     threads: u32,
 ) -> Option<usize>
     requires at { IsAt pass desk }
-    requires before { 0 < before.turn }
     requires turn { 0 < part.turn }
 {
-    let mut desk = desk;
-    let (pass, front) = ask_part(rt, alloc, &desk, pass, before)?;
     if threads == 1 {
-        let (_, told) = ask_part(rt, alloc, &desk, pass, part)?;
-        return Some(front.saturating_add(told));
+        return ask_whole(rt, alloc, &desk, pass, part);
     }
     let (first, second) = desk.split(pass, 1).ok()?;
     if threads == 2 {
-        let (one, two) = ask_by_two(rt, alloc, &desk, first, second, part)?;
-        return Some(front.saturating_add(one.1).saturating_add(two.1));
+        return ask_by_two(rt, alloc, &desk, first, second, part);
     }
-    let (first, third) = desk.split(first, 2).ok()?;
-    let (second, fourth) = desk.split(second, 3).ok()?;
+    let near = desk.split(first, 2).ok()?;
+    let far = desk.split(second, 3).ok()?;
+    ask_by_four(rt, alloc, &desk, near, far, part)
+}
+
+// Four threads ask for a quarter of a part each.
+fn ask_by_four<R: Threads + Wait + Sync, D: Disk + Drop + Send>(
+    rt: &R,
+    alloc: Global,
+    desk: &Desk<D>,
+    near: (Pass<D>, Pass<D>),
+    far: (Pass<D>, Pass<D>),
+    part: Part<'_>,
+) -> Option<usize>
+    requires near { IsAt near.0 desk.now × IsAt near.1 desk.now }
+    requires far { IsAt far.0 desk.now × IsAt far.1 desk.now }
+    requires turn { 0 < part.turn }
+{
+    let (first, third) = near;
+    let (second, fourth) = far;
     let (near, far) = halves(part);
-    let shared = &desk;
     let (left, right) = join(
         rt,
-        || -> Option<
-            (
-                (Pass<FileDisk<StdFile>>, usize),
-                (Pass<FileDisk<StdFile>>, usize),
-            ),
-        >
-            requires { IsAt first shared.now × IsAt third shared.now × (0 < near.turn) }
-        { ask_by_two(rt, alloc, shared, first, third, near) },
-        || -> Option<
-            (
-                (Pass<FileDisk<StdFile>>, usize),
-                (Pass<FileDisk<StdFile>>, usize),
-            ),
-        >
-            requires { IsAt second shared.now × IsAt fourth shared.now × (0 < far.turn) }
-        { ask_by_two(rt, alloc, shared, second, fourth, far) },
+        || -> Option<usize>
+            requires { IsAt first desk.now × IsAt third desk.now × (0 < near.turn) }
+        { ask_by_two(rt, alloc, desk, first, third, near) },
+        || -> Option<usize>
+            requires { IsAt second desk.now × IsAt fourth desk.now × (0 < far.turn) }
+        { ask_by_two(rt, alloc, desk, second, fourth, far) },
     );
-    let (one, two) = left?;
-    let (three, four) = right?;
-    let told = one
-        .1
-        .saturating_add(two.1)
-        .saturating_add(three.1)
-        .saturating_add(four.1);
-    Some(front.saturating_add(told))
+    both(left, right)
+}
+
+// The sum of two counts, where both are there.
+fn both(one: Option<usize>, two: Option<usize>) -> Option<usize> {
+    Some(one?.saturating_add(two?))
 }
 
 // The first half of a part, and the second.
@@ -157,7 +170,7 @@ fn ask_by_two<R: Threads + Wait + Sync, D: Disk + Drop + Send>(
     first: Pass<D>,
     second: Pass<D>,
     part: Part<'_>,
-) -> Option<((Pass<D>, usize), (Pass<D>, usize))>
+) -> Option<usize>
     requires first { IsAt first desk.now }
     requires second { IsAt second desk.now }
     requires turn { 0 < part.turn }
@@ -165,16 +178,29 @@ fn ask_by_two<R: Threads + Wait + Sync, D: Disk + Drop + Send>(
     let (near, far) = halves(part);
     let (one, two) = join(
         rt,
-        || -> Option<(Pass<D>, usize)>
+        || -> Option<usize>
             requires { IsAt first desk.now × (0 < near.turn) }
-        { ask_part(rt, alloc, desk, first, near) },
-        || -> Option<(Pass<D>, usize)>
+        { ask_whole(rt, alloc, desk, first, near) },
+        || -> Option<usize>
             requires { IsAt second desk.now × (0 < far.turn) }
-        { ask_part(rt, alloc, desk, second, far) },
+        { ask_whole(rt, alloc, desk, second, far) },
     );
-    let one = one?;
-    let two = two?;
-    Some((one, two))
+    both(one, two)
+}
+
+// Asks for a part by one thread, whose last part it is.
+fn ask_whole<R: Wait, D: Disk + Drop>(
+    rt: &R,
+    alloc: Global,
+    desk: &Desk<D>,
+    pass: Pass<D>,
+    part: Part<'_>,
+) -> Option<usize>
+    requires at { IsAt pass desk.now }
+    requires turn { 0 < part.turn }
+{
+    let (_, told) = ask_part(rt, alloc, desk, pass, part)?;
+    Some(told)
 }
 
 // Asks for a part, turn by turn, and gives how many bytes the replies have.

@@ -55,28 +55,70 @@ pub enum Made {
 
 fn main(rt: HostRuntime) -> anyhow::Result<ExitCode> {
     let words: Vec<String> = env::args(&rt)?.skip(1).collect(rt.alloc())?;
-    if let [row, name, turn] = words.as_slice()
-        && row.as_str() == "answer"
-        && let Ok(turn) = turn.as_str().parse::<usize>()
-    {
-        println!(rt; "{}", answering::run(&rt, name.as_str(), turn)?)?;
+    do_words(&rt, &rt, words.as_slice())
+}
+
+// Does what the words say.
+fn do_words<R: Threads + Wait + Sync>(
+    rt: &HostRuntime,
+    many: &R,
+    words: &[String],
+) -> anyhow::Result<ExitCode> {
+    if let Some(told) = told(rt, many, words)? {
+        println!(rt; "{told}")?;
         return Ok(ExitCode::SUCCESS);
     }
-    if let [row, name, turn, threads] = words.as_slice()
-        && row.as_str() == "ask"
-        && let (Ok(turn), Ok(threads)) = (turn.as_str().parse(), threads.as_str().parse())
-    {
-        println!(rt; "{}", asking::run(&rt, &rt, name.as_str(), turn, threads)?)?;
-        return Ok(ExitCode::SUCCESS);
-    }
-    if let [row] = words.as_slice()
+    if let [row] = words
         && row.as_str() == "rows"
     {
-        do_rows(&rt, &rt)?;
+        do_rows(rt, many)?;
         return Ok(ExitCode::SUCCESS);
     }
-    let line = line_of(&rt, rt.alloc(), words.as_slice()).map_err(|_| anyhow!("out of memory"))?;
-    let Some(line) = line else {
+    do_line(rt, many, words)
+}
+
+// How many bytes the replies to the requests on standard input have, where the words are for them.
+fn told<R: Threads + Wait + Sync>(
+    rt: &HostRuntime,
+    many: &R,
+    words: &[String],
+) -> anyhow::Result<Option<usize>> {
+    match words {
+        [row, name, turn] if row.as_str() == "answer" => answered(rt, name.as_str(), turn.as_str()),
+        [row, name, turn, threads] if row.as_str() == "ask" => {
+            asked(rt, many, name.as_str(), turn.as_str(), threads.as_str())
+        }
+        _ => Ok(None),
+    }
+}
+
+fn answered(rt: &HostRuntime, name: &str, turn: &str) -> anyhow::Result<Option<usize>> {
+    let Ok(turn) = turn.parse() else {
+        return Ok(None);
+    };
+    Ok(Some(answering::run(rt, name, turn)?))
+}
+
+fn asked<R: Threads + Wait + Sync>(
+    rt: &HostRuntime,
+    many: &R,
+    name: &str,
+    turn: &str,
+    threads: &str,
+) -> anyhow::Result<Option<usize>> {
+    let (Ok(turn), Ok(threads)) = (turn.parse(), threads.parse()) else {
+        return Ok(None);
+    };
+    Ok(Some(asking::run(rt, many, name, turn, threads)?))
+}
+
+// Does what the words say, where they are a row, a size and a number of times.
+fn do_line<R: Threads + Wait + Sync>(
+    rt: &HostRuntime,
+    many: &R,
+    words: &[String],
+) -> anyhow::Result<ExitCode> {
+    let Some(line) = line_of(many, rt.alloc(), words)? else {
         eprintln!(rt; "{USAGE}")?;
         return Ok(ExitCode::from(BAD_WORDS));
     };
@@ -88,16 +130,23 @@ fn main(rt: HostRuntime) -> anyhow::Result<ExitCode> {
 fn do_rows<R: Threads + Wait + Sync>(rt: &HostRuntime, threads: &R) -> anyhow::Result<()> {
     for line in rt.lines(rt.alloc()) {
         let line = line?;
-        let words: Vec<String> = words_of(rt.alloc(), line.as_str()).map_err(|_| anyhow!(
-            "out of memory"
-        ))?;
-        let made = line_of(threads, rt.alloc(), words.as_slice()).map_err(|_| anyhow!(
-            "out of memory"
-        ))?;
+        let made = row_of(threads, rt.alloc(), line.as_str())?;
         let made = made.as_deref().unwrap_or("no such row");
         println!(rt; "{line}: {made}")?;
     }
     Ok(())
+}
+
+// Does what a line says.
+fn row_of<R: Threads + Wait + Sync>(
+    rt: &R,
+    alloc: Global,
+    line: &str,
+) -> anyhow::Result<Option<String>> {
+    match words_of(alloc, line) {
+        Ok(words) => line_of(rt, alloc, words.as_slice()),
+        Err(_) => Err(anyhow!("out of memory")),
+    }
 }
 
 fn words_of(alloc: Global, line: &str) -> Result<Vec<String>, AllocError> {
@@ -111,14 +160,28 @@ fn line_of<R: Threads + Wait + Sync>(
     rt: &R,
     alloc: Global,
     words: &[String],
-) -> Result<Option<String>, NoMemory> {
-    if words.len() != 3 {
-        return Ok(None);
-    }
-    let (Ok(size), Ok(times)) = (words[1].as_str().parse(), words[2].as_str().parse()) else {
+) -> anyhow::Result<Option<String>> {
+    let [row, size, times] = words else {
         return Ok(None);
     };
-    match run(rt, alloc, words[0].as_str(), size, times)? {
+    let (Ok(size), Ok(times)) = (size.as_str().parse(), times.as_str().parse()) else {
+        return Ok(None);
+    };
+    match digest_of(rt, alloc, row.as_str(), size, times) {
+        Ok(digest) => Ok(digest),
+        Err(NoMemory) => Err(anyhow!("out of memory")),
+    }
+}
+
+// The digest of what a row makes, in hexadecimal.
+fn digest_of<R: Threads + Wait + Sync>(
+    rt: &R,
+    alloc: Global,
+    row: &str,
+    size: u32,
+    times: u32,
+) -> Result<Option<String>, NoMemory> {
+    match run(rt, alloc, row, size, times)? {
         Made::Bytes(bytes) => Ok(Some(hex::encode(alloc, sha(&bytes))?)),
         Made::Unknown => Ok(None),
     }
@@ -132,37 +195,44 @@ fn run<R: Threads + Wait + Sync>(
     size: u32,
     times: u32,
 ) -> Result<Made, NoMemory> {
-    match hashing::run(alloc, row, size, times)? {
-        Made::Bytes(bytes) => return Ok(Made::Bytes(bytes)),
+    match bytes_by(alloc, row, size, times)? {
         Made::Unknown => {}
+        made => return Ok(made),
+    }
+    match goods_by(alloc, row, size, times)? {
+        Made::Unknown => turning::run(rt, alloc, row, size, times),
+        made => Ok(made),
+    }
+}
+
+// What a row over bytes, frames or keys makes.
+fn bytes_by(alloc: Global, row: &str, size: u32, times: u32) -> Result<Made, NoMemory> {
+    match hashing::run(alloc, row, size, times)? {
+        Made::Unknown => {}
+        made => return Ok(made),
     }
     match keystream::run(alloc, row, size, times)? {
-        Made::Bytes(bytes) => return Ok(Made::Bytes(bytes)),
         Made::Unknown => {}
+        made => return Ok(made),
     }
     match framing::run(alloc, row, size, times)? {
-        Made::Bytes(bytes) => return Ok(Made::Bytes(bytes)),
-        Made::Unknown => {}
+        Made::Unknown => indexing::run(alloc, row, size, times),
+        made => Ok(made),
     }
-    match indexing::run(alloc, row, size, times)? {
-        Made::Bytes(bytes) => return Ok(Made::Bytes(bytes)),
-        Made::Unknown => {}
-    }
+}
+
+// What a row over goods, messages, shelves or seals makes.
+fn goods_by(alloc: Global, row: &str, size: u32, times: u32) -> Result<Made, NoMemory> {
     match goods::run(alloc, row, size, times)? {
-        Made::Bytes(bytes) => return Ok(Made::Bytes(bytes)),
         Made::Unknown => {}
+        made => return Ok(made),
     }
     match messages::run(alloc, row, size, times)? {
-        Made::Bytes(bytes) => return Ok(Made::Bytes(bytes)),
         Made::Unknown => {}
+        made => return Ok(made),
     }
     match shelves::run(alloc, row, size, times)? {
-        Made::Bytes(bytes) => return Ok(Made::Bytes(bytes)),
-        Made::Unknown => {}
+        Made::Unknown => sealing::run(alloc, row, size, times),
+        made => Ok(made),
     }
-    match sealing::run(alloc, row, size, times)? {
-        Made::Bytes(bytes) => return Ok(Made::Bytes(bytes)),
-        Made::Unknown => {}
-    }
-    turning::run(rt, alloc, row, size, times)
 }

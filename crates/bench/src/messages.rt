@@ -22,18 +22,21 @@ pub fn run(alloc: Global, row: &str, size: u32, times: u32) -> Result<Made, NoMe
     }
 }
 
-// The frame that was written last, and behind it the number.
-fn written(alloc: Global, size: u32, times: u32) -> Result<Made, NoMemory> {
-    let head = pattern(alloc, MAX_SEALED_HEAD as u32)?;
-    let part = pattern(alloc, size)?;
-    let mut frame = Vec::new(alloc);
-    let head = Blob::from_vec(head);
-    let part = Blob::from_vec(part);
-    let message = Message::Goods {
+// A message with a part of so many bytes, whose head is as long as one may be.
+fn message_of(alloc: Global, size: u32) -> Result<Message, NoMemory> {
+    let head = Blob::from_vec(pattern(alloc, MAX_SEALED_HEAD as u32)?);
+    let part = Blob::from_vec(pattern(alloc, size)?);
+    Ok(Message::Goods {
         transaction: 0,
         head,
         part,
-    };
+    })
+}
+
+// The frame that was written last, and behind it the number.
+fn written(alloc: Global, size: u32, times: u32) -> Result<Made, NoMemory> {
+    let message = message_of(alloc, size)?;
+    let mut frame = Vec::new(alloc);
     let mut made = 0;
     for _ in 0..times {
         if !is_lawful(&message) {
@@ -58,16 +61,23 @@ fn read(alloc: Global, size: u32, times: u32) -> Result<Made, NoMemory> {
         return Ok(Made::Unknown);
     }
     let (front, _) = frame.as_slice().split_at(frame.len() - 8);
-    let (_, body) = front.split_at(HEADER);
+    match read_often(alloc, front.split_at(HEADER).1, times)? {
+        Some(made) => Ok(Made::Bytes(Vec::from_slice(alloc, &made.to_be_bytes())?)),
+        None => Ok(Made::Unknown),
+    }
+}
+
+// The number, where the body is one of a part of goods.
+fn read_often(alloc: Global, body: &[u8], times: u32) -> Result<Option<u64>, NoMemory> {
     let mut made = 0;
     for _ in 0..times {
         match read_body(alloc, GOODS_REPLY, body) {
             Ok(Message::Goods { part, .. }) => made = mixed(made, part.as_slice()),
-            Ok(_) | Err(BodyFault::Malformed { .. }) => return Ok(Made::Unknown),
+            Ok(_) | Err(BodyFault::Malformed { .. }) => return Ok(None),
             Err(BodyFault::NoMemory) => return Err(NoMemory),
         }
     }
-    Ok(Made::Bytes(Vec::from_slice(alloc, &made.to_be_bytes())?))
+    Ok(Some(made))
 }
 
 // Whether it can be written.

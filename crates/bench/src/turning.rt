@@ -103,6 +103,37 @@ fn take_by_two<R: Threads + Wait + Sync>(
     )
 }
 
+// Four threads take turns.
+fn take_by_four<R: Threads + Wait + Sync>(
+    rt: &R,
+    turn: &Turn<Counter>,
+    near: (Pass<Counter>, Pass<Counter>),
+    far: (Pass<Counter>, Pass<Counter>),
+    times: u32,
+) -> (
+    (Pass<Counter>, Pass<Counter>),
+    (Pass<Counter>, Pass<Counter>),
+)
+    requires near { Belongs near.0 turn.now × Belongs near.1 turn.now }
+    requires far { Belongs far.0 turn.now × Belongs far.1 turn.now }
+    ensures near { Belongs result.0.0 turn.now × Belongs result.0.1 turn.now }
+    ensures far { Belongs result.1.0 turn.now × Belongs result.1.1 turn.now }
+{
+    let (first, third) = near;
+    let (second, fourth) = far;
+    join(
+        rt,
+        || -> (Pass<Counter>, Pass<Counter>)
+            requires { Belongs first turn.now × Belongs third turn.now }
+            ensures { Belongs result.0 turn.entry.now × Belongs result.1 turn.entry.now }
+        { take_by_two(rt, turn, first, third, times) },
+        || -> (Pass<Counter>, Pass<Counter>)
+            requires { Belongs second turn.now × Belongs fourth turn.now }
+            ensures { Belongs result.0 turn.entry.now × Belongs result.1 turn.entry.now }
+        { take_by_two(rt, turn, second, fourth, times) },
+    )
+}
+
 // So many threads take turns: 1, 2 or 4.
 fn turns<R: Threads + Wait + Sync>(
     rt: &R,
@@ -110,42 +141,85 @@ fn turns<R: Threads + Wait + Sync>(
     threads: u32,
     times: u32,
 ) -> Result<Made, NoMemory> {
-    let Ok((mut turn, pass)) = Turn::open(alloc, Counter { count: 0 }) else {
+    let Ok((turn, pass)) = Turn::open(alloc, Counter { count: 0 }) else {
         return Err(NoMemory);
     };
     if threads == 1 {
         let pass = take_turns(rt, &turn, pass, times);
-        return counted(alloc, turn.close(rt, pass).count);
+        return ended(rt, alloc, turn, pass);
     }
+    turns_of_many(rt, alloc, turn, pass, threads, times)
+}
+
+// Two threads take turns, or four.
+fn turns_of_many<R: Threads + Wait + Sync>(
+    rt: &R,
+    alloc: Global,
+    mut turn: Turn<Counter>,
+    pass: Pass<Counter>,
+    threads: u32,
+    times: u32,
+) -> Result<Made, NoMemory>
+    requires { Belongs pass turn }
+{
     let Ok((first, second)) = turn.split(pass, 1) else {
         return Ok(Made::Unknown);
     };
     if threads == 2 {
         let (first, second) = take_by_two(rt, &turn, first, second, times);
-        let pass = turn.join(first, second);
-        return counted(alloc, turn.close(rt, pass).count);
+        return joined(rt, alloc, turn, first, second);
     }
-    let Ok((first, third)) = turn.split(first, 2) else {
+    turns_of_four(rt, alloc, turn, first, second, times)
+}
+
+// Four threads take turns, each of two with another one.
+fn turns_of_four<R: Threads + Wait + Sync>(
+    rt: &R,
+    alloc: Global,
+    mut turn: Turn<Counter>,
+    first: Pass<Counter>,
+    second: Pass<Counter>,
+    times: u32,
+) -> Result<Made, NoMemory>
+    requires first { Belongs first turn }
+    requires second { Belongs second turn }
+{
+    let Ok(near) = turn.split(first, 2) else {
         return Ok(Made::Unknown);
     };
-    let Ok((second, fourth)) = turn.split(second, 3) else {
+    let Ok(far) = turn.split(second, 3) else {
         return Ok(Made::Unknown);
     };
-    let shared = &turn;
-    let (one, two) = join(
-        rt,
-        || -> (Pass<Counter>, Pass<Counter>)
-            requires { Belongs first shared.now × Belongs third shared.now }
-            ensures { Belongs result.0 shared.entry.now × Belongs result.1 shared.entry.now }
-        { take_by_two(rt, shared, first, third, times) },
-        || -> (Pass<Counter>, Pass<Counter>)
-            requires { Belongs second shared.now × Belongs fourth shared.now }
-            ensures { Belongs result.0 shared.entry.now × Belongs result.1 shared.entry.now }
-        { take_by_two(rt, shared, second, fourth, times) },
-    );
-    let first = turn.join(one.0, one.1);
-    let second = turn.join(two.0, two.1);
+    let (near, far) = take_by_four(rt, &turn, near, far, times);
+    let first = turn.join(near.0, near.1);
+    let second = turn.join(far.0, far.1);
+    joined(rt, alloc, turn, first, second)
+}
+
+// What is made where two passes are left.
+fn joined<R: Wait>(
+    rt: &R,
+    alloc: Global,
+    mut turn: Turn<Counter>,
+    first: Pass<Counter>,
+    second: Pass<Counter>,
+) -> Result<Made, NoMemory>
+    requires first { Belongs first turn }
+    requires second { Belongs second turn }
+{
     let pass = turn.join(first, second);
+    ended(rt, alloc, turn, pass)
+}
+
+// What is made where one pass is left.
+fn ended<R: Wait>(
+    rt: &R,
+    alloc: Global,
+    turn: Turn<Counter>,
+    pass: Pass<Counter>,
+) -> Result<Made, NoMemory>
+    requires { Belongs pass turn }
+{
     counted(alloc, turn.close(rt, pass).count)
 }
 

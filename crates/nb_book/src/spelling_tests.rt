@@ -135,19 +135,25 @@ fn written(e: &Entry, out: &mut Vec<u8>) -> Result<(), Fail> {
 }
 
 #[test]
-fn entries_are_written_and_read(rt: HostRuntime) -> Result<(), Fail> {
-    // all four one behind the other, and one byte of something else in front
-    let mut all = Vec::new(rt.alloc());
-    all.push(0xA5)?;
+fn entries_are_written(rt: HostRuntime) -> Result<(), Fail> {
     for case in &CASES {
         let mut out = Vec::new(rt.alloc());
         written(&case.entry, &mut out)?;
         let want = bytes_of(rt.alloc(), case)?;
         assert_eq!(rt; out.as_slice(), want.as_slice());
+    }
+    Ok(())
+}
+
+// All four, one behind the other, and one byte of something else in front.
+#[test]
+fn entries_are_read(rt: HostRuntime) -> Result<(), Fail> {
+    let mut all = Vec::new(rt.alloc());
+    all.push(0xA5)?;
+    for case in &CASES {
         written(&case.entry, &mut all)?;
     }
     assert_eq!(rt; all.len(), 1 + 50 + 29 + 117 + 94);
-
     let mut cut = Cut::new(all.as_slice());
     assert_eq!(rt; cut.u8(), Ok(0xA5));
     for (case, end) in CASES.iter().zip([51, 80, 197, 291]) {

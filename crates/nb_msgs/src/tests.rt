@@ -79,85 +79,72 @@ fn is_written(
     Ok(out.as_slice() == want.as_slice())
 }
 
+// The frames: of that order's result, for the merchant and the consumer; of its status, for the consumer, for the merchant, and of none,
+// for a stranger; of a grant of a ticket; of an entry; and of a refusal.
+const RESULT: &str =
+    "4e42010700000156000000a7552316fff34018a229c5ebc0f29bdd42d16550639a9db30f787964a61fe4a36affd05364c4606a357fd5b0a9d2fcb8e03b1aa43867dc8c57117eec084a714a642bb5af944d196aa41fbb718eec1efaeee2e1c4f57c738e884b8e0e8197e7716716fde2ba9ec4595261b9ef996943e9528e3bb3cce1e3da87f5bceffbfcbcd1768e828a72042f422a1ba23d66e30b4c55ea2b770f1a8c4a65e76db9a2e28d9697120d5185e8b1f9000000a79ffc7c65a196fd7f678372f6e46afc7a362b493342f04cc30fc87bd17aa5345338212fa1a4cf9d486f97c1cb8f7c8920347b014b546574b87ac1274ad10d5497f08d8843d3a7fd700ece3722b5d007ed1db18a15f7eb0718d821697057615c572b8f962d3805bb7f751a661a6f954b3159507bdbb9b86c32db7582f071c422a94e87069f58b8ca75cae02356908ea842bc563dd4b20e8b3930e16227d63c8d009aceda94906e03";
+
+const CONSUMER_STATUS: &str =
+    "4e42010a000000c0b26811f45b2c5c3f3a106b3d48df70d27037fb4ea771a5128598be2396377b990f7ad87f2299d162de924409baaa902a5dc4847690009123f24f40fcdd0fb7c53943a62ac81a7fca3dd0318a689e2367e2bfcc710866c919f397c81b794bc7c2e45c14293718499334a4d7718363e96e542744519adbdb0f1c60ccaba395efbe3fd5cf4e417c75d095fb17311a7e07b42a33c866810f014afe9e3dc46022ad0d11a5ff1c3b2b112dadfc3549230cfcc17f2ce9faf7d7aa5804fa94a1eb9e83c2";
+
+const MERCHANT_STATUS: &str =
+    "4e42010a000000c0b16ac16ccde5113b7f96512b73bdeb86c6111f4500caf64b1fb06fb70a666256967945118cfb524eee6cda812d227a702f865f153a16da9081bf11fc2b12087f37d35af43c886ce7d6b91e39a533a7595b39634ab42b5bed0ffea0a81322f156cc8abe594b749d7c70a502c0c384621fad4580bb463f381f459adae90531e891ace2b494a44a5709b1bc0fb9eeb645f2c342705a3f93cf8b31ebe023bd455797d57f8fbc43965eff07b62207ecb2c0768049c8fa9fe2e49ba1a2bc99bbcb233e";
+
+const NO_STATUS: &str =
+    "4e42010a00000039c3c5e3c24c670bf9259afdde2948f1bd4cb7ad97c6f48c8d240b2b14b47962555cfc832a0c922de68e7d50c9e6c0c38b8e67b0f7b7caed39f6";
+
+const GRANT: &str =
+    "4e42010c000000a86b466073bd2414a7dadcfd0596715106035d1b89f8baebb62ca08193d822cdc1956b30ae87b8c421d2f3ae246994bd2fb95307b44bdc3b97884a1c6beb006a49c76420f7f7918fb94d79943b3a638868867b15840bbada1a3bf459363aebe7cfa630685df83805ec97c2331d1180bb0890957938a5dfc3a6dae8688164d957ff2aec7e7a2386ab3a7daf474c4597f5d83b895f5105f3ff7be6beabcb40b5bb3df5919e0cd6e82c56";
+
+const DONE: &str = "4e42010f000000140000000100000000000000000000000000000000";
+
+const REFUSED: &str =
+    "4e4201100000003128000000000000000500000000000000060000000000000000000000000000000000000000000000000000000000000000";
+
 #[test]
-fn replies_are_written(rt: HostRuntime) -> Result<(), Fail> {
+fn results_are_written(rt: HostRuntime) -> Result<(), Fail> {
+    let reply = Reply::Result {
+        merchant: PAID,
+        consumer: PAID,
+    };
+    assert!(rt; is_written(rt.alloc(), &reply, MERCHANT, CONSUMER, RESULT)?);
+    Ok(())
+}
+
+#[test]
+fn statuses_are_written(rt: HostRuntime) -> Result<(), Fail> {
     let alloc = rt.alloc();
-    assert!(rt;
-        is_written(
-            alloc,
-            &Reply::Result {
-                merchant: PAID,
-                consumer: PAID,
-            },
-            MERCHANT,
-            CONSUMER,
-            "4e42010700000156000000a7552316fff34018a229c5ebc0f29bdd42d16550639a9db30f787964a61fe4a36affd05364c4606a357fd5b0a9d2fcb8e03b1aa43867dc8c57117eec084a714a642bb5af944d196aa41fbb718eec1efaeee2e1c4f57c738e884b8e0e8197e7716716fde2ba9ec4595261b9ef996943e9528e3bb3cce1e3da87f5bceffbfcbcd1768e828a72042f422a1ba23d66e30b4c55ea2b770f1a8c4a65e76db9a2e28d9697120d5185e8b1f9000000a79ffc7c65a196fd7f678372f6e46afc7a362b493342f04cc30fc87bd17aa5345338212fa1a4cf9d486f97c1cb8f7c8920347b014b546574b87ac1274ad10d5497f08d8843d3a7fd700ece3722b5d007ed1db18a15f7eb0718d821697057615c572b8f962d3805bb7f751a661a6f954b3159507bdbb9b86c32db7582f071c422a94e87069f58b8ca75cae02356908ea842bc563dd4b20e8b3930e16227d63c8d009aceda94906e03"
-        )?
-    );
-    assert!(rt;
-        is_written(
-            alloc,
-            &status(Some(PAID)),
-            CONSUMER,
-            NONE,
-            "4e42010a000000c0b26811f45b2c5c3f3a106b3d48df70d27037fb4ea771a5128598be2396377b990f7ad87f2299d162de924409baaa902a5dc4847690009123f24f40fcdd0fb7c53943a62ac81a7fca3dd0318a689e2367e2bfcc710866c919f397c81b794bc7c2e45c14293718499334a4d7718363e96e542744519adbdb0f1c60ccaba395efbe3fd5cf4e417c75d095fb17311a7e07b42a33c866810f014afe9e3dc46022ad0d11a5ff1c3b2b112dadfc3549230cfcc17f2ce9faf7d7aa5804fa94a1eb9e83c2"
-        )?
-    );
-    assert!(rt;
-        is_written(
-            alloc,
-            &status(Some(PAID)),
-            MERCHANT,
-            NONE,
-            "4e42010a000000c0b16ac16ccde5113b7f96512b73bdeb86c6111f4500caf64b1fb06fb70a666256967945118cfb524eee6cda812d227a702f865f153a16da9081bf11fc2b12087f37d35af43c886ce7d6b91e39a533a7595b39634ab42b5bed0ffea0a81322f156cc8abe594b749d7c70a502c0c384621fad4580bb463f381f459adae90531e891ace2b494a44a5709b1bc0fb9eeb645f2c342705a3f93cf8b31ebe023bd455797d57f8fbc43965eff07b62207ecb2c0768049c8fa9fe2e49ba1a2bc99bbcb233e"
-        )?
-    );
-    assert!(rt;
-        is_written(
-            alloc,
-            &status(None),
-            STRANGER,
-            NONE,
-            "4e42010a00000039c3c5e3c24c670bf9259afdde2948f1bd4cb7ad97c6f48c8d240b2b14b47962555cfc832a0c922de68e7d50c9e6c0c38b8e67b0f7b7caed39f6"
-        )?
-    );
-    assert!(rt;
-        is_written(
-            alloc,
-            &Reply::Grant {
-                consumer: PartyId(1),
-                merchant: PartyId(2),
-                nonce: 9,
-                until: 4600,
-                session: SESSION,
-            },
-            CONSUMER,
-            MERCHANT,
-            "4e42010c000000a86b466073bd2414a7dadcfd0596715106035d1b89f8baebb62ca08193d822cdc1956b30ae87b8c421d2f3ae246994bd2fb95307b44bdc3b97884a1c6beb006a49c76420f7f7918fb94d79943b3a638868867b15840bbada1a3bf459363aebe7cfa630685df83805ec97c2331d1180bb0890957938a5dfc3a6dae8688164d957ff2aec7e7a2386ab3a7daf474c4597f5d83b895f5105f3ff7be6beabcb40b5bb3df5919e0cd6e82c56"
-        )?
-    );
-    assert!(rt;
-        is_written(
-            alloc,
-            &Reply::Done {
-                acct: AcctId(1),
-                at: 0,
-                balance: 0,
-            },
-            NONE,
-            NONE,
-            "4e42010f000000140000000100000000000000000000000000000000"
-        )?
-    );
-    assert!(rt;
-        is_written(
-            alloc,
-            &Reply::Refused(Refusal::of(40, 5, 6)),
-            NONE,
-            NONE,
-            "4e4201100000003128000000000000000500000000000000060000000000000000000000000000000000000000000000000000000000000000"
-        )?
-    );
+    let paid = status(Some(PAID));
+    assert!(rt; is_written(alloc, &paid, CONSUMER, NONE, CONSUMER_STATUS)?);
+    assert!(rt; is_written(alloc, &paid, MERCHANT, NONE, MERCHANT_STATUS)?);
+    assert!(rt; is_written(alloc, &status(None), STRANGER, NONE, NO_STATUS)?);
+    Ok(())
+}
+
+#[test]
+fn grants_are_written(rt: HostRuntime) -> Result<(), Fail> {
+    let reply = Reply::Grant {
+        consumer: PartyId(1),
+        merchant: PartyId(2),
+        nonce: 9,
+        until: 4600,
+        session: SESSION,
+    };
+    assert!(rt; is_written(rt.alloc(), &reply, CONSUMER, MERCHANT, GRANT)?);
+    Ok(())
+}
+
+#[test]
+fn replies_without_a_key_are_written(rt: HostRuntime) -> Result<(), Fail> {
+    let alloc = rt.alloc();
+    let done = Reply::Done {
+        acct: AcctId(1),
+        at: 0,
+        balance: 0,
+    };
+    let refused = Reply::Refused(Refusal::of(40, 5, 6));
+    assert!(rt; is_written(alloc, &done, NONE, NONE, DONE)?);
+    assert!(rt; is_written(alloc, &refused, NONE, NONE, REFUSED)?);
     Ok(())
 }
 
@@ -165,72 +152,87 @@ fn replies_are_written(rt: HostRuntime) -> Result<(), Fail> {
 const STATUS: &str =
     "00000000000000050000000200000000000003e800000001010000000001000000020000000700000000000001f40000000200000000000003e800000001000000000000000300000000000003e80177777777777777777777777777777777777777777777777777777777777777770000000000000000000000000000000000151084845cb2a97f2488aedd273b23a9e561ecfb5d64e85244dfb24605e7e44b";
 
-// A status is read; one that is cut, or in which one byte is not allowed, fails at the field of that byte.
-#[test]
-fn statuses_are_read(rt: HostRuntime) -> Result<(), Fail> {
+// The bytes that are left of it, and the field that fails then.
+static CUTS: [(usize, usize); 8] = [
+    (0, 0),
+    (7, 0),
+    (8, 8),
+    (23, 8),
+    (24, 24),
+    (25, 25),
+    (26, 26),
+    (159, 128),
+];
+
+// Bytes that are others at their places, and the field that fails: whether there is a receipt, its code, whether there is a key, and the
+// key; whether numbers are shown, and the numbers. A refusal, code 36, has no key.
+static TURNED: [(&'static [(usize, u8)], usize); 10] = [
+    (&[(24, 2)], 24),
+    (&[(24, 0xFF)], 24),
+    (&[(25, 1)], 25),
+    (&[(78, 0)], 78),
+    (&[(78, 2)], 78),
+    (&[(111, 1)], 111),
+    (&[(111, 2)], 111),
+    (&[(119, 1)], 112),
+    (&[(127, 1)], 120),
+    (&[(25, 36), (78, 0)], 79),
+];
+
+// The status, and a byte behind it.
+fn whole() -> Result<[u8; 161], Fail> {
     let mut whole = [0u8; 161];
     hex::decode_to_slice(STATUS, whole.split_at_mut(160).0)?;
+    Ok(whole)
+}
+
+// Where a status fails, which is not read.
+fn bad_place(text: &[u8]) -> Option<usize> {
+    match StatusText::read(text) {
+        Ok(_) => None,
+        Err(Malformed { place }) => Some(place),
+    }
+}
+
+#[test]
+fn statuses_are_read(rt: HostRuntime) -> Result<(), Fail> {
+    let whole = whole()?;
     let (status, _) = whole.split_at(160);
     let read = StatusText::read(status)?;
     assert_eq!(rt; (read.place, read.epoid), (5, EPOID));
     assert_eq!(rt; read.receipt.map(|signed| signed.receipt), Some(PAID));
     assert_eq!(rt; read.spelled().as_slice(), status);
-    let cuts = [
-        (0usize, 0usize),
-        (7, 0),
-        (8, 8),
-        (23, 8),
-        (24, 24),
-        (25, 25),
-        (26, 26),
-        (159, 128),
-    ];
-    for (left, place) in cuts {
-        let cut = status.get(..left).ok_or("too long")?;
-        assert_eq!(rt;
-            StatusText::read(cut),
-            Err(Malformed { place }),
-            "{left} bytes"
-        );
-    }
-    assert_eq!(rt; StatusText::read(&whole), Err(Malformed { place: 160 }));
-    // The byte at a place, and the field that fails: whether there is a receipt, its code, whether there is a key, and the key; whether
-    // numbers are shown, and the numbers.
-    let turned = [
-        (24usize, 2u8, 24usize),
-        (24, 0xFF, 24),
-        (25, 1, 25),
-        (78, 0, 78),
-        (78, 2, 78),
-        (111, 1, 111),
-        (111, 2, 111),
-        (119, 1, 112),
-        (127, 1, 120),
-    ];
-    for (at, byte, place) in turned {
-        let mut other = whole;
-        *other.get_mut(at).ok_or("too long")? = byte;
-        let (other, _) = other.split_at(160);
-        assert_eq!(rt;
-            StatusText::read(other),
-            Err(Malformed { place }),
-            "{byte} at {at}"
-        );
-    }
-    // A refusal has no key.
-    let mut refused = whole;
-    refused[25] = 36;
-    refused[78] = 0;
-    let (refused, _) = refused.split_at(160);
-    assert_eq!(rt; StatusText::read(refused), Err(Malformed { place: 79 }));
-    // With no receipt there is nothing behind that byte.
+    Ok(())
+}
+
+// With no receipt there is nothing behind the byte that says so.
+#[test]
+fn statuses_without_a_receipt_are_read(rt: HostRuntime) -> Result<(), Fail> {
+    let mut whole = whole()?;
     whole[24] = 0;
     let (none, _) = whole.split_at(25);
-    assert_eq!(rt; StatusText::read(none)?.receipt, None);
-    assert_eq!(rt; StatusText::read(none)?.spelled().as_slice(), none);
-    assert_eq!(rt;
-        StatusText::read(whole.split_at(26).0),
-        Err(Malformed { place: 25 })
-    );
+    let read = StatusText::read(none)?;
+    assert_eq!(rt; read.receipt, None);
+    assert_eq!(rt; read.spelled().as_slice(), none);
+    assert_eq!(rt; bad_place(whole.split_at(26).0), Some(25));
+    Ok(())
+}
+
+// A status that is cut or longer, or in which a byte is not allowed, fails at the field of that byte.
+#[test]
+fn what_is_no_status_is_told(rt: HostRuntime) -> Result<(), Fail> {
+    let whole = whole()?;
+    for (left, place) in &CUTS {
+        let cut = whole.get(..*left).ok_or("too long")?;
+        assert_eq!(rt; bad_place(cut), Some(*place), "{left} bytes");
+    }
+    assert_eq!(rt; bad_place(&whole), Some(160));
+    for (bytes, place) in &TURNED {
+        let mut other = whole;
+        for (at, byte) in *bytes {
+            *other.get_mut(*at).ok_or("too long")? = *byte;
+        }
+        assert_eq!(rt; bad_place(other.split_at(160).0), Some(*place), "{bytes:?}");
+    }
     Ok(())
 }

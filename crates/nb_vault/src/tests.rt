@@ -85,12 +85,17 @@ fn turned(letter: u8) -> Option<(usize, u8)> {
     }
 }
 
+// The enrolment of the party that a small letter stands for.
+fn enrolled(alloc: Global, letter: u8) -> Result<Vec<u8>, Fail> {
+    let id = party(letter);
+    let mut entry = Vec::from_slice(alloc, &[1, 0, 0, 0, id, 1, 0, 0, 0, id])?;
+    entry.extend_from_slice(&[0x44; 40])?;
+    Ok(entry)
+}
+
 fn spelled(alloc: Global, letter: u8) -> Result<Vec<u8>, Fail> {
     if letter.is_ascii_lowercase() {
-        let id = party(letter);
-        let mut entry = Vec::from_slice(alloc, &[1, 0, 0, 0, id, 1, 0, 0, 0, id])?;
-        entry.extend_from_slice(&[0x44; 40])?;
-        return Ok(entry);
+        return enrolled(alloc, letter);
     }
     let item = hex::decode(alloc, item_of(letter))?;
     let at = item.len().min(5);
@@ -112,27 +117,45 @@ fn entry_of(alloc: Global, letter: u8) -> Result<Entry, Fail> {
     }
 }
 
-// The bytes of a journal: the magic, the cap, the keys of house, operator and index, 4 zeros, and then what is shown: items of
-// entries and digits in brackets, in round ones where the gate is shut, and a dot for a gate that is shut.
-fn journal(alloc: Global, cap: u32, shown: &str) -> Result<Vec<u8>, Fail> {
+// What stands before the first gate of a journal: the magic, the cap, the keys of house, operator and index, and 4 zeros.
+fn front(alloc: Global, cap: u32) -> Result<Vec<u8>, Fail> {
     let mut bytes = Vec::from_slice(alloc, b"NBJRNL01")?;
     bytes.extend_from_slice(&cap.to_be_bytes())?;
-    for (byte, count) in [(0x11u8, 32usize), (0x22, 32), (0x33, 16), (0, 4)] {
-        bytes.resize(bytes.len().saturating_add(count), byte)?;
+    bytes.extend_from_slice(&[0x11; 32])?;
+    bytes.extend_from_slice(&[0x22; 32])?;
+    bytes.extend_from_slice(&[0x33; 16])?;
+    bytes.extend_from_slice(&[0; 4])?;
+    Ok(bytes)
+}
+
+// Appends a gate, a length and an item.
+fn put_item(bytes: &mut Vec<u8>, gate: u8, item: &[u8]) -> Result<(), Fail> {
+    bytes.push(gate)?;
+    bytes.extend_from_slice(&u32::try_from(item.len())?.to_be_bytes())?;
+    bytes.extend_from_slice(item)?;
+    Ok(())
+}
+
+// Goes on with the item, or appends it or a gate that is shut, as a sign shows.
+fn put_sign(alloc: Global, bytes: &mut Vec<u8>, item: &mut Vec<u8>, sign: u8) -> Result<(), Fail> {
+    match sign {
+        b'[' | b'(' => item.clear(),
+        b']' => put_item(bytes, 0xA5, item.as_slice())?,
+        b')' => put_item(bytes, 0, item.as_slice())?,
+        b'.' => bytes.push(0)?,
+        b'0'..=b'9' => item.push(sign - b'0')?,
+        letter => item.extend_from_slice(spelled(alloc, letter)?.as_slice())?,
     }
+    Ok(())
+}
+
+// The bytes of a journal: its front, and then what is shown: items of entries and digits in brackets, in round ones where the gate is
+// shut, and a dot for a gate that is shut.
+fn journal(alloc: Global, cap: u32, shown: &str) -> Result<Vec<u8>, Fail> {
+    let mut bytes = front(alloc, cap)?;
     let mut item = Vec::new(alloc);
     for sign in shown.as_bytes() {
-        match *sign {
-            b'[' | b'(' => item.clear(),
-            b']' | b')' => {
-                bytes.push(if *sign == b']' { 0xA5 } else { 0 })?;
-                bytes.extend_from_slice(&u32::try_from(item.len())?.to_be_bytes())?;
-                bytes.extend_from_slice(item.as_slice())?;
-            }
-            b'.' => bytes.push(0)?,
-            b'0'..=b'9' => item.push(*sign - b'0')?,
-            letter => item.extend_from_slice(spelled(alloc, letter)?.as_slice())?,
-        }
+        put_sign(alloc, &mut bytes, &mut item, *sign)?;
     }
     Ok(bytes)
 }
@@ -177,17 +200,22 @@ fn known_frame(letter: u8) -> &'static str {
     }
 }
 
-// The frame of a request.
-fn frame_of(alloc: Global, letter: u8) -> Result<Vec<u8>, Fail> {
-    if !letter.is_ascii_lowercase() {
-        return Ok(hex::decode(alloc, known_frame(letter))?);
-    }
-    let id = party(letter);
+// The frame that enrols a party.
+fn party_frame(alloc: Global, id: u8, tag: &str) -> Result<Vec<u8>, Fail> {
     let mut frame = hex::decode(alloc, "4e42010d00000051")?;
     frame.extend_from_slice(&[0, 0, 0, id, 1, 0, 0, 0, id])?;
     frame.extend_from_slice(&[0x44; 40])?;
-    frame.extend_from_slice(hex::decode(alloc, TAGS[usize::from(id) - 101])?.as_slice())?;
+    frame.extend_from_slice(hex::decode(alloc, tag)?.as_slice())?;
     Ok(frame)
+}
+
+// The frame of a request.
+fn frame_of(alloc: Global, letter: u8) -> Result<Vec<u8>, Fail> {
+    if letter.is_ascii_lowercase() {
+        let id = party(letter);
+        return party_frame(alloc, id, TAGS[usize::from(id) - 101]);
+    }
+    Ok(hex::decode(alloc, known_frame(letter))?)
 }
 
 // What they are told first; what 1, 2 and E are told again, behind the fund and the order; what M is told behind a fund; what E is told
@@ -222,22 +250,25 @@ fn known_reply(letter: u8) -> &'static str {
     }
 }
 
-// A reply. In a turn of 32 the parties of small letters have the places from 6 on, and nothing in their accounts.
-fn reply_of(alloc: Global, letter: u8) -> Result<Vec<u8>, Fail> {
-    if !letter.is_ascii_lowercase() {
-        return Ok(hex::decode(alloc, known_reply(letter))?);
-    }
-    let id = party(letter);
+// What the party with this number is told in a turn of 32: their places go from 6 on, and there is nothing in their accounts.
+fn party_reply(alloc: Global, id: u8) -> Result<Vec<u8>, Fail> {
     let mut reply = hex::decode(alloc, "4e42010f00000014")?;
     reply.extend_from_slice(&[0, 0, 0, id])?;
-    reply.extend_from_slice(&u64::from(id - 95).to_be_bytes())?;
+    reply.extend_from_slice(&u64::from(id.saturating_sub(95)).to_be_bytes())?;
     reply.extend_from_slice(&[0; 8])?;
     Ok(reply)
 }
 
+fn reply_of(alloc: Global, letter: u8) -> Result<Vec<u8>, Fail> {
+    if letter.is_ascii_lowercase() {
+        return party_reply(alloc, party(letter));
+    }
+    Ok(hex::decode(alloc, known_reply(letter))?)
+}
+
 // 3 and 5 ask in turn.
 fn maker(turn: u64) -> u64 {
-    3 + turn % 2 * 2
+    if turn % 2 == 0 { 3 } else { 5 }
 }
 
 // The bytes of these replies.
@@ -249,21 +280,25 @@ fn replies(alloc: Global, letters: &str) -> Result<Vec<u8>, Fail> {
     Ok(bytes)
 }
 
-// The requests in these frames, and the bytes of their bodies: that of the last request stands at the front, and that of the first at
-// the end. A frame's header has 8 bytes, with its kind in the fourth.
+// A request, whose body is appended to the bytes. A frame's header has 8 bytes, with its kind in the fourth.
+fn ask_at(alloc: Global, letter: u8, bytes: &mut Vec<u8>) -> Result<AskAt, Fail> {
+    let frame = frame_of(alloc, letter)?;
+    let (header, body) = frame.as_slice().split_at(frame.len().min(8));
+    let ask = AskAt {
+        kind: *header.get(3).ok_or("a frame has a header")?,
+        start: bytes.len(),
+        len: body.len(),
+        moment: MOMENT,
+    };
+    bytes.extend_from_slice(body)?;
+    Ok(ask)
+}
+
+// The requests, and the bytes of their bodies: that of the last request stands at the front, and that of the first at the end.
 fn asked(alloc: Global, letters: &str, bytes: &mut Vec<u8>) -> Result<Vec<AskAt>, Fail> {
     let mut asks = Vec::new(alloc);
     for letter in letters.as_bytes().iter().rev() {
-        let frame = frame_of(alloc, *letter)?;
-        let (header, body) = frame.as_slice().split_at(frame.len().min(8));
-        let kind = *header.get(3).ok_or("a frame has a header")?;
-        asks.push(AskAt {
-            kind,
-            start: bytes.len(),
-            len: body.len(),
-            moment: MOMENT,
-        })?;
-        bytes.extend_from_slice(body)?;
+        asks.push(ask_at(alloc, *letter, bytes)?)?;
     }
     asks.as_mut_slice().reverse();
     Ok(asks)
@@ -324,28 +359,57 @@ fn answer_one(
     })
 }
 
+// Who asks in a turn, and its number.
+#[derive(Clone, Copy)]
+struct Mark {
+    by: u64,
+    turn: u64,
+}
+
+impl Mark {
+    // Adds the lines of what was in doubt and is kept.
+    fn keep(self, alloc: Global, letters: &str, lines: &mut Vec<Line>) -> Result<(), Fail> {
+        let Mark { by, turn } = self;
+        for letter in letters.as_bytes() {
+            let entry = entry_of(alloc, *letter)?;
+            lines.push(Line::Adopted { by, turn, entry })?;
+        }
+        Ok(())
+    }
+
+    // Adds the lines of what is recorded, or is in doubt where the disk fails.
+    fn make(
+        self,
+        alloc: Global,
+        letters: &str,
+        fails: bool,
+        lines: &mut Vec<Line>,
+    ) -> Result<(), Fail> {
+        let Mark { by, turn } = self;
+        for letter in letters.as_bytes() {
+            let entry = entry_of(alloc, *letter)?;
+            lines.push(match fails {
+                true => Line::Doubt { by, turn, entry },
+                false => Line::Commit { by, turn, entry },
+            })?;
+        }
+        Ok(())
+    }
+}
+
 // The lines that a turn with this number adds, behind so many faults.
 fn lines_of(alloc: Global, told: &Turn<'_>, turn: u64, before: u64) -> Result<Vec<Line>, Fail> {
     let by = maker(turn);
-    let after = before.saturating_add(1);
+    let mark = Mark { by, turn };
     let mut lines = Vec::new(alloc);
-    for letter in told.kept.as_bytes() {
-        let entry = entry_of(alloc, *letter)?;
-        lines.push(Line::Adopted { by, turn, entry })?;
-    }
-    for letter in told.made.as_bytes() {
-        let entry = entry_of(alloc, *letter)?;
-        lines.push(match told.fails {
-            true => Line::Doubt { by, turn, entry },
-            false => Line::Commit { by, turn, entry },
-        })?;
-    }
+    mark.keep(alloc, told.kept, &mut lines)?;
+    mark.make(alloc, told.made, told.fails, &mut lines)?;
     if told.fails {
         lines.push(Line::Fault {
             by,
             turn,
             before,
-            after,
+            after: before.saturating_add(1),
         })?;
     }
     Ok(lines)

@@ -89,37 +89,49 @@ static CASES: [Case<'static>; 6] = [
     },
 ];
 
+impl Case<'_> {
+    // The append fails, and what it left is settled.
+    fn settles(&self, rt: &impl Abort, journal: &mut Journal<MemDisk>) -> Result<(), Fail> {
+        assert_eq!(rt; journal.disk().calls(), OPENING);
+        let said = append(journal, SECOND)?;
+        let (before, after) = (0, 1);
+        assert_eq!(rt; said, Err(AppendFault::DiskFault { before, after }));
+        assert_eq!(rt; journal.disk().calls(), self.calls);
+        for (want, calls) in self.settles {
+            assert!(rt; journal.is_stale());
+            assert_eq!(rt; journal.settle(), *want);
+            assert_eq!(rt; journal.disk().calls(), *calls);
+        }
+        assert!(rt; !journal.is_stale());
+        Ok(())
+    }
+}
+
+// This stands behind the front of the journal, which are these items.
+fn keeps(
+    rt: &impl Abort,
+    alloc: Global,
+    journal: &Journal<MemDisk>,
+    behind: &[&[u8]],
+    items: &[&[u8]],
+) -> Result<(), Fail> {
+    let content = journal_of(alloc, behind)?;
+    assert_eq!(rt; journal.disk().content(), content.as_slice());
+    assert_eq!(rt; journal.len() as usize, items.len());
+    assert!(rt; holds(alloc, content.as_slice(), items)?);
+    Ok(())
+}
+
 #[test]
 fn settles_after_a_fault(rt: HostRuntime) -> Result<(), Fail> {
     let alloc = rt.alloc();
     let one = journal_of(alloc, &[GATED, b"\0"])?;
     for case in &CASES {
         let mut journal = open(alloc, one.as_slice(), case.fails)?;
-        assert_eq!(rt; journal.disk().calls(), OPENING);
-        assert_eq!(rt;
-            append(&mut journal, SECOND)?,
-            Err(AppendFault::DiskFault {
-                before: 0,
-                after: 1
-            })
-        );
-        assert_eq!(rt; journal.disk().calls(), case.calls);
-        for (want, calls) in case.settles {
-            assert!(rt; journal.is_stale());
-            assert_eq!(rt; journal.settle(), *want);
-            assert_eq!(rt; journal.disk().calls(), *calls);
-        }
-        assert!(rt; !journal.is_stale());
-        let content = journal_of(alloc, case.content)?;
-        assert_eq!(rt; journal.disk().content(), content.as_slice());
-        assert_eq!(rt; journal.len() as usize, case.items.len());
-
+        case.settles(&rt, &mut journal)?;
+        keeps(&rt, alloc, &journal, case.content, case.items)?;
         assert_eq!(rt; append(&mut journal, THIRD)?, Ok(()));
-        let later = journal_of(alloc, case.later)?;
-        assert_eq!(rt; journal.disk().content(), later.as_slice());
-        assert_eq!(rt; journal.len() as usize, case.later_items.len());
-        assert!(rt; holds(alloc, content.as_slice(), case.items)?);
-        assert!(rt; holds(alloc, later.as_slice(), case.later_items)?);
+        keeps(&rt, alloc, &journal, case.later, case.later_items)?;
     }
     Ok(())
 }

@@ -119,26 +119,44 @@ impl Group {
         }
     }
 
-    // Its turns, with these calls failing, and then the same once more over the journal opened again.
-    fn run(&self, rt: &impl Abort, alloc: Global, fails: &[u64], signs: &str) -> Result<(), Fail> {
-        let mut calls = Vec::new(alloc);
-        for call in fails {
-            calls.push(call.saturating_add(OPENING))?;
-        }
+    // Its turns.
+    fn turns(&self, alloc: Global, signs: &str) -> Result<Vec<Turn<'static>>, Fail> {
         let mut turns = Vec::new(alloc);
         for sign in signs.as_bytes() {
             turns.push(self.turn(*sign))?;
         }
+        Ok(turns)
+    }
+
+    // Its turns over the journal before, whose calls behind opening fail, leave the one behind.
+    fn run(&self, rt: &impl Abort, alloc: Global, fails: &[u64], signs: &str) -> Result<(), Fail> {
+        let calls = behind_opening(alloc, fails)?;
+        let turns = self.turns(alloc, signs)?;
         let before = journal(alloc, self.cap, self.before)?;
-        let after = journal(alloc, self.cap, self.after)?;
         let vault = opened(alloc, before.as_slice(), calls.as_slice())?;
         let disk = run(rt, alloc, vault, turns.as_slice())?;
-        assert_eq!(rt; disk.content(), after.as_slice(), "{fails:?}");
-        let vault = opened(alloc, disk.content(), &[])?;
-        let disk = run(rt, alloc, vault, &[self.turn(b'A')])?;
+        let after = journal(alloc, self.cap, self.after)?;
         assert_eq!(rt; disk.content(), after.as_slice(), "{fails:?}");
         Ok(())
     }
+
+    // The same once more over the journal behind, opened again, leaves it as it is.
+    fn again(&self, rt: &impl Abort, alloc: Global) -> Result<(), Fail> {
+        let after = journal(alloc, self.cap, self.after)?;
+        let vault = opened(alloc, after.as_slice(), &[])?;
+        let disk = run(rt, alloc, vault, &[self.turn(b'A')])?;
+        assert_eq!(rt; disk.content(), after.as_slice());
+        Ok(())
+    }
+}
+
+// The numbers of these calls, counted from behind opening.
+fn behind_opening(alloc: Global, fails: &[u64]) -> Result<Vec<u64>, Fail> {
+    let mut calls = Vec::new(alloc);
+    for call in fails {
+        calls.push(call.saturating_add(OPENING))?;
+    }
+    Ok(calls)
 }
 
 #[test]
@@ -147,6 +165,7 @@ fn one_gate_opens_all_entries_of_a_turn(rt: HostRuntime) -> Result<(), Fail> {
         for (fails, signs) in &FAILS {
             group.run(&rt, rt.alloc(), *fails, *signs)?;
         }
+        group.again(&rt, rt.alloc())?;
     }
     Ok(())
 }
@@ -263,15 +282,19 @@ fn a_turn_adopts_and_goes_on(rt: HostRuntime) -> Result<(), Fail> {
     Ok(())
 }
 
-// All calls behind opening fail: 1000 of them, one in each turn. Then nothing is done any more.
-#[test]
-fn a_vault_wears_out(rt: HostRuntime) -> Result<(), Fail> {
-    let alloc = rt.alloc();
-    let before = journal(alloc, 4, "[C].")?;
+// All calls behind opening fail, one in each turn.
+fn all_calls(alloc: Global) -> Result<Vec<u64>, Fail> {
     let mut fails = Vec::new(alloc);
-    let mut turns = Vec::new(alloc);
     for turn in 0..1002u64 {
         fails.push(turn + OPENING + 1)?;
+    }
+    Ok(fails)
+}
+
+// A fund is in doubt and is not settled any more. From 1000 turns on nothing is done.
+fn worn_turns(alloc: Global) -> Result<Vec<Turn<'static>>, Fail> {
+    let mut turns = Vec::new(alloc);
+    for turn in 0..1002u64 {
         turns.push(Turn {
             asks: "F",
             kept: "",
@@ -281,6 +304,16 @@ fn a_vault_wears_out(rt: HostRuntime) -> Result<(), Fail> {
             replies: "",
         })?;
     }
+    Ok(turns)
+}
+
+// All calls behind opening fail: 1000 of them, one in each turn. Then nothing is done any more.
+#[test]
+fn a_vault_wears_out(rt: HostRuntime) -> Result<(), Fail> {
+    let alloc = rt.alloc();
+    let before = journal(alloc, 4, "[C].")?;
+    let fails = all_calls(alloc)?;
+    let turns = worn_turns(alloc)?;
     let vault = opened(alloc, before.as_slice(), fails.as_slice())?;
     let disk = run(&rt, alloc, vault, turns.as_slice())?;
     assert_eq!(rt; disk.content(), before.as_slice());

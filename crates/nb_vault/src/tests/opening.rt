@@ -55,57 +55,85 @@ fn opens(alloc: Global, content: &[u8], fails: &[u64]) -> Result<u32, VaultFault
     opened(alloc, content, fails).map(|vault| vault.entries())
 }
 
+impl Content {
+    fn wanted(self) -> Result<u32, VaultFault> {
+        match self {
+            Opens(entries) => Ok(entries),
+            Bad(item) => Err(VaultFault::BadEntry { item }),
+            Breaks(item, place) => Err(VaultFault::Damaged { item, place }),
+        }
+    }
+}
+
 #[test]
 fn a_content_is_told(rt: HostRuntime) -> Result<(), Fail> {
     let alloc = rt.alloc();
     for (cap, shown, content) in &CONTENTS {
-        let wanted = match *content {
-            Opens(entries) => Ok(entries),
-            Bad(item) => Err(VaultFault::BadEntry { item }),
-            Breaks(item, place) => Err(VaultFault::Damaged { item, place }),
-        };
-        let content = journal(alloc, *cap, *shown)?;
-        assert_eq!(rt; opens(alloc, content.as_slice(), &[]), wanted, "{shown}");
+        let journal = journal(alloc, *cap, *shown)?;
+        let said = opens(alloc, journal.as_slice(), &[]);
+        assert_eq!(rt; said, content.wanted(), "{shown}");
     }
     Ok(())
 }
 
-// A journal of 97 bytes that is cut.
+// A journal of 97 bytes that is cut to so many.
+static CUTS: [(usize, Result<u32, VaultFault>); 7] = [
+    (
+        0,
+        Err(VaultFault::Unborn {
+            found: *b"\0\0\0\0\0\0\0\0",
+        }),
+    ),
+    (
+        4,
+        Err(VaultFault::Unborn {
+            found: *b"NBJR\0\0\0\0",
+        }),
+    ),
+    (
+        7,
+        Err(VaultFault::Unborn {
+            found: *b"NBJRNL0\0",
+        }),
+    ),
+    (8, Err(VaultFault::Damaged { item: 0, place: 8 })),
+    (95, Err(VaultFault::Damaged { item: 0, place: 8 })),
+    (96, Err(VaultFault::Damaged { item: 0, place: 96 })),
+    (97, Ok(0)),
+];
+
 #[test]
 fn a_cut_is_told(rt: HostRuntime) -> Result<(), Fail> {
     let alloc = rt.alloc();
     let whole = journal(alloc, 4, ".")?;
-    let unborn = |found: &[u8; 8]| Err(VaultFault::Unborn { found: *found });
-    for (len, wanted) in [
-        (0, unborn(b"\0\0\0\0\0\0\0\0")),
-        (4, unborn(b"NBJR\0\0\0\0")),
-        (7, unborn(b"NBJRNL0\0")),
-        (8, Err(VaultFault::Damaged { item: 0, place: 8 })),
-        (95, Err(VaultFault::Damaged { item: 0, place: 8 })),
-        (96, Err(VaultFault::Damaged { item: 0, place: 96 })),
-        (97, Ok(0)),
-    ] {
-        let content = whole.as_slice().split_at(len.min(whole.len())).0;
-        assert_eq!(rt; opens(alloc, content, &[]), wanted, "{len}");
+    for (len, wanted) in &CUTS {
+        let content = whole.as_slice().split_at((*len).min(whole.len())).0;
+        assert_eq!(rt; opens(alloc, content, &[]), *wanted, "{len}");
     }
     Ok(())
 }
 
-// Enrolments of parties and accounts with the numbers from 1 on, in one item.
+// A journal of one item, with enrolments of parties and accounts with the numbers from 1 on.
+fn enrolments(alloc: Global, count: u8) -> Result<Vec<u8>, Fail> {
+    let mut content = journal(alloc, 40, "")?;
+    content.push(0xA5)?;
+    content.extend_from_slice(&(u32::from(count) * 50).to_be_bytes())?;
+    for id in 1..=count {
+        content.extend_from_slice(&[1, 0, 0, 0, id, 1, 0, 0, 0, id])?;
+        content.extend_from_slice(&[0x44; 40])?;
+    }
+    content.push(0)?;
+    Ok(content)
+}
+
 #[test]
 fn an_item_has_at_most_32_entries(rt: HostRuntime) -> Result<(), Fail> {
     let alloc = rt.alloc();
-    for (count, wanted) in [(32u8, Ok(32)), (33, Err(VaultFault::BadEntry { item: 0 }))] {
-        let mut content = journal(alloc, 40, "")?;
-        content.push(0xA5)?;
-        content.extend_from_slice(&(u32::from(count) * 50).to_be_bytes())?;
-        for id in 1..=count {
-            content.extend_from_slice(&[1, 0, 0, 0, id, 1, 0, 0, 0, id])?;
-            content.extend_from_slice(&[0x44; 40])?;
-        }
-        content.push(0)?;
-        assert_eq!(rt; opens(alloc, content.as_slice(), &[]), wanted);
-    }
+    let most = enrolments(alloc, 32)?;
+    assert_eq!(rt; opens(alloc, most.as_slice(), &[]), Ok(32));
+    let more = enrolments(alloc, 33)?;
+    let wanted = Err(VaultFault::BadEntry { item: 0 });
+    assert_eq!(rt; opens(alloc, more.as_slice(), &[]), wanted);
     Ok(())
 }
 

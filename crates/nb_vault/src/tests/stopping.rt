@@ -24,6 +24,24 @@ fn entries_at(alloc: Global, disk: &MemDisk, moment: u64, fill: Fill) -> Result<
 
 // The turn of a group writes its item by its first call, and its gate by the third one, of which a stop leaves nothing, or what was
 // written, until the fourth one has synced it. A moment is twice the number of the calls made by then, and one less within a call.
+fn stop_with(
+    rt: &impl Abort,
+    alloc: Global,
+    disk: &MemDisk,
+    fill: Fill,
+    pending: bool,
+    counts: (u32, u32),
+) -> Result<(), Fail> {
+    let (none, all) = counts;
+    for step in 0..9u64 {
+        let open = step == 8 || (step >= 5 && pending);
+        let moment = 2 * OPENING + step;
+        let entries = entries_at(alloc, disk, moment, fill)?;
+        assert_eq!(rt; entries, if open { all } else { none }, "{moment} {fill:?}");
+    }
+    Ok(())
+}
+
 fn stop_anywhere(rt: &impl Abort, alloc: Global, group: &Group) -> Result<(), Fail> {
     let before = journal(alloc, group.cap, group.before)?;
     let vault = opened(alloc, before.as_slice(), &[])?;
@@ -31,12 +49,7 @@ fn stop_anywhere(rt: &impl Abort, alloc: Global, group: &Group) -> Result<(), Fa
     let all = none.saturating_add(u32::try_from(group.asks.len())?);
     let disk = run(rt, alloc, vault, &[group.turn(b'W')])?;
     for (fill, pending) in &FILLS {
-        for step in 0..9u64 {
-            let open = step == 8 || (step >= 5 && *pending);
-            let moment = 2 * OPENING + step;
-            let entries = entries_at(alloc, &disk, moment, *fill)?;
-            assert_eq!(rt; entries, if open { all } else { none }, "{moment} {fill:?}");
-        }
+        stop_with(rt, alloc, &disk, *fill, *pending, (none, all))?;
     }
     Ok(())
 }
