@@ -143,52 +143,71 @@ struct Request {
     digest: Digest,
 }
 
-fn request_of(alloc: Global, ask: &Ask, changes: &[Change]) -> Result<Request, Fail> {
-    let mut request = Request {
+// A request of merchant 2 at moment 1000, with the order of consumer 1.
+fn plain(alloc: Global) -> Result<Request, Fail> {
+    let order = Order {
+        consumer: PartyId(1),
+        merchant: PartyId(2),
+        product: 7,
+        price: Price(500),
+        epoid: Epoid {
+            merchant: PartyId(2),
+            moment: 1000,
+            serial: 1,
+        },
+        checksum: ZEROS,
+        request: ZEROS,
+        account: ZEROS,
+        hidden: Small::of(&[]).ok_or("no bytes are a small list")?,
+        tag: ZEROS,
+    };
+    Ok(Request {
         kind: 0x06,
         body: Vec::new(alloc),
         moment: 1000,
         sender: (2, 0x55),
-        order: Order {
-            consumer: PartyId(1),
-            merchant: PartyId(2),
-            product: 7,
-            price: Price(500),
-            epoid: Epoid {
-                merchant: PartyId(2),
-                moment: 1000,
-                serial: 1,
-            },
-            checksum: ZEROS,
-            request: ZEROS,
-            account: ZEROS,
-            hidden: Small::of(&[]).ok_or("no bytes are a small list")?,
-            tag: ZEROS,
-        },
+        order,
         account: 11,
         nonce: 7,
         hidden_key: 0x44,
         credited: 12,
         goods: 0x77,
         digest: ZEROS,
-    };
-    for change in changes {
-        match *change {
-            At(moment) => request.moment = moment,
-            Endorser(id, key) => request.sender = (id, key),
-            Consumer(id) => request.order.consumer = PartyId(id),
-            Merchant(id) => request.order.merchant = PartyId(id),
-            Named(id) => request.order.epoid.merchant = PartyId(id),
-            Given(moment) => request.order.epoid.moment = moment,
-            Serial(serial) => request.order.epoid.serial = serial,
-            Costs(price) => request.order.price = Price(price),
-            Account(account) => request.account = account,
-            Nonce(nonce) => request.nonce = nonce,
-            HiddenKey(key) => request.hidden_key = key,
-            Credited(account) => request.credited = account,
-            Goods(key) => request.goods = key,
+    })
+}
+
+impl Request {
+    fn change(&mut self, change: Change) {
+        match change {
+            At(moment) => self.moment = moment,
+            Endorser(id, key) => self.sender = (id, key),
+            Account(account) => self.account = account,
+            Nonce(nonce) => self.nonce = nonce,
+            HiddenKey(key) => self.hidden_key = key,
+            Credited(account) => self.credited = account,
+            Goods(key) => self.goods = key,
             Cut(_, _) | Turn(_, _) => {}
+            change => change_order(&mut self.order, change),
         }
+    }
+}
+
+fn change_order(order: &mut Order, change: Change) {
+    match change {
+        Consumer(id) => order.consumer = PartyId(id),
+        Merchant(id) => order.merchant = PartyId(id),
+        Named(id) => order.epoid.merchant = PartyId(id),
+        Given(moment) => order.epoid.moment = moment,
+        Serial(serial) => order.epoid.serial = serial,
+        Costs(price) => order.price = Price(price),
+        _ => {}
+    }
+}
+
+fn request_of(alloc: Global, ask: &Ask, changes: &[Change]) -> Result<Request, Fail> {
+    let mut request = plain(alloc)?;
+    for change in changes {
+        request.change(*change);
     }
     let body = match *ask {
         Pay => endorsed(alloc, &mut request, changes)?,
@@ -198,85 +217,140 @@ fn request_of(alloc: Global, ask: &Ask, changes: &[Change]) -> Result<Request, F
     Ok(request)
 }
 
-fn tagged(alloc: Global, request: &mut Request, ask: &Ask) -> Result<Vec<u8>, Fail> {
+fn enrolment(id: u32, role: u8, acct: u32, nonce: u64, key: u8) -> Buffer {
     let mut text = Buffer::new();
-    let (kind, key, label) = match *ask {
-        Enrol(id, role, acct, nonce, key) => {
-            text.u32(id);
-            text.u8(role);
-            text.u32(acct);
-            text.u64(nonce);
-            text.raw(&[key; 32]);
-            (0x0D, OPERATOR, b"enro")
-        }
-        Fund(acct, amount, reference) => {
-            text.u32(acct);
-            text.u64(amount);
-            text.raw(&[reference; 16]);
-            (0x0E, OPERATOR, b"fund")
-        }
-        Status(asker, key, merchant, serial, least) => {
-            request.sender = (asker, key);
-            request.order.epoid.merchant = PartyId(merchant);
-            request.order.epoid.serial = serial;
-            text.u32(asker);
-            text.raw(&request.order.epoid.write());
-            text.u64(least);
-            (0x09, [key; 32], b"stat")
-        }
-        Ticket(consumer, key, merchant, nonce) => {
-            request.sender = (consumer, key);
-            request.order.merchant = PartyId(merchant);
-            request.nonce = nonce;
-            text.u32(consumer);
-            text.u32(merchant);
-            text.u64(nonce);
-            (0x0B, [key; 32], b"tick")
-        }
-        Pay => return Err("the order's tag is in its seal".into()),
-    };
-    request.kind = kind;
+    text.u32(id);
+    text.u8(role);
+    text.u32(acct);
+    text.u64(nonce);
+    text.raw(&[key; 32]);
+    text
+}
+
+fn funding(acct: u32, amount: u64, reference: u8) -> Buffer {
+    let mut text = Buffer::new();
+    text.u32(acct);
+    text.u64(amount);
+    text.raw(&[reference; 16]);
+    text
+}
+
+fn status_query(asker: u32, epoid: &Epoid, least: u64) -> Buffer {
+    let mut text = Buffer::new();
+    text.u32(asker);
+    text.raw(&epoid.write());
+    text.u64(least);
+    text
+}
+
+fn ticket_ask(consumer: u32, merchant: u32, nonce: u64) -> Buffer {
+    let mut text = Buffer::new();
+    text.u32(consumer);
+    text.u32(merchant);
+    text.u64(nonce);
+    text
+}
+
+// The body of a request of this kind: the text, and its tag under this key.
+fn tagged_text(
+    alloc: Global,
+    key: &[u8; 32],
+    label: &[u8; 4],
+    text: &Buffer,
+) -> Result<Vec<u8>, Fail> {
     let mut body = Vec::from_slice(alloc, text.as_slice())?;
-    body.extend_from_slice(&hmac(&key, label, text.as_slice()))?;
+    body.extend_from_slice(&hmac(key, label, text.as_slice()))?;
     Ok(body)
 }
 
-// The order, with its hidden part sealed, signed and endorsed.
-fn endorsed(alloc: Global, request: &mut Request, changes: &[Change]) -> Result<Vec<u8>, Fail> {
+fn tagged(alloc: Global, request: &mut Request, ask: &Ask) -> Result<Vec<u8>, Fail> {
+    match *ask {
+        Enrol(id, role, acct, nonce, key) => {
+            request.kind = 0x0D;
+            let text = enrolment(id, role, acct, nonce, key);
+            tagged_text(alloc, &OPERATOR, b"enro", &text)
+        }
+        Fund(acct, amount, reference) => {
+            request.kind = 0x0E;
+            let text = funding(acct, amount, reference);
+            tagged_text(alloc, &OPERATOR, b"fund", &text)
+        }
+        Status(asker, key, merchant, serial, least) => {
+            request.kind = 0x09;
+            request.sender = (asker, key);
+            request.order.epoid.merchant = PartyId(merchant);
+            request.order.epoid.serial = serial;
+            let text = status_query(asker, &request.order.epoid, least);
+            tagged_text(alloc, &[key; 32], b"stat", &text)
+        }
+        Ticket(consumer, key, merchant, nonce) => {
+            request.kind = 0x0B;
+            request.sender = (consumer, key);
+            request.order.merchant = PartyId(merchant);
+            request.nonce = nonce;
+            let text = ticket_ask(consumer, merchant, nonce);
+            tagged_text(alloc, &[key; 32], b"tick", &text)
+        }
+        Pay => Err("the order's tag is in its seal".into()),
+    }
+}
+
+// The hidden part, sealed.
+fn hidden(alloc: Global, request: &Request, changes: &[Change]) -> Result<Small, Fail> {
     let mut text = Buffer::new();
     text.u32(request.account);
     text.u64(request.nonce);
     text.u32(0);
     let text = changed(alloc, Hidden, text.as_slice(), changes)?;
-    let hidden = sealed(alloc, request.hidden_key, b"hide", text.as_slice())?;
-    let hidden = changed(alloc, HiddenSeal, hidden.as_slice(), changes)?;
-    let hidden = Small::of(hidden.as_slice()).ok_or("no hidden part has more")?;
-    request.order.hidden = hidden;
-    sign_order(&mut request.order, &[0x44; 32]);
-    let mut order = Vec::with_capacity(alloc, MAX_ORDER)?;
-    if request.order.hidden.as_slice().len() > MAX_HIDDEN {
+    let seal = sealed(alloc, request.hidden_key, b"hide", text.as_slice())?;
+    let seal = changed(alloc, HiddenSeal, seal.as_slice(), changes)?;
+    Ok(Small::of(seal.as_slice()).ok_or("no hidden part has more")?)
+}
+
+// The bytes of an order.
+fn spelled(alloc: Global, order: &Order) -> Result<Vec<u8>, Fail> {
+    let mut bytes = Vec::with_capacity(alloc, MAX_ORDER)?;
+    if order.hidden.as_slice().len() > MAX_HIDDEN {
         return Err("no hidden part has more".into());
     }
-    write_order(&request.order, &mut order);
-    let order = changed(alloc, Signed, order.as_slice(), changes)?;
+    write_order(order, &mut bytes);
+    Ok(bytes)
+}
+
+// What is endorsed: an order, the account that is to be paid, no memo, and the goods' key.
+fn endorsement(order: &[u8], credited: u32, goods: u8) -> Result<Buffer, Fail> {
     if order.len() > 300 {
         return Err("no order has more".into());
     }
-    let tag = last(order.as_slice());
-    request.order.tag = tag;
     let mut text = Buffer::new();
-    text.bytes(order.as_slice());
-    text.u32(request.credited);
+    text.bytes(order);
+    text.u32(credited);
     text.u32(0);
-    text.raw(&[request.goods; 32]);
+    text.raw(&[goods; 32]);
+    Ok(text)
+}
+
+// The order, with its hidden part sealed, signed and endorsed.
+fn endorsed(alloc: Global, request: &mut Request, changes: &[Change]) -> Result<Vec<u8>, Fail> {
+    request.order.hidden = hidden(alloc, request, changes)?;
+    sign_order(&mut request.order, &[0x44; 32]);
+    let order = spelled(alloc, &request.order)?;
+    let order = changed(alloc, Signed, order.as_slice(), changes)?;
+    request.order.tag = last(order.as_slice());
+    let text = endorsement(order.as_slice(), request.credited, request.goods)?;
     let text = changed(alloc, Endorsement, text.as_slice(), changes)?;
     request.digest = sha(text.as_slice());
     let (endorser, key) = request.sender;
     let seal = sealed(alloc, key, b"endo", text.as_slice())?;
     let seal = changed(alloc, Seal, seal.as_slice(), changes)?;
+    handed_in(alloc, endorser, seal.as_slice())
+}
+
+// Who hands in a seal, and the seal behind its length.
+fn handed_in(alloc: Global, endorser: u32, seal: &[u8]) -> Result<Vec<u8>, Fail> {
     let mut body = Vec::from_slice(alloc, &endorser.to_be_bytes())?;
     body.extend_from_slice(&u32::try_from(seal.len())?.to_be_bytes())?;
-    body.extend_from_slice(seal.as_slice())?;
+    body.extend_from_slice(seal)?;
     Ok(body)
 }
 
@@ -377,28 +451,10 @@ fn done(acct: u32, at: u64, balance: u64, entry: Option<Entry>) -> Decision {
     open(Reply::Done { acct, at, balance }, entry)
 }
 
-// What comes of an order that is decided behind so many entries.
-fn decided(request: &Request, at: u64, comes: Comes) -> Decision {
-    let (code, a, b, merchant, consumer) = match comes {
-        ToConsumer(code, a, b) => (code, a, b, None, Some((a, b))),
-        ToMerchant(code, a, b) => (code, a, b, Some((a, b)), None),
-        ToBoth(code, a, b) => (code, a, b, Some((a, b)), Some((a, b))),
-        _ => (0, 0, 0, None, None),
-    };
+// What is recorded of an order: that it is paid where the code is 0, or that it is refused.
+fn entry_of(request: &Request, code: u8, a: u64, b: u64) -> Entry {
     let order = &request.order;
-    let receipt = Receipt {
-        code,
-        consumer: order.consumer,
-        merchant: order.merchant,
-        product: 7,
-        price: order.price,
-        epoid: order.epoid,
-        at,
-        moment: request.moment,
-        key: (code == 0).then_some([request.goods; 32]),
-        shown: merchant,
-    };
-    let entry = match code {
+    match code {
         0 => Entry::Paid {
             digest: request.digest,
             epoid: order.epoid,
@@ -423,18 +479,41 @@ fn decided(request: &Request, at: u64, comes: Comes) -> Decision {
             b,
             moment: request.moment,
         },
-    };
-    let reply = Reply::Result {
-        merchant: receipt,
-        consumer: Receipt {
-            shown: consumer,
-            ..receipt
-        },
+    }
+}
+
+// What a party is told of an order that is decided behind so many entries, where it is shown these numbers.
+fn receipt_of(request: &Request, at: u64, code: u8, shown: Option<(u64, u64)>) -> Receipt {
+    let order = &request.order;
+    Receipt {
+        code,
+        consumer: order.consumer,
+        merchant: order.merchant,
+        product: 7,
+        price: order.price,
+        epoid: order.epoid,
+        at,
+        moment: request.moment,
+        key: (code == 0).then_some([request.goods; 32]),
+        shown,
+    }
+}
+
+// What comes of an order that is decided behind so many entries.
+fn decided(request: &Request, at: u64, comes: Comes) -> Decision {
+    let (code, a, b, merchant, consumer) = match comes {
+        ToConsumer(code, a, b) => (code, a, b, None, Some((a, b))),
+        ToMerchant(code, a, b) => (code, a, b, Some((a, b)), None),
+        ToBoth(code, a, b) => (code, a, b, Some((a, b)), Some((a, b))),
+        _ => (0, 0, 0, None, None),
     };
     Decision {
-        reply,
+        reply: Reply::Result {
+            merchant: receipt_of(request, at, code, merchant),
+            consumer: receipt_of(request, at, code, consumer),
+        },
         keys: keys_of(0x11, 0x55, 0x44),
-        entry: Some(entry),
+        entry: Some(entry_of(request, code, a, b)),
     }
 }
 
@@ -457,21 +536,26 @@ fn status(request: &Request, place: u64, told: Reply) -> Decision {
     }
 }
 
+// The key of a session that is granted.
+fn session(request: &Request) -> [u8; 32] {
+    let mut named = Buffer::new();
+    named.u32(request.sender.0);
+    named.u32(request.order.merchant.0);
+    named.u64(request.nonce);
+    named.u64(request.moment);
+    hmac(&HOUSE.house, b"session", named.as_slice())
+}
+
 // The ticket that is granted up to this moment.
 fn granted(request: &Request, until: u64) -> Decision {
     let (consumer, key) = request.sender;
     let merchant = request.order.merchant;
-    let mut named = Buffer::new();
-    named.u32(consumer);
-    named.u32(merchant.0);
-    named.u64(request.nonce);
-    named.u64(request.moment);
     let reply = Reply::Grant {
         consumer: PartyId(consumer),
         merchant,
         nonce: request.nonce,
         until,
-        session: hmac(&HOUSE.house, b"session", named.as_slice()),
+        session: session(request),
     };
     let merchant_key = if merchant.0 == 2 { 0x55 } else { 0x99 };
     Decision {

@@ -4,41 +4,89 @@
 use super::*;
 use std::process::Abort;
 
-// Asks for these, one behind the other. Where `keep` is true, what is to be recorded is.
-fn ask_all(rt: &impl Abort, alloc: Global, rows: &[Row], keep: bool) -> Result<(), Fail> {
-    let mut book = house(alloc)?;
-    let mut told: Vec<(Decision, Digest)> = Vec::new(alloc);
-    for (ask, changes, comes) in rows {
-        let request = request_of(alloc, ask, *changes)?;
-        let held = u64::from(book.len());
-        let (first, digest) = match *comes {
-            Again(row) | UsedUp(row) | Sees(row) => *told.get(row).ok_or("no such row")?,
-            _ => (refusal(0, 0, 0, ZEROS), ZEROS),
-        };
-        let wanted = match *comes {
+// A request, behind how many entries it is decided, and what the row that it speaks of was told.
+#[derive(Clone, Copy)]
+struct Asked<'a> {
+    request: &'a Request,
+    held: u64,
+    first: Decision,
+    digest: Digest,
+}
+
+impl Asked<'_> {
+    // What is to come of it.
+    fn wanted(&self, ask: &Ask, comes: Comes) -> Decision {
+        match comes {
             Recorded(acct, at, balance) => done(acct, at, balance, entry_for(ask)),
             Held(acct, at, balance) => done(acct, at, balance, None),
             Again(_) => Decision {
                 entry: None,
-                ..first
+                ..self.first
             },
             Told(code, a, b) => refusal(code, a, b, ZEROS),
-            BadSeal => refusal(12, 0, 0, front(&request.body[request.body.len().min(8)..])),
-            BadHidden => refusal(12, 0, 0, front(request.order.hidden.as_slice())),
-            BadTag if request.kind == 0x06 => refusal(14, 0, 0, request.order.tag),
-            BadTag => refusal(14, 0, 0, last(request.body.as_slice())),
-            UsedUp(_) => refusal(15, 0, 0, digest),
-            Sees(_) | SeesNone => status(&request, held, first.reply),
-            Granted(until) => granted(&request, until),
-            comes => decided(&request, held, comes),
-        };
-        let body = request.body.as_slice();
-        let said = decide(&book, &HOUSE, request.kind, body, request.moment);
-        assert_eq!(rt; said, wanted, "{ask:?} {changes:?}");
+            BadSeal | BadHidden | BadTag => self.bad(comes),
+            UsedUp(_) => refusal(15, 0, 0, self.digest),
+            Sees(_) | SeesNone => status(self.request, self.held, self.first.reply),
+            Granted(until) => granted(self.request, until),
+            comes => decided(self.request, self.held, comes),
+        }
+    }
+
+    // What is shown of a seal, a hidden seal or a tag that is bad.
+    fn bad(&self, comes: Comes) -> Decision {
+        let body = self.request.body.as_slice();
+        let order = &self.request.order;
+        match comes {
+            BadSeal => refusal(12, 0, 0, front(&body[body.len().min(8)..])),
+            BadHidden => refusal(12, 0, 0, front(order.hidden.as_slice())),
+            _ if self.request.kind == 0x06 => refusal(14, 0, 0, order.tag),
+            _ => refusal(14, 0, 0, last(body)),
+        }
+    }
+}
+
+// What the row was told that this one speaks of, and its digest.
+fn earlier(told: &[(Decision, Digest)], comes: Comes) -> Result<(Decision, Digest), Fail> {
+    match comes {
+        Again(row) | UsedUp(row) | Sees(row) => Ok(*told.get(row).ok_or("no such row")?),
+        _ => Ok((refusal(0, 0, 0, ZEROS), ZEROS)),
+    }
+}
+
+// Asks for what a row asks for, and gives what is said, and the digest of the request.
+fn ask_one(
+    rt: &impl Abort,
+    alloc: Global,
+    book: &Book,
+    row: &Row,
+    told: &[(Decision, Digest)],
+) -> Result<(Decision, Digest), Fail> {
+    let (ask, changes, comes) = row;
+    let request = request_of(alloc, ask, *changes)?;
+    let (first, digest) = earlier(told, *comes)?;
+    let asked = Asked {
+        request: &request,
+        held: u64::from(book.len()),
+        first,
+        digest,
+    };
+    let wanted = asked.wanted(ask, *comes);
+    let body = request.body.as_slice();
+    let said = decide(book, &HOUSE, request.kind, body, request.moment);
+    assert_eq!(rt; said, wanted, "{ask:?} {changes:?}");
+    Ok((said, request.digest))
+}
+
+// Asks for these, one behind the other. Where `keep` is true, what is to be recorded is.
+fn ask_all(rt: &impl Abort, alloc: Global, rows: &[Row], keep: bool) -> Result<(), Fail> {
+    let mut book = house(alloc)?;
+    let mut told: Vec<(Decision, Digest)> = Vec::new(alloc);
+    for row in rows {
+        let (said, digest) = ask_one(rt, alloc, &book, row, told.as_slice())?;
         if keep {
             record(&mut book, said.entry)?;
         }
-        told.push((said, request.digest))?;
+        told.push((said, digest))?;
     }
     Ok(())
 }
@@ -193,25 +241,51 @@ static FIELDS: [(Ask, Part, u64, &'static [usize]); 8] = [
     (Pay, Hidden, 3, &[4, 12, 16]),
 ];
 
+// The place of the last of these fields that begins within so many bytes.
+fn place_of(fields: &[usize], len: usize) -> u64 {
+    let mut place = 0;
+    for field in fields {
+        if *field <= len {
+            place = *field as u64;
+        }
+    }
+    place
+}
+
 // A part that is cut, or has a byte more, is told by the place of the last field that begins within it.
+fn cuts_are_told(
+    rt: &impl Abort,
+    alloc: Global,
+    book: &Book,
+    ask: &Ask,
+    part: Part,
+    number: u64,
+    fields: &[usize],
+) -> Result<(), Fail> {
+    let end = fields.last().copied().unwrap_or(0);
+    for len in 0..end.saturating_add(2) {
+        if len != end {
+            let request = request_of(alloc, ask, &[Cut(part, len)])?;
+            let said = decide(book, &HOUSE, request.kind, request.body.as_slice(), 1000);
+            let wanted = refusal(10, place_of(fields, len), number, ZEROS);
+            assert_eq!(rt; said, wanted, "{part:?} {len} of {ask:?}");
+        }
+    }
+    Ok(())
+}
+
 #[test]
 fn what_is_no_request_is_told(rt: HostRuntime) -> Result<(), Fail> {
     let book = house(rt.alloc())?;
     for (ask, part, number, fields) in &FIELDS {
-        let end = fields.last().copied().unwrap_or(0);
-        for len in (0..end.saturating_add(2)).filter(|len| *len != end) {
-            let begun = fields.iter().filter(|field| **field <= len);
-            let place = begun.last().copied().unwrap_or(0) as u64;
-            let cut = [Cut(*part, len)];
-            let request = request_of(rt.alloc(), ask, &cut)?;
-            let said = decide(&book, &HOUSE, request.kind, request.body.as_slice(), 1000);
-            assert_eq!(rt;
-                said,
-                refusal(10, place, *number, ZEROS),
-                "{part:?} {len} of {ask:?}"
-            );
-        }
+        cuts_are_told(&rt, rt.alloc(), &book, ask, *part, *number, *fields)?;
     }
+    Ok(())
+}
+
+#[test]
+fn a_kind_that_is_not_served_is_told(rt: HostRuntime) -> Result<(), Fail> {
+    let book = house(rt.alloc())?;
     for kind in [0, 1, 0x0C, 255] {
         let said = decide(&book, &HOUSE, kind, &[], 1000);
         assert_eq!(rt; said, refusal(53, u64::from(kind), 0, ZEROS));

@@ -2,7 +2,8 @@
 
 use super::*;
 use nb_msgs::{REPLY_ROOM, write_reply};
-use nb_ticket::{Ticket as Opened, TicketFault, open_grant, open_ticket};
+use nb_ticket::{TICKET_BYTES, Ticket as Opened, TicketFault, open_grant, open_ticket};
+use std::process::Abort;
 
 // Consumer 1 asks for a ticket to merchant 2 under number 9.
 const ASKED: &str =
@@ -19,24 +20,102 @@ const ASKED_BODY: usize = 48;
 
 const GRANTED_BODY: usize = 168;
 
-#[test]
-fn a_ticket_is_granted_and_opened(rt: HostRuntime) -> Result<(), Fail> {
-    let mut asked = [0u8; 8 + ASKED_BODY];
-    hex::decode_to_slice(ASKED, &mut asked)?;
+// The frame that consumer 1 is sent.
+fn granted() -> Result<[u8; 8 + GRANTED_BODY], Fail> {
     let mut frame = [0u8; 8 + GRANTED_BODY];
     hex::decode_to_slice(GRANTED, &mut frame)?;
+    Ok(frame)
+}
+
+fn session() -> Result<[u8; 32], Fail> {
     let mut session = ZEROS;
     hex::decode_to_slice(SESSION, &mut session)?;
-    let said = decide(
-        &house(rt.alloc())?,
-        &HOUSE,
-        asked[3],
-        asked.split_at(8).1,
-        1000,
-    );
-    let mut out = Vec::with_capacity(rt.alloc(), REPLY_ROOM)?;
+    Ok(session)
+}
+
+// The frame of what a request of this kind is answered at moment 1000.
+fn answered(alloc: Global, kind: u8, body: &[u8]) -> Result<Vec<u8>, Fail> {
+    let book = house(alloc)?;
+    let said = decide(&book, &HOUSE, kind, body, 1000);
+    let mut out = Vec::with_capacity(alloc, REPLY_ROOM)?;
     write_reply(&said.reply, &said.keys, &mut out);
+    Ok(out)
+}
+
+#[test]
+fn a_ticket_is_granted(rt: HostRuntime) -> Result<(), Fail> {
+    let mut asked = [0u8; 8 + ASKED_BODY];
+    hex::decode_to_slice(ASKED, &mut asked)?;
+    let out = answered(rt.alloc(), asked[3], asked.split_at(8).1)?;
+    let frame = granted()?;
     assert_eq!(rt; out.as_slice(), frame.as_slice());
+    Ok(())
+}
+
+// Who opens the ticket, when, and whether it is the other party's or has ended.
+static CASES: [(u32, u64, Option<TicketFault>); 6] = [
+    (2, 4600, None),
+    (2, 0, None),
+    (
+        2,
+        4601,
+        Some(TicketFault::Expired {
+            until: 4600,
+            now: 4601,
+        }),
+    ),
+    (
+        2,
+        LAST,
+        Some(TicketFault::Expired {
+            until: 4600,
+            now: LAST,
+        }),
+    ),
+    (
+        3,
+        4600,
+        Some(TicketFault::WrongParty {
+            named: PartyId(2),
+            asked: PartyId(3),
+        }),
+    ),
+    (
+        1,
+        4601,
+        Some(TicketFault::WrongParty {
+            named: PartyId(2),
+            asked: PartyId(1),
+        }),
+    ),
+];
+
+// The ticket is opened as it was granted, or refused.
+fn is_opened(rt: &impl Abort, ticket: &[u8], session: [u8; 32]) -> Result<(), Fail> {
+    if ticket.len() > TICKET_BYTES {
+        return Err("no ticket has more".into());
+    }
+    let granted = Opened {
+        consumer: PartyId(1),
+        merchant: PartyId(2),
+        until: 4600,
+        session,
+    };
+    for (id, now, fault) in &CASES {
+        let opened = open_ticket(ticket, &[0x55; 32], PartyId(*id), *now);
+        let want = match fault {
+            Some(fault) => Err(*fault),
+            None => Ok(granted),
+        };
+        assert_eq!(rt; opened, want, "{id} at {now}");
+    }
+    Ok(())
+}
+
+#[test]
+fn a_granted_ticket_is_opened(rt: HostRuntime) -> Result<(), Fail> {
+    let frame = granted()?;
+    let session = session()?;
     let Ok(grant) = open_grant(frame.split_at(8).1, &[0x44; 32]) else {
         return Err("the grant is the consumer's".into());
     };
@@ -45,39 +124,5 @@ fn a_ticket_is_granted_and_opened(rt: HostRuntime) -> Result<(), Fail> {
         (PartyId(2), 9, 4600)
     );
     assert_eq!(rt; grant.session, session);
-    let ticket = Opened {
-        consumer: PartyId(1),
-        merchant: PartyId(2),
-        until: 4600,
-        session,
-    };
-    let (until, named) = (4600, PartyId(2));
-    // Who asks, when, and what comes of it.
-    let cases = [
-        (2, 4600, Ok(ticket)),
-        (2, 0, Ok(ticket)),
-        (2, 4601, Err(TicketFault::Expired { until, now: 4601 })),
-        (2, LAST, Err(TicketFault::Expired { until, now: LAST })),
-        (
-            3,
-            4600,
-            Err(TicketFault::WrongParty {
-                named,
-                asked: PartyId(3),
-            }),
-        ),
-        (
-            1,
-            4601,
-            Err(TicketFault::WrongParty {
-                named,
-                asked: PartyId(1),
-            }),
-        ),
-    ];
-    for (id, now, want) in cases {
-        let opened = open_ticket(grant.ticket.as_slice(), &[0x55; 32], PartyId(id), now);
-        assert_eq!(rt; opened, want, "{id} at {now}");
-    }
-    Ok(())
+    is_opened(&rt, grant.ticket.as_slice(), session)
 }
