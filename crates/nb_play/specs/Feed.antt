@@ -19,7 +19,7 @@ bytes_from seed place n = flat_map frame (frames_from seed place n)
 abbrev pub count_of : ℕ → ℕ
 count_of orders = 2 * orders + (PARTIES + CONSUMERS)
 
--- how many entries they make at most: one for each party, one for each consumer's money, and one for each order
+-- the cap of the house: an entry for each party, one for each consumer's money, and one for each order
 abbrev pub cap_of : ℕ → ℕ
 cap_of orders = orders + (PARTIES + CONSUMERS)
 
@@ -46,6 +46,6 @@ AreFrames = (seed place : ℕ) → IsFrame (frame_at seed place)
 
 -- ---- for the contracts of private functions alone
 
--- a frame is that of the place before it, since it is an order's second one
+-- a frame is that of the place before it
 abbrev pub IsAgain : ℕ → ℕ → Type 0
 IsAgain seed place = (1 ≤ place) × (frame_bytes seed place ≡ frame_bytes seed (place - 1))

@@ -1,3 +1,4 @@
 pub mod Draws
 pub mod Drill
 pub mod Feed
+pub mod Numbers

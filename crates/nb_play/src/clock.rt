@@ -1,6 +1,6 @@
-ghost use Rattle.std.specs.Prelude.{◌≡◌, IsTrue, Some, replicate};
+ghost use Rattle.std.specs.Prelude.{◌≡◌, ◌<◌, ◌↔◌, IsTrue, Some, replicate};
 ghost use Rattle.nb_port.specs.Clock.{Gives};
-ghost use Rattle.nb_port.specs.Faults.{one_more};
+ghost use Rattle.nb_port.specs.Faults.{last_count, one_more};
 ghost use Rattle.nb_play.specs.Feed.{told_by};
 ghost use Rattle.nb_play.specs.declared.frames.TheConstants.{MOMENT};
 
@@ -30,9 +30,10 @@ impl DrillClock {
         DrillClock { asked: 0 }
     }
 
-    /// Whether it tells all that it gave.
+    /// Whether it tells all that it gave: until the count of its calls stays.
     pub fn tells(&self) -> bool
-        ensures { IsTrue result → told_by self.now ≡ Some (replicate self.now MOMENT) }
+        ensures told { IsTrue result → told_by self.now ≡ Some (replicate self.now MOMENT) }
+        ensures counts { IsTrue result ↔ (self.now < last_count) }
     {
         self.asked < u64::MAX
     }

@@ -64,8 +64,7 @@ pub fn frame_count(orders: u32) -> u32
     PARTIES + CONSUMERS + 2 * orders
 }
 
-/// How many entries they make at most, which is the cap of the drill's house: one for each party, one for each consumer's money, and one for
-/// each order.
+/// The cap of the drill's house: an entry for each party, one for each consumer's money, and one for each order.
 pub fn entry_count(orders: u32) -> u32
     requires { orders ≤ MAX_ORDERS }
     ensures { result ≡ cap_of orders }

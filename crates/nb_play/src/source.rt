@@ -10,8 +10,7 @@ use nb_units::{Blob, NoMemory};
 use std::alloc::Global;
 use std::marker::Model;
 
-/// A source of all frames of a drill, one behind the other. Each is made when the one before it was read, and the two of an order are made
-/// once. A read fails only where there is no memory for a frame.
+/// A source of all frames of a drill, one behind the other, from an allocator: a read for which there is no memory fails, and takes nothing.
 #[derive(Drop)]
 pub struct DrillSource {
     alloc: Global,

@@ -1,5 +1,5 @@
 -- What a drill does: a journal is made, the frames that a seed gives are answered as a batch's are, and one line tells what came of it.
-use Rattle.std.specs.Prelude.{◌≡◌, ◌≢◌, ℕ, ◌+◌, Bool, true, false, ◌⊎◌, List, [], ◌∷◌, ◌++◌, Option, None, Some, codes, map, IfSome}
+use Rattle.std.specs.Prelude.{◌≡◌, ◌≢◌, ℕ, ◌+◌, ◌≤◌, Bool, true, false, ◌⊎◌, List, [], ◌∷◌, ◌++◌, Option, None, Some, codes, map, IfSome}
 use Rattle.std.specs.List.{count_by, sum_by, filter_map}
 use Rattle.std.specs.Fmt.{decimal}
 use Rattle.std.specs.Io.KnownBytes.{Appends}
@@ -59,12 +59,13 @@ fed seed orders = record { left = Some (bytes_from seed 0 (count_of orders)); se
 
 -- ---- the whole drill
 
--- no journal was made, and how the run ends by why
+-- how the run ends where making the journal did not come to its end
 abbrev pub unmade : InitFault → Ending
 unmade (inits.DiskFault before after) = at_no_place DISK_FAILED
 unmade (inits.LookFailed before after) = at_no_place DISK_FAILED
 unmade other = at_no_place NOT_MADE
 
+-- the disk has a journal, or failed as it was looked at or as one was made
 pub record NotMade {D : Type 0} (tells : DiskTells D) (old new : D) (seed orders : ℕ) (ending : Ending) : Type 0 where
   pub fault : InitFault
   pub ends : ending ≡ unmade fault
@@ -74,7 +75,7 @@ pub record NotMade {D : Type 0} (tells : DiskTells D) (old new : D) (seed orders
 abbrev pub IsFresh : Option (List ℕ) → ℕ → ℕ → Type 0
 IsFresh content seed orders = (image : List ℕ) × (content ≡ Some image) × StandsFor (head_of seed) (cap_of orders) [] image
 
--- the frames were answered over a journal that was just made, for what the sink tells before and after
+-- the frames were answered over the disk on which the journal was made, for what the sink told before and tells after
 pub record Drilled {D : Type 0} (tells : DiskTells D) (made new : D) (sent sent' : Option (List ℕ)) (seed orders : ℕ) (ending : Ending) : Type 0 where
   -- what came of the batch of the frames, and how it ended
   pub after : Outside
@@ -82,23 +83,25 @@ pub record Drilled {D : Type 0} (tells : DiskTells D) (made new : D) (sent sent'
   pub batch : Batch tells made new (fed seed orders) after end
   -- where the disk tells that this is the drill's journal, the batch begins with its head, its cap and no entry
   pub begins : IsFresh (tells.content made) seed orders → (batch.head ≡ head_of seed) × (batch.cap ≡ cap_of orders) × (batch.opening ≡ [])
-  -- all frames were answered, each at the one moment; or else memory was wanting
+  -- all frames were answered, each at the one moment; or else the status is that of want of memory
   pub all : ending.status ≢ OUT_OF_MEMORY → map (λ (a : Answered). a.request) batch.answered ≡ requests_of seed orders
-  -- and then, over that journal, the line is that of the last list, or where the sink failed a part of it
+  -- and then, where the disk told that journal, the line is that of the last list, or where the sink failed a part of it. Behind making it
+  -- (`IsMade`) it tells it, if it tells its content at all
   pub line : ending.status ≡ CLEAN → IsFresh (tells.content made) seed orders → Appends sent sent' (line_of orders batch.last.entries)
   pub cut : ending.status ≡ SINK_FAILED → IsFresh (tells.content made) seed orders → SentPart sent sent' (line_of orders batch.last.entries)
   pub nothing : ending.status ≡ OUT_OF_MEMORY → sent' ≡ sent
   pub ends : (ending ≡ at_no_place CLEAN) ⊎ (ending ≡ at_no_place SINK_FAILED) ⊎ (ending ≡ at_no_place OUT_OF_MEMORY)
 
--- the journal could not be opened, and nothing was sent; or the frames were answered
+-- the journal was not opened, nothing was written, and nothing sent; or the frames were answered
 abbrev pub Answers : {D : Type 0} → DiskTells D → D → D → Option (List ℕ) → Option (List ℕ) → ℕ → ℕ → Ending → Type 0
 Answers tells made new sent sent' seed orders ending =
     (NotOpened tells made new (fed seed orders) (fed seed orders) ending × (sent' ≡ sent)) ⊎ Drilled tells made new sent sent' seed orders ending
 
--- a journal was made, and the drill went on over it
+-- a journal was made, and the drill went on over it: no count of the disk's faults fell on the way
 pub record Made {D : Type 0} (tells : DiskTells D) (old new : D) (sent sent' : Option (List ℕ)) (seed orders : ℕ) (ending : Ending) : Type 0 where
   pub made : D
   pub is_made : IsMade tells old made (head_of seed) (cap_of orders)
+  pub counts : (tells.faults old ≤ tells.faults made) × (tells.faults made ≤ tells.faults new)
   pub answers : Answers tells made new sent sent' seed orders ending
 
 -- what a drill comes to
@@ -111,7 +114,7 @@ DrillIs tells old new sent sent' seed orders ending = (NotMade tells old new see
 abbrev pub recorded : List Line → List Entry
 recorded lines = filter_map entry_of lines
 
--- the tally of these entries
+-- the tally of these entries. What came in is what all balances sum to, in a Legal list
 abbrev pub tally : List Entry → Tally
 tally entries = record { paid = count_by is_paid entries; refused = count_by is_refused entries; total = total entries }
 

@@ -1,4 +1,4 @@
-ghost use Rattle.std.specs.Prelude.{◌≡◌, ◌≤◌, ◌<◌, ◌^◌, ◌⊎◌, MatchResult};
+ghost use Rattle.std.specs.Prelude.{◌≡◌, ◌≢◌, ◌≤◌, ◌<◌, ◌^◌, ◌⊎◌, MatchResult};
 ghost use Rattle.nb_book.specs.Money.{total};
 ghost use Rattle.nb_journal.specs.Making.{InitFails, SparesJournal};
 ghost use Rattle.nb_play.specs.Feed.{cap_of};
@@ -35,6 +35,7 @@ pub fn drill<K: Sink, D: Disk>(
     ensures counts { (K.faults sink.old ≤ K.faults sink.new) × (D.tells.faults disk ≤ D.tells.faults result.1) }
     ensures sink { result.0.status ≡ SINK_FAILED → Rose (K.faults sink.old) (K.faults sink.new) }
     ensures fault { result.0.status ≡ DISK_FAILED → Rose (D.tells.faults disk) (D.tells.faults result.1) }
+    ensures closed { (result.0.status ≢ CLEAN) → (result.0.status ≢ SINK_FAILED) → (result.0.status ≢ OUT_OF_MEMORY) → sink.new ≡ sink.old }
     ensures complete { HasNoJournal (D.tells.content disk) → (Rose (K.faults sink.old) (K.faults sink.new) → ⊥) → (Rose (D.tells.faults disk) (D.tells.faults result.1) → ⊥)
         → (result.0.status ≡ CLEAN) ⊎ (result.0.status ≡ OUT_OF_MEMORY) }
 {
@@ -83,6 +84,7 @@ fn answer<K: Sink, D: Disk>(
     ensures counts { (K.faults sink.old ≤ K.faults sink.new) × (D.tells.faults disk ≤ D.tells.faults result.1) }
     ensures sink { result.0.status ≡ SINK_FAILED → Rose (K.faults sink.old) (K.faults sink.new) }
     ensures fault { result.0.status ≡ DISK_FAILED → Rose (D.tells.faults disk) (D.tells.faults result.1) }
+    ensures closed { (result.0.status ≢ CLEAN) → (result.0.status ≢ SINK_FAILED) → (result.0.status ≢ OUT_OF_MEMORY) → sink.new ≡ sink.old }
     ensures complete { drills.IsFresh (D.tells.content disk) seed orders → (Rose (K.faults sink.old) (K.faults sink.new) → ⊥) → (Rose (D.tells.faults disk) (D.tells.faults result.1) → ⊥)
         → (result.0.status ≡ CLEAN) ⊎ (result.0.status ≡ OUT_OF_MEMORY) }
 {
@@ -109,6 +111,7 @@ fn tell<K: Sink>(alloc: Global, orders: u32, lines: &[Line], sink: &mut K) -> En
     ensures line { drills.TellsLine (K.sent sink.old) (K.sent sink.new) (drills.line_with orders (drills.tally (drills.recorded lines.now))) result }
     ensures count { K.faults sink.old ≤ K.faults sink.new }
     ensures fault { result.status ≡ SINK_FAILED → Rose (K.faults sink.old) (K.faults sink.new) }
+    ensures ends { (result.status ≡ CLEAN) ⊎ (result.status ≡ SINK_FAILED) ⊎ (result.status ≡ OUT_OF_MEMORY) }
 {
     let Ok(line) = tally_of(lines).line(alloc, orders) else {
         return Ending::at_no_place(OUT_OF_MEMORY);

@@ -1,9 +1,10 @@
 //! What the program does, on its words: `init JOURNAL CAP` makes a journal whose head is the input, `batch JOURNAL` answers the
-//! frames of the input, in order, over the house that the journal holds, and `serve JOURNAL ADDRESS WORKERS SESSIONS` is told as a [`Job`].
+//! frames of the input, in order, over the house that the journal holds, `drill SEED ORDERS` makes a journal, answers the frames that the seed gives,
+//! and sends one line of what came of them, and `serve JOURNAL ADDRESS WORKERS SESSIONS` is told as a [`Job`].
 //!
 //! [`nb_words::command_of`] reads the words. For `init` the head is read and the journal made; for `batch` the vault is opened, and
-//! [`nb_batch::serve`] answers. [`run`] is all of it over any source, sink, disk and clock. Its contract says how it ends and why
-//! (`specs/Run.antt`, `specs/Init.antt`), what is written to the output, byte for byte, and what a stop at any moment of a batch
+//! [`nb_batch::serve`] answers; for `drill` both are done, over a source of its frames. [`run`] is all of it over any source, sink, disk and clock. Its contract says how it ends and why
+//! (`specs/Run.antt`, `specs/Init.antt`, `specs/Drill.antt`), what is written to the output, byte for byte, and what a stop at any moment of a batch
 //! leaves of the disk.
 //!
 //! Left to others: the real terminal, file and clock, and the lock on the file.

@@ -44,8 +44,8 @@ pub fn run<S: Source, K: Sink, D: Disk, C: Clock>(
     ensures serve { (workers sessions : ℕ) → IsServe (map string_bytes words.now) workers sessions
         → (result.0 ≡ outcomes.Work (jobs.Serve workers sessions)) ⊎ runs.Unbegun result.0 source.old source.new sink.old sink.new disk result.1 clock.old clock.new }
 
-    // Status 2: the words, and nothing else; and there always, unless there was no memory to read them, which no words, a word that is no name
-    // and a call for help do not take. Nothing is touched at words that are no command, and where work is left to do.
+    // Status 2: the words, and nothing else; and there always, unless there was no memory to read them, which is not told of no words, a word
+    // that is no name and a call for help. Nothing is touched at words that are no command, and where work is left to do.
     ensures words { EndsWith result.0 BAD_WORDS → IsCommand (map string_bytes words.now) → ⊥ }
     ensures none { (IsCommand (map string_bytes words.now) → ⊥)
         → EndsWith result.0 BAD_WORDS ⊎ (runs.Unbegun result.0 source.old source.new sink.old sink.new disk result.1 clock.old clock.new × MayBeRead (map string_bytes words.now)) }
@@ -81,14 +81,15 @@ pub fn run<S: Source, K: Sink, D: Disk, C: Clock>(
         ⊎ runs.Unbegun result.0 source.old source.new sink.old sink.new disk result.1 clock.old clock.new }
 
     // What a drill comes to, unless there was no memory to read the words. It takes nothing from the source and asks for no moment, and nothing is
-    // written over a journal that is there.
+    // written over a journal that is there. The sink is as before but after 0, 4 and 6.
     ensures drill { (seed orders : ℕ) → IsDrill (map string_bytes words.now) seed orders
         → Ends result.0 (drills.DrillIs D.tells disk result.1 (K.sent sink.old) (K.sent sink.new) seed orders)
         ⊎ runs.Unbegun result.0 source.old source.new sink.old sink.new disk result.1 clock.old clock.new }
     ensures apart { (seed orders : ℕ) → IsDrill (map string_bytes words.now) seed orders
-        → (source.new ≡ source.old) × (clock.new ≡ clock.old) × SparesJournal D.tells disk result.1 }
+        → (source.new ≡ source.old) × (clock.new ≡ clock.old) × SparesJournal D.tells disk result.1
+        × ((EndsWith result.0 CLEAN → ⊥) → (EndsWith result.0 SINK_FAILED → ⊥) → (EndsWith result.0 OUT_OF_MEMORY → ⊥) → sink.new ≡ sink.old) }
 
-    // A disk without a journal, and nothing that fails: the drill is done, unless memory is wanting.
+    // A disk that tells no journal, and nothing that fails: the drill ends well, unless memory is wanting.
     ensures drills { (seed orders : ℕ) → IsDrill (map string_bytes words.now) seed orders → HasNoJournal (D.tells.content disk)
         → (Rose (K.faults sink.old) (K.faults sink.new) → ⊥) → (Rose (D.tells.faults disk) (D.tells.faults result.1) → ⊥)
         → EndsWith result.0 CLEAN ⊎ EndsWith result.0 OUT_OF_MEMORY }

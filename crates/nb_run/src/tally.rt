@@ -7,8 +7,8 @@ use nb_turns::Line;
 use nb_units::NoMemory;
 use std::alloc::Global;
 
-/// What a drill tells of the entries that it came to: how many pay an order and how many refuse one, and the sum of all balances, in the house's
-/// smallest unit of money.
+/// What a drill tells of the entries that it came to: how many pay an order and how many refuse one, and what came in, in the house's
+/// smallest unit of money: in a Legal list that is the sum of all balances.
 #[derive(Clone, Copy, PartialEq, Eq, Debug)]
 pub struct Tally {
     pub paid: u64,

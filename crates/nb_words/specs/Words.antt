@@ -50,6 +50,6 @@ CommandIs words (Some (Drill seed orders)) = IsDrill words seed orders
 CommandIs words (Some (Serve workers sessions)) = IsServe words workers sessions
 CommandIs words None = IsCommand words → ⊥
 
--- words that take memory to be read: there are some, each is a name, and the first does not ask for help
+-- words at which want of memory may be told: there are some, each is a name, and the first does not ask for help
 abbrev pub MayBeRead : List (List ℕ) → Type 0
 MayBeRead words = (0 < length words) × AllByRecursion IsName words × (slice_index_or words 0 [] ≢ codes "help")

@@ -20,7 +20,7 @@ pub enum Command {
     Init { cap: u32 },
     /// `batch JOURNAL`: answer the frames of the input in order.
     Batch,
-    /// `drill SEED ORDERS`: answer the frames of a drill with so many orders over a journal of its own.
+    /// `drill SEED ORDERS`: make a journal, and answer the frames of a drill with so many orders over it.
     Drill { seed: u64, orders: u32 },
     /// `serve JOURNAL ADDRESS WORKERS SESSIONS`: answer the links of so many workers, so many of each.
     Serve { workers: u32, sessions: u32 },
@@ -43,7 +43,7 @@ pub fn limits()
 pub fn command_of(alloc: Global, words: &[String]) -> Result<Option<Command>, NoMemory>
     ensures command { IfOk result (CommandIs (map string_bytes words.now)) }
 
-    // No words, a word that is no name, and a call for help are no command, and no memory is taken to see it.
+    // No words, a word that is no name, and a call for help are told as no command, whatever memory there is.
     ensures err { OnErr result (MayBeRead (map string_bytes words.now)) }
 {
     if words.is_empty() {
@@ -65,7 +65,7 @@ pub fn command_of(alloc: Global, words: &[String]) -> Result<Option<Command>, No
 // There was no memory, or the words are no command.
 fn refused(kind: ErrorKind) -> Result<Option<Command>, NoMemory>
     ensures none { IfOk result (λ command. command ≡ None) }
-    ensures why { kind ≡ errors.OutOfMemory → IsErr result }
+    ensures why { IsErr result ↔ (kind ≡ errors.OutOfMemory) }
 {
     match kind {
         ErrorKind::OutOfMemory => Err(NoMemory),

@@ -38,7 +38,7 @@ returns-then-tells-clause-answered g c =
     let after : Outside = record { left = Some c.answer_batch-disk.new.source.left; sent = None; moments = told_by c.answer_batch-disk.new.clock } in
     let batch = fed_so g.D.Disk.tells c.args.disk r.disk c.args.seed c.args.orders c.new-source.result c.new-clock.result after r.lines.items r.ending c.new-source.ensures c.new-clock.ensures c.answer_batch-disk.ensures.batch in
     told g.D.Disk.tells c.args.disk r.disk c.args.seed c.args.orders c.requires after r.ending r.lines.items batch (g.K.Sink.sent c.args.sink.now) (g.K.Sink.sent c.tell.new.sink) c.tell.result c.answer_batch-disk.new.clock
-    c.if-ending-eq-CLEAN.true (c.tells.ensures c.if-tells.true)
+    c.if-ending-eq-CLEAN.true (c.tells.ensures.told c.if-tells.true)
     (subst (λ (lines : List Line). TellsLine (g.K.Sink.sent c.args.sink.now) (g.K.Sink.sent c.tell.new.sink) (line_with c.args.orders (tally (recorded lines))) c.tell.result) c.as_slice.ensures.value c.tell.ensures.line)
 
 pub returns-then-ending-eq-CLEAN-2-clause-answered : goal.returns-then-ending-eq-CLEAN-2-clause-answered

@@ -20,7 +20,7 @@ returns-in-Err-clause-command c =
     let app = c.in_ok-program.ensures in
     let words : List Text = map string_bytes c.args.words.now in
     refused_are words c.refused.result c.refused.ensures.none
-    (λ is. c.refused.ensures.why (c.kind.ensures ∙ only_memory _ c.in-Err.error (ap (λ (a : App). fault_of a words) app ∙ (taken words is).1) (c.in-Err.ensures.kinds (ap is_simple_and_free app ∙ simple_and_free))))
+    (λ is. c.refused.ensures.why.1 (c.kind.ensures ∙ only_memory _ c.in-Err.error (ap (λ (a : App). fault_of a words) app ∙ (taken words is).1) (c.in-Err.ensures.kinds (ap is_simple_and_free app ∙ simple_and_free))))
 
 pub returns-clause-command : goal.returns-clause-command
 returns-clause-command c =
