@@ -1,0 +1,45 @@
+// A disk in memory that tells a contract nothing of its content.
+
+ghost use Rattle.std.specs.Prelude.{None};
+ghost use Rattle.nb_port.specs.DiskLaws.{untold};
+
+use nb_port::{Disk, DiskOut, DiskRead, MemDisk};
+
+/// The disk, and nothing said of it but its count of failures.
+#[derive(Drop)]
+pub struct QuietDisk {
+    pub disk: MemDisk,
+}
+
+impl Disk for QuietDisk {
+    ghost tells = { record {
+      faults = λ d. d.disk.calls.faults;
+      content = λ _. None;
+      allowed = λ _ _. ⊥;
+      moment = λ _. 0;
+      left = λ _ _ _. ⊥;
+    } };
+
+    ghost content_counts = { λ d c is. untold c is };
+
+    ghost counts_now = { λ d t c le is. is };
+
+    ghost only_now = { λ d c is. is };
+
+    fn fault_count(&self) -> u64 {
+        self.disk.fault_count()
+    }
+
+    fn read(&mut self, place: u64, buf: &mut [u8]) -> DiskRead {
+        self.disk.read(place, buf)
+    }
+
+    fn write(&mut self, place: u64, piece: &[u8]) -> DiskOut {
+        let end = self.disk.content().len() as u64;
+        self.disk.write(place.min(end), piece)
+    }
+
+    fn sync(&mut self) -> DiskOut {
+        self.disk.sync()
+    }
+}

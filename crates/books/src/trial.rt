@@ -1,0 +1,29 @@
+use nb_book::Book;
+use std::alloc::Global;
+
+/// What the next line is about, and what came of those before it.
+#[derive(Drop)]
+pub struct Trial {
+    pub alloc: Global,
+    // The content of the next disk, and those of its calls that fail.
+    pub content: Vec<u8>,
+    pub fails: Vec<u64>,
+    pub book: Option<Book>,
+}
+
+impl Trial {
+    /// A trial of nothing.
+    pub fn new(alloc: Global) -> Trial {
+        Trial {
+            alloc,
+            content: Vec::new(alloc),
+            fails: Vec::new(alloc),
+            book: None,
+        }
+    }
+
+    /// Where memory comes from.
+    pub fn alloc(&self) -> Global {
+        self.alloc
+    }
+}
