@@ -37,8 +37,3 @@ pub use kept::Kept;
 pub use limits::{MAX_AGE, MAX_AHEAD, MAX_CAP, MAX_PRICE, MAX_TOTAL};
 pub use party::Party;
 pub use spelling::{EntryFault, MAX_ENTRY, MAX_ITEM_ENTRIES, read_entry, write_entry};
-
-#[cfg(test)]
-mod spelling_tests;
-#[cfg(test)]
-mod tests;

@@ -6,8 +6,6 @@ mod appending;
 mod resting;
 mod settling;
 mod state;
-#[cfg(test)]
-mod testing;
 
 use std::fmt;
 

@@ -29,6 +29,3 @@ pub use journal::{AppendFault, Journal, Settled, StillStale};
 pub use limits::{HEAD, MAGIC_BYTES, MAX_CAP, MAX_ITEM};
 pub use making::{InitFault, init};
 pub use opening::{OpenFault, Opened};
-
-#[cfg(test)]
-mod tests;
