@@ -1,7 +1,6 @@
 // What a book is asked, and what becomes of it.
 
 use crate::entries::{entry_of, epoid_of, in_words};
-use crate::telling;
 use crate::trial::Trial;
 use crate::words::Words;
 use nb_book::{Book, MAX_CAP};
@@ -28,7 +27,7 @@ impl Trial {
                 "undo" => undo(alloc, book),
                 _ => asked(alloc, book, word, &mut words),
             },
-            None => telling::unclear(alloc),
+            None => nb_lines::unclear(alloc),
         }
     }
 }
@@ -43,7 +42,7 @@ fn made(alloc: Global, cap: Option<u32>) -> Result<Option<Book>, NoMemory> {
 
 fn apply(alloc: Global, book: &mut Book, words: &mut Words) -> Result<String, NoMemory> {
     let Some(entry) = entry_of(words) else {
-        return telling::unclear(alloc);
+        return nb_lines::unclear(alloc);
     };
     if !book.legal(&entry) {
         return Ok("not next".to_string(alloc)?);

@@ -3,7 +3,6 @@
 ghost use Rattle.std.specs.Prelude.{IfSome};
 ghost use Rattle.nb_book.specs.Spelling.{EntryKeepsRules};
 
-use crate::telling;
 use crate::trial::Trial;
 use crate::words::Words;
 use nb_book::{CONSUMER, Entry, MERCHANT, read_entry};
@@ -18,7 +17,7 @@ impl Trial {
         if word == "read" {
             return match words.bytes(self.alloc) {
                 Some(bytes) => read(self.alloc, &bytes),
-                None => telling::unclear(self.alloc),
+                None => nb_lines::unclear(self.alloc),
             };
         }
         match entry_of(&mut words).and_then(spelled_one) {
@@ -173,7 +172,7 @@ fn paid(alloc: Global, entry: &Entry) -> Result<String, NoMemory> {
         key,
     } = *entry
     else {
-        return telling::unclear(alloc);
+        return nb_lines::unclear(alloc);
     };
     let (digest, key) = (hex::encode(alloc, digest)?, hex::encode(alloc, key)?);
     let (name, parties) = (
@@ -201,7 +200,7 @@ fn refused(alloc: Global, entry: &Entry) -> Result<String, NoMemory> {
         moment,
     } = *entry
     else {
-        return telling::unclear(alloc);
+        return nb_lines::unclear(alloc);
     };
     let digest = hex::encode(alloc, digest)?;
     let (name, parties) = (

@@ -1,13 +1,14 @@
 // Journals that are made and opened over the content of a disk.
 
-use crate::quiet::QuietDisk;
-use crate::telling;
 use crate::trial::Trial;
 use crate::words::Words;
 use nb_journal::{HEAD, InitFault, Journal, OpenFault, Opened, init};
 use nb_port::MemDisk;
-use nb_units::{Blob, NoMemory};
+use nb_units::NoMemory;
 use std::alloc::Global;
+
+// The most bytes that are shown.
+const SHOWN: usize = 1000;
 
 // The most bytes that a line adds to the content.
 const MOST: u32 = 1_000_000;
@@ -19,7 +20,7 @@ impl Trial {
     pub fn of_journal(&mut self, word: &str, words: &[&str]) -> Result<String, NoMemory> {
         match word {
             "steps" => self.steps(words),
-            "content" if words.is_empty() => telling::shown(self.alloc, &self.content),
+            "content" if words.is_empty() => nb_lines::shown(self.alloc, &self.content, SHOWN),
             "open" => opened(self.alloc, &self.content),
             "fails" => self.fail(words),
             _ => self.change(word, &mut Words::new(words)),
@@ -41,7 +42,7 @@ impl Trial {
             "turn" => self.turn(words),
             "cut" => return self.cut(words),
             "init" => return self.make(words),
-            _ => return telling::unclear(self.alloc),
+            _ => return nb_lines::unclear(self.alloc),
         }
         Ok(String::new(self.alloc))
     }
@@ -130,7 +131,7 @@ fn opened(alloc: Global, content: &[u8]) -> Result<String, NoMemory> {
             let head = hex::encode(alloc, head)?;
             let mut told = format!(in alloc; "cap {cap}, head {head}, {} items", items.len())?;
             for item in &items {
-                let one = telling::shown(alloc, item.as_slice())?;
+                let one = nb_lines::shown(alloc, item.as_slice(), SHOWN)?;
                 told.push_str(" ")?;
                 told.push_str(one.as_str())?;
             }

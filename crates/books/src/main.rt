@@ -10,7 +10,6 @@ mod entries;
 mod journals;
 mod quiet;
 mod steps;
-mod telling;
 mod trial;
 mod words;
 

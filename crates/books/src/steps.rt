@@ -2,7 +2,6 @@
 
 use crate::journals::unopened;
 use crate::quiet::QuietDisk;
-use crate::telling;
 use crate::trial::Trial;
 use crate::words::Words;
 use nb_journal::{AppendFault, Journal, MAX_ITEM, Settled, StillStale};
@@ -48,7 +47,7 @@ fn step(alloc: Global, journal: &mut Journal<QuietDisk>, word: &str) -> Result<S
     let text = if word == "-" { "" } else { word };
     match hex::decode(alloc, text) {
         Ok(item) => appended(alloc, journal.append(&item)),
-        Err(_) => telling::unclear(alloc),
+        Err(_) => nb_lines::unclear(alloc),
     }
 }
 

@@ -2,7 +2,6 @@ ghost use Rattle.std.specs.Prelude.{◌≤◌, vec_len};
 
 use crate::servers::Came;
 use crate::sessions::Left;
-use crate::telling;
 use nb_link::{MemLink, MemPort};
 use nb_port::{MemClock, MemDisk};
 use nb_server::Worker;
@@ -64,7 +63,7 @@ impl House {
 
     /// `journal HEX`: the next houses begin with this journal.
     pub fn journal(&mut self, text: &str) -> Result<String, NoMemory> {
-        self.journal = telling::spelled(self.alloc, text);
+        self.journal = nb_lines::spelled(self.alloc, text);
         let disk = MemDisk::new(self.alloc, &self.journal, &[])?;
         self.opening = opening_calls(self.alloc, disk);
         self.nothing()
@@ -74,7 +73,7 @@ impl House {
     pub fn disk_fails(&mut self, words: &[&str]) -> Result<String, NoMemory> {
         self.fails.clear();
         for word in words.iter().skip(1) {
-            let call = telling::number(*word);
+            let call = nb_lines::number(*word);
             self.fails.push(self.opening.saturating_add(call))?;
         }
         self.nothing()
@@ -87,8 +86,8 @@ impl House {
 
     /// `send COUNT HEX`: the peer of the next link sends these bytes so many times, behind what it sends already.
     pub fn send(&mut self, count: &str, text: &str) -> Result<String, NoMemory> {
-        let bytes = telling::spelled(self.alloc, text);
-        let count = telling::number(count).min(MOST as u64);
+        let bytes = nb_lines::spelled(self.alloc, text);
+        let count = nb_lines::number(count).min(MOST as u64);
         for _ in 0..count {
             self.piece.extend_from_slice(&bytes)?;
         }
@@ -97,7 +96,7 @@ impl House {
 
     /// The next link, of which one read gives at most so many bytes, and of which these calls fail.
     pub fn next_link(&mut self, step: &str, fails: &[u64]) -> Result<MemLink, NoMemory> {
-        let step = (telling::number(step).min(MOST as u64) as usize).max(1);
+        let step = (nb_lines::number(step).min(MOST as u64) as usize).max(1);
         let link = MemLink::new(self.alloc, &self.piece, step, fails)?;
         self.piece.clear();
         Ok(link)
@@ -112,10 +111,10 @@ impl House {
 
     /// `worker CALL..`: the next server has one worker more, over these links; these calls of its port fail.
     pub fn worker(&mut self, words: &[&str]) -> Result<String, NoMemory> {
-        let fails = telling::numbers(self.alloc, words, 1)?;
+        let fails = nb_lines::numbers(self.alloc, words, 1)?;
         let links = std::mem::replace(&mut self.links, Vec::new(self.alloc));
         if links.len() > MOST_LINKS {
-            return telling::unclear(self.alloc);
+            return nb_lines::unclear(self.alloc);
         }
         let worker = worker_of(self.alloc, links, &fails)?;
         self.workers.push(worker)?;

@@ -2,7 +2,7 @@
 
 use crate::house::House;
 use crate::telling;
-use nb_port::{Fill, MemDisk};
+use nb_port::MemDisk;
 use nb_units::{Blob, NoMemory};
 use nb_vault::Vault;
 use std::alloc::Global;
@@ -15,7 +15,7 @@ impl House {
                 let calls = left.disk.calls().saturating_sub(self.opening);
                 Ok(format!(in self.alloc; "{calls} calls")?)
             }
-            None => telling::unclear(self.alloc),
+            None => nb_lines::unclear(self.alloc),
         }
     }
 
@@ -23,7 +23,7 @@ impl House {
     pub fn content(&self) -> Result<String, NoMemory> {
         match &self.left {
             Some(left) => telling::shown(self.alloc, left.disk.content()),
-            None => telling::unclear(self.alloc),
+            None => nb_lines::unclear(self.alloc),
         }
     }
 
@@ -32,9 +32,9 @@ impl House {
         let moment = self
             .opening
             .saturating_mul(2)
-            .saturating_add(telling::number(step));
+            .saturating_add(nb_lines::number(step));
         match &self.left {
-            Some(left) => image(self.alloc, &left.disk, moment, filled(fill)),
+            Some(left) => nb_lines::image(self.alloc, &left.disk, moment, fill),
             None => Ok(None),
         }
     }
@@ -43,7 +43,7 @@ impl House {
     pub fn image(&self, step: &str, fill: &str) -> Result<String, NoMemory> {
         match self.image_at(step, fill)? {
             Some(image) => telling::shown(self.alloc, image.as_slice()),
-            None => telling::unclear(self.alloc),
+            None => nb_lines::unclear(self.alloc),
         }
     }
 
@@ -51,25 +51,9 @@ impl House {
     pub fn entries(&self, step: &str, fill: &str) -> Result<String, NoMemory> {
         match self.image_at(step, fill)? {
             Some(image) => opened(self.alloc, image.as_slice()),
-            None => telling::unclear(self.alloc),
+            None => nb_lines::unclear(self.alloc),
         }
     }
-}
-
-fn filled(word: &str) -> Fill {
-    match word {
-        "old" => Fill::Old,
-        "new" => Fill::New,
-        _ => Fill::Byte(word.parse::<u8>().unwrap_or(0)),
-    }
-}
-
-// The image of a disk at a moment.
-fn image(alloc: Global, disk: &MemDisk, moment: u64, fill: Fill) -> Result<Option<Blob>, NoMemory> {
-    if moment / 2 + moment % 2 > disk.calls() {
-        return Ok(None);
-    }
-    Ok(Some(disk.image(alloc, moment, fill)?))
 }
 
 // How many entries a journal has.
@@ -77,6 +61,6 @@ fn opened(alloc: Global, content: &[u8]) -> Result<String, NoMemory> {
     let disk = MemDisk::new(alloc, content, &[])?;
     match Vault::open(alloc, disk) {
         Ok(vault) => Ok(format!(in alloc; "{} entries", vault.entries())?),
-        Err(_) => telling::unclear(alloc),
+        Err(_) => nb_lines::unclear(alloc),
     }
 }

@@ -55,6 +55,6 @@ fn done<R: Threads + Wait + Clock + Sync>(
         ["made"] => house.made(),
         ["stand", before] => house.stand(*before),
         [] => Ok(String::new(house.alloc())),
-        _ => telling::unclear(house.alloc()),
+        _ => nb_lines::unclear(house.alloc()),
     }
 }

@@ -38,7 +38,7 @@ impl House {
         step: &str,
         words: &[&str],
     ) -> Result<String, NoMemory> {
-        let fails = telling::numbers(self.alloc, words, 2)?;
+        let fails = nb_lines::numbers(self.alloc, words, 2)?;
         let watch = Watch::new();
         let mut link = SeenLink {
             link: self.next_link(step, &fails)?,
@@ -47,7 +47,7 @@ impl House {
         self.left = serve_link(rt, self.alloc, self.disk()?, &mut link, &watch)?;
         match &self.left {
             Some(left) => told(self.alloc, &left.record, &link, &watch),
-            None => telling::unclear(self.alloc),
+            None => nb_lines::unclear(self.alloc),
         }
     }
 
@@ -55,7 +55,7 @@ impl House {
     pub fn lines(&self) -> Result<String, NoMemory> {
         match &self.left {
             Some(left) => telling::lines(self.alloc, &left.lines),
-            None => telling::unclear(self.alloc),
+            None => nb_lines::unclear(self.alloc),
         }
     }
 }

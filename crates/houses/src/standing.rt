@@ -3,7 +3,6 @@
 
 use crate::house::House;
 use crate::servers::Came;
-use crate::telling;
 use nb_book::Entry;
 use nb_link::MemLink;
 use nb_session::Record;
@@ -41,10 +40,10 @@ impl House {
         match &self.came {
             Some(came) => {
                 let told = told_by(self.alloc, &came.lines, came.ends.len() as u64)?;
-                let counts = counted(came, &told, telling::number(before));
+                let counts = counted(came, &told, nb_lines::number(before));
                 summed(self.alloc, counts, told.foreign)
             }
-            None => telling::unclear(self.alloc),
+            None => nb_lines::unclear(self.alloc),
         }
     }
 }

@@ -18,17 +18,9 @@ const MERCHANT: PartyId = PartyId(2);
 // The longest goods and the longest shelf of a script.
 const MOST: usize = 1_000_000;
 
-// The bytes that a text spells; none where it spells none.
-pub(crate) fn spelled(alloc: Global, text: &str) -> Vec<u8> {
-    match hex::decode(alloc, text) {
-        Ok(bytes) => bytes,
-        Err(_) => Vec::new(alloc),
-    }
-}
-
 // The first byte that a text spells; 0 where it spells none.
 pub(crate) fn first(alloc: Global, text: &str) -> u8 {
-    spelled(alloc, text).first().copied().unwrap_or(0)
+    nb_lines::spelled(alloc, text).first().copied().unwrap_or(0)
 }
 
 // The bytes of an item, where there is one.
@@ -48,7 +40,7 @@ pub(crate) fn empty_catalogue(alloc: Global) -> Result<Catalogue, NoMemory> {
 pub(crate) fn said(alloc: Global, kind: &str, body: &str) -> Option<Message>
     ensures { IfSome result MessageKeepsRules }
 {
-    message(alloc, first(alloc, kind), &spelled(alloc, body))
+    message(alloc, first(alloc, kind), &nb_lines::spelled(alloc, body))
 }
 
 // The message that a body of this kind spells.

@@ -56,6 +56,6 @@ fn done_by_merchant(trade: &mut Trade, words: &[&str]) -> Result<String, NoMemor
         ["silent", consumer, number] => trade.silent(*consumer, *number),
         ["stage", consumer, number] => trade.stage(*consumer, *number),
         ["asker", kind, body, moment] => trade.asker(*kind, *body, *moment),
-        _ => telling::unclear(trade.alloc()),
+        _ => nb_lines::unclear(trade.alloc()),
     }
 }

@@ -8,11 +8,6 @@ use nb_stall::Stage;
 use nb_units::{NoMemory, PartyId};
 use std::alloc::Global;
 
-// A line that says nothing that can be done.
-pub(crate) fn unclear(alloc: Global) -> Result<String, NoMemory> {
-    Ok("no such line".to_string(alloc)?)
-}
-
 // The kind of an item or a message.
 fn kind(alloc: Global, byte: u8) -> Result<String, NoMemory> {
     Ok(hex::encode(alloc, [byte])?)

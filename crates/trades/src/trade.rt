@@ -5,7 +5,6 @@ mod selling;
 
 use crate::{bytes, telling};
 use nb_consumer::Consumer;
-use nb_goods::checksum;
 use nb_merchant::Merchant;
 use nb_msgs::{Message, Step};
 use nb_units::{AcctId, Blob, NoMemory, PartyId};
@@ -67,7 +66,7 @@ impl Trade {
 
     /// `item HEX`: this item has the next number, from 0 on.
     pub fn item(&mut self, text: &str) -> Result<String, NoMemory> {
-        let item = Blob::from_vec(bytes::spelled(self.alloc, text));
+        let item = Blob::from_vec(nb_lines::spelled(self.alloc, text));
         self.known.push(item)?;
         self.nothing()
     }
@@ -75,7 +74,7 @@ impl Trade {
     // The item of a number, or the one that a longer word spells.
     fn named(&self, word: &str) -> Result<Blob, NoMemory> {
         if word.len() > 1 {
-            return Ok(Blob::from_vec(bytes::spelled(self.alloc, word)));
+            return Ok(Blob::from_vec(nb_lines::spelled(self.alloc, word)));
         }
         let at = word.parse::<usize>().unwrap_or(usize::MAX);
         match self.known.get(at) {
@@ -97,7 +96,7 @@ impl Trade {
     /// `again`: the consumer starts again with all items that it kept.
     pub fn again(&mut self) -> Result<String, NoMemory> {
         if self.items.len() > 100 {
-            return telling::unclear(self.alloc);
+            return nb_lines::unclear(self.alloc);
         }
         match Consumer::restart(self.alloc, WALLET, &self.items) {
             Ok(consumer) => {
@@ -153,7 +152,7 @@ impl Trade {
     /// `start NUMBER LIMIT`: a purchase starts.
     pub fn start(&mut self, number: &str, limit: &str) -> Result<String, NoMemory> {
         let (Ok(number), Ok(limit)) = (number.parse::<u64>(), limit.parse::<u64>()) else {
-            return telling::unclear(self.alloc);
+            return nb_lines::unclear(self.alloc);
         };
         let step = self.consumer.start(&bytes::wish(number, limit))?;
         self.did(&step)
@@ -162,13 +161,13 @@ impl Trade {
     /// `hear KIND BODY`: a message comes.
     pub fn hear(&mut self, kind: &str, body: &str) -> Result<String, NoMemory> {
         let kind = bytes::first(self.alloc, kind);
-        self.hear_body(kind, &bytes::spelled(self.alloc, body))
+        self.hear_body(kind, &nb_lines::spelled(self.alloc, body))
     }
 
     fn hear_body(&mut self, kind: u8, body: &[u8]) -> Result<String, NoMemory> {
         match bytes::message(self.alloc, kind, body) {
             Some(message) => self.hear_message(&message),
-            None => telling::unclear(self.alloc),
+            None => nb_lines::unclear(self.alloc),
         }
     }
 
@@ -182,7 +181,7 @@ impl Trade {
     /// `quiet NUMBER`: nothing was heard of a purchase for long.
     pub fn quiet(&mut self, number: &str) -> Result<String, NoMemory> {
         let Ok(number) = number.parse::<u64>() else {
-            return telling::unclear(self.alloc);
+            return nb_lines::unclear(self.alloc);
         };
         let step = self.consumer.quiet(number)?;
         self.did(&step)
@@ -191,7 +190,7 @@ impl Trade {
     /// `phase NUMBER`: how far a purchase has come.
     pub fn phase(&self, number: &str) -> Result<String, NoMemory> {
         let Ok(number) = number.parse::<u64>() else {
-            return telling::unclear(self.alloc);
+            return nb_lines::unclear(self.alloc);
         };
         telling::phase(self.alloc, self.consumer.state(number))
     }
@@ -199,7 +198,7 @@ impl Trade {
     /// `goods NUMBER`: the goods of a purchase, by their number of bytes and their digest.
     pub fn goods(&self, number: &str) -> Result<String, NoMemory> {
         let Ok(number) = number.parse::<u64>() else {
-            return telling::unclear(self.alloc);
+            return nb_lines::unclear(self.alloc);
         };
         match self.consumer.goods(number)? {
             Some(goods) => {
@@ -212,14 +211,7 @@ impl Trade {
 
     // Bytes, or of many their number and their digest.
     fn shown(&self, bytes: &[u8]) -> Result<String, NoMemory> {
-        if bytes.is_empty() {
-            return Ok("nothing".to_string(self.alloc)?);
-        }
-        if bytes.len() <= SHOWN {
-            return Ok(hex::encode(self.alloc, bytes)?);
-        }
-        let digest = hex::encode(self.alloc, checksum(bytes))?;
-        Ok(format!(in self.alloc; "{} bytes, {digest}", bytes.len())?)
+        nb_lines::shown(self.alloc, bytes, SHOWN)
     }
 
     /// `bytes`: the item that the last step kept, and the frame that it sent.
@@ -232,7 +224,7 @@ impl Trade {
     /// `seal BYTES`: so many bytes of goods, which count up, are sealed for purchase 1. They are told by their number and their digest.
     pub fn seal(&mut self, len: &str) -> Result<String, NoMemory> {
         let Ok(len) = len.parse::<usize>() else {
-            return telling::unclear(self.alloc);
+            return nb_lines::unclear(self.alloc);
         };
         self.goods = bytes::counting(self.alloc, len)?;
         self.shown(self.goods.as_slice())
@@ -247,11 +239,11 @@ impl Trade {
         bent: &str,
     ) -> Result<String, NoMemory> {
         let (Ok(from), Ok(to)) = (from.parse::<usize>(), to.parse::<usize>()) else {
-            return telling::unclear(self.alloc);
+            return nb_lines::unclear(self.alloc);
         };
         let goods = self.goods.as_slice();
         let part = bytes::piece(self.alloc, goods, from, to, bent.parse::<usize>().ok())?;
-        let body = bytes::goods_body(self.alloc, &bytes::spelled(self.alloc, head), &part)?;
+        let body = bytes::goods_body(self.alloc, &nb_lines::spelled(self.alloc, head), &part)?;
         self.hear_body(0x04, &body)
     }
 }

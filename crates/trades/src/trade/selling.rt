@@ -46,13 +46,13 @@ impl Trade {
         }
         match bytes::catalogue(self.alloc, &self.shelf)? {
             Some(catalogue) => self.open(catalogue, &items),
-            None => telling::unclear(self.alloc),
+            None => nb_lines::unclear(self.alloc),
         }
     }
 
     fn open(&mut self, catalogue: Catalogue, items: &[Blob]) -> Result<String, NoMemory> {
         if items.len() > 100 {
-            return telling::unclear(self.alloc);
+            return nb_lines::unclear(self.alloc);
         }
         match Merchant::restart(self.alloc, STALL, catalogue, items) {
             Ok(merchant) => {
@@ -73,7 +73,7 @@ impl Trade {
                 let moved = self.moved(message)?;
                 telling::sent(self.alloc, moved.as_str(), *to)
             }
-            Step::Ended { .. } => telling::unclear(self.alloc),
+            Step::Ended { .. } => nb_lines::unclear(self.alloc),
             Step::Ignored(why) => telling::why(self.alloc, *why),
         }
     }
@@ -89,7 +89,7 @@ impl Trade {
             bytes::said(self.alloc, kind, body),
             moment.parse::<u64>(),
         ) else {
-            return telling::unclear(self.alloc);
+            return nb_lines::unclear(self.alloc);
         };
         let step = self.merchant.on_consumer(self.alloc, &message, moment)?;
         self.sold(&step)
@@ -98,7 +98,7 @@ impl Trade {
     /// `house KIND BODY`: a message of the house comes to the merchant.
     pub fn house_says(&mut self, kind: &str, body: &str) -> Result<String, NoMemory> {
         let Some(message) = bytes::said(self.alloc, kind, body) else {
-            return telling::unclear(self.alloc);
+            return nb_lines::unclear(self.alloc);
         };
         let step = self.merchant.on_server(self.alloc, &message)?;
         self.sold(&step)
@@ -107,7 +107,7 @@ impl Trade {
     /// `silent CONSUMER NUMBER`: the merchant heard nothing of a purchase for long.
     pub fn silent(&mut self, consumer: &str, number: &str) -> Result<String, NoMemory> {
         let (Ok(consumer), Ok(number)) = (consumer.parse::<u32>(), number.parse::<u64>()) else {
-            return telling::unclear(self.alloc);
+            return nb_lines::unclear(self.alloc);
         };
         let step = self.merchant.quiet(self.alloc, PartyId(consumer), number)?;
         self.sold(&step)
@@ -116,7 +116,7 @@ impl Trade {
     /// `stage CONSUMER NUMBER`: how far a purchase of the merchant has come.
     pub fn stage(&self, consumer: &str, number: &str) -> Result<String, NoMemory> {
         let (Ok(consumer), Ok(number)) = (consumer.parse::<u32>(), number.parse::<u64>()) else {
-            return telling::unclear(self.alloc);
+            return nb_lines::unclear(self.alloc);
         };
         telling::stage(self.alloc, self.merchant.state(PartyId(consumer), number))
     }
@@ -127,7 +127,7 @@ impl Trade {
             bytes::said(self.alloc, kind, body),
             moment.parse::<u64>(),
         ) else {
-            return telling::unclear(self.alloc);
+            return nb_lines::unclear(self.alloc);
         };
         telling::asker(self.alloc, self.merchant.asker(&message, moment))
     }

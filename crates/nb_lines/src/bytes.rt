@@ -1,0 +1,23 @@
+use nb_seal::sha;
+use nb_units::NoMemory;
+use std::alloc::Global;
+
+/// The bytes that a word spells in hexadecimal; none where it spells none.
+pub fn spelled(alloc: Global, word: &str) -> Vec<u8> {
+    match hex::decode(alloc, word) {
+        Ok(bytes) => bytes,
+        Err(_) => Vec::new(alloc),
+    }
+}
+
+/// Bytes in hexadecimal; of more than `most` their number and their SHA-256 (FIPS 180-4).
+pub fn shown(alloc: Global, bytes: &[u8], most: usize) -> Result<String, NoMemory> {
+    if bytes.is_empty() {
+        return Ok("nothing".to_string(alloc)?);
+    }
+    if bytes.len() <= most {
+        return Ok(hex::encode(alloc, bytes)?);
+    }
+    let digest = hex::encode(alloc, sha(bytes))?;
+    Ok(format!(in alloc; "{} bytes, {digest}", bytes.len())?)
+}

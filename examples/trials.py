@@ -1,0 +1,38 @@
+"""What the programs share that write trials: the lines that a program reads, and what it must print at each."""
+
+import hashlib
+import sys
+
+lines, told = [], []
+
+
+def say(line, *answers):
+    """A line, and what the program prints at it."""
+    lines.append(line)
+    told.extend(answers)
+
+
+def title(text):
+    """A line that is printed as it is."""
+    say("# " + text, "# " + text)
+
+
+def words(word, numbers):
+    """A line of a word and numbers."""
+    return " ".join([word, *map(str, numbers)])
+
+
+def shown(text, most=1000):
+    """Bytes, or of more than so many their number and their digest."""
+    if not text:
+        return "nothing"
+    return text.hex() if len(text) <= most else f"{len(text)} bytes, {hashlib.sha256(text).hexdigest()}"
+
+
+def write(program, rows):
+    """Goes through the rows, and writes the file that the program's word names: 'stdin' the lines, 'stdout' what is printed at them."""
+    if sys.argv[1:] not in (["stdin"], ["stdout"]):
+        sys.exit(f"examples/{program}: the word is stdin or stdout")
+    for row in rows:
+        row()
+    print("\n".join(lines if sys.argv[1] == "stdin" else told))
