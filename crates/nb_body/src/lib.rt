@@ -36,6 +36,3 @@ pub use payment_request::PaymentRequest;
 pub use price_request::PriceRequest;
 pub use query::StatusQuery;
 pub use quote::Quote;
-
-#[cfg(test)]
-mod tests;

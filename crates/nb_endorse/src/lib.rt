@@ -38,6 +38,3 @@ pub use receipt::{
 pub use refusal::Refusal;
 pub use reply::{Reply, ReplyKeys, ReplyStates};
 pub use sealed::SealedFault;
-
-#[cfg(test)]
-mod tests;

@@ -19,6 +19,3 @@ pub mod places;
 pub use hidden::{Hidden, RevealFault, account_digest, hide, reveal, reveal_with};
 pub use nb_units::Malformed;
 pub use order::{Order, order_tag_ok, read_order, read_tag_ok, sign_order, write_order};
-
-#[cfg(test)]
-mod tests;

@@ -23,6 +23,3 @@ pub use goods::{OpenGoods, checksum, goods_key, open_goods, parts, sealed};
 pub use joined::open_parts;
 pub use limits::{GOODS_LABEL, MAX_GOODS, MAX_SEALED, PART_BYTES};
 pub use nb_units::NoMemory;
-
-#[cfg(test)]
-mod tests;

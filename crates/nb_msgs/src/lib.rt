@@ -35,8 +35,3 @@ pub use reading::read_body;
 pub use reply::{LONGEST_REPLY, REPLY_ROOM, limits, write_reply, write_reply_with};
 pub use status::{MOST_STATUS, StatusText};
 pub use writing::write_message;
-
-#[cfg(test)]
-mod body_tests;
-#[cfg(test)]
-mod tests;

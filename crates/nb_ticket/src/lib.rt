@@ -29,6 +29,3 @@ pub use session::{TICKET_LIFE, session_key, session_key_with, until};
 pub use ticket::{
     TICKET_BYTES, TICKET_LABEL, Ticket, TicketFault, open_ticket, write_ticket, write_ticket_with,
 };
-
-#[cfg(test)]
-mod tests;
