@@ -7,7 +7,7 @@ lines, told = [], []
 
 
 def say(line, *answers):
-    """A line, and what the program prints at it."""
+    """A line, and what the program prints at it: an answer, or a function that gives it where it takes long."""
     lines.append(line)
     told.extend(answers)
 
@@ -35,4 +35,5 @@ def write(program, rows):
         sys.exit(f"examples/{program}: the word is stdin or stdout")
     for row in rows:
         row()
-    print("\n".join(lines if sys.argv[1] == "stdin" else told))
+    for text in lines if sys.argv[1] == "stdin" else told:
+        print(text() if callable(text) else text)

@@ -1,0 +1,105 @@
+// Tickets and grants.
+
+use crate::telling;
+use nb_ticket::{
+    GRANT_BYTES, Granted, TICKET_BYTES, Ticket, grant, open_grant, open_ticket, session_key, until,
+    write_ticket,
+};
+use nb_units::{NoMemory, PartyId, Small};
+use std::alloc::Global;
+
+/// `session HOUSE CONSUMER MERCHANT NONCE MOMENT`: the key that the two share.
+pub fn session(alloc: Global, house: &str, words: [&str; 4]) -> Result<String, NoMemory> {
+    let [consumer, merchant, nonce, moment] = words;
+    let key = session_key(
+        &telling::key(alloc, house),
+        PartyId(telling::short(consumer)),
+        PartyId(telling::short(merchant)),
+        nb_lines::number(nonce),
+        nb_lines::number(moment),
+    );
+    telling::shown(alloc, &key)
+}
+
+/// `until MOMENT`: the last second of a ticket that is granted then.
+pub fn last_second(alloc: Global, moment: &str) -> Result<String, NoMemory> {
+    let last = until(nb_lines::number(moment));
+    Ok(format!(in alloc; "{last}")?)
+}
+
+/// `ticket KEY CONSUMER MERCHANT UNTIL SESSION`: a ticket, sealed under the merchant's key.
+pub fn ticket(alloc: Global, key: &str, words: [&str; 4]) -> Result<String, NoMemory> {
+    let [consumer, merchant, until, session] = words;
+    let ticket = Ticket {
+        consumer: PartyId(telling::short(consumer)),
+        merchant: PartyId(telling::short(merchant)),
+        until: nb_lines::number(until),
+        session: telling::key(alloc, session),
+    };
+    let sealed = write_ticket(&ticket, &telling::key(alloc, key));
+    telling::shown(alloc, sealed.as_slice())
+}
+
+/// `open-ticket KEY BYTES MERCHANT NOW`: the ticket that the bytes are the seal of, as a merchant asks for it at a moment.
+pub fn opened(
+    alloc: Global,
+    key: &str,
+    bytes: &str,
+    asked: &str,
+    now: &str,
+) -> Result<String, NoMemory> {
+    let bytes = nb_lines::spelled(alloc, bytes);
+    if bytes.len() > TICKET_BYTES {
+        return nb_lines::unclear(alloc);
+    }
+    let asked = PartyId(telling::short(asked));
+    match open_ticket(
+        &bytes,
+        &telling::key(alloc, key),
+        asked,
+        nb_lines::number(now),
+    ) {
+        Ok(ticket) => Ok(format!(in alloc; "{ticket:?}")?),
+        Err(fault) => telling::fault(alloc, &fault),
+    }
+}
+
+/// `grant KEY MERCHANT NONCE UNTIL SESSION TICKET`: a grant, sealed under the consumer's key.
+pub fn granted(alloc: Global, key: &str, words: [&str; 5]) -> Result<String, NoMemory> {
+    let [merchant, nonce, until, session, ticket] = words;
+    let ticket = nb_lines::spelled(alloc, ticket);
+    if ticket.len() > TICKET_BYTES {
+        return nb_lines::unclear(alloc);
+    }
+    let granted = Granted {
+        merchant: PartyId(telling::short(merchant)),
+        nonce: nb_lines::number(nonce),
+        until: nb_lines::number(until),
+        session: telling::key(alloc, session),
+        ticket: Small::of(&ticket).unwrap(),
+    };
+    let sealed = grant(&granted, &telling::key(alloc, key));
+    telling::shown(alloc, sealed.as_slice())
+}
+
+/// `open-grant KEY BYTES`: the grant that the bytes are the seal of.
+pub fn opened_grant(alloc: Global, key: &str, bytes: &str) -> Result<String, NoMemory> {
+    let bytes = nb_lines::spelled(alloc, bytes);
+    if bytes.len() > GRANT_BYTES {
+        return nb_lines::unclear(alloc);
+    }
+    match open_grant(&bytes, &telling::key(alloc, key)) {
+        Ok(granted) => {
+            let ticket = granted.ticket.as_slice();
+            let fields = (
+                granted.merchant,
+                granted.nonce,
+                granted.until,
+                granted.session,
+                ticket,
+            );
+            Ok(format!(in alloc; "{fields:?}")?)
+        }
+        Err(fault) => telling::fault(alloc, &fault),
+    }
+}
