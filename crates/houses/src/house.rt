@@ -79,6 +79,12 @@ impl House {
         self.nothing()
     }
 
+    /// `opening CALL..`: the calls of their disks that fail, counted from the first.
+    pub fn opening_fails(&mut self, words: &[&str]) -> Result<String, NoMemory> {
+        self.fails = nb_lines::numbers(self.alloc, words, 1)?;
+        self.nothing()
+    }
+
     /// A disk with the journal.
     pub fn disk(&self) -> Result<MemDisk, NoMemory> {
         MemDisk::new(self.alloc, &self.journal, &self.fails)

@@ -1,11 +1,12 @@
-//! A program that does with houses what the lines of standard input say, and prints what they do: the trials of `nb_session` and `nb_server`, as
-//! data. Each line is a word and what it is about; [`House`] says what they do. A line that begins with `#` is printed as it is.
+//! A program that does with houses what the lines of standard input say, and prints what they do: the trials of `nb_session`, `nb_server` and
+//! `nb_work`, as data. Each line is a word and what it is about; [`House`] says what they do. A line that begins with `#` is printed as it is.
 //!
 //! It claims nothing: what it prints is compared with what another program wrote.
 #![tactic(auto)]
 
 mod house;
 mod images;
+mod jobs;
 mod servers;
 mod sessions;
 mod standing;
@@ -39,8 +40,10 @@ fn done<R: Threads + Wait + Clock + Sync>(
     let words: Vec<&str> = line.split_whitespace().collect(house.alloc())?;
     match words.as_slice() {
         ["#", ..] => Ok(line.to_string(house.alloc())?),
+        ["journal"] => house.journal(""),
         ["journal", content] => house.journal(*content),
         ["disk", ..] => house.disk_fails(words.as_slice()),
+        ["opening", ..] => house.opening_fails(words.as_slice()),
         ["send", count, bytes] => house.send(*count, *bytes),
         ["session", step, ..] => house.session(rt, *step, words.as_slice()),
         ["lines"] => house.lines(),
@@ -50,6 +53,7 @@ fn done<R: Threads + Wait + Clock + Sync>(
         ["entries", step, fill] => house.entries(*step, *fill),
         ["link", step] => house.link(*step),
         ["worker", ..] => house.worker(words.as_slice()),
+        ["work", sessions] => house.work(rt, *sessions),
         ["serve", hold] => house.serve(rt, *hold == "hold"),
         ["sent"] => house.sent(),
         ["made"] => house.made(),

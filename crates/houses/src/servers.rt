@@ -125,11 +125,14 @@ impl House {
         Ok(told)
     }
 
-    /// `sent`: what each link of the last server was sent, and how many links of each worker are left.
+    /// `sent`: how many links of each worker of the last server are left, and what each of the others was sent.
     pub fn sent(&self) -> Result<String, NoMemory> {
         let mut told = String::new(self.alloc);
         if let Some(came) = &self.came {
             for worker in &came.workers {
+                if !told.is_empty() {
+                    told.push_str("\n")?;
+                }
                 told.push_str(sent_by(self.alloc, &worker.port)?.as_str())?;
             }
         }
@@ -166,7 +169,7 @@ fn serve_links<R: Threads + Wait + Sync, G: Gate>(
 }
 
 // Why a worker stopped, and how each of its sessions ended.
-fn ended(alloc: Global, end: &WorkerEnd) -> Result<String, NoMemory> {
+pub(crate) fn ended(alloc: Global, end: &WorkerEnd) -> Result<String, NoMemory> {
     let how = telling::how(end.how);
     let (worker, pass) = (end.worker, end.pass);
     let mut told = format!(in alloc; "\nworker {worker} by pass {pass}: {how}")?;

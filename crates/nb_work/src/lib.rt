@@ -11,6 +11,3 @@ pub mod laws;
 mod working;
 
 pub use working::{Dials, Worked, work};
-
-#[cfg(test)]
-mod tests;
