@@ -1,0 +1,135 @@
+use crate::kernel::Kernel;
+use crate::telling;
+use nb_port::MemDisk;
+use nb_units::NoMemory;
+use std::alloc::Global;
+
+// The most times that a line gives bytes.
+const MOST_TIMES: u64 = 10_000;
+
+/// What the next run is given, and what the last one left.
+#[derive(Drop)]
+pub struct Trial {
+    alloc: Global,
+    // The bytes of a journal, and those that the disk of the next run begins with.
+    journal: Vec<u8>,
+    pub(crate) content: Vec<u8>,
+    // What the source gives, and the most bytes of one read.
+    pub(crate) input: Vec<u8>,
+    pub(crate) step: usize,
+    pub(crate) moments: Vec<u64>,
+    // The numbers of the calls that fail.
+    pub(crate) disk_fails: Vec<u64>,
+    pub(crate) source_fails: Vec<u64>,
+    pub(crate) sink_fails: Vec<u64>,
+    // Whether a write to the sink takes one byte.
+    pub(crate) slow: bool,
+    // The file that runs go over in place of a disk in memory.
+    pub(crate) kernel: Option<Kernel>,
+    // The disk of the last run over one in memory, and the one that is held.
+    pub(crate) left: Option<MemDisk>,
+    pub(crate) held: Option<MemDisk>,
+}
+
+impl Trial {
+    /// Nothing is given.
+    pub fn new(alloc: Global) -> Trial {
+        Trial {
+            alloc,
+            journal: Vec::new(alloc),
+            content: Vec::new(alloc),
+            input: Vec::new(alloc),
+            step: 1,
+            moments: Vec::new(alloc),
+            disk_fails: Vec::new(alloc),
+            source_fails: Vec::new(alloc),
+            sink_fails: Vec::new(alloc),
+            slow: false,
+            kernel: None,
+            left: None,
+            held: None,
+        }
+    }
+
+    /// Where memory comes from.
+    pub fn alloc(&self) -> Global {
+        self.alloc
+    }
+
+    /// Nothing to print.
+    pub fn nothing(&self) -> Result<String, NoMemory> {
+        Ok(String::new(self.alloc))
+    }
+
+    /// `journal HEX`: the disks of the next runs begin with these bytes.
+    pub fn journal(&mut self, text: &str) -> Result<String, NoMemory> {
+        self.journal = telling::spelled(self.alloc, text);
+        self.content = self.journal.clone()?;
+        self.nothing()
+    }
+
+    /// `cut LEN`: they begin with so many of the journal's bytes.
+    pub fn cut(&mut self, len: &str) -> Result<String, NoMemory> {
+        let len = telling::number(len).min(self.journal.len() as u64) as usize;
+        let (front, _) = self.journal.as_slice().split_at(len);
+        self.content = Vec::from_slice(self.alloc, front)?;
+        self.nothing()
+    }
+
+    /// `again`: they begin with what the last run left.
+    pub fn again(&mut self) -> Result<String, NoMemory> {
+        match &self.left {
+            Some(disk) => {
+                self.content = Vec::from_slice(self.alloc, disk.content())?;
+                self.nothing()
+            }
+            None => telling::unclear(self.alloc),
+        }
+    }
+
+    /// `hold`: the disk that the last run left is kept, for the images of it.
+    pub fn hold(&mut self) -> Result<String, NoMemory> {
+        self.held = self.left.take();
+        self.nothing()
+    }
+
+    /// `input COUNT HEX`: the sources of the next runs give these bytes so many times.
+    pub fn input(&mut self, count: &str, text: &str) -> Result<String, NoMemory> {
+        let bytes = telling::spelled(self.alloc, text);
+        self.input.clear();
+        for _ in 0..telling::number(count).min(MOST_TIMES) {
+            self.input.extend_from_slice(&bytes)?;
+        }
+        self.nothing()
+    }
+
+    /// `step COUNT`: one read of them gives at most so many bytes.
+    pub fn step(&mut self, step: &str) -> Result<String, NoMemory> {
+        self.step = telling::number(step).min(65_536) as usize;
+        self.nothing()
+    }
+
+    /// `clock MOMENT..`: the clocks give these moments, and then the last one again.
+    pub fn clock(&mut self, words: &[&str]) -> Result<String, NoMemory> {
+        self.moments = telling::numbers(self.alloc, words, 1)?;
+        self.nothing()
+    }
+
+    /// `fails WHAT CALL..`: these calls of the disk, the source or the sink fail.
+    pub fn fails(&mut self, what: &str, words: &[&str]) -> Result<String, NoMemory> {
+        let calls = telling::numbers(self.alloc, words, 2)?;
+        match what {
+            "disk" => self.disk_fails = calls,
+            "source" => self.source_fails = calls,
+            "sink" => self.sink_fails = calls,
+            _ => return telling::unclear(self.alloc),
+        }
+        self.nothing()
+    }
+
+    /// `sink slow` or `sink whole`: a write to the sinks takes one byte, or all.
+    pub fn sink(&mut self, how: &str) -> Result<String, NoMemory> {
+        self.slow = how == "slow";
+        self.nothing()
+    }
+}
