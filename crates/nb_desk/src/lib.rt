@@ -22,6 +22,3 @@ pub use asked::{Asked, AskedAll};
 pub use desk::{Desk, Pass};
 pub use handed::DeskVault;
 pub use nb_turn::{NoMemory, SplitFault};
-
-#[cfg(test)]
-mod tests;

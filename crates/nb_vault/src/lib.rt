@@ -27,6 +27,3 @@ mod vault;
 pub use answer::{Answer, AnswerAll, AskAt};
 pub use origin::Origin;
 pub use vault::{Vault, VaultFault};
-
-#[cfg(test)]
-mod tests;
