@@ -1,0 +1,58 @@
+// What stops leave of the disk of the last vault.
+
+use crate::house::House;
+use crate::telling;
+use nb_port::{Fill, MemDisk};
+use nb_units::{Blob, NoMemory};
+use nb_vault::Vault;
+use std::alloc::Global;
+
+// The most moments that are told.
+const MOST_MOMENTS: u64 = 100;
+
+impl House {
+    /// `stops FILL`: for each moment, from before the first call to behind the last one, how many entries a vault has that is opened on
+    /// what a stop leaves, with what was not synced as it was, as it is, or filled with a byte.
+    pub fn stops(&self, fill: &str) -> Result<String, NoMemory> {
+        match &self.disk {
+            Some(disk) => stopped(self.alloc, disk, filled(fill)),
+            None => telling::unclear(self.alloc),
+        }
+    }
+}
+
+fn stopped(alloc: Global, disk: &MemDisk, fill: Fill) -> Result<String, NoMemory> {
+    let mut told = "entries".to_string(alloc)?;
+    for moment in 0..MOST_MOMENTS {
+        let Some(image) = image(alloc, disk, moment, fill)? else {
+            break;
+        };
+        told.push_str(opened(alloc, image.as_slice())?.as_str())?;
+    }
+    Ok(told)
+}
+
+fn filled(word: &str) -> Fill {
+    match word {
+        "old" => Fill::Old,
+        "new" => Fill::New,
+        _ => Fill::Byte(word.parse::<u8>().unwrap_or(0)),
+    }
+}
+
+// The image of a disk at a moment, if its calls go so far.
+fn image(alloc: Global, disk: &MemDisk, moment: u64, fill: Fill) -> Result<Option<Blob>, NoMemory> {
+    if moment / 2 + moment % 2 > disk.calls() {
+        return Ok(None);
+    }
+    Ok(Some(disk.image(alloc, moment, fill)?))
+}
+
+// How many entries a journal has.
+fn opened(alloc: Global, content: &[u8]) -> Result<String, NoMemory> {
+    let disk = MemDisk::new(alloc, content, &[])?;
+    match Vault::open(alloc, disk) {
+        Ok(vault) => Ok(format!(in alloc; " {}", vault.entries())?),
+        Err(_) => Ok(" none".to_string(alloc)?),
+    }
+}
