@@ -8,8 +8,8 @@ use nb_units::NoMemory;
 impl Trial {
     /// `file CALL HEX`: the next runs go over a file, of which the device has these bytes, and of whose syncs and advices this one fails.
     pub fn file(&mut self, call: &str, text: &str) -> Result<String, NoMemory> {
-        let bytes = telling::spelled(self.alloc(), text);
-        self.kernel = Some(Kernel::over(&bytes, telling::number(call)));
+        let bytes = nb_lines::spelled(self.alloc(), text);
+        self.kernel = Some(Kernel::over(&bytes, nb_lines::number(call)));
         self.nothing()
     }
 
@@ -45,7 +45,7 @@ impl Trial {
                 let kept = telling::shown(self.alloc(), kernel.kept())?;
                 Ok(format!(in self.alloc(); "{asked} asked; {kept}")?)
             }
-            None => telling::unclear(self.alloc()),
+            None => nb_lines::unclear(self.alloc()),
         }
     }
 }

@@ -60,6 +60,6 @@ fn set(trial: &mut Trial, words: &[&str]) -> Result<String, NoMemory> {
         ["restart"] => trial.restart(),
         ["interrupt"] => trial.interrupt(),
         ["memory"] => trial.memory(),
-        _ => telling::unclear(trial.alloc()),
+        _ => nb_lines::unclear(trial.alloc()),
     }
 }

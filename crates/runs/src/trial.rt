@@ -1,5 +1,4 @@
 use crate::kernel::Kernel;
-use crate::telling;
 use nb_port::MemDisk;
 use nb_units::NoMemory;
 use std::alloc::Global;
@@ -63,14 +62,14 @@ impl Trial {
 
     /// `journal HEX`: the disks of the next runs begin with these bytes.
     pub fn journal(&mut self, text: &str) -> Result<String, NoMemory> {
-        self.journal = telling::spelled(self.alloc, text);
+        self.journal = nb_lines::spelled(self.alloc, text);
         self.content = self.journal.clone()?;
         self.nothing()
     }
 
     /// `cut LEN`: they begin with so many of the journal's bytes.
     pub fn cut(&mut self, len: &str) -> Result<String, NoMemory> {
-        let len = telling::number(len).min(self.journal.len() as u64) as usize;
+        let len = nb_lines::number(len).min(self.journal.len() as u64) as usize;
         let (front, _) = self.journal.as_slice().split_at(len);
         self.content = Vec::from_slice(self.alloc, front)?;
         self.nothing()
@@ -83,7 +82,7 @@ impl Trial {
                 self.content = Vec::from_slice(self.alloc, disk.content())?;
                 self.nothing()
             }
-            None => telling::unclear(self.alloc),
+            None => nb_lines::unclear(self.alloc),
         }
     }
 
@@ -95,9 +94,9 @@ impl Trial {
 
     /// `input COUNT HEX`: the sources of the next runs give these bytes so many times.
     pub fn input(&mut self, count: &str, text: &str) -> Result<String, NoMemory> {
-        let bytes = telling::spelled(self.alloc, text);
+        let bytes = nb_lines::spelled(self.alloc, text);
         self.input.clear();
-        for _ in 0..telling::number(count).min(MOST_TIMES) {
+        for _ in 0..nb_lines::number(count).min(MOST_TIMES) {
             self.input.extend_from_slice(&bytes)?;
         }
         self.nothing()
@@ -105,24 +104,24 @@ impl Trial {
 
     /// `step COUNT`: one read of them gives at most so many bytes.
     pub fn step(&mut self, step: &str) -> Result<String, NoMemory> {
-        self.step = telling::number(step).min(65_536) as usize;
+        self.step = nb_lines::number(step).min(65_536) as usize;
         self.nothing()
     }
 
     /// `clock MOMENT..`: the clocks give these moments, and then the last one again.
     pub fn clock(&mut self, words: &[&str]) -> Result<String, NoMemory> {
-        self.moments = telling::numbers(self.alloc, words, 1)?;
+        self.moments = nb_lines::numbers(self.alloc, words, 1)?;
         self.nothing()
     }
 
     /// `fails WHAT CALL..`: these calls of the disk, the source or the sink fail.
     pub fn fails(&mut self, what: &str, words: &[&str]) -> Result<String, NoMemory> {
-        let calls = telling::numbers(self.alloc, words, 2)?;
+        let calls = nb_lines::numbers(self.alloc, words, 2)?;
         match what {
             "disk" => self.disk_fails = calls,
             "source" => self.source_fails = calls,
             "sink" => self.sink_fails = calls,
-            _ => return telling::unclear(self.alloc),
+            _ => return nb_lines::unclear(self.alloc),
         }
         self.nothing()
     }

@@ -17,11 +17,11 @@ impl House {
     pub fn ask(&mut self, by: &str, name: &str) -> Result<String, NoMemory> {
         match (&mut self.vault, self.names.request(name)) {
             (Some(vault), Some(request)) => {
-                let said = answer(self.alloc, vault, telling::number(by), request)?;
+                let said = answer(self.alloc, vault, nb_lines::number(by), request)?;
                 let told = said.told(self.alloc)?;
                 self.with_lines(told)
             }
-            _ => telling::unclear(self.alloc),
+            _ => nb_lines::unclear(self.alloc),
         }
     }
 
@@ -30,14 +30,14 @@ impl House {
         let names = words.split_at(words.len().min(2)).1;
         let batch = Batch::of(self.alloc, &self.names, names)?;
         let Some(vault) = &mut self.vault else {
-            return telling::unclear(self.alloc);
+            return nb_lines::unclear(self.alloc);
         };
-        match answer_all(self.alloc, vault, telling::number(by), &batch)? {
+        match answer_all(self.alloc, vault, nb_lines::number(by), &batch)? {
             Some(said) => {
                 let told = said.told(self.alloc)?;
                 self.with_lines(told)
             }
-            None => telling::unclear(self.alloc),
+            None => nb_lines::unclear(self.alloc),
         }
     }
 }

@@ -12,7 +12,6 @@ use nb_desk::{Desk, Pass};
 use nb_port::MemDisk;
 use nb_turns::Line;
 use nb_units::NoMemory;
-use nb_vault::Vault;
 use std::alloc::Global;
 use std::sync::Wait;
 use std::thread::{Threads, join};
@@ -46,9 +45,9 @@ impl House {
         name: &str,
         times: &str,
     ) -> Result<String, NoMemory> {
-        let times = telling::number(times).min(MOST_TIMES) as u32;
+        let times = nb_lines::number(times).min(MOST_TIMES) as u32;
         let Some(request) = self.names.request(name) else {
-            return telling::unclear(self.alloc);
+            return nb_lines::unclear(self.alloc);
         };
         let crowd = match desk_over(self.alloc, self.next_disk()?) {
             Some((desk, pass)) => gather(rt, self.alloc, desk, pass, request, times)?,
@@ -56,7 +55,7 @@ impl House {
         };
         match crowd {
             Some(crowd) => told(self.alloc, &crowd),
-            None => telling::unclear(self.alloc),
+            None => nb_lines::unclear(self.alloc),
         }
     }
 }

@@ -28,7 +28,7 @@ impl House {
                 self.lines = 0;
                 self.with_lines(told)
             }
-            None => telling::unclear(self.alloc),
+            None => nb_lines::unclear(self.alloc),
         }
     }
 }
@@ -82,13 +82,13 @@ fn take_step<R: Wait>(
 {
     match words {
         ["desk"] => Ok((pass, String::new(alloc))),
-        ["split", number] => split_off(alloc, desk, pass, telling::number(*number)),
+        ["split", number] => split_off(alloc, desk, pass, nb_lines::number(*number)),
         [word, ..] => {
             let named = words.split_at(1).1;
             let (pass, said) = ask_by(rt, alloc, names, desk, pass, *word, named)?;
             Ok((pass, format!(in alloc; "{}\n", said.told(alloc)?)?))
         }
-        [] => Ok((pass, telling::unclear(alloc)?)),
+        [] => Ok((pass, nb_lines::unclear(alloc)?)),
     }
 }
 

@@ -44,7 +44,7 @@ impl House {
 
     /// `request NAME MOMENT HEX`: a request, which is asked at this moment, has a name.
     pub fn request(&mut self, name: &str, moment: &str, text: &str) -> Result<String, NoMemory> {
-        let moment = telling::number(moment);
+        let moment = nb_lines::number(moment);
         self.names.add_request(self.alloc, name, moment, text)?;
         self.nothing()
     }
@@ -54,19 +54,19 @@ impl House {
         if self.names.add_entry(self.alloc, name, text)? {
             self.nothing()
         } else {
-            telling::unclear(self.alloc)
+            nb_lines::unclear(self.alloc)
         }
     }
 
     /// `journal HEX`: the next disks have this content.
     pub fn journal(&mut self, text: &str) -> Result<String, NoMemory> {
-        self.journal = telling::spelled(self.alloc, text);
+        self.journal = nb_lines::spelled(self.alloc, text);
         self.nothing()
     }
 
     /// `disk CALL..`: the calls of the next disks that fail, from 1 on.
     pub fn disk_fails(&mut self, words: &[&str]) -> Result<String, NoMemory> {
-        self.fails = telling::numbers(self.alloc, words, 1)?;
+        self.fails = nb_lines::numbers(self.alloc, words, 1)?;
         self.nothing()
     }
 
@@ -118,7 +118,7 @@ impl House {
                 self.disk = Some(disk);
                 Ok(told)
             }
-            None => telling::unclear(self.alloc),
+            None => nb_lines::unclear(self.alloc),
         }
     }
 }

@@ -1,9 +1,8 @@
 // What stops leave of the disk of the last vault.
 
 use crate::house::House;
-use crate::telling;
-use nb_port::{Fill, MemDisk};
-use nb_units::{Blob, NoMemory};
+use nb_port::MemDisk;
+use nb_units::NoMemory;
 use nb_vault::Vault;
 use std::alloc::Global;
 
@@ -15,37 +14,21 @@ impl House {
     /// what a stop leaves, with what was not synced as it was, as it is, or filled with a byte.
     pub fn stops(&self, fill: &str) -> Result<String, NoMemory> {
         match &self.disk {
-            Some(disk) => stopped(self.alloc, disk, filled(fill)),
-            None => telling::unclear(self.alloc),
+            Some(disk) => stopped(self.alloc, disk, fill),
+            None => nb_lines::unclear(self.alloc),
         }
     }
 }
 
-fn stopped(alloc: Global, disk: &MemDisk, fill: Fill) -> Result<String, NoMemory> {
+fn stopped(alloc: Global, disk: &MemDisk, fill: &str) -> Result<String, NoMemory> {
     let mut told = "entries".to_string(alloc)?;
     for moment in 0..MOST_MOMENTS {
-        let Some(image) = image(alloc, disk, moment, fill)? else {
+        let Some(image) = nb_lines::image(alloc, disk, moment, fill)? else {
             break;
         };
         told.push_str(opened(alloc, image.as_slice())?.as_str())?;
     }
     Ok(told)
-}
-
-fn filled(word: &str) -> Fill {
-    match word {
-        "old" => Fill::Old,
-        "new" => Fill::New,
-        _ => Fill::Byte(word.parse::<u8>().unwrap_or(0)),
-    }
-}
-
-// The image of a disk at a moment, if its calls go so far.
-fn image(alloc: Global, disk: &MemDisk, moment: u64, fill: Fill) -> Result<Option<Blob>, NoMemory> {
-    if moment / 2 + moment % 2 > disk.calls() {
-        return Ok(None);
-    }
-    Ok(Some(disk.image(alloc, moment, fill)?))
 }
 
 // How many entries a journal has.

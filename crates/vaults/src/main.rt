@@ -56,6 +56,6 @@ fn done<R: Threads + Wait + Clock + Sync>(
         ["busy", first, second] => house.busy(rt, *first, *second),
         ["crowd", name, times] => house.crowd(rt, *name, *times),
         [] => Ok(String::new(house.alloc())),
-        _ => telling::unclear(house.alloc()),
+        _ => nb_lines::unclear(house.alloc()),
     }
 }

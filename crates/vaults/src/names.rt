@@ -1,6 +1,5 @@
 // Requests and entries, by the names that they have in the lines.
 
-use crate::telling;
 use nb_book::{Entry, read_entry};
 use nb_units::{Cut, NoMemory};
 use std::alloc::Global;
@@ -58,7 +57,7 @@ impl Names {
         let request = Request {
             name: name.to_string(alloc)?,
             moment,
-            frame: telling::spelled(alloc, text),
+            frame: nb_lines::spelled(alloc, text),
         };
         self.requests.push(request)?;
         Ok(())
@@ -66,7 +65,7 @@ impl Names {
 
     /// An entry has this name, and whether the text spells one.
     pub fn add_entry(&mut self, alloc: Global, name: &str, text: &str) -> Result<bool, NoMemory> {
-        let bytes = telling::spelled(alloc, text);
+        let bytes = nb_lines::spelled(alloc, text);
         let mut cut = Cut::new(bytes.as_slice());
         let Ok(entry) = read_entry(&mut cut) else {
             return Ok(false);

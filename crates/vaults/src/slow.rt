@@ -102,7 +102,7 @@ impl House {
     ) -> Result<String, NoMemory> {
         match (self.names.request(first), self.names.request(second)) {
             (Some(first), Some(second)) => meet(rt, self.alloc, self.next_disk()?, first, second),
-            _ => telling::unclear(self.alloc),
+            _ => nb_lines::unclear(self.alloc),
         }
     }
 }
@@ -121,10 +121,10 @@ fn meet<R: Threads + Wait + Clock + Sync>(
         signs: &signs,
     };
     let Some((mut desk, pass)) = desk_over(alloc, disk) else {
-        return telling::unclear(alloc);
+        return nb_lines::unclear(alloc);
     };
     let Some((pass, (one, two))) = two_more(&mut desk, pass, 1) else {
-        return telling::unclear(alloc);
+        return nb_lines::unclear(alloc);
     };
     let (asked, tried) = ask_beside(rt, alloc, &desk, (one, two), (first, second), &signs);
     let (_, again) = ask_one(rt, alloc, &desk, pass, second, true)?;
@@ -140,7 +140,7 @@ fn meet<R: Threads + Wait + Clock + Sync>(
 fn told(alloc: Global, said: Option<Said>) -> Result<String, NoMemory> {
     match said {
         Some(said) => said.told(alloc),
-        None => telling::unclear(alloc),
+        None => nb_lines::unclear(alloc),
     }
 }
 

@@ -3,7 +3,6 @@
 use crate::names::Names;
 use nb_desk::AskedAll;
 use nb_port::MemDisk;
-use nb_seal::sha;
 use nb_turns::Line;
 use nb_units::NoMemory;
 use nb_vault::VaultFault;
@@ -12,43 +11,9 @@ use std::alloc::Global;
 // The most bytes that are shown.
 const SHOWN: usize = 1000;
 
-// A line that says nothing that can be done.
-pub(crate) fn unclear(alloc: Global) -> Result<String, NoMemory> {
-    Ok("no such line".to_string(alloc)?)
-}
-
-// The bytes that a text spells; none where it spells none.
-pub(crate) fn spelled(alloc: Global, text: &str) -> Vec<u8> {
-    match hex::decode(alloc, text) {
-        Ok(bytes) => bytes,
-        Err(_) => Vec::new(alloc),
-    }
-}
-
-// The number that a word is, or 0.
-pub(crate) fn number(word: &str) -> u64 {
-    word.parse::<u64>().unwrap_or(0)
-}
-
-// The numbers from a word on.
-pub(crate) fn numbers(alloc: Global, words: &[&str], from: usize) -> Result<Vec<u64>, NoMemory> {
-    let mut numbers = Vec::new(alloc);
-    for word in words.iter().skip(from) {
-        numbers.push(number(*word))?;
-    }
-    Ok(numbers)
-}
-
 // Bytes, or of many their number and their digest.
 pub(crate) fn shown(alloc: Global, bytes: &[u8]) -> Result<String, NoMemory> {
-    if bytes.is_empty() {
-        return Ok("nothing".to_string(alloc)?);
-    }
-    if bytes.len() <= SHOWN {
-        return Ok(hex::encode(alloc, bytes)?);
-    }
-    let digest = hex::encode(alloc, sha(bytes))?;
-    Ok(format!(in alloc; "{} bytes, {digest}", bytes.len())?)
+    nb_lines::shown(alloc, bytes, SHOWN)
 }
 
 // Why no vault was opened.
