@@ -7,12 +7,16 @@ use nb_desk::{Asked, Desk, Pass};
 use nb_msgs::REPLY_ROOM;
 use nb_port::Disk;
 use nb_seal::KeyState;
+use nb_units::frames::FUND_REQUEST;
 use std::alloc::Global;
 use std::sync::Wait;
 use std::thread::{Threads, join};
 
 // The operator's key in the head of the journals.
 const OPERATOR: [u8; 32] = [0x22; 32];
+
+// The moment of these requests.
+const MOMENT: u64 = 1000;
 
 // The account that the first party has.
 const ACCOUNT: u32 = 1;
@@ -61,7 +65,7 @@ fn ask_once<R: Wait, D: Disk + Drop>(
     ensures { IfSome result (λ r. IsAt r.0 desk.now) }
 {
     let mut out = Vec::with_capacity(alloc, REPLY_ROOM).ok()?;
-    let (pass, asked) = desk.ask(rt, pass, 14, body, 1000, &mut out);
+    let (pass, asked) = desk.ask(rt, pass, FUND_REQUEST, body, MOMENT, &mut out);
     match asked {
         Asked::Served { at: _ } => {
             let place = told(out.as_slice())?;
