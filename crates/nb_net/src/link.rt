@@ -153,6 +153,7 @@ fn write_counted<S: Socket>(socket: &mut S, faults: &mut u64, piece: &[u8]) -> W
 #[cfg(test)]
 mod tests {
     use super::*;
+    use std::test::Fail;
 
     // Is interrupted, has two bytes, is at its end, and then fails; takes what it is given in the same way, two bytes at a time, and
     // then nothing. Each option may be set but the one numbered `unset`.
@@ -229,32 +230,50 @@ mod tests {
         }
     }
 
+    fn flaky_link() -> Result<TcpLink<Flaky>, Fail> {
+        TcpLink::of(flaky_socket(0)).ok_or("no link".into())
+    }
+
+    // What a read gives, and how many failed by then; and the same of a write.
+    fn read_once(link: &mut TcpLink<Flaky>, buf: &mut [u8; 4]) -> (ReadOut, u64) {
+        (link.read(buf), link.read_faults)
+    }
+
+    fn write_once(link: &mut TcpLink<Flaky>) -> (WriteOut, u64) {
+        (link.write(b"abc"), link.write_faults)
+    }
+
     #[test]
-    fn counts_what_failed_and_goes_on(rt: HostRuntime) {
-        match TcpLink::of(flaky_socket(0)) {
-            Some(mut link) => {
-                let mut buf = [0u8; 4];
-                for (want, faults) in [
-                    (ReadOut::Bytes(2), 1),
-                    (ReadOut::End, 1),
-                    (ReadOut::Failed, 2),
-                ] {
-                    assert_eq!(rt; link.read(&mut buf), want);
-                    assert_eq!(rt; link.read_faults, faults);
-                }
-                assert_eq!(rt; &buf, b"ab\0\0");
-                for (want, faults) in [
-                    (WriteOut::Took(2), 1),
-                    (WriteOut::Failed, 2),
-                    (WriteOut::Failed, 3),
-                ] {
-                    assert_eq!(rt; link.write(b"abc"), want);
-                    assert_eq!(rt; link.write_faults, faults);
-                }
-                assert_eq!(rt; link.read_faults, 2);
-            }
-            None => assert!(rt; false),
+    fn counts_reads_that_failed_and_goes_on(rt: HostRuntime) -> Result<(), Fail> {
+        let mut link = flaky_link()?;
+        let mut buf = [0u8; 4];
+        for wanted in [
+            (ReadOut::Bytes(2), 1),
+            (ReadOut::End, 1),
+            (ReadOut::Failed, 2),
+        ] {
+            assert_eq!(rt; read_once(&mut link, &mut buf), wanted);
         }
+        assert_eq!(rt; &buf, b"ab\0\0");
+        Ok(())
+    }
+
+    #[test]
+    fn counts_writes_that_failed_and_goes_on(rt: HostRuntime) -> Result<(), Fail> {
+        let mut link = flaky_link()?;
+        for wanted in [
+            (WriteOut::Took(2), 1),
+            (WriteOut::Failed, 2),
+            (WriteOut::Failed, 3),
+        ] {
+            assert_eq!(rt; write_once(&mut link), wanted);
+        }
+        assert_eq!(rt; link.read_faults, 0);
+        Ok(())
+    }
+
+    #[test]
+    fn is_none_where_an_option_cannot_be_set(rt: HostRuntime) {
         for unset in 1..4 {
             assert!(rt; TcpLink::of(flaky_socket(unset)).is_none());
         }

@@ -124,7 +124,7 @@ mod tests {
     use crate::std_socket::StdSocket;
     use nb_link::Link;
     use nb_port::{ReadOut, WriteOut};
-    use std::net::{Shutdown, TcpStream};
+    use std::net::{Shutdown, SocketAddr, TcpStream};
     use std::test::Fail;
     use std::time::Duration;
 
@@ -168,106 +168,140 @@ mod tests {
         link.read(&mut buf) == ReadOut::Bytes(want.len()) && &buf[..want.len().min(16)] == want
     }
 
+    // A port over the loopback for so many links, and its address.
+    fn port_for(rt: &HostRuntime, links: u32) -> Result<(TcpPort<StdListener>, SocketAddr), Fail> {
+        let listener = TcpListener::bind(rt, "127.0.0.1:0")?;
+        let address = listener.local_addr()?;
+        Ok((TcpPort::over(listener, links), address))
+    }
+
+    // A link that is dialled.
+    fn dial(rt: &HostRuntime, address: SocketAddr) -> Result<TcpLink<StdSocket>, Fail> {
+        TcpLink::over(TcpStream::connect(rt, address)?).ok_or("no link is dialled".into())
+    }
+
+    // The next link of a port.
+    fn next_of(port: &mut TcpPort<StdListener>) -> Result<TcpLink<StdSocket>, Fail> {
+        match port.next() {
+            PortOut::Got(link) => Ok(link),
+            PortOut::Closed | PortOut::Failed => Err("no link comes".into()),
+        }
+    }
+
+    // Reads from the link once: is it at its end?
+    fn ends<L: Link>(link: &mut L) -> bool {
+        link.read(&mut [0u8; 16]) == ReadOut::End
+    }
+
+    // Whether a link sends at once, and waits as long as it may.
+    fn is_set(link: &TcpLink<StdSocket>) -> Result<bool, Fail> {
+        let stream = &link.socket.stream;
+        let idle = Some(Duration::from_secs(IDLE_SECONDS));
+        Ok(stream.nodelay()? && stream.read_timeout()? == idle && stream.write_timeout()? == idle)
+    }
+
+    // Bytes go both ways, and a link that is taken back ends its connection. A port that gave its links is closed.
     #[test]
     fn gives_links_over_the_loopback(rt: HostRuntime) -> Result<(), Fail> {
-        let listener = TcpListener::bind(&rt, "127.0.0.1:0")?;
-        let address = listener.local_addr()?;
-        let mut port = TcpPort::over(listener, 4);
-        let idle = Some(Duration::from_secs(IDLE_SECONDS));
-        let mut buf = [0u8; 16];
-
-        // Bytes go both ways, and a link that is taken back ends its connection.
-        let Some(mut dialled) = TcpLink::over(TcpStream::connect(&rt, address)?) else {
-            return Err(Fail::new("no link"));
-        };
+        let (mut port, address) = port_for(&rt, 1)?;
+        let mut dialled = dial(&rt, address)?;
         assert_eq!(rt; dialled.write(b"hello"), WriteOut::Took(5));
-        let PortOut::Got(mut link) = port.next() else {
-            return Err(Fail::new("no link"));
-        };
+        let mut link = next_of(&mut port)?;
         assert!(rt; reads(&mut link, b"hello"));
         assert_eq!(rt; link.write(b"bye"), WriteOut::Took(3));
         assert!(rt; reads(&mut dialled, b"bye"));
-        for stream in [&dialled.socket.stream, &link.socket.stream] {
-            assert!(rt; stream.nodelay()?);
-            assert_eq!(rt; stream.read_timeout()?, idle);
-            assert_eq!(rt; stream.write_timeout()?, idle);
-        }
+        assert!(rt; is_set(&dialled)? && is_set(&link)?);
         port.back(link);
-        assert_eq!(rt; dialled.read(&mut buf), ReadOut::End);
+        assert!(rt; ends(&mut dialled));
+        assert!(rt; port.left() == 0 && matches!(port.next(), PortOut::Closed));
+        Ok(())
+    }
 
-        // A peer that closes at once, and one that closes after half a frame.
+    #[test]
+    fn a_peer_closes_at_once(rt: HostRuntime) -> Result<(), Fail> {
+        let (mut port, address) = port_for(&rt, 1)?;
         let _ = TcpStream::connect(&rt, address)?.shutdown(Shutdown::Both);
-        let PortOut::Got(mut link) = port.next() else {
-            return Err(Fail::new("no link"));
-        };
-        assert_eq!(rt; link.read(&mut buf), ReadOut::End);
-        port.back(link);
-        let Some(mut short) = TcpLink::over(TcpStream::connect(&rt, address)?) else {
-            return Err(Fail::new("no link"));
-        };
+        let mut link = next_of(&mut port)?;
+        assert!(rt; ends(&mut link));
+        Ok(())
+    }
+
+    #[test]
+    fn a_peer_closes_within_a_frame(rt: HostRuntime) -> Result<(), Fail> {
+        let (mut port, address) = port_for(&rt, 1)?;
+        let mut short = dial(&rt, address)?;
         assert_eq!(rt; short.write(b"NB\x01"), WriteOut::Took(3));
         short.socket.stream.shutdown(Shutdown::Write)?;
-        let PortOut::Got(mut link) = port.next() else {
-            return Err(Fail::new("no link"));
-        };
-        assert!(rt; reads(&mut link, b"NB\x01"));
-        assert_eq!(rt; link.read(&mut buf), ReadOut::End);
-        port.back(link);
+        let mut link = next_of(&mut port)?;
+        assert!(rt; reads(&mut link, b"NB\x01") && ends(&mut link));
+        Ok(())
+    }
 
-        // A peer that sends nothing and never reads: a read and a write wait, and fail.
-        let silent = TcpStream::connect(&rt, address)?;
-        let PortOut::Got(mut link) = port.next() else {
-            return Err(Fail::new("no link"));
-        };
-        link.socket
-            .stream
-            .set_read_timeout(Some(Duration::from_millis(20)))?;
-        link.socket
-            .stream
-            .set_write_timeout(Some(Duration::from_millis(20)))?;
-        assert_eq!(rt; link.read(&mut buf), ReadOut::Failed);
+    // Lets a link wait no longer than 20 milliseconds.
+    fn hurry(link: &TcpLink<StdSocket>) -> Result<(), Fail> {
+        let short = Some(Duration::from_millis(20));
+        link.socket.stream.set_read_timeout(short)?;
+        link.socket.stream.set_write_timeout(short)?;
+        Ok(())
+    }
+
+    // Whether one of many writes fails.
+    fn write_fails<L: Link>(link: &mut L) -> bool {
         let piece = [0u8; 65_536];
-        let mut failed = false;
         for _ in 0..10_000 {
             if link.write(&piece) == WriteOut::Failed {
-                failed = true;
-                break;
+                return true;
             }
         }
-        assert!(rt; failed);
-        assert_eq!(rt; link.read_faults, 1);
-        assert_eq!(rt; link.write_faults, 1);
+        false
+    }
+
+    // A peer that sends nothing and never reads: a read and a write wait, and fail.
+    #[test]
+    fn a_peer_is_silent(rt: HostRuntime) -> Result<(), Fail> {
+        let (mut port, address) = port_for(&rt, 1)?;
+        let silent = TcpStream::connect(&rt, address)?;
+        let mut link = next_of(&mut port)?;
+        hurry(&link)?;
+        assert_eq!(rt; link.read(&mut [0u8; 16]), ReadOut::Failed);
+        assert!(rt; write_fails(&mut link));
+        assert_eq!(rt; (link.read_faults, link.write_faults), (1, 1));
         assert!(rt; silent.peer_addr().is_ok());
-        port.back(link);
-        assert_eq!(rt; port.left(), 0);
-        assert!(rt; matches!(port.next(), PortOut::Closed));
         Ok(())
+    }
+
+    // Whether a busy listener's port gives its link, how many faults it counts, and how many links are left then.
+    fn tried(stream: TcpStream, barren: bool, broken: u32) -> (bool, u64, u32) {
+        let listener = Busy {
+            calls: 0,
+            broken,
+            barren,
+            stream: Some(stream),
+        };
+        let mut port = TcpPort::of(listener, 1);
+        let got = matches!(port.next(), PortOut::Got(_));
+        (got, port.faults, port.left())
     }
 
     #[test]
     fn tries_again_after_an_aborted_connection(rt: HostRuntime) -> Result<(), Fail> {
         let listener = TcpListener::bind(&rt, "127.0.0.1:0")?;
         let stream = TcpStream::connect(&rt, listener.local_addr()?)?;
-        for (barren, broken, got, faults) in [
-            (false, 4, true, 2),
-            (false, 2, false, 2),
-            (true, 2_000, false, 1_000),
+        for (barren, broken, wanted) in [
+            (false, 4, (true, 2, 0)),
+            (false, 2, (false, 2, 1)),
+            (true, 2_000, (false, 1_000, 1)),
         ] {
-            let mut port = TcpPort::of(
-                Busy {
-                    calls: 0,
-                    broken,
-                    barren,
-                    stream: Some(stream.try_clone()?),
-                },
-                1,
-            );
-            assert_eq!(rt; matches!(port.next(), PortOut::Got(_)), got);
-            assert_eq!(rt; port.faults, faults);
-            assert_eq!(rt; port.left(), 1 - u32::from(got));
+            assert_eq!(rt; tried(stream.try_clone()?, barren, broken), wanted);
         }
+        Ok(())
+    }
+
+    // A listener that does not wait has no connection, and its port fails.
+    #[test]
+    fn a_listener_that_fails_is_told(rt: HostRuntime) -> Result<(), Fail> {
+        let listener = TcpListener::bind(&rt, "127.0.0.1:0")?;
         listener.set_nonblocking(true)?;
-        let _ = listener.accept()?;
         let mut port = TcpPort::over(listener, 1);
         assert!(rt; matches!(port.next(), PortOut::Failed));
         assert_eq!(rt; port.faults, 1);

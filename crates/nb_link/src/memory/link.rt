@@ -139,38 +139,3 @@ impl Link for MemLink {
         }
     }
 }
-
-#[cfg(test)]
-mod tests {
-    use super::*;
-    use std::test::Fail;
-
-    #[test]
-    fn each_call_fails_in_turn(rt: HostRuntime) -> Result<(), Fail> {
-        let (gave, took) = (ReadOut::Bytes(2), WriteOut::Took(3));
-        for (fails, first, second, third, faults) in [
-            (0, gave, took, ReadOut::Bytes(1), (0, 0)),
-            (1, ReadOut::Failed, took, gave, (1, 0)),
-            (2, gave, WriteOut::Failed, ReadOut::Bytes(1), (0, 1)),
-            (3, gave, took, ReadOut::Failed, (1, 0)),
-        ] {
-            let mut link = MemLink::new(rt.alloc(), b"abc", 2, &[fails])?;
-            let mut buf = [0u8; 4];
-            assert_eq!(rt; link.read(&mut buf), first);
-            assert_eq!(rt; link.write(b"xyz"), second);
-            assert_eq!(rt; link.read(&mut buf), third);
-            assert_eq!(rt; (link.read_faults, link.write_faults), faults);
-        }
-        let mut link = MemLink::new(rt.alloc(), b"abc", 2, &[])?;
-        let mut buf = [0u8; 4];
-        for want in [ReadOut::Bytes(2), ReadOut::Bytes(1), ReadOut::End] {
-            assert_eq!(rt; link.read(&mut buf), want);
-        }
-        assert_eq!(rt; &buf, b"cb\0\0");
-        link.write(b"xyz");
-        assert_eq!(rt; link.sent(), &b"xyz"[..]);
-        let told = [(4, 2), (4, 1)].map(|(asked, given)| Reading { asked, given });
-        assert_eq!(rt; link.reads(), &told[..]);
-        Ok(())
-    }
-}

@@ -115,17 +115,30 @@ fn over_flaky(interrupted: usize, fails: usize) -> FileDisk<Flaky> {
     })
 }
 
-// A short call is gone on with, and one that was interrupted is tried again. A write past the end takes nothing, and fails.
+// What a read gives, and the buffer behind it.
+fn read_at(disk: &mut FileDisk<Flaky>, place: u64, buf: [u8; 5]) -> (DiskRead, [u8; 5]) {
+    let mut buf = buf;
+    let read = disk.read(place, &mut buf);
+    (read, buf)
+}
+
+// A short call is gone on with, and one that was interrupted is tried again, which counts.
 #[test]
-fn goes_on_behind_a_part(rt: HostRuntime) {
+fn reads_on_behind_a_part(rt: HostRuntime) {
     for interrupted in 4..7 {
         let mut disk = over_flaky(interrupted, 0);
-        let mut buf = [0u8; 5];
-        assert_eq!(rt; disk.read(1, &mut buf), DiskRead::Got(5));
-        assert_eq!(rt; &buf, b"bcdef");
-        assert_eq!(rt; disk.read(6, &mut buf), DiskRead::Got(2));
-        assert_eq!(rt; &buf, b"ghdef");
+        let first = read_at(&mut disk, 1, [0; 5]);
+        assert_eq!(rt; first, (DiskRead::Got(5), *b"bcdef"));
+        let second = read_at(&mut disk, 6, first.1);
+        assert_eq!(rt; second, (DiskRead::Got(2), *b"ghdef"));
         assert_eq!(rt; disk.fault_count(), 1);
+    }
+}
+
+// A write past the end takes nothing more, and fails.
+#[test]
+fn writes_on_behind_a_part(rt: HostRuntime) {
+    for interrupted in 4..7 {
         let mut disk = over_flaky(interrupted, 0);
         assert_eq!(rt; disk.write(1, b"VWXYZ"), DiskOut::Done);
         assert_eq!(rt; &disk.file.bytes, b"aVWXYZgh");
@@ -194,6 +207,15 @@ fn disk_over(rt: &HostRuntime, file: File) -> Result<FileDisk<StdFile>, Fail> {
     Ok(FileDisk::over(file, folder))
 }
 
+// Writes and syncs a piece, and whether the disk has this content then.
+fn keeps(disk: &mut FileDisk<StdFile>, place: u64, piece: &[u8], content: &[u8]) -> bool {
+    let mut buf = [0u8; 16];
+    disk.write(place, piece) == DiskOut::Done
+        && disk.sync() == DiskOut::Done
+        && disk.read(0, &mut buf) == DiskRead::Got(content.len())
+        && buf.starts_with(content)
+}
+
 #[test]
 fn writes_and_reads_a_file(rt: HostRuntime) -> Result<(), Fail> {
     let path = temporary(&rt, "file")?;
@@ -203,29 +225,41 @@ fn writes_and_reads_a_file(rt: HostRuntime) -> Result<(), Fail> {
         .write(true)
         .open(&rt, path.as_path())?;
     let mut disk = disk_over(&rt, file)?;
-    let mut buf = [0u8; 16];
     for (place, piece, content) in [
         (0, "abcd", "abcd"),
         (4, "efg", "abcdefg"),
         (2, "XYZ", "abXYZfg"),
         (6, "hij", "abXYZfhij"),
     ] {
-        assert_eq!(rt; disk.write(place, piece.as_bytes()), DiskOut::Done);
-        assert_eq!(rt; disk.sync(), DiskOut::Done);
-        let want = content.as_bytes();
-        assert_eq!(rt; disk.read(0, &mut buf), DiskRead::Got(want.len()));
-        assert!(rt; buf.starts_with(want));
+        assert!(rt; keeps(&mut disk, place, piece.as_bytes(), content.as_bytes()));
     }
-    assert_eq!(rt; disk.read(u64::MAX, &mut buf), DiskRead::Got(0));
+    assert_eq!(rt; disk.read(u64::MAX, &mut [0; 16]), DiskRead::Got(0));
     assert_eq!(rt; disk.fault_count(), 0);
-    // What a file that is open for reading alone, or for writing alone, does not give.
+    fs::remove_file(&rt, path.as_path())?;
+    Ok(())
+}
+
+// A file that is open for reading alone takes nothing.
+#[test]
+fn fails_where_it_may_not_write(rt: HostRuntime) -> Result<(), Fail> {
+    let path = temporary(&rt, "read")?;
+    fs::write(&rt, path.as_path(), "abXYZfhij")?;
     let mut disk = disk_over(&rt, File::open(&rt, path.as_path())?)?;
+    let mut buf = [0u8; 16];
     assert_eq!(rt; disk.write(1, b"z"), DiskOut::Failed);
     assert_eq!(rt; disk.read(7, &mut buf), DiskRead::Got(2));
     assert!(rt; buf.starts_with(b"ij"));
     assert_eq!(rt; disk.fault_count(), 1);
+    fs::remove_file(&rt, path.as_path())?;
+    Ok(())
+}
+
+// A file that is open for writing alone gives nothing.
+#[test]
+fn fails_where_it_may_not_read(rt: HostRuntime) -> Result<(), Fail> {
+    let path = temporary(&rt, "write")?;
     let mut disk = disk_over(&rt, fs::create(&rt, path.as_path())?)?;
-    assert_eq!(rt; disk.read(0, &mut buf), DiskRead::Failed);
+    assert_eq!(rt; disk.read(0, &mut [0; 16]), DiskRead::Failed);
     assert_eq!(rt; disk.fault_count(), 1);
     fs::remove_file(&rt, path.as_path())?;
     Ok(())
