@@ -153,7 +153,7 @@ mod tests {
     // Whether the port had its link back, to which one byte was written.
     fn was_answered(port: &MemPort) -> bool {
         match port.done() {
-            [link] => link.sent() == b"x",
+            [link] => link.sent() == b"x".as_slice(),
             _ => false,
         }
     }
