@@ -115,6 +115,15 @@ mod tests {
     use std::thread::Threads;
 
     #[test]
+    fn writes_are_counted(rt: HostRuntime) -> Result<(), Fail> {
+        let mut link = CountingLink::over(MemLink::new(rt.alloc(), b"a", 1, &[2])?);
+        assert_eq!(rt; link.write(b"xy"), WriteOut::Took(2));
+        assert_eq!(rt; link.write(b"z"), WriteOut::Failed);
+        assert_eq!(rt; link.writes(), 2);
+        Ok(())
+    }
+
+    #[test]
     fn points_are_counted(rt: HostRuntime) {
         let gate = CountingGate::new();
         for point in [Point::BeforeTurn, Point::AfterReply, Point::BeforeTurn] {
