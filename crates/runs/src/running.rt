@@ -1,5 +1,6 @@
 // A run of the program.
 
+use crate::kernel::Kernel;
 use crate::ports::{CountedSource, PacedSink};
 use crate::telling;
 use crate::trial::Trial;
@@ -24,19 +25,29 @@ impl Trial {
         let words = telling::words(alloc, words)?;
         let mut ports = self.ports()?;
         let outcome = match self.kernel.take() {
-            Some(kernel) => {
-                let (outcome, disk) = outcome_on(alloc, &words, &mut ports, FileDisk::of(kernel));
-                self.kernel = Some(disk.into_file());
-                outcome
-            }
-            None => {
-                let disk = MemDisk::new(alloc, &self.content, &self.disk_fails)?;
-                let (outcome, disk) = outcome_on(alloc, &words, &mut ports, disk);
-                self.left = Some(disk);
-                outcome
-            }
+            Some(kernel) => self.outcome_over(&words, &mut ports, kernel),
+            None => self.outcome_in_memory(&words, &mut ports)?,
         };
         told(alloc, outcome, &ports)
+    }
+
+    // What the program comes to over a file, which is kept.
+    fn outcome_over(&mut self, words: &[String], ports: &mut Ports, kernel: Kernel) -> Outcome {
+        let (outcome, disk) = outcome_on(self.alloc(), words, ports, FileDisk::of(kernel));
+        self.kernel = Some(disk.into_file());
+        outcome
+    }
+
+    // What it comes to over a disk in memory, which is left.
+    fn outcome_in_memory(
+        &mut self,
+        words: &[String],
+        ports: &mut Ports,
+    ) -> Result<Outcome, NoMemory> {
+        let disk = MemDisk::new(self.alloc(), &self.content, &self.disk_fails)?;
+        let (outcome, disk) = outcome_on(self.alloc(), words, ports, disk);
+        self.left = Some(disk);
+        Ok(outcome)
     }
 
     fn ports(&self) -> Result<Ports, NoMemory> {
