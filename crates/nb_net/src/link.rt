@@ -231,7 +231,10 @@ mod tests {
     }
 
     fn flaky_link() -> Result<TcpLink<Flaky>, Fail> {
-        TcpLink::of(flaky_socket(0)).ok_or("no link".into())
+        match TcpLink::of(flaky_socket(0)) {
+            Some(link) => Ok(link),
+            None => Err("no link".into()),
+        }
     }
 
     // What a read gives, and how many failed by then; and the same of a write.

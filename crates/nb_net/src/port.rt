@@ -177,7 +177,10 @@ mod tests {
 
     // A link that is dialled.
     fn dial(rt: &HostRuntime, address: SocketAddr) -> Result<TcpLink<StdSocket>, Fail> {
-        TcpLink::over(TcpStream::connect(rt, address)?).ok_or("no link is dialled".into())
+        match TcpLink::over(TcpStream::connect(rt, address)?) {
+            Some(link) => Ok(link),
+            None => Err("no link is dialled".into()),
+        }
     }
 
     // The next link of a port.
