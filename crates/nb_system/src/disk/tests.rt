@@ -207,10 +207,12 @@ fn disk_over(rt: &HostRuntime, file: File) -> Result<FileDisk<StdFile>, Fail> {
     Ok(FileDisk::over(file, folder))
 }
 
-// Writes and syncs a piece, and whether the disk has this content then.
+// Writes and syncs a short piece, and whether the disk has this content then.
 fn keeps(disk: &mut FileDisk<StdFile>, place: u64, piece: &[u8], content: &[u8]) -> bool {
     let mut buf = [0u8; 16];
-    disk.write(place, piece) == DiskOut::Done
+    place < 16
+        && piece.len() < 16
+        && disk.write(place, piece) == DiskOut::Done
         && disk.sync() == DiskOut::Done
         && disk.read(0, &mut buf) == DiskRead::Got(content.len())
         && buf.starts_with(content)
