@@ -3,4 +3,4 @@ use Rattle.vaults.proofs.desks.take_steps.Given as goal
 
 -- the pass is one of this desk
 abbrev pub invariant-loop-step : goal.invariant-loop-step
-invariant-loop-step l = IsAt l.pass l.desk
+invariant-loop-step g l = IsAt l.pass l.desk
