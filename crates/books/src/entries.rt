@@ -10,8 +10,8 @@ use nb_units::{AcctId, Cut, Epoid, NoMemory, PartyId, Price, is_reason};
 use std::alloc::Global;
 
 impl Trial {
-    /// `read HEX`: the entries that stand one behind the other, and the place where the next one fails; of each whether it is spelled as it
-    /// stands. `write ENTRY`: the bytes of one.
+    /// `read HEX`: the entries that stand one behind the other, each with its place, and the place where the next one fails. `write ENTRY`:
+    /// the bytes of one.
     pub fn of_entries(&self, word: &str, words: &[&str]) -> Result<String, NoMemory> {
         let mut words = Words::new(words);
         if word == "read" {
@@ -31,19 +31,20 @@ impl Trial {
 fn read(alloc: Global, bytes: &[u8]) -> Result<String, NoMemory> {
     let mut cut = Cut::new(bytes);
     let mut told = String::new(alloc);
-    for _ in 0..bytes.len() {
+    // an entry has bytes, so that one fails by then
+    for _ in 0..bytes.len() + 1 {
         let place = cut.place();
-        let Ok(entry) = read_entry(&mut cut) else {
-            break;
-        };
-        let line = format!(in alloc; "{place}: {}\n", in_words(alloc, &entry)?)?;
-        told.push_str(line.as_str())?;
+        match read_entry(&mut cut) {
+            Ok(entry) => {
+                let line = format!(in alloc; "{place}: {}\n", in_words(alloc, &entry)?)?;
+                told.push_str(line.as_str())?;
+            }
+            Err(fault) => {
+                told.push_str(format!(in alloc; "no entry at {}", fault.place)?.as_str())?;
+                break;
+            }
+        }
     }
-    let end = match read_entry(&mut cut) {
-        Ok(_) => format!(in alloc; "and more")?,
-        Err(fault) => format!(in alloc; "no entry at {}", fault.place)?,
-    };
-    told.push_str(end.as_str())?;
     Ok(told)
 }
 

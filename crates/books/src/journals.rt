@@ -7,9 +7,6 @@ use nb_port::MemDisk;
 use nb_units::NoMemory;
 use std::alloc::Global;
 
-// The most bytes that are shown.
-const SHOWN: usize = 1000;
-
 // The most bytes that a line adds to the content.
 const MOST: u32 = 1_000_000;
 
@@ -20,19 +17,14 @@ impl Trial {
     pub fn of_journal(&mut self, word: &str, words: &[&str]) -> Result<String, NoMemory> {
         match word {
             "steps" => self.steps(words),
-            "content" if words.is_empty() => nb_lines::shown(self.alloc, &self.content, SHOWN),
+            "content" if words.is_empty() => nb_lines::shown(self.alloc, &self.content),
             "open" => opened(self.alloc, &self.content),
-            "fails" => self.fail(words),
+            "fails" => {
+                self.fails = nb_lines::numbers(self.alloc, words, 0)?;
+                Ok(String::new(self.alloc))
+            }
             _ => self.change(word, &mut Words::new(words)),
         }
-    }
-
-    fn fail(&mut self, words: &[&str]) -> Result<String, NoMemory> {
-        self.fails.clear();
-        for word in words {
-            self.fails.push(word.parse::<u64>().unwrap_or(0))?;
-        }
-        Ok(String::new(self.alloc))
     }
 
     fn change(&mut self, word: &str, words: &mut Words) -> Result<String, NoMemory> {
@@ -131,7 +123,7 @@ fn opened(alloc: Global, content: &[u8]) -> Result<String, NoMemory> {
             let head = hex::encode(alloc, head)?;
             let mut told = format!(in alloc; "cap {cap}, head {head}, {} items", items.len())?;
             for item in &items {
-                let one = nb_lines::shown(alloc, item.as_slice(), SHOWN)?;
+                let one = nb_lines::shown(alloc, item.as_slice())?;
                 told.push_str(" ")?;
                 told.push_str(one.as_str())?;
             }

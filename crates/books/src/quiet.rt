@@ -1,14 +1,15 @@
-// A disk in memory that tells a contract nothing of its content.
+// A disk in memory that tells a contract nothing of its content, so that who writes it owes no place.
 
 ghost use Rattle.std.specs.Prelude.{None};
 ghost use Rattle.nb_port.specs.DiskLaws.{untold};
 
 use nb_port::{Disk, DiskOut, DiskRead, MemDisk};
 
-/// The disk, and nothing said of it but its count of failures.
+/// The disk, and nothing said of it but its count of failures. A write past the end of the content goes to the end, which is kept.
 #[derive(Drop)]
 pub struct QuietDisk {
     pub disk: MemDisk,
+    pub went_past: bool,
 }
 
 impl Disk for QuietDisk {
@@ -36,6 +37,7 @@ impl Disk for QuietDisk {
 
     fn write(&mut self, place: u64, piece: &[u8]) -> DiskOut {
         let end = self.disk.content().len() as u64;
+        self.went_past = self.went_past || place > end;
         self.disk.write(place.min(end), piece)
     }
 

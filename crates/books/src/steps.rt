@@ -12,12 +12,12 @@ use std::alloc::Global;
 impl Trial {
     /// `steps ROOM STEP..`: the journal is opened, whose items may have so many bytes from then on, and each step is `settle` or an item that
     /// is appended, `-` for one without bytes. It prints what each step said, how many items there are then, and how many calls of the disk
-    /// were made in all; the content is what the disk has then.
+    /// were made in all, and whether one wrote past the end; the content is what the disk has then.
     pub fn steps(&mut self, words: &[&str]) -> Result<String, NoMemory> {
         let alloc = self.alloc;
         let room = Words::new(words).number().unwrap_or(0).min(MAX_ITEM);
         let disk = MemDisk::new(alloc, &self.content, &self.fails)?;
-        match Journal::open(alloc, QuietDisk { disk }, room) {
+        match Journal::open(alloc, quiet(disk), room) {
             Ok(opened) => {
                 let mut journal = opened.journal;
                 let mut told = String::new(alloc);
@@ -27,12 +27,20 @@ impl Trial {
                     told.push_str(", ")?;
                 }
                 let items = journal.len();
-                let disk = journal.into_disk().disk;
+                let QuietDisk { disk, went_past } = journal.into_disk();
                 self.content = Vec::from_slice(alloc, disk.content())?;
-                Ok(format!(in alloc; "{told}{items} items, {} calls", disk.calls())?)
+                let past = if went_past { ", past the end" } else { "" };
+                Ok(format!(in alloc; "{told}{items} items, {} calls{past}", disk.calls())?)
             }
             Err((fault, _)) => unopened(alloc, fault),
         }
+    }
+}
+
+fn quiet(disk: MemDisk) -> QuietDisk {
+    QuietDisk {
+        disk,
+        went_past: false,
     }
 }
 

@@ -54,8 +54,11 @@ impl<'a> Words<'a> {
         Some(bytes)
     }
 
-    /// The next word, which spells bytes in hexadecimal.
+    /// The next word, which spells bytes in hexadecimal; `-` spells none.
     pub fn bytes(&mut self, alloc: Global) -> Option<Vec<u8>> {
-        hex::decode(alloc, self.word()?).ok()
+        match self.word()? {
+            "-" => Some(Vec::new(alloc)),
+            word => hex::decode(alloc, word).ok(),
+        }
     }
 }

@@ -1,7 +1,6 @@
 // What the disk of the last session holds, and what a stop leaves of it.
 
 use crate::house::House;
-use crate::telling;
 use nb_port::MemDisk;
 use nb_units::{Blob, NoMemory};
 use nb_vault::Vault;
@@ -22,7 +21,7 @@ impl House {
     /// `content`: what the disk holds.
     pub fn content(&self) -> Result<String, NoMemory> {
         match &self.left {
-            Some(left) => telling::shown(self.alloc, left.disk.content()),
+            Some(left) => nb_lines::shown(self.alloc, left.disk.content()),
             None => nb_lines::unclear(self.alloc),
         }
     }
@@ -42,7 +41,7 @@ impl House {
     /// `image STEP FILL`: what a stop leaves.
     pub fn image(&self, step: &str, fill: &str) -> Result<String, NoMemory> {
         match self.image_at(step, fill)? {
-            Some(image) => telling::shown(self.alloc, image.as_slice()),
+            Some(image) => nb_lines::shown(self.alloc, image.as_slice()),
             None => nb_lines::unclear(self.alloc),
         }
     }

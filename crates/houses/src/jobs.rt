@@ -13,18 +13,18 @@ use std::thread::Threads;
 
 impl House {
     /// `work SESSIONS`: the job of a server of these workers, of so many links each, over the disk: its status and its place, how many lines
-    /// its vault has, why each worker stopped, and how its sessions ended.
+    /// its vault has, why each worker stopped, and how its sessions ended. `sent` tells then what their links were sent.
     pub fn work<R: Threads + Wait + Sync>(
         &mut self,
         rt: &R,
         sessions: &str,
     ) -> Result<String, NoMemory> {
         let alloc = self.alloc;
-        let workers = std::mem::replace(&mut self.workers, Vec::new(alloc));
-        let count = workers.len();
+        let count = self.workers.len();
         if count < 1 || count > MAX_WORKERS {
             return nb_lines::unclear(alloc);
         }
+        let workers = std::mem::replace(&mut self.workers, Vec::new(alloc));
         let job = Job::Serve {
             workers: count as u32,
             sessions: nb_lines::number(sessions).min(u64::from(u32::MAX)) as u32,

@@ -186,7 +186,7 @@ fn sent_by(alloc: Global, port: &MemPort) -> Result<String, NoMemory> {
     let mut told = format!(in alloc; "{} left:", port.left())?;
     for link in port.done() {
         told.push_str(" ")?;
-        told.push_str(telling::shown(alloc, link.sent())?.as_str())?;
+        told.push_str(nb_lines::shown(alloc, link.sent())?.as_str())?;
     }
     Ok(told)
 }

@@ -132,7 +132,7 @@ fn ended(alloc: Global, record: &Record) -> Result<String, NoMemory> {
 }
 
 fn written(alloc: Global, sent: &[u8], watch: &Watch) -> Result<String, NoMemory> {
-    let sent = telling::shown(alloc, sent)?;
+    let sent = nb_lines::shown(alloc, sent)?;
     let writes = count(&watch.writes);
     Ok(format!(in alloc; "\n{writes} writes: {sent}\n")?)
 }

@@ -7,16 +7,8 @@ use nb_turns::{Line, Mark};
 use nb_units::NoMemory;
 use std::alloc::Global;
 
-// The most bytes that are shown.
-const SHOWN: usize = 1000;
-
 // The most marks and lines that are shown.
 const LAST: usize = 9;
-
-// Bytes, or of many their number and their digest.
-pub(crate) fn shown(alloc: Global, bytes: &[u8]) -> Result<String, NoMemory> {
-    nb_lines::shown(alloc, bytes, SHOWN)
-}
 
 // How a session ended.
 pub(crate) fn end(alloc: Global, end: SessionEnd) -> Result<String, NoMemory> {

@@ -198,7 +198,7 @@ fn digested(alloc: Global, mut told: String, pieces: &[Blob]) -> Result<String, 
 
 fn opened(alloc: Global, opened: Result<Blob, OpenGoods>) -> Result<String, NoMemory> {
     match opened {
-        Ok(goods) => telling::shown(alloc, goods.as_slice()),
+        Ok(goods) => nb_lines::shown(alloc, goods.as_slice()),
         Err(fault) => telling::fault(alloc, &fault),
     }
 }
@@ -211,7 +211,7 @@ pub fn key(alloc: Global, master: &str, merchant: &str, serial: &str) -> Result<
         merchant,
         telling::short(serial),
     );
-    telling::shown(alloc, &key)
+    nb_lines::shown(alloc, &key)
 }
 
 /// `seal-goods KEY GOODS LENGTH`: goods, sealed as a whole, and what that opens to.
@@ -223,7 +223,7 @@ pub fn seal(alloc: Global, key: &str, pattern: &str, length: &str) -> Result<Str
     let key = telling::key(alloc, key);
     let sealed = sealed(alloc, &key, &goods)?;
     let digest = hex::encode(alloc, checksum(sealed.as_slice()))?;
-    let shown = telling::shown(alloc, sealed.as_slice())?;
+    let shown = nb_lines::shown(alloc, sealed.as_slice())?;
     let opened = again(alloc, &key, sealed.as_slice())?;
     Ok(format!(in alloc; "{shown}; checksum {digest}; opens to {opened}")?)
 }

@@ -38,7 +38,6 @@ fn done(shelf: &mut Shelf, line: &str) -> Result<String, NoMemory> {
     match words.as_slice() {
         ["#", ..] => Ok(line.to_string(alloc)?),
         ["read", what, bytes] => places::whole(alloc, *what, *bytes),
-        ["read", what] => places::whole(alloc, *what, ""),
         ["cut", ..] => places::cuts(alloc, words.as_slice()),
         ["long", kind, front, length, behind] => {
             places::long(alloc, *kind, *front, *length, *behind)

@@ -77,7 +77,7 @@ pub fn seal_receipt(alloc: Global, key: &str, bytes: &str) -> Result<String, NoM
             let mut sealed = Vec::new(alloc);
             room(&mut sealed, RECEIPT_BYTES)?;
             write_receipt(&signed, &telling::key(alloc, key), &mut sealed);
-            telling::shown(alloc, &sealed)
+            nb_lines::shown(alloc, &sealed)
         }
         Err(_) => nb_lines::unclear(alloc),
     }
@@ -116,7 +116,7 @@ pub fn hidden(
         nonce: nb_lines::number(nonce),
         memo: memo(alloc, note),
     };
-    telling::shown(alloc, hide(&hidden, &telling::key(alloc, key)).as_slice())
+    nb_lines::shown(alloc, hide(&hidden, &telling::key(alloc, key)).as_slice())
 }
 
 /// `reveal KEY BYTES`: the hidden part that the bytes are the seal of.
@@ -137,5 +137,5 @@ pub fn revealed(alloc: Global, key: &str, bytes: &str) -> Result<String, NoMemor
 /// `account ACCOUNT NONCE`: the digest that an order shows of them.
 pub fn account(alloc: Global, account: &str, nonce: &str) -> Result<String, NoMemory> {
     let account = AcctId(telling::short(account));
-    telling::shown(alloc, &account_digest(account, nb_lines::number(nonce)))
+    nb_lines::shown(alloc, &account_digest(account, nb_lines::number(nonce)))
 }

@@ -113,7 +113,7 @@ pub fn ask(
     let merchant = PartyId(telling::short(merchant));
     let key = telling::key(alloc, key);
     let ask = request(&key, consumer, merchant, nb_lines::number(nonce));
-    telling::shown(alloc, ask.spelled().as_slice())
+    nb_lines::shown(alloc, ask.spelled().as_slice())
 }
 
 /// `asked KEY REQUEST`: whether the tag of a request for a ticket is right under the key, as both tests of it answer.

@@ -1,13 +1,10 @@
 // Words of a line, and what is told.
 
-use nb_seal::sha;
 use nb_units::{NoMemory, Secret};
 use std::alloc::Global;
 use std::fmt::{Debug, Display};
 
-// The most bytes that are shown, and the most of a text.
-const SHOWN: usize = 1000;
-
+// The most bytes of a text that are told.
 const TOLD: usize = 4000;
 
 // The key that a word spells: 32 bytes, or one byte 32 times.
@@ -25,22 +22,12 @@ pub(crate) fn short(word: &str) -> u32 {
     word.parse::<u32>().unwrap_or(0)
 }
 
-// Bytes, or of many their number and their digest.
-pub(crate) fn shown(alloc: Global, bytes: &[u8]) -> Result<String, NoMemory> {
-    nb_lines::shown(alloc, bytes, SHOWN)
-}
-
 // A text, or of a long one the number of its bytes and their digest.
 pub(crate) fn clipped(alloc: Global, told: String) -> Result<String, NoMemory> {
     if told.len() <= TOLD {
         return Ok(told);
     }
-    counted(alloc, told.as_bytes())
-}
-
-fn counted(alloc: Global, bytes: &[u8]) -> Result<String, NoMemory> {
-    let digest = hex::encode(alloc, sha(bytes))?;
-    Ok(format!(in alloc; "{} bytes, {digest}", bytes.len())?)
+    nb_lines::shown_up_to(alloc, told.as_bytes(), 0)
 }
 
 // What was read, and whether it is spelled as it was.

@@ -18,7 +18,7 @@ pub fn session(alloc: Global, house: &str, words: [&str; 4]) -> Result<String, N
         nb_lines::number(nonce),
         nb_lines::number(moment),
     );
-    telling::shown(alloc, &key)
+    nb_lines::shown(alloc, &key)
 }
 
 /// `until MOMENT`: the last second of a ticket that is granted then.
@@ -37,7 +37,7 @@ pub fn ticket(alloc: Global, key: &str, words: [&str; 4]) -> Result<String, NoMe
         session: telling::key(alloc, session),
     };
     let sealed = write_ticket(&ticket, &telling::key(alloc, key));
-    telling::shown(alloc, sealed.as_slice())
+    nb_lines::shown(alloc, sealed.as_slice())
 }
 
 /// `open-ticket KEY BYTES MERCHANT NOW`: the ticket that the bytes are the seal of, as a merchant asks for it at a moment.
@@ -79,7 +79,7 @@ pub fn granted(alloc: Global, key: &str, words: [&str; 5]) -> Result<String, NoM
         ticket: Small::of(&ticket).unwrap(),
     };
     let sealed = grant(&granted, &telling::key(alloc, key));
-    telling::shown(alloc, sealed.as_slice())
+    nb_lines::shown(alloc, sealed.as_slice())
 }
 
 /// `open-grant KEY BYTES`: the grant that the bytes are the seal of.

@@ -10,8 +10,16 @@ pub fn spelled(alloc: Global, word: &str) -> Vec<u8> {
     }
 }
 
+// The most bytes that are shown where nothing else is said.
+const SHOWN: usize = 1000;
+
+/// Bytes in hexadecimal; of more than 1,000 their number and their SHA-256 (FIPS 180-4).
+pub fn shown(alloc: Global, bytes: &[u8]) -> Result<String, NoMemory> {
+    shown_up_to(alloc, bytes, SHOWN)
+}
+
 /// Bytes in hexadecimal; of more than `most` their number and their SHA-256 (FIPS 180-4).
-pub fn shown(alloc: Global, bytes: &[u8], most: usize) -> Result<String, NoMemory> {
+pub fn shown_up_to(alloc: Global, bytes: &[u8], most: usize) -> Result<String, NoMemory> {
     if bytes.is_empty() {
         return Ok("nothing".to_string(alloc)?);
     }

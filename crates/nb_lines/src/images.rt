@@ -1,10 +1,9 @@
-use crate::words::number;
 use nb_port::{Fill, MemDisk};
 use nb_units::{Blob, NoMemory};
 use std::alloc::Global;
 
 /// What a stop at a moment leaves of a disk, where its calls go that far. What was not synced is as it was or as it is, where the word is `old` or
-/// `new`, and else the byte whose number the word is.
+/// `new`, or the byte whose number the word is; there is no image where it is none of these.
 pub fn image(
     alloc: Global,
     disk: &MemDisk,
@@ -14,13 +13,16 @@ pub fn image(
     if moment / 2 + moment % 2 > disk.calls() {
         return Ok(None);
     }
-    Ok(Some(disk.image(alloc, moment, filled(fill))?))
+    match filled(fill) {
+        Some(fill) => Ok(Some(disk.image(alloc, moment, fill)?)),
+        None => Ok(None),
+    }
 }
 
-fn filled(word: &str) -> Fill {
+fn filled(word: &str) -> Option<Fill> {
     match word {
-        "old" => Fill::Old,
-        "new" => Fill::New,
-        _ => Fill::Byte(number(word).min(255) as u8),
+        "old" => Some(Fill::Old),
+        "new" => Some(Fill::New),
+        _ => Some(Fill::Byte(word.parse::<u8>().ok()?)),
     }
 }

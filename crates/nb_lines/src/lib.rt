@@ -7,6 +7,6 @@ mod bytes;
 mod images;
 mod words;
 
-pub use bytes::{shown, spelled};
+pub use bytes::{shown, shown_up_to, spelled};
 pub use images::image;
 pub use words::{number, numbers, unclear};

@@ -220,12 +220,18 @@ mod tests {
         Ok(())
     }
 
+    // A peer that closes at once, and the port goes on behind it.
     #[test]
     fn a_peer_closes_at_once(rt: HostRuntime) -> Result<(), Fail> {
-        let (mut port, address) = port_for(&rt, 1)?;
+        let (mut port, address) = port_for(&rt, 2)?;
         let _ = TcpStream::connect(&rt, address)?.shutdown(Shutdown::Both);
         let mut link = next_of(&mut port)?;
         assert!(rt; ends(&mut link));
+        port.back(link);
+        let mut dialled = dial(&rt, address)?;
+        assert_eq!(rt; dialled.write(b"hello"), WriteOut::Took(5));
+        let mut link = next_of(&mut port)?;
+        assert!(rt; reads(&mut link, b"hello") && port.left() == 0);
         Ok(())
     }
 

@@ -6,7 +6,7 @@ use nb_port::MemDisk;
 use nb_units::NoMemory;
 use std::alloc::Global;
 
-// What stands in place of the bytes that are not sure to stay, where it is asked whether all stays.
+// The byte that stands in place of those that are not sure to stay, where it is asked whether all stays.
 const OTHER: &str = "238";
 
 impl Trial {

@@ -9,6 +9,9 @@ use nb_system::{FileRead, FileWrite, PositionalFile};
 // No journal here is longer.
 const SIZE: usize = 1024;
 
+// The most bytes that one read or write moves.
+const MOVED: usize = 7;
+
 /// A file whose pages stand in memory. A sync brings what was written since the last one to the device. One that fails brings nothing there and
 /// forgets that it was written: a later sync is then done, and a read gives what the device does not have. One read or write moves seven bytes
 /// at most, and each third of them may be interrupted.
@@ -86,7 +89,7 @@ fn range(place: u64, count: usize, end: usize) -> (usize, usize)
 {
     let end = end.min(SIZE);
     let at = place.min(end as u64) as usize;
-    (at, at + (end - at).min(count).min(7))
+    (at, at + (end - at).min(count).min(MOVED))
 }
 
 impl PositionalFile for Kernel {

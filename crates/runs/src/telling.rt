@@ -30,7 +30,7 @@ fn given_as(alloc: Global, word: &str) -> Result<String, NoMemory> {
 
 // Bytes, or of many their number and their digest.
 pub(crate) fn shown(alloc: Global, bytes: &[u8]) -> Result<String, NoMemory> {
-    nb_lines::shown(alloc, bytes, SHOWN)
+    nb_lines::shown_up_to(alloc, bytes, SHOWN)
 }
 
 // How a run ended, or the work that it leaves.

@@ -3,8 +3,10 @@ use nb_port::MemDisk;
 use nb_units::NoMemory;
 use std::alloc::Global;
 
-// The most times that a line gives bytes.
+// The most times that a line gives bytes, and the most bytes of one read.
 const MOST_TIMES: u64 = 10_000;
+
+const MOST_READ: u64 = 65_536;
 
 /// What the next run is given, and what the last one left.
 #[derive(Drop)]
@@ -86,7 +88,7 @@ impl Trial {
         }
     }
 
-    /// `hold`: the disk that the last run left is kept, for the images of it.
+    /// `hold`: the disk that the last run left is held from now on, for the images of it, and is the last run's no more.
     pub fn hold(&mut self) -> Result<String, NoMemory> {
         self.held = self.left.take();
         self.nothing()
@@ -104,7 +106,7 @@ impl Trial {
 
     /// `step COUNT`: one read of them gives at most so many bytes.
     pub fn step(&mut self, step: &str) -> Result<String, NoMemory> {
-        self.step = nb_lines::number(step).min(65_536) as usize;
+        self.step = nb_lines::number(step).min(MOST_READ) as usize;
         self.nothing()
     }
 
@@ -128,7 +130,11 @@ impl Trial {
 
     /// `sink slow` or `sink whole`: a write to the sinks takes one byte, or all.
     pub fn sink(&mut self, how: &str) -> Result<String, NoMemory> {
-        self.slow = how == "slow";
+        match how {
+            "slow" => self.slow = true,
+            "whole" => self.slow = false,
+            _ => return nb_lines::unclear(self.alloc),
+        }
         self.nothing()
     }
 }

@@ -18,9 +18,6 @@ const WALLET: Wallet = Wallet {
     key: [0x44; 32],
 };
 
-// The most bytes of an item that are shown.
-const SHOWN: usize = 1000;
-
 /// A consumer and a merchant, and what the last step of one of them kept and sent.
 #[derive(Drop)]
 pub struct Trade {
@@ -202,22 +199,17 @@ impl Trade {
         };
         match self.consumer.goods(number)? {
             Some(goods) => {
-                let goods = self.shown(goods.as_slice())?;
+                let goods = nb_lines::shown(self.alloc, goods.as_slice())?;
                 Ok(format!(in self.alloc; "goods {goods}")?)
             }
             None => Ok("no goods".to_string(self.alloc)?),
         }
     }
 
-    // Bytes, or of many their number and their digest.
-    fn shown(&self, bytes: &[u8]) -> Result<String, NoMemory> {
-        nb_lines::shown(self.alloc, bytes, SHOWN)
-    }
-
     /// `bytes`: the item that the last step kept, and the frame that it sent.
     pub fn bytes(&self) -> Result<String, NoMemory> {
-        let kept = self.shown(&self.kept)?;
-        let sent = self.shown(&self.sent)?;
+        let kept = nb_lines::shown(self.alloc, &self.kept)?;
+        let sent = nb_lines::shown(self.alloc, &self.sent)?;
         Ok(format!(in self.alloc; "kept {kept}\nsent {sent}")?)
     }
 
@@ -227,7 +219,7 @@ impl Trade {
             return nb_lines::unclear(self.alloc);
         };
         self.goods = bytes::counting(self.alloc, len)?;
-        self.shown(self.goods.as_slice())
+        nb_lines::shown(self.alloc, self.goods.as_slice())
     }
 
     /// `part HEAD FROM TO BENT`: a part of these goods comes, under this sealed head, with the last bit of one of its bytes turned.

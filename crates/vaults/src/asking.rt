@@ -3,7 +3,7 @@
 use crate::batch::{Batch, are_within};
 use crate::house::House;
 use crate::names::Request;
-use crate::telling::{self, Said};
+use crate::telling::Said;
 use nb_desk::AskedAll;
 use nb_msgs::REPLY_ROOM;
 use nb_port::MemDisk;

@@ -7,7 +7,7 @@ use crate::callers::{ask_by_two, two_more};
 use crate::desks::{ask_one, desk_over};
 use crate::house::House;
 use crate::names::Request;
-use crate::telling;
+use nb_book::Entry;
 use nb_desk::{Desk, Pass};
 use nb_port::MemDisk;
 use nb_turns::Line;
@@ -30,8 +30,8 @@ const FUND_BYTES: u64 = 34;
 struct Crowd {
     // Each caller's places, by its number from 1 on.
     places: Vec<Option<Vec<u64>>>,
-    // What the first pass was told behind them all.
-    reply: String,
+    // What the first pass was told before them, and behind them all.
+    replies: [String; 2],
     disk: MemDisk,
     lines: Vec<Line>,
 }
@@ -71,7 +71,7 @@ fn gather<R: Threads + Wait + Sync>(
     requires { IsAt pass desk }
 {
     let mut desk = desk;
-    let (pass, _) = ask_one(rt, alloc, &desk, pass, request, false)?;
+    let (pass, first) = ask_one(rt, alloc, &desk, pass, request, false)?;
     let Some((pass, low)) = two_more(&mut desk, pass, 1) else {
         return Ok(None);
     };
@@ -79,12 +79,12 @@ fn gather<R: Threads + Wait + Sync>(
         return Ok(None);
     };
     let places = ask_by_four(rt, alloc, &desk, low, high, times)?;
-    let (pass, said) = ask_one(rt, alloc, &desk, pass, request, false)?;
-    let reply = said.told(alloc)?;
+    let (pass, last) = ask_one(rt, alloc, &desk, pass, request, false)?;
+    let replies = [first.told(alloc)?, last.told(alloc)?];
     let (disk, lines) = desk.close(rt, pass).into_parts();
     Ok(Some(Crowd {
         places,
-        reply,
+        replies,
         disk,
         lines,
     }))
@@ -122,21 +122,44 @@ fn ask_by_four<R: Threads + Wait + Sync>(
     Ok(places)
 }
 
-// The reply; and of each caller how many lines it made, and the items at the places that it was told, one behind the other.
+// The replies; and of each caller the entries that its own lines committed, one behind the other, and the items at the places that it was told.
 fn told(alloc: Global, crowd: &Crowd) -> Result<String, NoMemory> {
-    let mut told = format!(in alloc; "{} lines; {}", crowd.lines.len(), crowd.reply)?;
+    let [first, last] = &crowd.replies;
+    let mut told = format!(in alloc; "{first}\n{} lines; {last}", crowd.lines.len())?;
     let mut by = 0u64;
     for places in &crowd.places {
         by = by.saturating_add(1);
-        let made = crowd.lines.iter().filter(|line| line.by() == by).count();
+        let made = nb_lines::shown(alloc, &committed_by(alloc, &crowd.lines, by)?)?;
         let items = match places {
             Some(places) => items_at(alloc, crowd.disk.content(), places)?,
             None => Vec::new(alloc),
         };
-        let shown = telling::shown(alloc, &items)?;
-        told.push_str(format!(in alloc; "\ncaller {by}: {made} lines, {shown}")?.as_str())?;
+        let items = nb_lines::shown(alloc, &items)?;
+        told.push_str(format!(in alloc;
+            "\ncaller {by}: committed {made}; told {items}"
+        )?.as_str())?;
     }
     Ok(told)
+}
+
+// The funds that the lines of a caller committed, in the order of these lines.
+fn committed_by(alloc: Global, lines: &[Line], caller: u64) -> Result<Vec<u8>, NoMemory> {
+    let mut funds = Vec::new(alloc);
+    for line in lines {
+        if let Line::Commit { by, entry, .. } = *line {
+            if by == caller {
+                add_fund(&entry, &mut funds)?;
+            }
+        }
+    }
+    Ok(funds)
+}
+
+fn add_fund(entry: &Entry, funds: &mut Vec<u8>) -> Result<(), NoMemory> {
+    match entry {
+        Entry::Fund { .. } => Ok(funds.extend_from_slice(entry.spelled().as_slice())?),
+        _ => Ok(()),
+    }
 }
 
 fn items_at(alloc: Global, content: &[u8], places: &[u64]) -> Result<Vec<u8>, NoMemory> {

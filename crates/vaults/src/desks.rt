@@ -6,10 +6,11 @@ ghost use Rattle.nb_desk.specs.Desks.{IsAt};
 use crate::batch::{Batch, are_within};
 use crate::house::House;
 use crate::names::{Names, Request};
-use crate::telling::{self, Said};
+use crate::telling::Said;
 use nb_desk::{Asked, AskedAll, Desk, Pass, SplitFault};
 use nb_msgs::REPLY_ROOM;
 use nb_port::{Disk, MemDisk};
+use nb_turn::MAX_PASSES;
 use nb_turns::MAX_REQUESTS;
 use nb_units::NoMemory;
 use nb_vault::Vault;
@@ -86,7 +87,7 @@ fn take_step<R: Wait>(
         [word, ..] => {
             let named = words.split_at(1).1;
             let (pass, said) = ask_by(rt, alloc, names, desk, pass, *word, named)?;
-            Ok((pass, format!(in alloc; "{}\n", said.told(alloc)?)?))
+            Ok((pass, format!(in alloc; "{}\n", told(alloc, said)?)?))
         }
         [] => Ok((pass, nb_lines::unclear(alloc)?)),
     }
@@ -102,7 +103,10 @@ fn split_off(
     requires { IsAt pass desk.old }
     ensures { IfOk result (λ r. IsAt r.0 desk.new) }
 {
-    match desk.split(pass, number.min(63)) {
+    if number >= MAX_PASSES {
+        return Ok((pass, nb_lines::unclear(alloc)?));
+    }
+    match desk.split(pass, number) {
         Ok((first, second)) => {
             let told = format!(in alloc; "pass {}\n", second.number())?;
             Ok((desk.join(first, second), told))
@@ -114,7 +118,15 @@ fn split_off(
     }
 }
 
-// Asks in one of the four ways.
+/// How a turn was answered, where something was asked.
+pub(crate) fn told(alloc: Global, said: Option<Said>) -> Result<String, NoMemory> {
+    match said {
+        Some(said) => said.told(alloc),
+        None => nb_lines::unclear(alloc),
+    }
+}
+
+// Asks in one of the four ways; nothing is asked where the word is none of them.
 fn ask_by<R: Wait>(
     rt: &R,
     alloc: Global,
@@ -123,21 +135,22 @@ fn ask_by<R: Wait>(
     pass: Pass<MemDisk>,
     word: &str,
     named: &[&str],
-) -> Result<(Pass<MemDisk>, Said), NoMemory>
+) -> Result<(Pass<MemDisk>, Option<Said>), NoMemory>
     requires { IsAt pass desk.now }
     ensures { IfOk result (λ r. IsAt r.0 desk.now) }
 {
     match (word, named) {
         ("ask", [name]) => ask_named(rt, alloc, names, desk, pass, *name, false),
         ("try", [name]) => ask_named(rt, alloc, names, desk, pass, *name, true),
-        _ => {
+        ("all" | "tries", _) => {
             let batch = Batch::of(alloc, names, named)?;
             ask_all(rt, alloc, desk, pass, &batch, word == "tries")
         }
+        _ => Ok((pass, None)),
     }
 }
 
-// Asks for the request of this name; nothing is said where there is none.
+// Asks for the request of this name; nothing is asked where there is none.
 fn ask_named<R: Wait>(
     rt: &R,
     alloc: Global,
@@ -146,13 +159,16 @@ fn ask_named<R: Wait>(
     pass: Pass<MemDisk>,
     name: &str,
     tries: bool,
-) -> Result<(Pass<MemDisk>, Said), NoMemory>
+) -> Result<(Pass<MemDisk>, Option<Said>), NoMemory>
     requires { IsAt pass desk.now }
     ensures { IfOk result (λ r. IsAt r.0 desk.now) }
 {
     match names.request(name) {
-        Some(request) => ask_one(rt, alloc, desk, pass, request, tries),
-        None => Ok((pass, Said::nothing(alloc))),
+        Some(request) => {
+            let (pass, said) = ask_one(rt, alloc, desk, pass, request, tries)?;
+            Ok((pass, Some(said)))
+        }
+        None => Ok((pass, None)),
     }
 }
 
@@ -192,7 +208,7 @@ fn said_one(alloc: Global, asked: Asked, out: Vec<u8>) -> Result<Said, NoMemory>
     Ok(Said { asked, ats, out })
 }
 
-// Asks for several requests, or tries to; nothing is said where these are not from 1 to 32.
+// Asks for several requests, or tries to; nothing is asked where these are not from 1 to 32.
 fn ask_all<R: Wait>(
     rt: &R,
     alloc: Global,
@@ -200,13 +216,13 @@ fn ask_all<R: Wait>(
     pass: Pass<MemDisk>,
     batch: &Batch,
     tries: bool,
-) -> Result<(Pass<MemDisk>, Said), NoMemory>
+) -> Result<(Pass<MemDisk>, Option<Said>), NoMemory>
     requires { IsAt pass desk.now }
     ensures { IfOk result (λ r. IsAt r.0 desk.now) }
 {
     let (bytes, asks) = (batch.bytes.as_slice(), batch.asks.as_slice());
     if asks.is_empty() || asks.len() > MAX_REQUESTS || !are_within(bytes, asks) {
-        return Ok((pass, Said::nothing(alloc)));
+        return Ok((pass, None));
     }
     let mut ats = Vec::with_capacity(alloc, MAX_REQUESTS)?;
     let mut out = Vec::with_capacity(alloc, REPLY_ROOM * MAX_REQUESTS)?;
@@ -215,5 +231,5 @@ fn ask_all<R: Wait>(
     } else {
         desk.ask_all(rt, pass, bytes, asks, &mut ats, &mut out)
     };
-    Ok((pass, Said { asked, ats, out }))
+    Ok((pass, Some(Said { asked, ats, out })))
 }

@@ -4,10 +4,10 @@ ghost use Rattle.std.specs.Prelude.{◌≡◌, ◌<◌, ◌≤◌, ◌+◌, ◌^
 ghost use Rattle.nb_desk.specs.Desks.{IsAt};
 
 use crate::callers::two_more;
-use crate::desks::{ask_one, desk_over};
+use crate::desks::{ask_one, desk_over, told};
 use crate::house::House;
 use crate::names::Request;
-use crate::telling::{self, Said};
+use crate::telling::Said;
 use nb_desk::{Desk, Pass};
 use nb_port::{Disk, DiskOut, DiskRead, MemDisk};
 use nb_units::NoMemory;
@@ -135,13 +135,6 @@ fn meet<R: Threads + Wait + Clock + Sync>(
         told(alloc, tried)?,
         again.told(alloc)?
     )?)
-}
-
-fn told(alloc: Global, said: Option<Said>) -> Result<String, NoMemory> {
-    match said {
-        Some(said) => said.told(alloc),
-        None => nb_lines::unclear(alloc),
-    }
 }
 
 // One asks, and the other one tries to ask while the disk waits.

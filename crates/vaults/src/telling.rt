@@ -8,14 +8,6 @@ use nb_units::NoMemory;
 use nb_vault::VaultFault;
 use std::alloc::Global;
 
-// The most bytes that are shown.
-const SHOWN: usize = 1000;
-
-// Bytes, or of many their number and their digest.
-pub(crate) fn shown(alloc: Global, bytes: &[u8]) -> Result<String, NoMemory> {
-    nb_lines::shown(alloc, bytes, SHOWN)
-}
-
 // Why no vault was opened.
 pub(crate) fn fault(alloc: Global, fault: VaultFault) -> Result<String, NoMemory> {
     Ok(match fault {
@@ -44,22 +36,13 @@ pub(crate) struct Said {
 }
 
 impl Said {
-    // Nothing was asked.
-    pub(crate) fn nothing(alloc: Global) -> Said {
-        Said {
-            asked: AskedAll::Busy { word: 0 },
-            ats: Vec::new(alloc),
-            out: Vec::new(alloc),
-        }
-    }
-
     pub(crate) fn told(&self, alloc: Global) -> Result<String, NoMemory> {
         let mut told = asked(alloc, self.asked)?;
         for at in &self.ats {
             told.push_str(format!(in alloc; " {at}")?.as_str())?;
         }
         told.push_str(": ")?;
-        told.push_str(shown(alloc, &self.out)?.as_str())?;
+        told.push_str(nb_lines::shown(alloc, &self.out)?.as_str())?;
         Ok(told)
     }
 }
@@ -90,7 +73,7 @@ pub(crate) fn line(alloc: Global, names: &Names, line: &Line) -> Result<String, 
 
 // What a vault left.
 pub(crate) fn ended(alloc: Global, lines: usize, disk: &MemDisk) -> Result<String, NoMemory> {
-    let content = shown(alloc, disk.content())?;
+    let content = nb_lines::shown(alloc, disk.content())?;
     let calls = disk.calls();
     Ok(format!(in alloc; "{lines} lines, {calls} calls: {content}")?)
 }
