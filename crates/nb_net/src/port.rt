@@ -209,7 +209,9 @@ mod tests {
         let (mut port, address) = port_for(&rt, 1)?;
         let mut dialled = dial(&rt, address)?;
         assert_eq!(rt; dialled.write(b"hello"), WriteOut::Took(5));
-        let mut link = next_of(&mut port)?;
+        let PortOut::Got(mut link) = port.next() else {
+            return Err("no link comes".into());
+        };
         assert!(rt; reads(&mut link, b"hello"));
         assert_eq!(rt; link.write(b"bye"), WriteOut::Took(3));
         assert!(rt; reads(&mut dialled, b"bye"));
@@ -225,7 +227,9 @@ mod tests {
     fn a_peer_closes_at_once(rt: HostRuntime) -> Result<(), Fail> {
         let (mut port, address) = port_for(&rt, 2)?;
         let _ = TcpStream::connect(&rt, address)?.shutdown(Shutdown::Both);
-        let mut link = next_of(&mut port)?;
+        let PortOut::Got(mut link) = port.next() else {
+            return Err("no link comes".into());
+        };
         assert!(rt; ends(&mut link));
         port.back(link);
         let mut dialled = dial(&rt, address)?;
