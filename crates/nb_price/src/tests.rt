@@ -17,109 +17,124 @@ fn read(alloc: Global, shelf: &[u8]) -> Result<Catalogue, ShelfFault> {
 }
 
 // What a shelf tells of some products: the number, the price and the goods.
+static PRODUCTS: [(&'static str, u32, u64, &'static str); 9] = [
+    (POEM, 7, 300, "hi"),
+    ("0;1;;0\n", 0, 1, ""),
+    (
+        "4294967295;1000000000; !~:<;1\n\n",
+        4_294_967_295,
+        1_000_000_000,
+        "\n",
+    ),
+    ("1;2;a;3\n;1\n2;2;b;1\nx", 1, 2, ";1\n"),
+    ("1;2;a;3\n;1\n2;2;b;1\nx", 2, 2, "x"),
+    ("10;10;0;10\n0123456789", 10, 10, "0123456789"),
+    ("5;5;5;0\n6;6;6;0\n7;7;7;1\n7", 7, 7, "7"),
+    ("5;5;5;0\n6;6;6;0\n7;7;7;1\n7", 5, 5, ""),
+    (
+        "3;4;aaaaaaaaaaaaaaaaaaaaaaaaaaaaaaaaaaaaaaaaaaaaaaaaaaaaaaaaaaaaaaaa;1\nb",
+        3,
+        4,
+        "b",
+    ),
+];
+
+// Whether a catalogue tells this of a product, and that there is none of number 99.
+fn tells(catalogue: &Catalogue, id: u32, price: u64, goods: &str) -> bool {
+    catalogue.quote(id) == Ok(Price(price))
+        && catalogue.goods(id) == Some(goods.as_bytes())
+        && catalogue.quote(99) == Err(NoProduct { id: 99 })
+        && catalogue.goods(99) == None
+}
+
 #[test]
 fn products(rt: HostRuntime) -> Result<(), Fail> {
-    let cases: [(&str, u32, u64, &str); 9] = [
-        (POEM, 7, 300, "hi"),
-        ("0;1;;0\n", 0, 1, ""),
-        (
-            "4294967295;1000000000; !~:<;1\n\n",
-            4_294_967_295,
-            1_000_000_000,
-            "\n",
-        ),
-        ("1;2;a;3\n;1\n2;2;b;1\nx", 1, 2, ";1\n"),
-        ("1;2;a;3\n;1\n2;2;b;1\nx", 2, 2, "x"),
-        ("10;10;0;10\n0123456789", 10, 10, "0123456789"),
-        ("5;5;5;0\n6;6;6;0\n7;7;7;1\n7", 7, 7, "7"),
-        ("5;5;5;0\n6;6;6;0\n7;7;7;1\n7", 5, 5, ""),
-        (
-            "3;4;aaaaaaaaaaaaaaaaaaaaaaaaaaaaaaaaaaaaaaaaaaaaaaaaaaaaaaaaaaaaaaaa;1\nb",
-            3,
-            4,
-            "b",
-        ),
-    ];
-    for (shelf, id, price, goods) in cases {
+    for (shelf, id, price, goods) in &PRODUCTS {
         let catalogue = read(rt.alloc(), shelf.as_bytes())?;
-        for catalogue in [&catalogue, &catalogue.copy()?] {
-            assert_eq!(rt; catalogue.quote(id), Ok(Price(price)), "at {shelf}");
-            assert_eq!(rt; catalogue.goods(id), Some(goods.as_bytes()), "at {shelf}");
-            assert_eq!(rt;
-                catalogue.quote(99),
-                Err(NoProduct { id: 99 }),
-                "at {shelf}"
-            );
-            assert_eq!(rt; catalogue.goods(99), None, "at {shelf}");
-        }
+        assert!(rt; tells(&catalogue, *id, *price, *goods), "at {shelf}");
+        assert!(rt;
+            tells(&catalogue.copy()?, *id, *price, *goods),
+            "a copy, at {shelf}"
+        );
     }
+    Ok(())
+}
+
+#[test]
+fn an_empty_shelf_has_no_product(rt: HostRuntime) -> Result<(), Fail> {
     let none = read(rt.alloc(), b"")?;
     assert_eq!(rt; none.quote(0), Err(NoProduct { id: 0 }));
     Ok(())
 }
 
+const FIRST: ShelfFault = ShelfFault::BadItem { item: 1 };
+
+const SECOND: ShelfFault = ShelfFault::BadItem { item: 2 };
+
+const THIRD: ShelfFault = ShelfFault::BadItem { item: 3 };
+
 // The first fault of a shelf.
+static FAULTS: [(&'static str, ShelfFault); 40] = [
+    // numbers: a leading zero, a sign, none, no digit, too great
+    ("07;300;Poem;2\nhi", FIRST),
+    ("7;0300;Poem;2\nhi", FIRST),
+    ("7;300;Poem;02\nhi", FIRST),
+    ("00;300;Poem;2\nhi", FIRST),
+    ("7;300;Poem;00\n", FIRST),
+    ("+7;300;Poem;2\nhi", FIRST),
+    ("-7;300;Poem;2\nhi", FIRST),
+    ("7;+300;Poem;2\nhi", FIRST),
+    ("7;300;Poem;+2\nhi", FIRST),
+    (";300;Poem;2\nhi", FIRST),
+    ("7;;Poem;2\nhi", FIRST),
+    ("7;300;Poem;\nhi", FIRST),
+    (" 7;300;Poem;2\nhi", FIRST),
+    ("7 ;300;Poem;2\nhi", FIRST),
+    ("a;300;Poem;2\nhi", FIRST),
+    ("7;300;Poem;0x2\nhi", FIRST),
+    ("4294967296;300;Poem;2\nhi", FIRST),
+    ("10000000000;300;Poem;2\nhi", FIRST),
+    ("7;0;Poem;2\nhi", FIRST),
+    ("7;1000000001;Poem;2\nhi", FIRST),
+    ("7;300;Poem;67108865\nhi", FIRST),
+    // names: too long, a semicolon, bytes below 20 and above 7E
+    (
+        "3;4;aaaaaaaaaaaaaaaaaaaaaaaaaaaaaaaaaaaaaaaaaaaaaaaaaaaaaaaaaaaaaaaaa;1\nb",
+        FIRST,
+    ),
+    ("7;300;Po;em;2\nhi", FIRST),
+    ("7;300;Po\tem;2\nhi", FIRST),
+    ("7;300;Po\nem;2\nhi", FIRST),
+    ("7;300;Po\u{7f}em;2\nhi", FIRST),
+    ("7;300;Poém;2\nhi", FIRST),
+    // the end of a line, and of the goods
+    ("7;300;Poem;2", FIRST),
+    ("7;300;Poem;2\r\nhi", FIRST),
+    ("7;300;Poem", FIRST),
+    ("7", FIRST),
+    ("\n", FIRST),
+    ("7;300;Poem;3\nhi", FIRST),
+    ("7;300;Poem;2\nhi\n", SECOND),
+    ("7;300;Poem;2\nhi8;1;;2\nx", SECOND),
+    ("7;300;Poem;2\nhi8;1;;1\nx9", THIRD),
+    // a number twice, and what is told first
+    (
+        "7;300;Poem;2\nhi7;300;Poem;2\nhi",
+        ShelfFault::Twice { item: 2, id: 7 },
+    ),
+    (
+        "7;300;Poem;2\nhi8;1;;0\n7;1;;0\n!",
+        ShelfFault::Twice { item: 3, id: 7 },
+    ),
+    ("7;300;Poem;2\nhi8;0;;0\n7;1;;0\n", SECOND),
+    ("7;300;Poem;2\nhi7;0;;0\n", SECOND),
+];
+
 #[test]
 fn faults(rt: HostRuntime) -> Result<(), Fail> {
-    let bad = |item| ShelfFault::BadItem { item };
-    let cases: [(&str, ShelfFault); 40] = [
-        // numbers: a leading zero, a sign, none, no digit, too great
-        ("07;300;Poem;2\nhi", bad(1)),
-        ("7;0300;Poem;2\nhi", bad(1)),
-        ("7;300;Poem;02\nhi", bad(1)),
-        ("00;300;Poem;2\nhi", bad(1)),
-        ("7;300;Poem;00\n", bad(1)),
-        ("+7;300;Poem;2\nhi", bad(1)),
-        ("-7;300;Poem;2\nhi", bad(1)),
-        ("7;+300;Poem;2\nhi", bad(1)),
-        ("7;300;Poem;+2\nhi", bad(1)),
-        (";300;Poem;2\nhi", bad(1)),
-        ("7;;Poem;2\nhi", bad(1)),
-        ("7;300;Poem;\nhi", bad(1)),
-        (" 7;300;Poem;2\nhi", bad(1)),
-        ("7 ;300;Poem;2\nhi", bad(1)),
-        ("a;300;Poem;2\nhi", bad(1)),
-        ("7;300;Poem;0x2\nhi", bad(1)),
-        ("4294967296;300;Poem;2\nhi", bad(1)),
-        ("10000000000;300;Poem;2\nhi", bad(1)),
-        ("7;0;Poem;2\nhi", bad(1)),
-        ("7;1000000001;Poem;2\nhi", bad(1)),
-        ("7;300;Poem;67108865\nhi", bad(1)),
-        // names: too long, a semicolon, bytes below 20 and above 7E
-        (
-            "3;4;aaaaaaaaaaaaaaaaaaaaaaaaaaaaaaaaaaaaaaaaaaaaaaaaaaaaaaaaaaaaaaaaa;1\nb",
-            bad(1),
-        ),
-        ("7;300;Po;em;2\nhi", bad(1)),
-        ("7;300;Po\tem;2\nhi", bad(1)),
-        ("7;300;Po\nem;2\nhi", bad(1)),
-        ("7;300;Po\u{7f}em;2\nhi", bad(1)),
-        ("7;300;Poém;2\nhi", bad(1)),
-        // the end of a line, and of the goods
-        ("7;300;Poem;2", bad(1)),
-        ("7;300;Poem;2\r\nhi", bad(1)),
-        ("7;300;Poem", bad(1)),
-        ("7", bad(1)),
-        ("\n", bad(1)),
-        ("7;300;Poem;3\nhi", bad(1)),
-        ("7;300;Poem;2\nhi\n", bad(2)),
-        ("7;300;Poem;2\nhi8;1;;2\nx", bad(2)),
-        ("7;300;Poem;2\nhi8;1;;1\nx9", bad(3)),
-        // a number twice, and what is told first
-        (
-            "7;300;Poem;2\nhi7;300;Poem;2\nhi",
-            ShelfFault::Twice { item: 2, id: 7 },
-        ),
-        (
-            "7;300;Poem;2\nhi8;1;;0\n7;1;;0\n!",
-            ShelfFault::Twice { item: 3, id: 7 },
-        ),
-        ("7;300;Poem;2\nhi8;0;;0\n7;1;;0\n", bad(2)),
-        ("7;300;Poem;2\nhi7;0;;0\n", bad(2)),
-    ];
-    for (shelf, want) in cases {
+    for (shelf, want) in &FAULTS {
         match read(rt.alloc(), shelf.as_bytes()) {
-            Err(fault) => assert_eq!(rt; fault, want, "at {shelf}"),
+            Err(fault) => assert_eq!(rt; fault, *want, "at {shelf}"),
             Ok(_) => return Err("the shelf is bad".into()),
         }
     }
