@@ -1,5 +1,5 @@
-//! Worked cases of the decision that a house takes on each request, as tests. They cross the crates that spell, seal and decide, and
-//! stand beside none of these; and so does the one law here, that what is written of a grant is what its two parties open.
+//! What crosses crates and stands beside none of them: the one law that what is written of a grant is what its two parties open; and, as tests, what
+//! only a real file, stream or socket shows, and what the adapters over them do where a call is interrupted, does a part or fails.
 #![tactic(auto)]
 
 pub mod laws;

@@ -1,10 +1,16 @@
 -- What the calls of a socket and of a listener give. The bytes that a socket does not tell are None.
-use Rattle.std.specs.Prelude.{ℕ, ◌<◌, ◌≤◌, List, Option, length, take}
+use Rattle.std.specs.Prelude.{ℕ, ◌<◌, ◌≤◌, ◌∷◌, [], List, Option, length, take}
 use Rattle.std.specs.Io.KnownBytes.{Keeps, Appends, Consumes, IsAtEnd}
+use Rattle.std.specs.declared.io.ErrorKind.{ErrorKind}
+use Rattle.std.specs.declared.io.ErrorKind.TheVariants.{ConnectionAborted, ConnectionReset, HostUnreachable, Interrupted, NetworkDown, NetworkUnreachable}
 use Rattle.nb_net.specs.declared.socket.SocketRead.{SocketRead}
 use Rattle.nb_net.specs.declared.socket.SocketRead.TheVariants as reads
 use Rattle.nb_net.specs.declared.socket.SocketWrite.{SocketWrite}
 use Rattle.nb_net.specs.declared.socket.SocketWrite.TheVariants as writes
+
+-- the errors of a look for a connection that say nothing of the listener: that connection was gone, or the call was interrupted
+abbrev pub passing : List ErrorKind
+passing = ConnectionAborted ∷ ConnectionReset ∷ HostUnreachable ∷ NetworkUnreachable ∷ NetworkDown ∷ Interrupted ∷ []
 
 -- what is left before and after, the room for bytes, the bytes there now
 abbrev pub SocketReadGives : Option (List ℕ) → Option (List ℕ) → ℕ → List ℕ → SocketRead → Type 0

@@ -1,4 +1,5 @@
-ghost use Rattle.std.specs.Prelude.{◌≡◌, ⊤, None, if◌then◌else◌};
+ghost use Rattle.std.specs.Prelude.{◌≡◌, ◌↔◌, ⊤, None, Contains, IsTrue, if◌then◌else◌};
+ghost use Rattle.nb_net.specs.Socket.{passing};
 
 use crate::socket::{AcceptOut, Listener, SetOut, Socket, SocketRead, SocketWrite};
 use std::io;
@@ -97,17 +98,19 @@ impl Listener for StdListener {
     }
 }
 
-// Whether a look for a connection that failed so says nothing of the listener: the connection was gone, or the call was interrupted.
-fn passes(kind: io::ErrorKind) -> bool {
-    matches!(
-        kind,
-        io::ErrorKind::ConnectionAborted
-            | io::ErrorKind::ConnectionReset
-            | io::ErrorKind::HostUnreachable
-            | io::ErrorKind::NetworkUnreachable
-            | io::ErrorKind::NetworkDown
-            | io::ErrorKind::Interrupted
-    )
+// Whether a look for a connection that failed so says nothing of the listener.
+fn passes(kind: io::ErrorKind) -> bool
+    ensures { IsTrue result ↔ Contains passing kind }
+{
+    [
+        io::ErrorKind::ConnectionAborted,
+        io::ErrorKind::ConnectionReset,
+        io::ErrorKind::HostUnreachable,
+        io::ErrorKind::NetworkUnreachable,
+        io::ErrorKind::NetworkDown,
+        io::ErrorKind::Interrupted,
+    ]
+    .contains(&kind)
 }
 
 // What setting an option gives that worked, or failed.
@@ -115,31 +118,4 @@ fn done_if(worked: bool) -> SetOut
     ensures { result ≡ (if worked then SetOut.Done else SetOut.Failed) }
 {
     if worked { SetOut::Done } else { SetOut::Failed }
-}
-
-#[cfg(test)]
-mod tests {
-    use super::*;
-
-    #[test]
-    fn a_connection_that_is_gone_is_no_failure(rt: HostRuntime) {
-        for kind in [
-            io::ErrorKind::ConnectionAborted,
-            io::ErrorKind::ConnectionReset,
-            io::ErrorKind::HostUnreachable,
-            io::ErrorKind::NetworkUnreachable,
-            io::ErrorKind::NetworkDown,
-            io::ErrorKind::Interrupted,
-        ] {
-            assert!(rt; passes(kind));
-        }
-        for kind in [
-            io::ErrorKind::WouldBlock,
-            io::ErrorKind::PermissionDenied,
-            io::ErrorKind::OutOfMemory,
-            io::ErrorKind::InvalidInput,
-        ] {
-            assert!(rt; !passes(kind));
-        }
-    }
 }

@@ -38,25 +38,3 @@ impl<R: Clock + Drop> nb_port::Clock for SystemClock<R> {
         }
     }
 }
-
-#[cfg(test)]
-mod tests {
-    use super::*;
-    use nb_port::Clock;
-    use std::test::Fail;
-
-    // 2020-01-01 00:00 UTC
-    const YEAR_2020: u64 = 1_577_836_800;
-
-    // 2200-01-01 00:00 UTC
-    const YEAR_2200: u64 = 7_258_118_400;
-
-    #[test]
-    fn gives_seconds_between_2020_and_2200(rt: HostRuntime) -> Result<(), Fail> {
-        let mut clock = SystemClock::over(rt.clone()?);
-        let now = clock.now();
-        assert!(rt; YEAR_2020 < now);
-        assert!(rt; now < YEAR_2200);
-        Ok(())
-    }
-}

@@ -308,6 +308,3 @@ fn write_part<F: PositionalFile>(
     *faults = faults.saturating_add(1);
     None
 }
-
-#[cfg(test)]
-mod tests;

@@ -1,8 +1,11 @@
+// A disk over a file: one whose calls are interrupted, fail or do a part, and real ones.
+
 ghost use Rattle.std.specs.Prelude.{⊤, None, ◌≤◌, ◌+◌};
 ghost use Rattle.nb_port.specs.DiskLaws.{untold_fits};
 
-use super::*;
-use std::fs::OpenOptions;
+use nb_port::{Disk, DiskOut, DiskRead};
+use nb_system::{FileDisk, FileRead, FileWrite, PositionalFile, StdFile};
+use std::fs::{File, OpenOptions};
 use std::path::PathBuf;
 use std::test::Fail;
 use std::{env, fs, process};
@@ -141,10 +144,9 @@ fn writes_on_behind_a_part(rt: HostRuntime) {
     for interrupted in 4..7 {
         let mut disk = over_flaky(interrupted, 0);
         assert_eq!(rt; disk.write(1, b"VWXYZ"), DiskOut::Done);
-        assert_eq!(rt; &disk.file.bytes, b"aVWXYZgh");
         assert_eq!(rt; disk.write(6, b"123"), DiskOut::Failed);
-        assert_eq!(rt; &disk.file.bytes, b"aVWXYZ12");
         assert_eq!(rt; disk.fault_count(), 2);
+        assert_eq!(rt; &disk.into_file().bytes, b"aVWXYZ12");
     }
 }
 
@@ -190,14 +192,15 @@ fn a_failed_sync_is_final(rt: HostRuntime) {
             assert_eq!(rt; worked, wanted.get(at) == Some(call), "{fails} {at}");
             assert_eq!(rt; disk.fault_count(), failed, "{fails} {at}");
         }
-        assert_eq!(rt; disk.file.calls, asked.len(), "{fails}");
-        assert!(rt; disk.file.kinds.starts_with(*asked), "{fails}");
+        let file = disk.into_file();
+        assert_eq!(rt; file.calls, asked.len(), "{fails}");
+        assert!(rt; file.kinds.starts_with(*asked), "{fails}");
     }
 }
 
 // A path in the folder for temporary files, which no other process uses.
 fn temporary(rt: &HostRuntime, name: &str) -> Result<PathBuf, Fail> {
-    let name = format!(in rt.alloc(); "nb_port-{name}-{}", process::id(rt.process()))?;
+    let name = format!(in rt.alloc(); "nb_cases-{name}-{}", process::id(rt.process()))?;
     Ok(env::temp_dir(rt)?.join(rt.alloc(), name.as_str())?)
 }
 
