@@ -50,7 +50,9 @@ impl FixedIndex {
     pub fn new(alloc: Global, slots: u32, key: &[u8; 16]) -> Result<FixedIndex, NoMemory>
         requires some { 2 ≤ slots }
         requires most { slots ≤ MAX_SLOTS }
+        // after Ok: no puts
         ensures puts { IfOk result (λ index. index.puts ≡ []) }
+        // after Ok: so many slots, this key, and memory for as many puts as such an index may have
         ensures shape { IfOk result (λ index. IsShaped slots key.now index.shape) }
     {
         let most = slots as usize / 2 + 1;
@@ -64,7 +66,9 @@ impl FixedIndex {
 
     /// The number that was put under this key, if one was.
     pub fn find(&self, key: &[u8; 16]) -> Option<u32>
+        // the number that was put under this key; None exactly where none was
         ensures found { result ≡ value_in self.now.puts key.now }
+        // each key was absent when it was put
         ensures new { AreNew self.now.puts }
     {
         let slot = slot_of(&self.key, self.lasts.len() as u32, key);
@@ -82,9 +86,12 @@ impl FixedIndex {
 
     /// Puts a number under a key that has none, where fewer than half of the slots are used. This takes no memory.
     pub fn put(&mut self, key: &[u8; 16], value: u32)
+        // the key was not put, and there are fewer puts than half the number of slots
         requires absent { IsNone (value_in self.old.puts key.now) }
         requires room { 2 * length self.old.puts < self.old.shape.slots }
+        // the number under the key is appended to the puts
         ensures puts { self.new.puts ≡ self.old.puts ++ record { key = key.now; value = value } ∷ [] }
+        // the shape is as before: none of the three lists took memory
         ensures shape { self.new.shape ≡ self.old.shape }
     {
         let slot = slot_of(&self.key, self.lasts.len() as u32, key) as usize;
@@ -95,8 +102,10 @@ impl FixedIndex {
 
     /// Takes the last put off: the index is as it was before it. The key is that put's. This takes no memory.
     pub fn take_off(&mut self, key: &[u8; 16])
+        // there is a put, and the last one is of this key
         requires some { 0 < length self.old.puts }
         requires last { IsLast self.old.puts key.now }
+        // the puts are those before it, and the shape is as before
         ensures puts { self.new.puts ≡ take (length self.old.puts - 1) self.old.puts }
         ensures shape { self.new.shape ≡ self.old.shape }
     {

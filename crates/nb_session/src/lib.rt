@@ -9,7 +9,7 @@
 //! fall into turns that are as long as the reading allowed; each turn was one of the desk's vault, and its marks and the replies that
 //! were sent are those of that turn; how the session ended says what is left of the link, how far it was read, and what failed.
 //! What was read is answered before more is read. That its replies are sent by then, and that a call of the link which failed is not
-//! tried again, is shown by the test `each_call_of_the_link_fails_in_turn`.
+//! tried again, is shown by the stored run of `houses`, over a link of which each call fails in turn.
 //!
 //! [`laws`] say what follows for the lines that the pass has seen, and how a session over a link that does not fail ends, by the bytes
 //! that the link gives. Of fewer than 10,000 whole frames and nothing behind them it decides all, unless it had no memory to begin with,

@@ -68,8 +68,11 @@ impl<'a> Cut<'a> {
 
     /// What is left: the bytes from the place on.
     pub fn rest(&self) -> &'a [u8]
+        // the bytes from the place on
         ensures value { result.now ≡ drop self.now.place self.now.bytes }
+        // as many as are behind the place, which is within the bytes
         ensures inside { self.now.place + length result.now ≡ length self.now.bytes }
+        // there are fewer than 2^64 bytes in all
         ensures short { length self.now.bytes < 2 ^ 64 }
     {
         self.bytes.split_at(self.place).1
@@ -85,7 +88,9 @@ impl<'a> Cut<'a> {
 
     /// One byte, or [`CutFault::Short`].
     pub fn u8(&mut self) -> Result<u8, CutFault>
+        // the field that stands at the place, or `Short` with the place
         ensures value { result ≡ fields.u8_at self.old.bytes self.old.place }
+        // the place moved past the field; after a fault all is as before
         ensures moved { self.new ≡ fields.moved_by self.old 1 result }
     {
         let rest = self.rest();
@@ -98,7 +103,9 @@ impl<'a> Cut<'a> {
 
     /// A number of 4 bytes, big-endian, or [`CutFault::Short`].
     pub fn u32(&mut self) -> Result<u32, CutFault>
+        // the field that stands at the place, or `Short` with the place
         ensures value { result ≡ fields.u32_at self.old.bytes self.old.place }
+        // the place moved past the field; after a fault all is as before
         ensures moved { self.new ≡ fields.moved_by self.old 4 result }
     {
         let rest = self.rest();
@@ -111,7 +118,9 @@ impl<'a> Cut<'a> {
 
     /// A number of 8 bytes, big-endian, or [`CutFault::Short`].
     pub fn u64(&mut self) -> Result<u64, CutFault>
+        // the field that stands at the place, or `Short` with the place
         ensures value { result ≡ fields.u64_at self.old.bytes self.old.place }
+        // the place moved past the field; after a fault all is as before
         ensures moved { self.new ≡ fields.moved_by self.old 8 result }
     {
         let rest = self.rest();
@@ -124,7 +133,9 @@ impl<'a> Cut<'a> {
 
     /// 16 bytes as they stand, or [`CutFault::Short`].
     pub fn fixed16(&mut self) -> Result<[u8; 16], CutFault>
+        // the field that stands at the place, or `Short` with the place
         ensures value { result ≡ fields.raw_at 16 self.old.bytes self.old.place }
+        // the place moved past the field; after a fault all is as before
         ensures moved { self.new ≡ fields.moved_by self.old 16 result }
     {
         let rest = self.rest();
@@ -139,7 +150,9 @@ impl<'a> Cut<'a> {
 
     /// 32 bytes as they stand, or [`CutFault::Short`].
     pub fn fixed32(&mut self) -> Result<[u8; 32], CutFault>
+        // the field that stands at the place, or `Short` with the place
         ensures value { result ≡ fields.raw_at 32 self.old.bytes self.old.place }
+        // the place moved past the field; after a fault all is as before
         ensures moved { self.new ≡ fields.moved_by self.old 32 result }
     {
         let rest = self.rest();
@@ -155,8 +168,11 @@ impl<'a> Cut<'a> {
     /// A text of at most `max` bytes: its length in 4 bytes, big-endian, and then the text. Answers [`CutFault::Long`]
     /// where the length is more than `max`, however many bytes are left, and else [`CutFault::Short`].
     pub fn bytes(&mut self, max: u32) -> Result<&'a [u8], CutFault>
+        // the text at the place, or `Long` or `Short` with the place of its length
         ensures value { fields.seen result ≡ fields.bytes_at max self.old.bytes self.old.place }
+        // a text that was read has at most `max` bytes
         ensures short { IfOk result (λ text. length text.now ≤ max) }
+        // the place moved past the length and the text; after a fault all is as before
         ensures moved { self.new ≡ fields.moved_past self.old result }
     {
         let place = self.place;

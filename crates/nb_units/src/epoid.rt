@@ -20,6 +20,7 @@ impl Epoid {
     /// The identifier that the bytes spell: the merchant, the moment, the serial number, each big-endian.
     pub fn read(bytes: &[u8; 16]) -> Epoid
         ensures value { result ≡ epoid_of bytes.now }
+        // its spelling is these bytes
         ensures spelling { epoid_bytes result ≡ bytes.now }
     {
         let (merchant, rest) = bytes.split_at(4);
@@ -34,7 +35,9 @@ impl Epoid {
     /// The bytes that spell the identifier, which [`Epoid::read`] reads.
     pub fn write(&self) -> [u8; 16]
         ensures spelling { result ≡ epoid_bytes self.now }
+        // these bytes are read as it
         ensures back { epoid_of result ≡ self.now }
+        // each of its parts fits its width
         ensures fits { IsEpoid self.now }
     {
         let Epoid {

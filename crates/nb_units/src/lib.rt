@@ -15,6 +15,9 @@
 //!
 //! Left to others: in which order fields make an order, an entry or a message, which values each may have, and the reading of
 //! frames from a stream that comes in pieces.
+//!
+//! Not said: that [`room`] and [`Blob::of`] answer Ok where memory is there, since no clause can say that memory is left; the stored run of `layouts`
+//! has each of them answer so.
 #![tactic(auto)]
 
 mod blob;

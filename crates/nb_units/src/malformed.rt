@@ -34,6 +34,7 @@ impl From<CutFault> for Malformed {
 
 /// Tests the value of the field at the place: answers [`Malformed`] at that place where it is not allowed.
 pub fn allow(is: bool, place: usize) -> Result<(), Malformed>
+    // Ok where the value of the field at the place is allowed, else that place
     ensures reads { Reads result (allowed is place) }
     ensures holds { OnOk result (IsTrue is) }
 {

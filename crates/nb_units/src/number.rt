@@ -29,7 +29,9 @@ pub(crate) fn u64_of(bytes: &[u8]) -> u64
 
 /// The number below 2^64 that the word is in decimal, with no sign and no leading zero.
 pub fn decimal_of(word: &[u8]) -> Option<u64>
+    // Some only of a number whose decimal spelling, without sign and leading zero, is the word
     ensures some { IfSome result (λ n. word.now ≡ decimal n) }
+    // Some of each such number that fits 64 bits
     ensures each { (n : ℕ) → n < 2 ^ 64 → word.now ≡ decimal n → result ≡ Some n }
 {
     if !is_plain(word) {

@@ -12,6 +12,7 @@ pub struct Pen<'a> {
 impl<'a> Pen<'a> {
     /// A pen at the end of the vector.
     pub fn over(out: &'a mut Vec<u8>) -> Pen<'a>
+        // it is that vector, and what is appended by the pen stands in it
         ensures same { result.out.ghost_name ≡ out.entry.ghost_name }
         ensures now { result.out.now ≡ out.old }
     {
@@ -21,8 +22,11 @@ impl<'a> Pen<'a> {
     /// One byte, which needs room for 1.
     pub fn u8(&mut self, v: u8)
         requires { 1 ≤ spare_of self.old.out.now }
+        // it is the same vector
         ensures same { self.new.out.ghost_name ≡ self.old.out.ghost_name }
+        // the vector's bytes grew by the field's spelling
         ensures value { self.new.out.now.items ≡ self.old.out.now.items ++ v ∷ [] }
+        // the room fell by no more than what was appended, and the capacity is as before: no memory is taken
         ensures spare { spare_of self.old.out.now ≤ spare_of self.new.out.now + 1 }
         ensures room { vec_capacity self.new.out.now ≡ vec_capacity self.old.out.now }
     {
@@ -32,8 +36,11 @@ impl<'a> Pen<'a> {
     /// A number in 4 bytes, which needs room for 4.
     pub fn u32(&mut self, v: u32)
         requires { 4 ≤ spare_of self.old.out.now }
+        // it is the same vector
         ensures same { self.new.out.ghost_name ≡ self.old.out.ghost_name }
+        // the vector's bytes grew by the field's spelling
         ensures value { self.new.out.now.items ≡ self.old.out.now.items ++ be4 v }
+        // the room fell by no more than what was appended, and the capacity is as before: no memory is taken
         ensures spare { spare_of self.old.out.now ≤ spare_of self.new.out.now + 4 }
         ensures room { vec_capacity self.new.out.now ≡ vec_capacity self.old.out.now }
     {
@@ -43,8 +50,11 @@ impl<'a> Pen<'a> {
     /// A number in 8 bytes, which needs room for 8.
     pub fn u64(&mut self, v: u64)
         requires { 8 ≤ spare_of self.old.out.now }
+        // it is the same vector
         ensures same { self.new.out.ghost_name ≡ self.old.out.ghost_name }
+        // the vector's bytes grew by the field's spelling
         ensures value { self.new.out.now.items ≡ self.old.out.now.items ++ be8 v }
+        // the room fell by no more than what was appended, and the capacity is as before: no memory is taken
         ensures spare { spare_of self.old.out.now ≤ spare_of self.new.out.now + 8 }
         ensures room { vec_capacity self.new.out.now ≡ vec_capacity self.old.out.now }
     {
@@ -54,8 +64,11 @@ impl<'a> Pen<'a> {
     /// Bytes as they are, which need room for as many.
     pub fn raw(&mut self, b: &[u8])
         requires { length b.now ≤ spare_of self.old.out.now }
+        // it is the same vector
         ensures same { self.new.out.ghost_name ≡ self.old.out.ghost_name }
+        // the vector's bytes grew by the field's spelling
         ensures value { self.new.out.now.items ≡ self.old.out.now.items ++ b.now }
+        // the room fell by no more than what was appended, and the capacity is as before: no memory is taken
         ensures spare { spare_of self.old.out.now ≤ spare_of self.new.out.now + length b.now }
         ensures room { vec_capacity self.new.out.now ≡ vec_capacity self.old.out.now }
     {
@@ -69,8 +82,11 @@ impl<'a> Pen<'a> {
     pub fn bytes(&mut self, b: &[u8])
         requires short { length b.now < 2 ^ 32 }
         requires spare { 4 + length b.now ≤ spare_of self.old.out.now }
+        // it is the same vector
         ensures same { self.new.out.ghost_name ≡ self.old.out.ghost_name }
+        // the vector's bytes grew by the field's spelling
         ensures value { self.new.out.now.items ≡ self.old.out.now.items ++ sized b.now }
+        // the room fell by no more than what was appended, and the capacity is as before: no memory is taken
         ensures spare { spare_of self.old.out.now ≤ spare_of self.new.out.now + (4 + length b.now) }
         ensures room { vec_capacity self.new.out.now ≡ vec_capacity self.old.out.now }
     {

@@ -33,6 +33,7 @@ impl Model for Small {
 impl Small {
     /// The bytes as a small list, or `None` where there are more than [`MAX_SMALL`].
     pub fn of(bytes: &[u8]) -> Option<Small>
+        // Some exactly where there are at most [`MAX_SMALL`] bytes
         ensures fits { IsSome result ↔ (length bytes.now ≤ MAX_SMALL) }
         ensures value { IfSome result (λ small. small ≡ bytes.now) }
     {
@@ -65,6 +66,7 @@ impl PartialEq for Small {
 
     /// Whether the two lists are equal.
     fn eq(&self, other: &Small) -> bool
+        // true exactly where the two lists are equal
         ensures answer { result ≡ pointwise ◌==◌ self.now other.now }
         ensures decides { IsTrue result ↔ (self.now ≡ other.now) }
     {

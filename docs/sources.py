@@ -1,0 +1,285 @@
+"""What the sources say of themselves: the crates and what each stands on, their public calls with signature, words and clauses, their definitions
+with their words, and their edits. 'docs/made' prints it and 'docs/check' holds the pages to it."""
+
+import collections
+import pathlib
+import re
+
+TOP = pathlib.Path(__file__).resolve().parent.parent
+CRATES = TOP / "crates"
+EDITS = TOP / "edits"
+
+# A name of Rattle's clauses and definitions: what stands between two of these is one.
+NAME = r"[^\W\d](?:[\w'-]*[\w'])?"
+
+
+def stands_on():
+    """What each crate stands on, in the order of crates.txt."""
+    lines = (line.partition("#")[0].partition(":") for line in (TOP / "crates.txt").read_text().splitlines())
+    return {left.split()[0]: right.split() for left, _, right in lines if left.split()}
+
+
+def code_of(path):
+    """The text of a source without its comments and, of Rattle, without its tests."""
+    text = path.read_text()
+    if path.suffix == ".rt":
+        text = re.sub(r"#\[cfg\(test\)\]\s*mod tests \{.*\Z", "", text, flags=re.S)
+        return re.sub(r"//[^\n]*", "", text)
+    return re.sub(r"--[^\n]*", "", text)
+
+
+def files_of(crate, folder, suffix):
+    """The sources of a crate that are no tests, by their names."""
+    for path in sorted((CRATES / crate / folder).rglob("*" + suffix)):
+        if "tests" not in path.with_suffix("").name and "tests" not in path.parent.parts[-1:]:
+            yield path
+
+
+def root_of(crate):
+    """The root file of a crate."""
+    return next(path for path in (CRATES / crate / "src/lib.rt", CRATES / crate / "src/main.rt") if path.exists())
+
+
+def in_order(crate):
+    """The files of a crate's code in the order in which its root and its modules name them."""
+    files = list(files_of(crate, "src", ".rt"))
+    listed = [root_of(crate)]
+    for path in listed:
+        folder = path.parent if path in (root_of(crate),) else path.with_suffix("")
+        for module in re.findall(r"^(?:pub(?:\([a-z]+\))? )?mod (\w+);", path.read_text(), re.M):
+            listed += [other for other in files if other == folder / f"{module}.rt" and other not in listed]
+    return listed + [path for path in files if path not in listed]
+
+
+def head_of(crate):
+    """The text at the head of a crate's root, paragraph by paragraph."""
+    lines = re.match(r"(?://![^\n]*\n)*", root_of(crate).read_text()).group(0).splitlines()
+    text = "\n".join(line[3:].removeprefix(" ") for line in lines)
+    return [part for part in text.split("\n\n") if part]
+
+
+# ---- calls
+
+
+Clause = collections.namedtuple("Clause", "kind name text words")
+
+
+class Call:
+    """A function: the type or trait that it belongs to, whether it is public, its words, its signature, its clauses, and the file in which it
+    stands; a law does nothing. The name of a clause is '-' where it has none, and 'requires' of a condition."""
+
+    def __init__(self, owner, name, public, path, words):
+        self.owner, self.name, self.public, self.path, self.words = owner, name, public, path, words
+        self.signature, self.parts, self.is_law = "", [], False
+
+    @property
+    def clauses(self):
+        return [part.name for part in self.parts]
+
+    @property
+    def title(self):
+        return f"{self.owner}::{self.name}" if self.owner else self.name
+
+
+BLOCK = re.compile(r"(pub(?:\([a-z]+\))? )?(?:impl(?:<.*?>)? (?:(?P<of>.+?)(?:<.*>)? for )?(?P<type>\w+)|trait (?P<trait>\w+))")
+FUNCTION = re.compile(r"(?P<in> *)(?P<pub>pub )?(?:pub\([a-z]+\) )?(?:const )?fn (?P<name>\w+)")
+CLAUSE = re.compile(r"\s*(?P<kind>requires|ensures)\*?(?: (?P<name>[a-z_]\w*))?\s*\{")
+
+
+def calls_of(path):
+    """The functions of a source, in order."""
+    text = re.sub(r"#\[cfg\(test\)\]\s*mod tests \{.*\Z", "", path.read_text(), flags=re.S)
+    lines = text.split("\n")
+    owner = owners = None
+    words, at = [], 0
+    while at < len(lines):
+        line = lines[at]
+        at += 1
+        if line.startswith("}"):
+            owner = None
+        block = None if line.startswith((" ", "/", "}")) else BLOCK.match(line)
+        if block and "fn " not in line.split("(")[0]:
+            owner = block.group("type") or block.group("trait")
+            owners = "trait" if block.group("trait") and block.group(1) else "impl of a trait" if block.group("of") else "impl"
+        function = FUNCTION.match(line)
+        if function:
+            inside = function.group("in") != ""
+            public = bool(function.group("pub")) or (inside and owner is not None and owners == "trait")
+            call = Call(owner if inside else None, function.group("name"), public, path, words)
+            at = read_head(call, lines, at - 1)
+            yield call
+        stripped = line.strip()
+        words = words + [stripped[3:].removeprefix(" ")] if stripped.startswith("///") else words if stripped.startswith("#[") else []
+
+
+def read_head(call, lines, at):
+    """Reads the signature and the clauses of a call from its first line on, up to its body, and answers the line behind it."""
+    signature, words = [], []
+    while at < len(lines):
+        line = re.sub(r"\s*//.*", "", lines[at]) if not lines[at].strip().startswith("//") else lines[at]
+        at += 1
+        stripped = line.strip()
+        clause = CLAUSE.match(line)
+        if clause:
+            text = line[clause.end():]
+            while text.count("{") >= text.count("}") and at < len(lines):
+                text += " " + lines[at].strip()
+                at += 1
+            is_last = text.rstrip().endswith(";")
+            name = clause.group("name") or ("requires" if clause.group("kind") == "requires" else "-")
+            call.parts.append(Clause(clause.group("kind"), name, " ".join(text.rstrip().rstrip(";").rstrip()[:-1].split()), words))
+            words = []
+            if is_last:
+                break
+        elif stripped.startswith("//"):
+            words = words + [stripped.lstrip("/").removeprefix(" ")]
+        elif stripped in ("{", "{}"):
+            call.is_law = stripped == "{}"
+            break
+        else:
+            signature.append(stripped)
+            if stripped.endswith(("{", "{}", ";")):
+                break
+    call.signature = " ".join(signature).rstrip("{};").strip().replace("( ", "(").replace(", )", ")")
+    return at
+
+
+def exported(crate):
+    """What a crate lets out: the names that its root brings out, and the modules that are public."""
+    root = CRATES / crate / "src" / "lib.rt"
+    text = code_of(root) if root.exists() else ""
+    brought = re.findall(r"pub use ([\w:]+(?:::\{[^}]*\})?);", text)
+    return {name for path in brought for name in re.findall(r"\w+", re.sub(r"^[\w:]*::(?=\{|\w+$)", "", path))}, set(re.findall(r"pub mod (\w+)", text))
+
+
+def calls_in(crate):
+    """The functions of a crate; those that it does not let out are not public."""
+    lets_out, open_modules = exported(crate)
+    for path in in_order(crate):
+        for call in calls_of(path):
+            call.public = call.public and (path.stem in open_modules or (call.owner or call.name) in lets_out)
+            if path.stem in open_modules and call.owner is None:
+                call.owner = path.stem
+            yield call
+
+
+# ---- types
+
+
+class Type:
+    """A public type: its name, its words, its declaration where it has anything to show, and what contracts see of it."""
+
+    def __init__(self, name, words, text):
+        self.name, self.words, self.text, self.view = name, words, text, ""
+
+
+TYPE = re.compile(r"pub (struct|enum|trait|type|const) (\w+)")
+
+
+def types_in(crate):
+    """The public types of a crate and its constants, in the order of the source."""
+    lets_out, open_modules = exported(crate)
+    for path in in_order(crate):
+        text = path.read_text()
+        views = dict(re.findall(r"^impl(?:<[^\n]*?>)? Model for (\w+).*?ghost view = \{ (.*?) \};", text, re.M | re.S))
+        words, lines = [], text.split("\n")
+        for at, line in enumerate(lines):
+            declared = TYPE.match(line)
+            if declared and (path.stem in open_modules or declared.group(2) in lets_out):
+                found = Type(declared.group(2), words, declaration(lines, at, declared.group(1)))
+                found.view = " ".join(views.get(found.name, "").split())
+                yield found
+            words = words + [line[4:]] if line.startswith("/// ") else words if line.startswith(("#[", "    ", ")]", "///")) else []
+
+
+def declaration(lines, at, kind):
+    """What a declaration shows: its variants or its public fields with their words, a constant's value."""
+    if kind == "trait":
+        return [lines[at].rstrip("{ ") ]
+    end = next((more for more in range(at, len(lines)) if lines[more].startswith("}") or lines[more].endswith(";")), at)
+    shown = lines[at:end + 1]
+    if kind == "struct" and not any(line.strip().startswith("pub ") for line in shown[1:]):
+        return [lines[at].rstrip("{ ;") ]
+    return shown
+
+
+# ---- definitions
+
+
+class Definition:
+    """A definition: its crate, its module, its name, its own words, those that it shares with the one before where it has none, and its text."""
+
+    def __init__(self, crate, module, name, words, shared, text):
+        self.crate, self.module, self.name, self.words, self.shared, self.text = crate, module, name, words, shared, text
+
+
+ITEM = re.compile(rf"(?:abbrev |unfoldable )*pub (?:record |data )?(?P<name>[^\s:({{]+)")
+
+
+def module_words(path):
+    """The comment at the head of a module, before what it uses."""
+    lines = path.read_text().split("\n")
+    count = next((at for at, line in enumerate(lines) if not line.startswith("--")), len(lines))
+    return [line[2:].removeprefix(" ") for line in lines[:count]]
+
+
+def definitions_in(crate):
+    """The definitions of a crate, in the order of the source. One that has no words of its own shares those of the one before, and the first of a
+    module those at the head of that."""
+    for path in files_of(crate, "specs", ".antt"):
+        if path.stem == "Lib":
+            continue
+        shared, own, last = module_words(path), [], None
+        for line in path.read_text().split("\n")[len(shared):]:
+            item = ITEM.match(line)
+            if line.startswith("-- ----"):
+                own, last = [], None
+            elif line.startswith("--"):
+                own, last = own + [line[2:].removeprefix(" ")], None
+            elif item:
+                shared = own or shared
+                last, own = Definition(crate, path.stem, item.group("name"), own, shared, line), []
+                yield last
+            elif line.startswith(" ") or last is not None and line:
+                if last is not None:
+                    last.text += "\n" + line
+            elif line == "":
+                last = None
+
+
+# ---- who cites what
+
+
+def uses_of(path):
+    """What the names of a source stand for: of each name that it brings in from definitions the crate and the module, and of each other name
+    of a module that module."""
+    names, aliases = {}, {}
+    text = path.read_text()
+    for crate, module, list_of, alias in re.findall(r"use Rattle\.(\w+)\.specs\.(\w+)(?:\.\{([^}]*)\}| as (\w+))", text):
+        for name in (list_of or "").split(","):
+            name, _, other = name.strip().partition(" as ")
+            names[other or name] = (crate, module, name)
+        if alias:
+            aliases[alias] = (crate, module)
+    return names, aliases
+
+
+def cited_in(text, names, aliases):
+    """The definitions that a text names, by crate, module and name."""
+    for alias, name in re.findall(rf"(?:({NAME})\.)?({NAME})", text):
+        if alias in aliases:
+            yield (*aliases[alias], name)
+        elif name in names:
+            yield names[name]
+    for name in names:
+        if "◌" in name and name.strip("◌") in text.split():
+            yield names[name]
+
+
+# ---- edits
+
+
+def edits_of(crate):
+    """The edits of a crate, those of the gate and those beside it, each by its name and what its first line says."""
+    for folder in (CRATES / crate / "must-fail", EDITS / crate):
+        yield [(path.stem, path.read_text().split("\n")[0].removeprefix("# ")) for path in sorted(folder.glob("*.edit"))]
