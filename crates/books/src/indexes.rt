@@ -101,12 +101,16 @@ fn told(
 ) -> Result<String, NoMemory> {
     let number = number.unwrap_or(0);
     let told = match word {
-        "put" if index.put(key, number) => "put".to_string(alloc)?,
-        "put" => "not put".to_string(alloc)?,
+        "put" => put(alloc, index.put(key, number))?,
         "try" => found(alloc, index.put_off(key, number))?,
         _ => found(alloc, index.index.find(key))?,
     };
     Ok(format!(in alloc; "{told}, {} in all", index.index.used())?)
+}
+
+fn put(alloc: Global, was_put: bool) -> Result<String, NoMemory> {
+    let told = if was_put { "put" } else { "not put" };
+    Ok(told.to_string(alloc)?)
 }
 
 fn found(alloc: Global, number: Option<u32>) -> Result<String, NoMemory> {
