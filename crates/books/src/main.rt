@@ -1,12 +1,14 @@
 //! A program that does with books and journals what the lines of standard input say, and prints what they do: the trials of `nb_book` and
-//! `nb_journal`, as data. Each line is a word and what it is about; [`Trial`] says what they do. A line that begins with `#` is printed as it
+//! `nb_journal`, of the indexes of `nb_index` and of the disk in memory of `nb_port`, as data. Each line is a word and what it is about; [`Trial`] says what they do. A line that begins with `#` is printed as it
 //! is.
 //!
 //! It claims nothing: what it prints is compared with what another program wrote.
 #![tactic(auto)]
 
 mod books;
+mod disks;
 mod entries;
+mod indexes;
 mod journals;
 mod quiet;
 mod steps;
@@ -45,6 +47,8 @@ fn done(trial: &mut Trial, line: &str) -> Result<String, NoMemory> {
             | "order"
             | "counts" => trial.of_book(*word, rest),
             "read" | "write" => trial.of_entries(*word, rest),
+            "index" | "put" | "try" | "find" => trial.of_index(*word, rest),
+            "disk" | "images" => trial.of_disk(*word, rest),
             _ => trial.of_journal(*word, rest),
         },
     }

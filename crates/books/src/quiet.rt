@@ -12,6 +12,16 @@ pub struct QuietDisk {
     pub went_past: bool,
 }
 
+impl QuietDisk {
+    /// The disk, of which nothing is said.
+    pub fn over(disk: MemDisk) -> QuietDisk {
+        QuietDisk {
+            disk,
+            went_past: false,
+        }
+    }
+}
+
 impl Disk for QuietDisk {
     ghost tells = { record {
       faults = λ d. d.disk.calls.faults;

@@ -17,7 +17,7 @@ impl Trial {
         let alloc = self.alloc;
         let room = Words::new(words).number().unwrap_or(0).min(MAX_ITEM);
         let disk = MemDisk::new(alloc, &self.content, &self.fails)?;
-        match Journal::open(alloc, quiet(disk), room) {
+        match Journal::open(alloc, QuietDisk::over(disk), room) {
             Ok(opened) => {
                 let mut journal = opened.journal;
                 let mut told = String::new(alloc);
@@ -34,13 +34,6 @@ impl Trial {
             }
             Err((fault, _)) => unopened(alloc, fault),
         }
-    }
-}
-
-fn quiet(disk: MemDisk) -> QuietDisk {
-    QuietDisk {
-        disk,
-        went_past: false,
     }
 }
 

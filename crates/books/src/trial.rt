@@ -1,3 +1,5 @@
+use crate::indexes::Slotted;
+use crate::quiet::QuietDisk;
 use nb_book::Book;
 use std::alloc::Global;
 
@@ -9,6 +11,9 @@ pub struct Trial {
     pub content: Vec<u8>,
     pub fails: Vec<u64>,
     pub book: Option<Book>,
+    pub index: Option<Slotted>,
+    // The last disk that went through steps of its own.
+    pub disk: Option<QuietDisk>,
 }
 
 impl Trial {
@@ -19,6 +24,8 @@ impl Trial {
             content: Vec::new(alloc),
             fails: Vec::new(alloc),
             book: None,
+            index: None,
+            disk: None,
         }
     }
 

@@ -44,7 +44,7 @@ impl Shelf {
 
     /// `parts KEY GOODS LENGTH PART..`: the parts of a sale of goods, which are kept; their number and length, and the digests of these.
     pub fn sale(&mut self, words: &[&str]) -> Result<String, NoMemory> {
-        let [_, key, pattern, length, shown @ ..] = words else {
+        let [key, pattern, length, shown @ ..] = words else {
             return nb_lines::unclear(self.alloc);
         };
         let goods = patterned(self.alloc, *pattern, *length)?;
@@ -72,8 +72,8 @@ impl Shelf {
     }
 
     /// `all`: what the parts of the last sale open to.
-    pub fn all(&self) -> Result<String, NoMemory> {
-        if !fit(&self.parts) {
+    pub fn all(&self, words: &[&str]) -> Result<String, NoMemory> {
+        if !words.is_empty() || !fit(&self.parts) {
             return nb_lines::unclear(self.alloc);
         }
         opened(self.alloc, open_parts(self.alloc, &self.key, &self.parts))
@@ -83,7 +83,7 @@ impl Shelf {
     pub fn came(&self, words: &[&str]) -> Result<String, NoMemory> {
         let mut pieces = Vec::new(self.alloc);
         let mut bytes = Vec::new(self.alloc);
-        for word in words.iter().skip(1) {
+        for word in words {
             let piece = self.piece(*word)?;
             bytes.extend_from_slice(&piece)?;
             pieces.push(Blob::from_vec(piece))?;
@@ -204,23 +204,29 @@ fn opened(alloc: Global, opened: Result<Blob, OpenGoods>) -> Result<String, NoMe
 }
 
 /// `goods-key MASTER MERCHANT SERIAL`: the key of a sale.
-pub fn key(alloc: Global, master: &str, merchant: &str, serial: &str) -> Result<String, NoMemory> {
-    let merchant = PartyId(telling::short(merchant));
+pub fn key(alloc: Global, words: &[&str]) -> Result<String, NoMemory> {
+    let [master, merchant, serial] = words else {
+        return nb_lines::unclear(alloc);
+    };
+    let merchant = PartyId(telling::short(*merchant));
     let key = goods_key(
-        &telling::key(alloc, master),
+        &telling::key(alloc, *master),
         merchant,
-        telling::short(serial),
+        telling::short(*serial),
     );
     nb_lines::shown(alloc, &key)
 }
 
 /// `seal-goods KEY GOODS LENGTH`: goods, sealed as a whole, and what that opens to.
-pub fn seal(alloc: Global, key: &str, pattern: &str, length: &str) -> Result<String, NoMemory> {
-    let goods = patterned(alloc, pattern, length)?;
+pub fn seal(alloc: Global, words: &[&str]) -> Result<String, NoMemory> {
+    let [key, pattern, length] = words else {
+        return nb_lines::unclear(alloc);
+    };
+    let goods = patterned(alloc, *pattern, *length)?;
     if goods.len() > MAX_GOODS {
         return nb_lines::unclear(alloc);
     }
-    let key = telling::key(alloc, key);
+    let key = telling::key(alloc, *key);
     let sealed = sealed(alloc, &key, &goods)?;
     let digest = hex::encode(alloc, checksum(sealed.as_slice()))?;
     let shown = nb_lines::shown(alloc, sealed.as_slice())?;

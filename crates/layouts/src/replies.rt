@@ -39,14 +39,12 @@ fn written(alloc: Global, reply: &Reply, keys: &ReplyKeys) -> Result<String, NoM
 }
 
 /// `reply-result KEYS RECEIPT RECEIPT`: the result of an order, with the merchant's receipt and the consumer's.
-pub fn result(
-    alloc: Global,
-    word: &str,
-    merchant: &str,
-    consumer: &str,
-) -> Result<String, NoMemory> {
-    let merchant = lawful(&nb_lines::spelled(alloc, merchant));
-    let consumer = lawful(&nb_lines::spelled(alloc, consumer));
+pub fn result(alloc: Global, words: &[&str]) -> Result<String, NoMemory> {
+    let [word, merchant, consumer] = words else {
+        return nb_lines::unclear(alloc);
+    };
+    let merchant = lawful(&nb_lines::spelled(alloc, *merchant));
+    let consumer = lawful(&nb_lines::spelled(alloc, *consumer));
     let (Ok(merchant), Ok(consumer)) = (merchant, consumer) else {
         return nb_lines::unclear(alloc);
     };
@@ -54,11 +52,20 @@ pub fn result(
         merchant: merchant.receipt,
         consumer: consumer.receipt,
     };
-    written(alloc, &reply, &keys(alloc, word))
+    written(alloc, &reply, &keys(alloc, *word))
 }
 
-/// `reply-status KEYS PLACE EPOID RECEIPT`: the status of an order, with the receipt of who asks.
-pub fn status(
+/// `reply-status KEYS PLACE EPOID RECEIPT`: the status of an order, with the receipt of who asks. `reply-status KEYS PLACE EPOID`: that of an
+/// order of which nothing is told.
+pub fn status(alloc: Global, words: &[&str]) -> Result<String, NoMemory> {
+    match words {
+        [word, place, name, receipt] => some_status(alloc, *word, *place, *name, *receipt),
+        [word, place, name] => no_status(alloc, *word, *place, *name),
+        _ => nb_lines::unclear(alloc),
+    }
+}
+
+fn some_status(
     alloc: Global,
     word: &str,
     place: &str,
@@ -76,8 +83,7 @@ pub fn status(
     written(alloc, &reply, &keys(alloc, word))
 }
 
-/// `reply-status KEYS PLACE EPOID`: that of an order of which nothing is told.
-pub fn no_status(alloc: Global, word: &str, place: &str, name: &str) -> Result<String, NoMemory> {
+fn no_status(alloc: Global, word: &str, place: &str, name: &str) -> Result<String, NoMemory> {
     let reply = Reply::Status {
         place: nb_lines::number(place),
         epoid: epoid(alloc, name),
@@ -87,31 +93,39 @@ pub fn no_status(alloc: Global, word: &str, place: &str, name: &str) -> Result<S
 }
 
 /// `reply-grant KEYS CONSUMER MERCHANT NONCE UNTIL SESSION`: the grant of a ticket.
-pub fn grant(alloc: Global, word: &str, words: [&str; 5]) -> Result<String, NoMemory> {
-    let [consumer, merchant, nonce, until, session] = words;
-    let reply = Reply::Grant {
-        consumer: PartyId(telling::short(consumer)),
-        merchant: PartyId(telling::short(merchant)),
-        nonce: nb_lines::number(nonce),
-        until: nb_lines::number(until),
-        session: telling::key(alloc, session),
+pub fn grant(alloc: Global, words: &[&str]) -> Result<String, NoMemory> {
+    let [word, consumer, merchant, nonce, until, session] = words else {
+        return nb_lines::unclear(alloc);
     };
-    written(alloc, &reply, &keys(alloc, word))
+    let reply = Reply::Grant {
+        consumer: PartyId(telling::short(*consumer)),
+        merchant: PartyId(telling::short(*merchant)),
+        nonce: nb_lines::number(*nonce),
+        until: nb_lines::number(*until),
+        session: telling::key(alloc, *session),
+    };
+    written(alloc, &reply, &keys(alloc, *word))
 }
 
 /// `reply-done ACCOUNT AT BALANCE`: that an entry stands.
-pub fn done(alloc: Global, account: &str, at: &str, balance: &str) -> Result<String, NoMemory> {
+pub fn done(alloc: Global, words: &[&str]) -> Result<String, NoMemory> {
+    let [account, at, balance] = words else {
+        return nb_lines::unclear(alloc);
+    };
     let reply = Reply::Done {
-        acct: AcctId(telling::short(account)),
-        at: nb_lines::number(at),
-        balance: nb_lines::number(balance),
+        acct: AcctId(telling::short(*account)),
+        at: nb_lines::number(*at),
+        balance: nb_lines::number(*balance),
     };
     written(alloc, &reply, &ReplyKeys::none())
 }
 
 /// `reply-refused CODE A B`: a refusal that shows two numbers.
-pub fn refused(alloc: Global, code: &str, a: &str, b: &str) -> Result<String, NoMemory> {
+pub fn refused(alloc: Global, words: &[&str]) -> Result<String, NoMemory> {
+    let [code, a, b] = words else {
+        return nb_lines::unclear(alloc);
+    };
     let code = code.parse::<u8>().unwrap_or(0);
-    let refusal = Refusal::of(code, nb_lines::number(a), nb_lines::number(b));
+    let refusal = Refusal::of(code, nb_lines::number(*a), nb_lines::number(*b));
     written(alloc, &Reply::Refused(refusal), &ReplyKeys::none())
 }

@@ -24,29 +24,34 @@ fn memo(alloc: Global, word: &str) -> Small
 }
 
 /// `endorse KEY ORDER ACCOUNT MEMO GOODS`: the digest of an endorsement, and the endorsement, sealed under the merchant's key.
-pub fn endorse(alloc: Global, key: &str, words: [&str; 4]) -> Result<String, NoMemory> {
-    let [order, account, note, goods] = words;
-    let Some(order) = Small::of(&nb_lines::spelled(alloc, order)) else {
+pub fn endorse(alloc: Global, words: &[&str]) -> Result<String, NoMemory> {
+    let [key, order, account, note, goods] = words else {
+        return nb_lines::unclear(alloc);
+    };
+    let Some(order) = Small::of(&nb_lines::spelled(alloc, *order)) else {
         return nb_lines::unclear(alloc);
     };
     let endorsement = Endorsement {
         order,
-        macct: AcctId(telling::short(account)),
-        memo: memo(alloc, note),
-        key: telling::key(alloc, goods),
+        macct: AcctId(telling::short(*account)),
+        memo: memo(alloc, *note),
+        key: telling::key(alloc, *goods),
     };
     let mut sealed = Vec::new(alloc);
     room(&mut sealed, MAX_SEALED)?;
-    write_sealed(&endorsement, &telling::key(alloc, key), &mut sealed);
+    write_sealed(&endorsement, &telling::key(alloc, *key), &mut sealed);
     let digest = hex::encode(alloc, digest_of(&endorsement))?;
     let sealed = hex::encode(alloc, &sealed)?;
     Ok(format!(in alloc; "digest {digest}, sealed {sealed}")?)
 }
 
 /// `open-endorsement KEY BYTES`: the endorsement that the bytes are the seal of, its digest, and whether both readers give the same.
-pub fn open_endorsement(alloc: Global, key: &str, bytes: &str) -> Result<String, NoMemory> {
-    let key = telling::key(alloc, key);
-    let bytes = nb_lines::spelled(alloc, bytes);
+pub fn open_endorsement(alloc: Global, words: &[&str]) -> Result<String, NoMemory> {
+    let [key, bytes] = words else {
+        return nb_lines::unclear(alloc);
+    };
+    let key = telling::key(alloc, *key);
+    let bytes = nb_lines::spelled(alloc, *bytes);
     if bytes.len() > MAX_SEALED {
         return nb_lines::unclear(alloc);
     }
@@ -71,12 +76,15 @@ fn endorsed(alloc: Global, read: &DigestedEndorsement, same: bool) -> Result<Str
 }
 
 /// `seal-receipt KEY RECEIPT`: a receipt and its tag, sealed under a party's key.
-pub fn seal_receipt(alloc: Global, key: &str, bytes: &str) -> Result<String, NoMemory> {
-    match lawful(&nb_lines::spelled(alloc, bytes)) {
+pub fn seal_receipt(alloc: Global, words: &[&str]) -> Result<String, NoMemory> {
+    let [key, bytes] = words else {
+        return nb_lines::unclear(alloc);
+    };
+    match lawful(&nb_lines::spelled(alloc, *bytes)) {
         Ok(signed) => {
             let mut sealed = Vec::new(alloc);
             room(&mut sealed, RECEIPT_BYTES)?;
-            write_receipt(&signed, &telling::key(alloc, key), &mut sealed);
+            write_receipt(&signed, &telling::key(alloc, *key), &mut sealed);
             nb_lines::shown(alloc, &sealed)
         }
         Err(_) => nb_lines::unclear(alloc),
@@ -84,19 +92,17 @@ pub fn seal_receipt(alloc: Global, key: &str, bytes: &str) -> Result<String, NoM
 }
 
 /// `open-receipt KEY HOUSE BYTES`: the receipt that the bytes are the seal of, and whether its tag is the house's.
-pub fn open_receipt(
-    alloc: Global,
-    key: &str,
-    house: &str,
-    bytes: &str,
-) -> Result<String, NoMemory> {
-    let bytes = nb_lines::spelled(alloc, bytes);
+pub fn open_receipt(alloc: Global, words: &[&str]) -> Result<String, NoMemory> {
+    let [key, house, bytes] = words else {
+        return nb_lines::unclear(alloc);
+    };
+    let bytes = nb_lines::spelled(alloc, *bytes);
     if bytes.len() > RECEIPT_BYTES {
         return nb_lines::unclear(alloc);
     }
-    match read_receipt(&bytes, &telling::key(alloc, key)) {
+    match read_receipt(&bytes, &telling::key(alloc, *key)) {
         Ok(signed) => {
-            let stands = receipt_tag_ok(&signed, &telling::key(alloc, house));
+            let stands = receipt_tag_ok(&signed, &telling::key(alloc, *house));
             Ok(format!(in alloc; "{signed:?}; its tag stands: {stands}")?)
         }
         Err(fault) => telling::fault(alloc, &fault),
@@ -104,28 +110,28 @@ pub fn open_receipt(
 }
 
 /// `hide KEY ACCOUNT NONCE MEMO`: a hidden part, sealed under the consumer's key.
-pub fn hidden(
-    alloc: Global,
-    key: &str,
-    account: &str,
-    nonce: &str,
-    note: &str,
-) -> Result<String, NoMemory> {
-    let hidden = Hidden {
-        acct: AcctId(telling::short(account)),
-        nonce: nb_lines::number(nonce),
-        memo: memo(alloc, note),
+pub fn hidden(alloc: Global, words: &[&str]) -> Result<String, NoMemory> {
+    let [key, account, nonce, note] = words else {
+        return nb_lines::unclear(alloc);
     };
-    nb_lines::shown(alloc, hide(&hidden, &telling::key(alloc, key)).as_slice())
+    let hidden = Hidden {
+        acct: AcctId(telling::short(*account)),
+        nonce: nb_lines::number(*nonce),
+        memo: memo(alloc, *note),
+    };
+    nb_lines::shown(alloc, hide(&hidden, &telling::key(alloc, *key)).as_slice())
 }
 
 /// `reveal KEY BYTES`: the hidden part that the bytes are the seal of.
-pub fn revealed(alloc: Global, key: &str, bytes: &str) -> Result<String, NoMemory> {
-    let bytes = nb_lines::spelled(alloc, bytes);
+pub fn revealed(alloc: Global, words: &[&str]) -> Result<String, NoMemory> {
+    let [key, bytes] = words else {
+        return nb_lines::unclear(alloc);
+    };
+    let bytes = nb_lines::spelled(alloc, *bytes);
     if bytes.len() > MAX_HIDDEN {
         return nb_lines::unclear(alloc);
     }
-    match reveal(&bytes, &telling::key(alloc, key)) {
+    match reveal(&bytes, &telling::key(alloc, *key)) {
         Ok(Hidden { acct, nonce, memo }) => {
             let fields = (acct, nonce, memo.as_slice());
             Ok(format!(in alloc; "{fields:?}")?)
@@ -135,7 +141,10 @@ pub fn revealed(alloc: Global, key: &str, bytes: &str) -> Result<String, NoMemor
 }
 
 /// `account ACCOUNT NONCE`: the digest that an order shows of them.
-pub fn account(alloc: Global, account: &str, nonce: &str) -> Result<String, NoMemory> {
-    let account = AcctId(telling::short(account));
-    nb_lines::shown(alloc, &account_digest(account, nb_lines::number(nonce)))
+pub fn account(alloc: Global, words: &[&str]) -> Result<String, NoMemory> {
+    let [account, nonce] = words else {
+        return nb_lines::unclear(alloc);
+    };
+    let account = AcctId(telling::short(*account));
+    nb_lines::shown(alloc, &account_digest(account, nb_lines::number(*nonce)))
 }

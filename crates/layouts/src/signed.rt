@@ -72,9 +72,12 @@ fn lawful_status(bytes: &[u8]) -> Result<StatusText, Malformed>
 }
 
 /// `sign-receipt HOUSE RECEIPT`: the tag that a receipt has under the house's key, and whether it stands behind it.
-pub fn sign(alloc: Global, house: &str, bytes: &str) -> Result<String, NoMemory> {
-    let house = telling::key(alloc, house);
-    match lawful(&nb_lines::spelled(alloc, bytes)) {
+pub fn sign(alloc: Global, words: &[&str]) -> Result<String, NoMemory> {
+    let [house, bytes] = words else {
+        return nb_lines::unclear(alloc);
+    };
+    let house = telling::key(alloc, *house);
+    match lawful(&nb_lines::spelled(alloc, *bytes)) {
         Ok(signed) => {
             let tag = sign_receipt(&signed.receipt, &house).tag;
             tagged(alloc, &tag, receipt_tag_ok(&signed, &house))
@@ -84,9 +87,12 @@ pub fn sign(alloc: Global, house: &str, bytes: &str) -> Result<String, NoMemory>
 }
 
 /// `sign-order KEY ORDER`: the tag that an order has under the consumer's key, and whether it stands behind it.
-pub fn sign_anew(alloc: Global, key: &str, bytes: &str) -> Result<String, NoMemory> {
-    let key = telling::key(alloc, key);
-    match read_order(&nb_lines::spelled(alloc, bytes)) {
+pub fn sign_anew(alloc: Global, words: &[&str]) -> Result<String, NoMemory> {
+    let [key, bytes] = words else {
+        return nb_lines::unclear(alloc);
+    };
+    let key = telling::key(alloc, *key);
+    match read_order(&nb_lines::spelled(alloc, *bytes)) {
         Ok(order) => {
             let mut again = order;
             sign_order(&mut again, &key);
@@ -102,24 +108,24 @@ fn tagged(alloc: Global, tag: &[u8; 32], stands: bool) -> Result<String, NoMemor
 }
 
 /// `ask KEY CONSUMER MERCHANT NONCE`: a request for a ticket, signed under the consumer's key.
-pub fn ask(
-    alloc: Global,
-    key: &str,
-    consumer: &str,
-    merchant: &str,
-    nonce: &str,
-) -> Result<String, NoMemory> {
-    let consumer = PartyId(telling::short(consumer));
-    let merchant = PartyId(telling::short(merchant));
-    let key = telling::key(alloc, key);
-    let ask = request(&key, consumer, merchant, nb_lines::number(nonce));
+pub fn ask(alloc: Global, words: &[&str]) -> Result<String, NoMemory> {
+    let [key, consumer, merchant, nonce] = words else {
+        return nb_lines::unclear(alloc);
+    };
+    let consumer = PartyId(telling::short(*consumer));
+    let merchant = PartyId(telling::short(*merchant));
+    let key = telling::key(alloc, *key);
+    let ask = request(&key, consumer, merchant, nb_lines::number(*nonce));
     nb_lines::shown(alloc, ask.spelled().as_slice())
 }
 
 /// `asked KEY REQUEST`: whether the tag of a request for a ticket is right under the key, as both tests of it answer.
-pub fn asked(alloc: Global, key: &str, bytes: &str) -> Result<String, NoMemory> {
-    let key = telling::key(alloc, key);
-    match TicketAsk::read(&nb_lines::spelled(alloc, bytes)) {
+pub fn asked(alloc: Global, words: &[&str]) -> Result<String, NoMemory> {
+    let [key, bytes] = words else {
+        return nb_lines::unclear(alloc);
+    };
+    let key = telling::key(alloc, *key);
+    match TicketAsk::read(&nb_lines::spelled(alloc, *bytes)) {
         Ok(ask) => {
             let is_right = request_ok(&ask, &key);
             let is_right_too = request_ok_with(&ask, &KeyState::new(&key));

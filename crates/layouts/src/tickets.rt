@@ -9,55 +9,59 @@ use nb_units::{NoMemory, PartyId, Small};
 use std::alloc::Global;
 
 /// `session HOUSE CONSUMER MERCHANT NONCE MOMENT`: the key that the two share.
-pub fn session(alloc: Global, house: &str, words: [&str; 4]) -> Result<String, NoMemory> {
-    let [consumer, merchant, nonce, moment] = words;
+pub fn session(alloc: Global, words: &[&str]) -> Result<String, NoMemory> {
+    let [house, consumer, merchant, nonce, moment] = words else {
+        return nb_lines::unclear(alloc);
+    };
     let key = session_key(
-        &telling::key(alloc, house),
-        PartyId(telling::short(consumer)),
-        PartyId(telling::short(merchant)),
-        nb_lines::number(nonce),
-        nb_lines::number(moment),
+        &telling::key(alloc, *house),
+        PartyId(telling::short(*consumer)),
+        PartyId(telling::short(*merchant)),
+        nb_lines::number(*nonce),
+        nb_lines::number(*moment),
     );
     nb_lines::shown(alloc, &key)
 }
 
 /// `until MOMENT`: the last second of a ticket that is granted then.
-pub fn last_second(alloc: Global, moment: &str) -> Result<String, NoMemory> {
-    let last = until(nb_lines::number(moment));
+pub fn last_second(alloc: Global, words: &[&str]) -> Result<String, NoMemory> {
+    let [moment] = words else {
+        return nb_lines::unclear(alloc);
+    };
+    let last = until(nb_lines::number(*moment));
     Ok(format!(in alloc; "{last}")?)
 }
 
 /// `ticket KEY CONSUMER MERCHANT UNTIL SESSION`: a ticket, sealed under the merchant's key.
-pub fn ticket(alloc: Global, key: &str, words: [&str; 4]) -> Result<String, NoMemory> {
-    let [consumer, merchant, until, session] = words;
-    let ticket = Ticket {
-        consumer: PartyId(telling::short(consumer)),
-        merchant: PartyId(telling::short(merchant)),
-        until: nb_lines::number(until),
-        session: telling::key(alloc, session),
+pub fn ticket(alloc: Global, words: &[&str]) -> Result<String, NoMemory> {
+    let [key, consumer, merchant, until, session] = words else {
+        return nb_lines::unclear(alloc);
     };
-    let sealed = write_ticket(&ticket, &telling::key(alloc, key));
+    let ticket = Ticket {
+        consumer: PartyId(telling::short(*consumer)),
+        merchant: PartyId(telling::short(*merchant)),
+        until: nb_lines::number(*until),
+        session: telling::key(alloc, *session),
+    };
+    let sealed = write_ticket(&ticket, &telling::key(alloc, *key));
     nb_lines::shown(alloc, sealed.as_slice())
 }
 
 /// `open-ticket KEY BYTES MERCHANT NOW`: the ticket that the bytes are the seal of, as a merchant asks for it at a moment.
-pub fn opened(
-    alloc: Global,
-    key: &str,
-    bytes: &str,
-    asked: &str,
-    now: &str,
-) -> Result<String, NoMemory> {
-    let bytes = nb_lines::spelled(alloc, bytes);
+pub fn opened(alloc: Global, words: &[&str]) -> Result<String, NoMemory> {
+    let [key, bytes, asked, now] = words else {
+        return nb_lines::unclear(alloc);
+    };
+    let bytes = nb_lines::spelled(alloc, *bytes);
     if bytes.len() > TICKET_BYTES {
         return nb_lines::unclear(alloc);
     }
-    let asked = PartyId(telling::short(asked));
+    let asked = PartyId(telling::short(*asked));
     match open_ticket(
         &bytes,
-        &telling::key(alloc, key),
+        &telling::key(alloc, *key),
         asked,
-        nb_lines::number(now),
+        nb_lines::number(*now),
     ) {
         Ok(ticket) => Ok(format!(in alloc; "{ticket:?}")?),
         Err(fault) => telling::fault(alloc, &fault),
@@ -65,30 +69,35 @@ pub fn opened(
 }
 
 /// `grant KEY MERCHANT NONCE UNTIL SESSION TICKET`: a grant, sealed under the consumer's key.
-pub fn granted(alloc: Global, key: &str, words: [&str; 5]) -> Result<String, NoMemory> {
-    let [merchant, nonce, until, session, ticket] = words;
-    let ticket = nb_lines::spelled(alloc, ticket);
+pub fn granted(alloc: Global, words: &[&str]) -> Result<String, NoMemory> {
+    let [key, merchant, nonce, until, session, ticket] = words else {
+        return nb_lines::unclear(alloc);
+    };
+    let ticket = nb_lines::spelled(alloc, *ticket);
     if ticket.len() > TICKET_BYTES {
         return nb_lines::unclear(alloc);
     }
     let granted = Granted {
-        merchant: PartyId(telling::short(merchant)),
-        nonce: nb_lines::number(nonce),
-        until: nb_lines::number(until),
-        session: telling::key(alloc, session),
+        merchant: PartyId(telling::short(*merchant)),
+        nonce: nb_lines::number(*nonce),
+        until: nb_lines::number(*until),
+        session: telling::key(alloc, *session),
         ticket: Small::of(&ticket).unwrap(),
     };
-    let sealed = grant(&granted, &telling::key(alloc, key));
+    let sealed = grant(&granted, &telling::key(alloc, *key));
     nb_lines::shown(alloc, sealed.as_slice())
 }
 
 /// `open-grant KEY BYTES`: the grant that the bytes are the seal of.
-pub fn opened_grant(alloc: Global, key: &str, bytes: &str) -> Result<String, NoMemory> {
-    let bytes = nb_lines::spelled(alloc, bytes);
+pub fn opened_grant(alloc: Global, words: &[&str]) -> Result<String, NoMemory> {
+    let [key, bytes] = words else {
+        return nb_lines::unclear(alloc);
+    };
+    let bytes = nb_lines::spelled(alloc, *bytes);
     if bytes.len() > GRANT_BYTES {
         return nb_lines::unclear(alloc);
     }
-    match open_grant(&bytes, &telling::key(alloc, key)) {
+    match open_grant(&bytes, &telling::key(alloc, *key)) {
         Ok(granted) => {
             let ticket = granted.ticket.as_slice();
             let fields = (

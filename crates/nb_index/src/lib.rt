@@ -26,8 +26,6 @@ mod limits;
 mod memory;
 mod put;
 mod slot;
-#[cfg(test)]
-mod tests;
 
 pub use index::FixedIndex;
 pub use limits::MAX_SLOTS;

@@ -18,6 +18,3 @@ pub use draws::{draw, number_at};
 pub use frames::{MAX_ORDERS, MOMENT, PARTIES, drill_frames, drill_head, entry_count, frame_count};
 pub use sink::NullSink;
 pub use source::DrillSource;
-
-#[cfg(test)]
-mod tests;

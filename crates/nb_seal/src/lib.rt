@@ -33,8 +33,6 @@ mod limits;
 mod mac;
 mod memory;
 mod seals;
-#[cfg(test)]
-mod tests;
 
 pub use digest::{same, sha};
 pub use key::KeyState;

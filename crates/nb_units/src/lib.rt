@@ -48,6 +48,3 @@ pub use number::{decimal_of, u32_of};
 pub use pen::Pen;
 pub use reason::{FIRST_REASON, LAST_REASON, is_reason};
 pub use small::{MAX_SMALL, Small};
-
-#[cfg(test)]
-mod tests;

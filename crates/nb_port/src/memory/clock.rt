@@ -61,20 +61,3 @@ impl Clock for MemClock {
         moment
     }
 }
-
-#[cfg(test)]
-mod tests {
-    use super::*;
-    use std::test::Fail;
-
-    #[test]
-    fn stays_at_the_last_moment(rt: HostRuntime) -> Result<(), Fail> {
-        let mut clock = MemClock::new(rt.alloc(), &[5, 9])?;
-        for want in [5, 9, 9] {
-            assert_eq!(rt; clock.now(), want);
-        }
-        let mut stopped = MemClock::new(rt.alloc(), &[])?;
-        assert_eq!(rt; stopped.now(), 0);
-        Ok(())
-    }
-}

@@ -77,19 +77,3 @@ impl Sink for MemSink {
         }
     }
 }
-
-#[cfg(test)]
-mod tests {
-    use super::*;
-    use std::test::Fail;
-
-    #[test]
-    fn fails_once_and_goes_on(rt: HostRuntime) -> Result<(), Fail> {
-        let mut sink = MemSink::new(rt.alloc(), &[2])?;
-        assert_eq!(rt; sink.write(b"ab"), WriteOut::Took(2));
-        assert_eq!(rt; sink.write(b"cd"), WriteOut::Failed);
-        assert_eq!(rt; sink.write(b"efg"), WriteOut::Took(3));
-        assert_eq!(rt; sink.sent(), &b"abefg"[..]);
-        Ok(())
-    }
-}

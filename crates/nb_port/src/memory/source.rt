@@ -79,33 +79,3 @@ impl Source for MemSource {
         ReadOut::Bytes(n)
     }
 }
-
-#[cfg(test)]
-mod tests {
-    use super::*;
-    use std::test::Fail;
-
-    #[test]
-    fn fails_once_and_goes_on(rt: HostRuntime) -> Result<(), Fail> {
-        let mut source = MemSource::new(rt.alloc(), b"abcdefg", 2, &[3])?;
-        let mut got = Vec::new(rt.alloc());
-        for want in [
-            ReadOut::Bytes(2),
-            ReadOut::Bytes(2),
-            ReadOut::Failed,
-            ReadOut::Bytes(2),
-            ReadOut::Bytes(1),
-            ReadOut::End,
-            ReadOut::End,
-        ] {
-            let mut buf = [0u8; 4];
-            let out = source.read(&mut buf);
-            assert_eq!(rt; out, want);
-            if let ReadOut::Bytes(n) = out {
-                got.extend_from_slice(&buf[..n])?;
-            }
-        }
-        assert_eq!(rt; got.as_slice(), &b"abcdefg"[..]);
-        Ok(())
-    }
-}

@@ -1,0 +1,121 @@
+// Indexes with few slots.
+
+ghost use Rattle.std.specs.Prelude.{◌≡◌};
+
+use crate::trial::Trial;
+use crate::words::Words;
+use nb_index::{FixedIndex, MAX_SLOTS};
+use nb_units::NoMemory;
+use std::alloc::Global;
+use std::marker::Model;
+
+/// An index, and how many slots it has.
+#[derive(Drop)]
+pub struct Slotted {
+    index: FixedIndex,
+    slots: u32,
+}
+
+impl Model for Slotted {
+    ghost use Rattle.std.specs.Prelude.{◌≡◌};
+    ghost use Rattle.nb_index.specs.Puts.{Indexed};
+
+    ghost Value = { Indexed };
+
+    ghost view = { λ s. s.index };
+
+    ghost invariant = { λ s. s.index.shape.slots ≡ s.slots };
+}
+
+impl Slotted {
+    ghost use Rattle.std.specs.Prelude.{◌<◌, ◌*◌, length, IsTrue, IsNone};
+    ghost use Rattle.nb_index.specs.Puts.{value_in};
+
+    // Whether a number may be put under the key.
+    fn takes(&self, key: &[u8; 16]) -> bool
+        ensures absent { IsTrue result → IsNone (value_in self.now.puts key.now) }
+        ensures room { IsTrue result → 2 * length self.now.puts < self.now.shape.slots }
+    {
+        let used = 2 * u64::from(self.index.used());
+        used < u64::from(self.slots) && self.index.find(key).is_none()
+    }
+
+    // Puts a number under a key that has none, where the index takes one more.
+    fn put(&mut self, key: &[u8; 16], number: u32) -> bool {
+        if !self.takes(key) {
+            return false;
+        }
+        self.index.put(key, number);
+        true
+    }
+
+    // The same, and takes it off again; the number that was found between.
+    fn put_off(&mut self, key: &[u8; 16], number: u32) -> Option<u32> {
+        if !self.takes(key) {
+            return None;
+        }
+        self.index.put(key, number);
+        let found = self.index.find(key);
+        self.index.take_off(key);
+        found
+    }
+}
+
+impl Trial {
+    /// `index SLOTS BYTE`: an index without numbers, whose key is 16 times this byte. `put KEY NUMBER`: a number under a key that has none. `try KEY
+    /// NUMBER`: the same, and it is taken off again. `find KEY`: the number under a key. Each prints how many numbers there are then.
+    pub fn of_index(&mut self, word: &str, words: &[&str]) -> Result<String, NoMemory> {
+        let alloc = self.alloc;
+        let mut words = Words::new(words);
+        if word == "index" {
+            self.index = made(alloc, words.number(), words.byte())?;
+            return Ok(String::new(alloc));
+        }
+        match (&mut self.index, words.sixteen()) {
+            (Some(index), Some(key)) => told(alloc, index, word, &key, words.number()),
+            _ => nb_lines::unclear(alloc),
+        }
+    }
+}
+
+// An index of so many slots, where one may have them.
+fn made(alloc: Global, slots: Option<u32>, byte: Option<u8>) -> Result<Option<Slotted>, NoMemory> {
+    let (Some(slots), Some(byte)) = (slots, byte) else {
+        return Ok(None);
+    };
+    if slots < 2 || MAX_SLOTS < slots {
+        return Ok(None);
+    }
+    match FixedIndex::new(alloc, slots, &[byte; 16]) {
+        Ok(index) => Ok(Some(Slotted { index, slots })),
+        Err(_) => Err(NoMemory),
+    }
+}
+
+fn told(
+    alloc: Global,
+    index: &mut Slotted,
+    word: &str,
+    key: &[u8; 16],
+    number: Option<u32>,
+) -> Result<String, NoMemory> {
+    let number = number.unwrap_or(0);
+    let told = match word {
+        "put" => put(alloc, index.put(key, number))?,
+        "try" => found(alloc, index.put_off(key, number))?,
+        _ => found(alloc, index.index.find(key))?,
+    };
+    Ok(format!(in alloc; "{told}, {} in all", index.index.used())?)
+}
+
+fn put(alloc: Global, was_put: bool) -> Result<String, NoMemory> {
+    let told = if was_put { "put" } else { "not put" };
+    Ok(told.to_string(alloc)?)
+}
+
+fn found(alloc: Global, number: Option<u32>) -> Result<String, NoMemory> {
+    match number {
+        Some(number) => Ok(format!(in alloc; "{number}")?),
+        None => Ok("none".to_string(alloc)?),
+    }
+}
