@@ -35,11 +35,7 @@ pub struct Left {
 impl House {
     /// `session STEP CALL..`: a session over a link whose peer sent what was given to it, of which one read gives at most so many bytes,
     /// and of which these calls fail.
-    pub fn session<R: Wait>(
-        &mut self,
-        rt: &R,
-        words: &[&str],
-    ) -> Result<String, NoMemory> {
+    pub fn session<R: Wait>(&mut self, rt: &R, words: &[&str]) -> Result<String, NoMemory> {
         let [step, calls @ ..] = words else {
             return nb_lines::unclear(self.alloc);
         };
