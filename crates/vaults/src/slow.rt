@@ -168,7 +168,7 @@ fn ask_beside<R: Threads + Wait + Clock + Sync, D: Disk + Drop + Send>(
         { ask_within(rt, alloc, desk, one, first) },
         || -> Option<(Pass<D>, Said)>
             requires { IsAt two desk.now }
-            ensures { IfSome result (λ r. IsAt r.0 desk.now) }
+            ensures { IfSome result (λ r. IsAt r.0 desk.entry.now) }
         { try_within(rt, alloc, desk, two, second, signs) },
     )
 }
