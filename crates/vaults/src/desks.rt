@@ -83,15 +83,16 @@ fn take_step<R: Wait>(
     ensures { IfOk result (λ r. IsAt r.0 desk.new) }
 {
     match words {
-        ["desk"] => Ok((pass, String::new(alloc))),
-        ["split", number] => split_off(alloc, desk, pass, nb_lines::number(*number), true),
-        ["drop", number] => split_off(alloc, desk, pass, nb_lines::number(*number), false),
-        [word, ..] => {
-            let named = words.split_at(1).1;
-            let (pass, said) = ask_by(rt, alloc, names, desk, pass, *word, named)?;
-            Ok((pass, format!(in alloc; "{}\n", told(alloc, said)?)?))
-        }
         [] => Ok((pass, nb_lines::unclear(alloc)?)),
+        [word, rest @ ..] => match *word {
+            "desk" => Ok((pass, String::new(alloc))),
+            "split" => split_off(alloc, desk, pass, rest, true),
+            "drop" => split_off(alloc, desk, pass, rest, false),
+            _ => {
+                let (pass, said) = ask_by(rt, alloc, names, desk, pass, *word, rest)?;
+                Ok((pass, format!(in alloc; "{}\n", told(alloc, said)?)?))
+            }
+        },
     }
 }
 
@@ -100,12 +101,16 @@ fn split_off(
     alloc: Global,
     desk: &mut Desk<MemDisk>,
     pass: Pass<MemDisk>,
-    number: u64,
+    words: &[&str],
     joins: bool,
 ) -> Result<(Pass<MemDisk>, String), NoMemory>
     requires { IsAt pass desk.old }
     ensures { IfOk result (λ r. IsAt r.0 desk.new) }
 {
+    let [number] = words else {
+        return Ok((pass, nb_lines::unclear(alloc)?));
+    };
+    let number = nb_lines::number(*number);
     if number >= MAX_PASSES {
         return Ok((pass, nb_lines::unclear(alloc)?));
     }

@@ -55,15 +55,25 @@ fn done<R: Threads + Wait + Clock + Sync>(
     }
 }
 
-// What the next vault is made of, and its begin and end.
+// What the next vault is made of.
 fn set(house: &mut House, word: &str, rest: &[&str]) -> Result<String, NoMemory> {
-    match (word, rest) {
-        ("request", _) => house.request(rest),
-        ("entry", _) => house.entry(rest),
-        ("journal", _) => house.journal(rest),
-        ("disk", _) => house.disk_fails(rest),
-        ("open", []) => house.open(),
-        ("close", []) => house.close(),
+    match word {
+        "request" => house.request(rest),
+        "entry" => house.entry(rest),
+        "journal" => house.journal(rest),
+        "disk" => house.disk_fails(rest),
+        _ => begin_or_end(house, word, rest),
+    }
+}
+
+// A vault begins or ends.
+fn begin_or_end(house: &mut House, word: &str, rest: &[&str]) -> Result<String, NoMemory> {
+    if !rest.is_empty() {
+        return nb_lines::unclear(house.alloc());
+    }
+    match word {
+        "open" => house.open(),
+        "close" => house.close(),
         _ => nb_lines::unclear(house.alloc()),
     }
 }
