@@ -62,8 +62,12 @@ impl House {
     }
 
     /// `journal HEX`: the next houses begin with this journal.
-    pub fn journal(&mut self, text: &str) -> Result<String, NoMemory> {
-        self.journal = nb_lines::spelled(self.alloc, text);
+    pub fn journal(&mut self, words: &[&str]) -> Result<String, NoMemory> {
+        self.journal = match words {
+            [] => Vec::new(self.alloc),
+            [text] => nb_lines::spelled(self.alloc, *text),
+            _ => return nb_lines::unclear(self.alloc),
+        };
         let disk = MemDisk::new(self.alloc, &self.journal, &[])?;
         self.opening = opening_calls(self.alloc, disk);
         self.nothing()
@@ -72,7 +76,7 @@ impl House {
     /// `disk CALL..`: the calls of their disks that fail, counted behind those of opening.
     pub fn disk_fails(&mut self, words: &[&str]) -> Result<String, NoMemory> {
         self.fails.clear();
-        for word in words.iter().skip(1) {
+        for word in words {
             let call = nb_lines::number(*word);
             self.fails.push(self.opening.saturating_add(call))?;
         }
@@ -81,7 +85,7 @@ impl House {
 
     /// `opening CALL..`: the calls of their disks that fail, counted from the first.
     pub fn opening_fails(&mut self, words: &[&str]) -> Result<String, NoMemory> {
-        self.fails = nb_lines::numbers(self.alloc, words, 1)?;
+        self.fails = nb_lines::numbers(self.alloc, words, 0)?;
         self.nothing()
     }
 
@@ -91,9 +95,12 @@ impl House {
     }
 
     /// `send COUNT HEX`: the peer of the next link sends these bytes so many times, behind what it sends already.
-    pub fn send(&mut self, count: &str, text: &str) -> Result<String, NoMemory> {
-        let bytes = nb_lines::spelled(self.alloc, text);
-        let count = nb_lines::number(count).min(MOST as u64);
+    pub fn send(&mut self, words: &[&str]) -> Result<String, NoMemory> {
+        let [count, text] = words else {
+            return nb_lines::unclear(self.alloc);
+        };
+        let bytes = nb_lines::spelled(self.alloc, *text);
+        let count = nb_lines::number(*count).min(MOST as u64);
         for _ in 0..count {
             self.piece.extend_from_slice(&bytes)?;
         }
@@ -109,15 +116,18 @@ impl House {
     }
 
     /// `link STEP`: the next worker has one link more.
-    pub fn link(&mut self, step: &str) -> Result<String, NoMemory> {
-        let link = self.next_link(step, &[])?;
+    pub fn link(&mut self, words: &[&str]) -> Result<String, NoMemory> {
+        let [step] = words else {
+            return nb_lines::unclear(self.alloc);
+        };
+        let link = self.next_link(*step, &[])?;
         self.links.push(link)?;
         self.nothing()
     }
 
     /// `worker CALL..`: the next server has one worker more, over these links; these calls of its port fail.
     pub fn worker(&mut self, words: &[&str]) -> Result<String, NoMemory> {
-        let fails = nb_lines::numbers(self.alloc, words, 1)?;
+        let fails = nb_lines::numbers(self.alloc, words, 0)?;
         let links = std::mem::replace(&mut self.links, Vec::new(self.alloc));
         if links.len() > MOST_LINKS {
             return nb_lines::unclear(self.alloc);

@@ -27,28 +27,28 @@ impl House {
     }
 
     // The image at so many moments behind those of opening, with what was not synced as it was, as it is, or filled with a byte.
-    fn image_at(&self, step: &str, fill: &str) -> Result<Option<Blob>, NoMemory> {
+    fn image_at(&self, words: &[&str]) -> Result<Option<Blob>, NoMemory> {
+        let (Some(left), [step, fill]) = (&self.left, words) else {
+            return Ok(None);
+        };
         let moment = self
             .opening
             .saturating_mul(2)
-            .saturating_add(nb_lines::number(step));
-        match &self.left {
-            Some(left) => nb_lines::image(self.alloc, &left.disk, moment, fill),
-            None => Ok(None),
-        }
+            .saturating_add(nb_lines::number(*step));
+        nb_lines::image(self.alloc, &left.disk, moment, *fill)
     }
 
     /// `image STEP FILL`: what a stop leaves.
-    pub fn image(&self, step: &str, fill: &str) -> Result<String, NoMemory> {
-        match self.image_at(step, fill)? {
+    pub fn image(&self, words: &[&str]) -> Result<String, NoMemory> {
+        match self.image_at(words)? {
             Some(image) => nb_lines::shown(self.alloc, image.as_slice()),
             None => nb_lines::unclear(self.alloc),
         }
     }
 
     /// `entries STEP FILL`: how many entries a vault has that is opened on it.
-    pub fn entries(&self, step: &str, fill: &str) -> Result<String, NoMemory> {
-        match self.image_at(step, fill)? {
+    pub fn entries(&self, words: &[&str]) -> Result<String, NoMemory> {
+        match self.image_at(words)? {
             Some(image) => opened(self.alloc, image.as_slice()),
             None => nb_lines::unclear(self.alloc),
         }

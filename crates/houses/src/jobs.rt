@@ -17,9 +17,12 @@ impl House {
     pub fn work<R: Threads + Wait + Sync>(
         &mut self,
         rt: &R,
-        sessions: &str,
+        words: &[&str],
     ) -> Result<String, NoMemory> {
         let alloc = self.alloc;
+        let [sessions] = words else {
+            return nb_lines::unclear(alloc);
+        };
         let count = self.workers.len();
         if count < 1 || count > MAX_WORKERS {
             return nb_lines::unclear(alloc);
@@ -27,7 +30,7 @@ impl House {
         let workers = std::mem::replace(&mut self.workers, Vec::new(alloc));
         let job = Job::Serve {
             workers: count as u32,
-            sessions: nb_lines::number(sessions).min(u64::from(u32::MAX)) as u32,
+            sessions: nb_lines::number(*sessions).min(u64::from(u32::MAX)) as u32,
         };
         let mut sink = MemSink::new(alloc, &[])?;
         let dials = Dials::<MemLink>::none();

@@ -39,26 +39,45 @@ fn done<R: Threads + Wait + Clock + Sync>(
 ) -> Result<String, NoMemory> {
     let words: Vec<&str> = line.split_whitespace().collect(house.alloc())?;
     match words.as_slice() {
-        ["#", ..] => Ok(line.to_string(house.alloc())?),
-        ["journal"] => house.journal(""),
-        ["journal", content] => house.journal(*content),
-        ["disk", ..] => house.disk_fails(words.as_slice()),
-        ["opening", ..] => house.opening_fails(words.as_slice()),
-        ["send", count, bytes] => house.send(*count, *bytes),
-        ["session", step, ..] => house.session(rt, *step, words.as_slice()),
-        ["lines"] => house.lines(),
-        ["calls"] => house.calls(),
-        ["content"] => house.content(),
-        ["image", step, fill] => house.image(*step, *fill),
-        ["entries", step, fill] => house.entries(*step, *fill),
-        ["link", step] => house.link(*step),
-        ["worker", ..] => house.worker(words.as_slice()),
-        ["work", sessions] => house.work(rt, *sessions),
-        ["serve", hold] => house.serve(rt, *hold == "hold"),
-        ["sent"] => house.sent(),
-        ["made"] => house.made(),
-        ["stand", before] => house.stand(*before),
         [] => Ok(String::new(house.alloc())),
+        [word, rest @ ..] => match *word {
+            "#" => Ok(line.to_string(house.alloc())?),
+            "session" => house.session(rt, rest),
+            "work" => house.work(rt, rest),
+            "serve" => house.serve(rt, rest),
+            "image" => house.image(rest),
+            "entries" => house.entries(rest),
+            "stand" => house.stand(rest),
+            "lines" | "calls" | "content" | "passes" | "sent" | "made" => told(house, *word, rest),
+            _ => set(house, *word, rest),
+        },
+    }
+}
+
+// What the next house is made of.
+fn set(house: &mut House, word: &str, rest: &[&str]) -> Result<String, NoMemory> {
+    match word {
+        "journal" => house.journal(rest),
+        "disk" => house.disk_fails(rest),
+        "opening" => house.opening_fails(rest),
+        "send" => house.send(rest),
+        "link" => house.link(rest),
+        "worker" => house.worker(rest),
         _ => nb_lines::unclear(house.alloc()),
+    }
+}
+
+// What came of the last one.
+fn told(house: &House, word: &str, rest: &[&str]) -> Result<String, NoMemory> {
+    if !rest.is_empty() {
+        return nb_lines::unclear(house.alloc());
+    }
+    match word {
+        "lines" => house.lines(),
+        "calls" => house.calls(),
+        "content" => house.content(),
+        "passes" => house.passes(),
+        "sent" => house.sent(),
+        _ => house.made(),
     }
 }

@@ -94,8 +94,12 @@ impl House {
     pub fn serve<R: Threads + Wait + Clock + Sync>(
         &mut self,
         rt: &R,
-        holds: bool,
+        words: &[&str],
     ) -> Result<String, NoMemory> {
+        let [hold] = words else {
+            return nb_lines::unclear(self.alloc);
+        };
+        let holds = *hold == "hold";
         let workers = std::mem::replace(&mut self.workers, Vec::new(self.alloc));
         let gate = Hall::new(rt, holds);
         self.came = serve_links(rt, self.alloc, self.disk()?, workers, &gate);

@@ -5,7 +5,7 @@ ghost use Rattle.nb_desk.specs.Desks.{IsAt};
 
 use crate::house::{House, MOMENT};
 use crate::telling;
-use crate::watch::{Passing, SeenLink, Watch};
+use crate::watch::{Passes, Passing, SeenLink, Watch};
 use nb_desk::{Desk, Pass};
 use nb_port::{MemClock, MemDisk};
 use nb_session::{Record, session};
@@ -27,21 +27,22 @@ pub struct Left {
     pub record: Record,
     pub disk: MemDisk,
     pub lines: Vec<Line>,
+    // What the gate saw before turns, and behind replies.
+    pub before: Passes,
+    pub behind: Passes,
 }
 
 impl House {
     /// `session STEP CALL..`: a session over a link whose peer sent what was given to it, of which one read gives at most so many bytes,
     /// and of which these calls fail.
-    pub fn session<R: Wait>(
-        &mut self,
-        rt: &R,
-        step: &str,
-        words: &[&str],
-    ) -> Result<String, NoMemory> {
-        let fails = nb_lines::numbers(self.alloc, words, 2)?;
+    pub fn session<R: Wait>(&mut self, rt: &R, words: &[&str]) -> Result<String, NoMemory> {
+        let [step, calls @ ..] = words else {
+            return nb_lines::unclear(self.alloc);
+        };
+        let fails = nb_lines::numbers(self.alloc, calls, 0)?;
         let watch = Watch::new();
         let mut link = SeenLink {
-            link: self.next_link(step, &fails)?,
+            link: self.next_link(*step, &fails)?,
             watch: &watch,
         };
         self.left = serve_link(rt, self.alloc, self.disk()?, &mut link, &watch)?;
@@ -58,6 +59,36 @@ impl House {
             None => nb_lines::unclear(self.alloc),
         }
     }
+}
+
+impl House {
+    /// `passes`: of each point of the gate, as which passes of all points it was passed in the last session, from 0 on, and behind how many
+    /// writes; of both those below 64.
+    pub fn passes(&self) -> Result<String, NoMemory> {
+        let Some(left) = &self.left else {
+            return nb_lines::unclear(self.alloc);
+        };
+        let before = all_passes(self.alloc, left.before)?;
+        let behind = all_passes(self.alloc, left.behind)?;
+        Ok(format!(in self.alloc; "before{before}; behind{behind}")?)
+    }
+}
+
+fn all_passes(alloc: Global, passes: Passes) -> Result<String, NoMemory> {
+    let orders = numbers_in(alloc, passes.orders)?;
+    let writes = numbers_in(alloc, passes.writes)?;
+    Ok(format!(in alloc; "{orders} with{writes} writes")?)
+}
+
+// The numbers whose bits are set.
+fn numbers_in(alloc: Global, word: u64) -> Result<String, NoMemory> {
+    let mut told = String::new(alloc);
+    for number in 0..64u64 {
+        if word >> number & 1 == 1 {
+            told.push_str(format!(in alloc; " {number}")?.as_str())?;
+        }
+    }
+    Ok(told)
 }
 
 // Opens a desk over a journal.
@@ -105,6 +136,8 @@ fn serve_at<'a, R: Wait>(
         record,
         disk,
         lines,
+        before: watch.before_turn.passes(),
+        behind: watch.after_reply.passes(),
     }
 }
 

@@ -36,14 +36,14 @@ struct Counts {
 impl House {
     /// `stand BEFORE`: of each reply of the last server whether its fund stands at the place that it tells, behind so many entries of the
     /// journal, or its fault is told under its worker's number.
-    pub fn stand(&self, before: &str) -> Result<String, NoMemory> {
-        match &self.came {
-            Some(came) => {
+    pub fn stand(&self, words: &[&str]) -> Result<String, NoMemory> {
+        match (&self.came, words) {
+            (Some(came), [before]) => {
                 let told = told_by(self.alloc, &came.lines, came.ends.len() as u64)?;
-                let counts = counted(came, &told, nb_lines::number(before));
+                let counts = counted(came, &told, nb_lines::number(*before));
                 summed(self.alloc, counts, told.foreign)
             }
-            None => nb_lines::unclear(self.alloc),
+            _ => nb_lines::unclear(self.alloc),
         }
     }
 }

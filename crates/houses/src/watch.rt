@@ -8,13 +8,23 @@ use nb_link::{Gate, Link, MemLink, Point};
 use nb_port::{ReadOut, WriteOut};
 use std::sync::atomic::{AtomicU64, Ordering};
 
-/// The last pass of a point: of which worker and session, as which pass of all points, and behind how many writes.
+/// The last pass of a point: of which worker and session, as which pass of all points, and behind how many writes. Of all passes of the point
+/// the last two numbers are kept too, a bit for each below 64.
 #[derive(Drop)]
 pub struct Passing {
     pub worker: AtomicU64,
     pub session: AtomicU64,
     pub order: AtomicU64,
     pub writes: AtomicU64,
+    orders: AtomicU64,
+    all_writes: AtomicU64,
+}
+
+/// As which passes of all points a point was passed, and behind how many writes, a bit for each number below 64.
+#[derive(Clone, Copy)]
+pub struct Passes {
+    pub orders: u64,
+    pub writes: u64,
 }
 
 impl Passing {
@@ -24,6 +34,25 @@ impl Passing {
             session: AtomicU64::new(0),
             order: AtomicU64::new(0),
             writes: AtomicU64::new(0),
+            orders: AtomicU64::new(0),
+            all_writes: AtomicU64::new(0),
+        }
+    }
+
+    /// All passes of the point.
+    pub fn passes(&self) -> Passes {
+        Passes {
+            orders: self.orders.load(Ordering::SeqCst),
+            writes: self.all_writes.load(Ordering::SeqCst),
+        }
+    }
+
+    fn keep(&self, order: u64, writes: u64) {
+        self.order.store(order, Ordering::SeqCst);
+        self.writes.store(writes, Ordering::SeqCst);
+        if order < 64 && writes < 64 {
+            self.orders.fetch_or(1 << order, Ordering::SeqCst);
+            self.all_writes.fetch_or(1 << writes, Ordering::SeqCst);
         }
     }
 }
@@ -64,8 +93,7 @@ impl Gate for Watch {
         let writes = self.writes.load(Ordering::SeqCst);
         passing.worker.store(u64::from(worker), Ordering::SeqCst);
         passing.session.store(u64::from(session), Ordering::SeqCst);
-        passing.order.store(order, Ordering::SeqCst);
-        passing.writes.store(writes, Ordering::SeqCst);
+        passing.keep(order, writes);
     }
 }
 

@@ -21,6 +21,3 @@ mod writing;
 pub use fault::FrameFault;
 pub use stream::{FrameAt, Frames, MAX_HELD, MAX_PIECE, Next};
 pub use writing::{write_frame, write_header};
-
-#[cfg(test)]
-mod tests;

@@ -9,8 +9,8 @@
 //! where its count rose in it.
 //!
 //! [`MemLink`] and [`MemPort`] hold all in memory and tell all of it. Calls chosen when one is made fail, and no others, but for
-//! want of memory. A gate has no contract: what passes it is for tests to see, by a [`CountingGate`]. So is how many writes a link
-//! had, by a [`CountingLink`].
+//! want of memory. A gate has no contract: what passes it is for trials to see, by a gate of their own. How many writes a link had is
+//! told by a [`CountingLink`].
 //!
 //! Left to others: the adapters to the system.
 #![tactic(auto)]
@@ -21,7 +21,7 @@ mod link;
 mod memory;
 mod port;
 
-pub use counting::{CountingGate, CountingLink};
+pub use counting::CountingLink;
 pub use gate::{Gate, OpenGate, Point};
 pub use link::{Link, Reading};
 pub use memory::{MemLink, MemPort};

@@ -30,8 +30,6 @@ mod pass;
 mod plays;
 mod split;
 mod take;
-#[cfg(test)]
-mod tests;
 mod types;
 mod wait;
 mod words;

@@ -21,6 +21,3 @@ mod mark;
 pub use limits::{MAX_FAULTS, MAX_REQUESTS};
 pub use line::Line;
 pub use mark::Mark;
-
-#[cfg(test)]
-mod tests;

@@ -7,9 +7,12 @@ use nb_units::NoMemory;
 
 impl Trial {
     /// `file CALL HEX`: the next runs go over a file, of which the device has these bytes, and of whose syncs and advices this one fails.
-    pub fn file(&mut self, call: &str, text: &str) -> Result<String, NoMemory> {
-        let bytes = nb_lines::spelled(self.alloc(), text);
-        self.kernel = Some(Kernel::over(&bytes, nb_lines::number(call)));
+    pub fn file(&mut self, words: &[&str]) -> Result<String, NoMemory> {
+        let [call, text] = words else {
+            return nb_lines::unclear(self.alloc());
+        };
+        let bytes = nb_lines::spelled(self.alloc(), *text);
+        self.kernel = Some(Kernel::over(&bytes, nb_lines::number(*call)));
         self.nothing()
     }
 

@@ -20,9 +20,12 @@ impl Trial {
 
     /// `image MOMENT FILL`: what a stop at the moment leaves of the disk that is held, with what was not synced as it was, as it is, or
     /// filled with a byte. The disks of the next runs begin with it.
-    pub fn image(&mut self, moment: &str, fill: &str) -> Result<String, NoMemory> {
+    pub fn image(&mut self, words: &[&str]) -> Result<String, NoMemory> {
+        let [moment, fill] = words else {
+            return nb_lines::unclear(self.alloc());
+        };
         let image = match &self.held {
-            Some(disk) => nb_lines::image(self.alloc(), disk, nb_lines::number(moment), fill)?,
+            Some(disk) => nb_lines::image(self.alloc(), disk, nb_lines::number(*moment), *fill)?,
             None => None,
         };
         match image {

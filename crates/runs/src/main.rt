@@ -32,34 +32,65 @@ fn main(rt: HostRuntime) -> anyhow::Result<()> {
 fn done(trial: &mut Trial, line: &str) -> Result<String, NoMemory> {
     let words: Vec<&str> = line.split_whitespace().collect(trial.alloc())?;
     match words.as_slice() {
-        ["#", ..] => Ok(line.to_string(trial.alloc())?),
-        ["run", ..] => trial.run(words.as_slice()),
-        ["disk"] => trial.disk(),
-        ["image", moment, fill] => trial.image(*moment, *fill),
-        ["device"] => trial.device(),
         [] => Ok(String::new(trial.alloc())),
-        _ => set(trial, words.as_slice()),
+        [word, rest @ ..] => match *word {
+            "#" => Ok(line.to_string(trial.alloc())?),
+            "run" => trial.run(rest),
+            "disk" | "device" => shown(trial, *word, rest),
+            "image" => trial.image(rest),
+            _ => set(trial, *word, rest),
+        },
+    }
+}
+
+// What the last run left.
+fn shown(trial: &Trial, word: &str, rest: &[&str]) -> Result<String, NoMemory> {
+    if !rest.is_empty() {
+        return nb_lines::unclear(trial.alloc());
+    }
+    match word {
+        "disk" => trial.disk(),
+        _ => trial.device(),
     }
 }
 
 // What the next runs are given.
-fn set(trial: &mut Trial, words: &[&str]) -> Result<String, NoMemory> {
-    match words {
-        ["journal"] => trial.journal(""),
-        ["journal", content] => trial.journal(*content),
-        ["cut", len] => trial.cut(*len),
-        ["again"] => trial.again(),
-        ["hold"] => trial.hold(),
-        ["input"] => trial.input("0", ""),
-        ["input", count, bytes] => trial.input(*count, *bytes),
-        ["step", step] => trial.step(*step),
-        ["clock", ..] => trial.clock(words),
-        ["fails", what, ..] => trial.fails(*what, words),
-        ["sink", how] => trial.sink(*how),
-        ["file", call, bytes] => trial.file(*call, *bytes),
-        ["restart"] => trial.restart(),
-        ["interrupt"] => trial.interrupt(),
-        ["memory"] => trial.memory(),
+fn set(trial: &mut Trial, word: &str, rest: &[&str]) -> Result<String, NoMemory> {
+    match word {
+        "journal" => trial.journal(rest),
+        "input" => trial.input(rest),
+        "more" => trial.more(rest),
+        "clock" => trial.clock(rest),
+        "fails" => trial.fails(rest),
+        "file" => trial.file(rest),
+        "cut" | "step" | "sink" => set_to(trial, word, rest),
+        _ => go_on(trial, word, rest),
+    }
+}
+
+// What is set to one word.
+fn set_to(trial: &mut Trial, word: &str, rest: &[&str]) -> Result<String, NoMemory> {
+    let [value] = rest else {
+        return nb_lines::unclear(trial.alloc());
+    };
+    match word {
+        "cut" => trial.cut(*value),
+        "step" => trial.step(*value),
+        _ => trial.sink(*value),
+    }
+}
+
+// How the next runs go on from the last one.
+fn go_on(trial: &mut Trial, word: &str, rest: &[&str]) -> Result<String, NoMemory> {
+    if !rest.is_empty() {
+        return nb_lines::unclear(trial.alloc());
+    }
+    match word {
+        "again" => trial.again(),
+        "hold" => trial.hold(),
+        "restart" => trial.restart(),
+        "interrupt" => trial.interrupt(),
+        "memory" => trial.memory(),
         _ => nb_lines::unclear(trial.alloc()),
     }
 }

@@ -7,10 +7,10 @@ use std::alloc::Global;
 // The most bytes that are shown.
 const SHOWN: usize = 64;
 
-// The words behind the first one, as a program is given them.
+// Words, as a program is given them.
 pub(crate) fn words(alloc: Global, words: &[&str]) -> Result<Vec<String>, NoMemory> {
     let mut given = Vec::new(alloc);
-    for word in words.iter().skip(1) {
+    for word in words {
         given.push(given_as(alloc, *word)?)?;
     }
     Ok(given)

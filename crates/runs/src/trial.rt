@@ -63,8 +63,12 @@ impl Trial {
     }
 
     /// `journal HEX`: the disks of the next runs begin with these bytes.
-    pub fn journal(&mut self, text: &str) -> Result<String, NoMemory> {
-        self.journal = nb_lines::spelled(self.alloc, text);
+    pub fn journal(&mut self, words: &[&str]) -> Result<String, NoMemory> {
+        self.journal = match words {
+            [] => Vec::new(self.alloc),
+            [text] => nb_lines::spelled(self.alloc, *text),
+            _ => return nb_lines::unclear(self.alloc),
+        };
         self.content = self.journal.clone()?;
         self.nothing()
     }
@@ -94,11 +98,22 @@ impl Trial {
         self.nothing()
     }
 
-    /// `input COUNT HEX`: the sources of the next runs give these bytes so many times.
-    pub fn input(&mut self, count: &str, text: &str) -> Result<String, NoMemory> {
-        let bytes = nb_lines::spelled(self.alloc, text);
+    /// `input COUNT HEX`: the sources of the next runs give these bytes so many times, and nothing where none stand there.
+    pub fn input(&mut self, words: &[&str]) -> Result<String, NoMemory> {
         self.input.clear();
-        for _ in 0..nb_lines::number(count).min(MOST_TIMES) {
+        match words {
+            [] => self.nothing(),
+            _ => self.more(words),
+        }
+    }
+
+    /// `more COUNT HEX`: behind what they give already they give these bytes so many times.
+    pub fn more(&mut self, words: &[&str]) -> Result<String, NoMemory> {
+        let [count, text] = words else {
+            return nb_lines::unclear(self.alloc);
+        };
+        let bytes = nb_lines::spelled(self.alloc, *text);
+        for _ in 0..nb_lines::number(*count).min(MOST_TIMES) {
             self.input.extend_from_slice(&bytes)?;
         }
         self.nothing()
@@ -112,14 +127,17 @@ impl Trial {
 
     /// `clock MOMENT..`: the clocks give these moments, and then the last one again.
     pub fn clock(&mut self, words: &[&str]) -> Result<String, NoMemory> {
-        self.moments = nb_lines::numbers(self.alloc, words, 1)?;
+        self.moments = nb_lines::numbers(self.alloc, words, 0)?;
         self.nothing()
     }
 
     /// `fails WHAT CALL..`: these calls of the disk, the source or the sink fail.
-    pub fn fails(&mut self, what: &str, words: &[&str]) -> Result<String, NoMemory> {
-        let calls = nb_lines::numbers(self.alloc, words, 2)?;
-        match what {
+    pub fn fails(&mut self, words: &[&str]) -> Result<String, NoMemory> {
+        let [what, numbers @ ..] = words else {
+            return nb_lines::unclear(self.alloc);
+        };
+        let calls = nb_lines::numbers(self.alloc, numbers, 0)?;
+        match *what {
             "disk" => self.disk_fails = calls,
             "source" => self.source_fails = calls,
             "sink" => self.sink_fails = calls,

@@ -14,10 +14,13 @@ use std::alloc::Global;
 
 impl House {
     /// `ask BY NAME`: asks for one request, in the name of this number.
-    pub fn ask(&mut self, by: &str, name: &str) -> Result<String, NoMemory> {
-        match (&mut self.vault, self.names.request(name)) {
+    pub fn ask(&mut self, words: &[&str]) -> Result<String, NoMemory> {
+        let [by, name] = words else {
+            return nb_lines::unclear(self.alloc);
+        };
+        match (&mut self.vault, self.names.request(*name)) {
             (Some(vault), Some(request)) => {
-                let said = answer(self.alloc, vault, nb_lines::number(by), request)?;
+                let said = answer(self.alloc, vault, nb_lines::number(*by), request)?;
                 let told = said.told(self.alloc)?;
                 self.with_lines(told)
             }
@@ -26,13 +29,15 @@ impl House {
     }
 
     /// `turn BY NAME..`: asks for several requests in one turn.
-    pub fn turn(&mut self, by: &str, words: &[&str]) -> Result<String, NoMemory> {
-        let names = words.split_at(words.len().min(2)).1;
+    pub fn turn(&mut self, words: &[&str]) -> Result<String, NoMemory> {
+        let [by, names @ ..] = words else {
+            return nb_lines::unclear(self.alloc);
+        };
         let batch = Batch::of(self.alloc, &self.names, names)?;
         let Some(vault) = &mut self.vault else {
             return nb_lines::unclear(self.alloc);
         };
-        match answer_all(self.alloc, vault, nb_lines::number(by), &batch)? {
+        match answer_all(self.alloc, vault, nb_lines::number(*by), &batch)? {
             Some(said) => {
                 let told = said.told(self.alloc)?;
                 self.with_lines(told)

@@ -42,11 +42,13 @@ impl House {
     pub fn crowd<R: Threads + Wait + Sync>(
         &self,
         rt: &R,
-        name: &str,
-        times: &str,
+        words: &[&str],
     ) -> Result<String, NoMemory> {
-        let times = nb_lines::number(times).min(MOST_TIMES) as u32;
-        let Some(request) = self.names.request(name) else {
+        let [name, times] = words else {
+            return nb_lines::unclear(self.alloc);
+        };
+        let times = nb_lines::number(*times).min(MOST_TIMES) as u32;
+        let Some(request) = self.names.request(*name) else {
             return nb_lines::unclear(self.alloc);
         };
         let crowd = match desk_over(self.alloc, self.next_disk()?) {

@@ -19,7 +19,8 @@ use std::sync::Wait;
 
 impl House {
     /// `desk / STEP / STEP ..`: a desk over the next disk, whose first pass takes these steps: `ask NAME`, `try NAME`, `all NAME..`,
-    /// `tries NAME..`, and `split NUMBER`, which splits a pass off and joins it. The vault that comes out is open then.
+    /// `tries NAME..`, `split NUMBER`, which splits a pass off and joins it, and `drop NUMBER`, which splits one off and drops it. The vault that
+    /// comes out is open then.
     pub fn desk<R: Wait>(&mut self, rt: &R, line: &str) -> Result<String, NoMemory> {
         match desk_over(self.alloc, self.next_disk()?) {
             Some((desk, pass)) => {
@@ -82,34 +83,45 @@ fn take_step<R: Wait>(
     ensures { IfOk result (λ r. IsAt r.0 desk.new) }
 {
     match words {
-        ["desk"] => Ok((pass, String::new(alloc))),
-        ["split", number] => split_off(alloc, desk, pass, nb_lines::number(*number)),
-        [word, ..] => {
-            let named = words.split_at(1).1;
-            let (pass, said) = ask_by(rt, alloc, names, desk, pass, *word, named)?;
-            Ok((pass, format!(in alloc; "{}\n", told(alloc, said)?)?))
-        }
         [] => Ok((pass, nb_lines::unclear(alloc)?)),
+        [word, rest @ ..] => match *word {
+            "desk" => Ok((pass, String::new(alloc))),
+            "split" => split_off(alloc, desk, pass, rest, true),
+            "drop" => split_off(alloc, desk, pass, rest, false),
+            _ => {
+                let (pass, said) = ask_by(rt, alloc, names, desk, pass, *word, rest)?;
+                Ok((pass, format!(in alloc; "{}\n", told(alloc, said)?)?))
+            }
+        },
     }
 }
 
-// Splits a pass of a number off, and joins it again.
+// Splits a pass of a number off, and joins it again or drops it.
 fn split_off(
     alloc: Global,
     desk: &mut Desk<MemDisk>,
     pass: Pass<MemDisk>,
-    number: u64,
+    words: &[&str],
+    joins: bool,
 ) -> Result<(Pass<MemDisk>, String), NoMemory>
     requires { IsAt pass desk.old }
     ensures { IfOk result (λ r. IsAt r.0 desk.new) }
 {
+    let [number] = words else {
+        return Ok((pass, nb_lines::unclear(alloc)?));
+    };
+    let number = nb_lines::number(*number);
     if number >= MAX_PASSES {
         return Ok((pass, nb_lines::unclear(alloc)?));
     }
     match desk.split(pass, number) {
         Ok((first, second)) => {
             let told = format!(in alloc; "pass {}\n", second.number())?;
-            Ok((desk.join(first, second), told))
+            if joins {
+                return Ok((desk.join(first, second), told));
+            }
+            drop(second);
+            Ok((first, told))
         }
         Err((SplitFault::Taken { word }, pass)) => {
             Ok((pass, format!(in alloc; "taken {word}\n")?))

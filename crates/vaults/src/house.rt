@@ -43,15 +43,21 @@ impl House {
     }
 
     /// `request NAME MOMENT HEX`: a request, which is asked at this moment, has a name.
-    pub fn request(&mut self, name: &str, moment: &str, text: &str) -> Result<String, NoMemory> {
-        let moment = nb_lines::number(moment);
-        self.names.add_request(self.alloc, name, moment, text)?;
+    pub fn request(&mut self, words: &[&str]) -> Result<String, NoMemory> {
+        let [name, moment, text] = words else {
+            return nb_lines::unclear(self.alloc);
+        };
+        let moment = nb_lines::number(*moment);
+        self.names.add_request(self.alloc, *name, moment, *text)?;
         self.nothing()
     }
 
     /// `entry NAME HEX`: an entry has a name.
-    pub fn entry(&mut self, name: &str, text: &str) -> Result<String, NoMemory> {
-        if self.names.add_entry(self.alloc, name, text)? {
+    pub fn entry(&mut self, words: &[&str]) -> Result<String, NoMemory> {
+        let [name, text] = words else {
+            return nb_lines::unclear(self.alloc);
+        };
+        if self.names.add_entry(self.alloc, *name, *text)? {
             self.nothing()
         } else {
             nb_lines::unclear(self.alloc)
@@ -59,14 +65,18 @@ impl House {
     }
 
     /// `journal HEX`: the next disks have this content.
-    pub fn journal(&mut self, text: &str) -> Result<String, NoMemory> {
-        self.journal = nb_lines::spelled(self.alloc, text);
+    pub fn journal(&mut self, words: &[&str]) -> Result<String, NoMemory> {
+        self.journal = match words {
+            [] => Vec::new(self.alloc),
+            [text] => nb_lines::spelled(self.alloc, *text),
+            _ => return nb_lines::unclear(self.alloc),
+        };
         self.nothing()
     }
 
     /// `disk CALL..`: the calls of the next disks that fail, from 1 on.
     pub fn disk_fails(&mut self, words: &[&str]) -> Result<String, NoMemory> {
-        self.fails = nb_lines::numbers(self.alloc, words, 1)?;
+        self.fails = nb_lines::numbers(self.alloc, words, 0)?;
         self.nothing()
     }
 

@@ -12,10 +12,10 @@ const MOST_MOMENTS: u64 = 100;
 impl House {
     /// `stops FILL`: for each moment, from before the first call to behind the last one, how many entries a vault has that is opened on
     /// what a stop leaves, with what was not synced as it was, as it is, or filled with a byte.
-    pub fn stops(&self, fill: &str) -> Result<String, NoMemory> {
-        match &self.disk {
-            Some(disk) => stopped(self.alloc, disk, fill),
-            None => nb_lines::unclear(self.alloc),
+    pub fn stops(&self, words: &[&str]) -> Result<String, NoMemory> {
+        match (&self.disk, words) {
+            (Some(disk), [fill]) => stopped(self.alloc, disk, *fill),
+            _ => nb_lines::unclear(self.alloc),
         }
     }
 }

@@ -41,21 +41,39 @@ fn done<R: Threads + Wait + Clock + Sync>(
 ) -> Result<String, NoMemory> {
     let words: Vec<&str> = line.split_whitespace().collect(house.alloc())?;
     match words.as_slice() {
-        ["#", ..] => Ok(line.to_string(house.alloc())?),
-        ["request", name, moment, frame] => house.request(*name, *moment, *frame),
-        ["entry", name, bytes] => house.entry(*name, *bytes),
-        ["journal", content] => house.journal(*content),
-        ["journal"] => house.journal(""),
-        ["disk", ..] => house.disk_fails(words.as_slice()),
-        ["open"] => house.open(),
-        ["ask", by, name] => house.ask(*by, *name),
-        ["turn", by, ..] => house.turn(*by, words.as_slice()),
-        ["close"] => house.close(),
-        ["stops", fill] => house.stops(*fill),
-        ["desk", ..] => house.desk(rt, line),
-        ["busy", first, second] => house.busy(rt, *first, *second),
-        ["crowd", name, times] => house.crowd(rt, *name, *times),
         [] => Ok(String::new(house.alloc())),
+        [word, rest @ ..] => match *word {
+            "#" => Ok(line.to_string(house.alloc())?),
+            "desk" => house.desk(rt, line),
+            "busy" => house.busy(rt, rest),
+            "crowd" => house.crowd(rt, rest),
+            "ask" => house.ask(rest),
+            "turn" => house.turn(rest),
+            "stops" => house.stops(rest),
+            _ => set(house, *word, rest),
+        },
+    }
+}
+
+// What the next vault is made of.
+fn set(house: &mut House, word: &str, rest: &[&str]) -> Result<String, NoMemory> {
+    match word {
+        "request" => house.request(rest),
+        "entry" => house.entry(rest),
+        "journal" => house.journal(rest),
+        "disk" => house.disk_fails(rest),
+        _ => begin_or_end(house, word, rest),
+    }
+}
+
+// A vault begins or ends.
+fn begin_or_end(house: &mut House, word: &str, rest: &[&str]) -> Result<String, NoMemory> {
+    if !rest.is_empty() {
+        return nb_lines::unclear(house.alloc());
+    }
+    match word {
+        "open" => house.open(),
+        "close" => house.close(),
         _ => nb_lines::unclear(house.alloc()),
     }
 }

@@ -92,15 +92,17 @@ impl<'a, R: Clock, D: Disk> Disk for SlowDisk<'a, R, D> {
 }
 
 impl House {
-    /// `busy FIRST SECOND`: while the disk waits within the write of the first request, another caller tries to ask for the second one, and then
-    /// again when the first is answered.
+    /// `busy FIRST SECOND`: while the disk waits within the write of the first request, another caller tries to ask for the second one. When the
+    /// first is answered a third caller tries it, and then the one that was turned away, which tells how many lines it has seen.
     pub fn busy<R: Threads + Wait + Clock + Sync>(
         &self,
         rt: &R,
-        first: &str,
-        second: &str,
+        words: &[&str],
     ) -> Result<String, NoMemory> {
-        match (self.names.request(first), self.names.request(second)) {
+        let [first, second] = words else {
+            return nb_lines::unclear(self.alloc);
+        };
+        match (self.names.request(*first), self.names.request(*second)) {
             (Some(first), Some(second)) => meet(rt, self.alloc, self.next_disk()?, first, second),
             _ => nb_lines::unclear(self.alloc),
         }
@@ -129,11 +131,18 @@ fn meet<R: Threads + Wait + Clock + Sync>(
     let (asked, tried) = ask_beside(rt, alloc, &desk, (one, two), (first, second), &signs);
     let (_, again) = ask_one(rt, alloc, &desk, pass, second, true)?;
     let spent = signs.spent.load(Ordering::SeqCst);
+    let Some((two, tried)) = tried else {
+        return nb_lines::unclear(alloc);
+    };
+    let (two, late) = ask_one(rt, alloc, &desk, two, second, true)?;
     Ok(format!(in alloc;
-        "{}\n{}\n{}\nwaited in vain {spent}",
+        "{}\n{}\n{}\nwaited in vain {spent}\n{}; pass {} has seen {}",
         told(alloc, asked)?,
-        told(alloc, tried)?,
-        again.told(alloc)?
+        tried.told(alloc)?,
+        again.told(alloc)?,
+        late.told(alloc)?,
+        two.number(),
+        two.seen()
     )?)
 }
 
@@ -145,9 +154,10 @@ fn ask_beside<R: Threads + Wait + Clock + Sync, D: Disk + Drop + Send>(
     passes: (Pass<D>, Pass<D>),
     requests: (&Request, &Request),
     signs: &Signs,
-) -> (Option<Said>, Option<Said>)
+) -> (Option<Said>, Option<(Pass<D>, Said)>)
     requires first { IsAt passes.0 desk.now }
     requires second { IsAt passes.1 desk.now }
+    ensures { IfSome result.1 (λ r. IsAt r.0 desk.now) }
 {
     let (one, two) = passes;
     let (first, second) = requests;
@@ -156,8 +166,9 @@ fn ask_beside<R: Threads + Wait + Clock + Sync, D: Disk + Drop + Send>(
         || -> Option<Said>
             requires { IsAt one desk.now }
         { ask_within(rt, alloc, desk, one, first) },
-        || -> Option<Said>
+        || -> Option<(Pass<D>, Said)>
             requires { IsAt two desk.now }
+            ensures { IfSome result (λ r. IsAt r.0 desk.entry.now) }
         { try_within(rt, alloc, desk, two, second, signs) },
     )
 }
@@ -183,12 +194,12 @@ fn try_within<R: Wait + Clock, D: Disk + Drop>(
     pass: Pass<D>,
     request: &Request,
     signs: &Signs,
-) -> Option<Said>
+) -> Option<(Pass<D>, Said)>
     requires { IsAt pass desk.now }
+    ensures { IfSome result (λ r. IsAt r.0 desk.now) }
 {
     wait_for(rt, signs, &signs.entered);
     let tried = ask_one(rt, alloc, desk, pass, request, true);
     signs.released.store(1, Ordering::SeqCst);
-    let (_, said) = tried.ok()?;
-    Some(said)
+    tried.ok()
 }
