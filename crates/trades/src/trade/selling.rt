@@ -109,7 +109,9 @@ impl Trade {
             return nb_lines::unclear(self.alloc);
         };
         let number = nb_lines::number(*number);
-        let step = self.merchant.quiet(self.alloc, bytes::party(*consumer), number)?;
+        let step = self
+            .merchant
+            .quiet(self.alloc, bytes::party(*consumer), number)?;
         self.sold(&step)
     }
 
@@ -119,7 +121,10 @@ impl Trade {
             return nb_lines::unclear(self.alloc);
         };
         let number = nb_lines::number(*number);
-        telling::stage(self.alloc, self.merchant.state(bytes::party(*consumer), number))
+        telling::stage(
+            self.alloc,
+            self.merchant.state(bytes::party(*consumer), number),
+        )
     }
 
     /// `asker KIND BODY MOMENT`: whose ticket a message to the merchant shows at this moment.

@@ -129,12 +129,7 @@ pub(crate) fn began(alloc: Global, consumer: &mut Consumer) -> Result<Option<Fra
 
 // ---- one frame
 
-fn posted(
-    alloc: Global,
-    from: To,
-    to: To,
-    message: &Message,
-) -> Result<Option<Frame>, NoMemory>
+fn posted(alloc: Global, from: To, to: To, message: &Message) -> Result<Option<Frame>, NoMemory>
     requires { MessageKeepsRules message.now }
 {
     let bytes = telling::frame(alloc, message)?;

@@ -57,7 +57,11 @@ fn times(post: &Post, frame: &Frame) -> u32 {
     if hits(post.losing, post.frames, is_new(&post.lost, frame)) {
         return 0;
     }
-    if hits(post.doubling, post.frames, true) { 2 } else { 1 }
+    if hits(post.doubling, post.frames, true) {
+        2
+    } else {
+        1
+    }
 }
 
 // Gives a frame: what is sent then is under way.
