@@ -1,12 +1,11 @@
 //! A program that does one step of a consumer or of a merchant a number of times, so that its speed can be measured:
-//! `bench_nodes consumer|merchant SIZE TIMES`, among SIZE purchases. It prints the SHA-256 digest of what the steps made, in hexadecimal. It is
-//! beside `bench`, since it stands on what nodes are made of, and on nothing of a house. How long a step takes is no claim of the proofs:
-//! bench/run measures from outside, and the test compares what is made with another program.
+//! `bench_nodes consumer|merchant SIZE TIMES`, among SIZE purchases. It prints the SHA-256 digest of what the steps made, in hexadecimal.
+//! `bench_nodes rows` does what each line of standard input says, in the same words. It is beside `bench`, since it stands on what nodes are made
+//! of, and on nothing of a house. How long a step takes is no claim of the proofs: bench/run measures from outside. What is made is compared with
+//! another program: the digests in `stdout` are from it.
 #![tactic(auto)]
 
 mod nodes;
-#[cfg(test)]
-mod tests;
 
 use anyhow::anyhow;
 use nb_seal::{NoMemory, sha};
@@ -14,7 +13,8 @@ use std::alloc::Global;
 use std::env;
 use std::process::ExitCode;
 
-const USAGE: &str = "usage: bench_nodes consumer|merchant SIZE TIMES";
+const USAGE: &str = "usage: bench_nodes consumer|merchant SIZE TIMES
+       bench_nodes rows";
 
 // The words are none of the program's.
 const BAD_WORDS: u8 = 2;
@@ -30,13 +30,42 @@ pub enum Made {
 
 fn main(rt: HostRuntime) -> anyhow::Result<ExitCode> {
     let words: Vec<String> = env::args(&rt)?.skip(1).collect(rt.alloc())?;
-    let line = line_of(rt.alloc(), words.as_slice()).map_err(|_| anyhow!("out of memory"))?;
+    if words.len() == 1 && words[0].as_str() == "rows" {
+        do_rows(&rt)?;
+        return Ok(ExitCode::SUCCESS);
+    }
+    do_words(&rt, words.as_slice())
+}
+
+// Does what the words say, and prints the digest of what it made.
+fn do_words(rt: &HostRuntime, words: &[String]) -> anyhow::Result<ExitCode> {
+    let line = line_of(rt.alloc(), words).map_err(|_| anyhow!("out of memory"))?;
     let Some(line) = line else {
         eprintln!(rt; "{USAGE}")?;
         return Ok(ExitCode::from(BAD_WORDS));
     };
     println!(rt; "{line}")?;
     Ok(ExitCode::SUCCESS)
+}
+
+// Does what each line of standard input says, and prints the line and the digest of what it made.
+fn do_rows(rt: &HostRuntime) -> anyhow::Result<()> {
+    for line in rt.lines(rt.alloc()) {
+        let line = line?;
+        let made = row_of(rt.alloc(), line.as_str()).map_err(|_| anyhow!("out of memory"))?;
+        let made = made.as_deref().unwrap_or("no such row");
+        println!(rt; "{line}: {made}")?;
+    }
+    Ok(())
+}
+
+// Does what a line says.
+fn row_of(alloc: Global, line: &str) -> Result<Option<String>, NoMemory> {
+    let words = line
+        .split(' ')
+        .map(|word| String::from_str(alloc, word))
+        .try_collect::<Vec<String>>(alloc)?;
+    line_of(alloc, words.as_slice())
 }
 
 // Does what the words say, and gives the digest of what it made, where the words are a row, a size and a number of times.

@@ -20,6 +20,3 @@ mod words;
 pub use catalogue::Catalogue;
 pub use fault::{NoProduct, ShelfFault};
 pub use limits::{MAX_NAME, MAX_PRICE, MAX_SHELF};
-
-#[cfg(test)]
-mod tests;

@@ -23,6 +23,3 @@ pub use call::{Call, CallPhase};
 pub use event::Event;
 pub use packet::{Maker, Packet, Sending};
 pub use turning::{Acknowledged, Origin, Stage, Turning, Verdict};
-
-#[cfg(test)]
-mod tests;

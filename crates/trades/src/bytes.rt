@@ -6,7 +6,7 @@ ghost use Rattle.nb_wallet.specs.Spelling.{StartKeepsRules};
 
 use nb_goods::{goods_key, sealed};
 use nb_msgs::{Message, read_body};
-use nb_price::{Catalogue, ShelfFault};
+use nb_price::Catalogue;
 use nb_units::{Blob, NoMemory, PartyId, Price, Secret, Small};
 use nb_wallet::Start;
 use std::alloc::Global;
@@ -15,8 +15,13 @@ const MASTER: Secret = [0x66; 32];
 
 const MERCHANT: PartyId = PartyId(2);
 
-// The longest goods and the longest shelf of a script.
-const MOST: usize = 1_000_000;
+// The longest goods of a script.
+const MOST: usize = 4_000_000;
+
+// The party whose number a word is in decimal; that of number 0 where it is none.
+pub(crate) fn party(word: &str) -> PartyId {
+    PartyId(word.parse::<u32>().unwrap_or(0))
+}
 
 // The first byte that a text spells; 0 where it spells none.
 pub(crate) fn first(alloc: Global, text: &str) -> u8 {
@@ -71,28 +76,17 @@ pub(crate) fn wish(transaction: u64, limit: u64) -> Start
     }
 }
 
-// What a shelf sells; nothing where it is none.
-pub(crate) fn catalogue(alloc: Global, shelf: &[u8]) -> Result<Option<Catalogue>, NoMemory> {
-    if shelf.len() > MOST {
-        return Ok(None);
-    }
-    match Catalogue::read(alloc, shelf) {
-        Ok(catalogue) => Ok(Some(catalogue)),
-        Err(ShelfFault::NoMemory) => Err(NoMemory),
-        Err(_) => Ok(None),
-    }
-}
-
-// Goods that count up, sealed for the first purchase.
-pub(crate) fn counting(alloc: Global, len: usize) -> Result<Blob, NoMemory> {
+// Goods that count up: no two whole parts of them are the same.
+pub(crate) fn counting(alloc: Global, len: u64) -> Result<Vec<u8>, NoMemory> {
     let mut goods = Vec::new(alloc);
-    for i in 0..len.min(MOST) as u32 {
+    for i in 0..len.min(MOST as u64) {
         goods.push((i % 251) as u8)?;
     }
-    seal_up(alloc, &goods)
+    Ok(goods)
 }
 
-fn seal_up(alloc: Global, goods: &[u8]) -> Result<Blob, NoMemory> {
+// Goods, sealed for the first purchase.
+pub(crate) fn seal_up(alloc: Global, goods: &[u8]) -> Result<Blob, NoMemory> {
     if goods.len() > MOST {
         return Err(NoMemory);
     }

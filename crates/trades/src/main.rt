@@ -1,14 +1,17 @@
 //! A program that does with a consumer and with a merchant what the lines of standard input say, and prints what they do: the trials of `nb_consumer`
-//! and of `nb_merchant`, as data. Each line is a word and what it is about; [`Trade`] says what they do. The lines of a consumer are `kept`, `again`,
-//! `start`, `hear`, `quiet`, `phase`, `goods`, `seal` and `part`, those of a merchant `shelf`, `stall`, `consumer`, `house`, `silent`, `stage` and `asker`;
-//! `item` and `bytes` are of both. A line that begins with `#` is printed as it is.
+//! and of `nb_merchant`, as data, of the shelves of `nb_price`, and of whole purchases. Each line is a word and what it is about. [`Trade`] says what
+//! those of a consumer do, which are `kept`, `again`, `start`, `hear`, `quiet`, `phase`, `goods`, `seal` and `part`, and those of a merchant, which are
+//! `shelf`, `stall`, `consumer`, `house`, `silent`, `stage` and `asker`; `item` and `bytes` are of both. [`shelves`] has `catalogue` and `shortage`,
+//! and [`whole`] the line of that name. A line that begins with `#` is printed as it is.
 //!
 //! It claims nothing: what it prints is compared with what another program wrote.
 #![tactic(auto)]
 
 mod bytes;
+mod shelves;
 mod telling;
 mod trade;
+mod whole;
 
 use crate::trade::Trade;
 use anyhow::anyhow;
@@ -29,33 +32,50 @@ fn main(rt: HostRuntime) -> anyhow::Result<()> {
 fn done(trade: &mut Trade, line: &str) -> Result<String, NoMemory> {
     let words: Vec<&str> = line.split_whitespace().collect(trade.alloc())?;
     match words.as_slice() {
-        ["#", ..] => Ok(line.to_string(trade.alloc())?),
-        ["item", text] => trade.item(*text),
-        ["kept", ..] => trade.kept(words.as_slice()),
-        ["again"] => trade.again(),
-        ["start", number, limit] => trade.start(*number, *limit),
-        ["hear", kind, body] => trade.hear(*kind, *body),
-        ["quiet", number] => trade.quiet(*number),
-        ["phase", number] => trade.phase(*number),
-        ["goods", number] => trade.goods(*number),
-        ["bytes"] => trade.bytes(),
-        ["seal", len] => trade.seal(*len),
-        ["part", head, from, to, bent] => trade.part(*head, *from, *to, *bent),
         [] => Ok(String::new(trade.alloc())),
-        _ => done_by_merchant(trade, words.as_slice()),
+        ["#", ..] => Ok(line.to_string(trade.alloc())?),
+        [word, rest @ ..] => done_by_word(trade, *word, rest),
     }
 }
 
-// What is done at a line of a merchant, by its words.
-fn done_by_merchant(trade: &mut Trade, words: &[&str]) -> Result<String, NoMemory> {
-    match words {
-        ["shelf", ..] => trade.shelf(words),
-        ["stall", ..] => trade.stall(words),
-        ["consumer", kind, body, moment] => trade.consumer_says(*kind, *body, *moment),
-        ["house", kind, body] => trade.house_says(*kind, *body),
-        ["silent", consumer, number] => trade.silent(*consumer, *number),
-        ["stage", consumer, number] => trade.stage(*consumer, *number),
-        ["asker", kind, body, moment] => trade.asker(*kind, *body, *moment),
+// What is done at a line of this first word, by the words behind it.
+fn done_by_word(trade: &mut Trade, word: &str, rest: &[&str]) -> Result<String, NoMemory> {
+    match word {
+        "item" => trade.item(rest),
+        "bytes" => trade.bytes(),
+        "catalogue" => shelves::catalogue(trade.alloc(), rest),
+        "shortage" => shelves::shortage(trade.alloc()),
+        "whole" => whole::purchase(trade.alloc(), rest),
+        _ => done_by_consumer(trade, word, rest),
+    }
+}
+
+// What is done at a line of a consumer.
+fn done_by_consumer(trade: &mut Trade, word: &str, rest: &[&str]) -> Result<String, NoMemory> {
+    match word {
+        "kept" => trade.kept(rest),
+        "again" => trade.again(),
+        "start" => trade.start(rest),
+        "hear" => trade.hear(rest),
+        "quiet" => trade.quiet(rest),
+        "phase" => trade.phase(rest),
+        "goods" => trade.goods(rest),
+        "seal" => trade.seal(rest),
+        "part" => trade.part(rest),
+        _ => done_by_merchant(trade, word, rest),
+    }
+}
+
+// What is done at a line of a merchant.
+fn done_by_merchant(trade: &mut Trade, word: &str, rest: &[&str]) -> Result<String, NoMemory> {
+    match word {
+        "shelf" => trade.shelf(rest),
+        "stall" => trade.stall(rest),
+        "consumer" => trade.consumer_says(rest),
+        "house" => trade.house_says(rest),
+        "silent" => trade.silent(rest),
+        "stage" => trade.stage(rest),
+        "asker" => trade.asker(rest),
         _ => nb_lines::unclear(trade.alloc()),
     }
 }

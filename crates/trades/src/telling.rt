@@ -5,7 +5,7 @@ ghost use Rattle.nb_msgs.specs.Bodies.{MessageKeepsRules};
 use nb_consumer::Phase;
 use nb_msgs::{End, Message, Reason, RestartFault, To, write_message};
 use nb_stall::Stage;
-use nb_units::{NoMemory, PartyId};
+use nb_units::{Blob, NoMemory, PartyId};
 use std::alloc::Global;
 
 // The kind of an item or a message.
@@ -47,6 +47,17 @@ pub(crate) fn phase(alloc: Global, phase: Option<Phase>) -> Result<String, NoMem
         Some(Phase::Refused { code }) => format!(in alloc; "refused: {code}")?,
         Some(Phase::Foul) => "foul".to_string(alloc)?,
     })
+}
+
+// The goods of a purchase, by their number of bytes and their digest where they are long.
+pub(crate) fn goods(alloc: Global, goods: &Option<Blob>) -> Result<String, NoMemory> {
+    match goods {
+        Some(goods) => {
+            let goods = nb_lines::shown(alloc, goods.as_slice())?;
+            Ok(format!(in alloc; "goods {goods}")?)
+        }
+        None => Ok("no goods".to_string(alloc)?),
+    }
 }
 
 // The kind of the item that is kept, and that of the message that is sent.

@@ -1,7 +1,7 @@
 ghost use Rattle.nb_consumer.specs.Deeds.{StepKeepsRules};
 ghost use Rattle.nb_msgs.specs.Bodies.{MessageKeepsRules};
 
-mod selling;
+pub(crate) mod selling;
 
 use crate::{bytes, telling};
 use nb_consumer::Consumer;
@@ -11,7 +11,7 @@ use nb_units::{AcctId, Blob, NoMemory, PartyId};
 use nb_wallet::Wallet;
 use std::alloc::Global;
 
-const WALLET: Wallet = Wallet {
+pub(crate) const WALLET: Wallet = Wallet {
     id: PartyId(1),
     acct: AcctId(1),
     nonce: 7,
@@ -62,8 +62,11 @@ impl Trade {
     }
 
     /// `item HEX`: this item has the next number, from 0 on.
-    pub fn item(&mut self, text: &str) -> Result<String, NoMemory> {
-        let item = Blob::from_vec(nb_lines::spelled(self.alloc, text));
+    pub fn item(&mut self, words: &[&str]) -> Result<String, NoMemory> {
+        let [text] = words else {
+            return nb_lines::unclear(self.alloc);
+        };
+        let item = Blob::from_vec(nb_lines::spelled(self.alloc, *text));
         self.known.push(item)?;
         self.nothing()
     }
@@ -83,7 +86,7 @@ impl Trade {
     /// `kept ITEM..`: a consumer starts with these items, each a number or spelled.
     pub fn kept(&mut self, words: &[&str]) -> Result<String, NoMemory> {
         self.items.clear();
-        for word in words.iter().skip(1) {
+        for word in words {
             let item = self.named(*word)?;
             self.items.push(item)?;
         }
@@ -147,18 +150,22 @@ impl Trade {
     }
 
     /// `start NUMBER LIMIT`: a purchase starts.
-    pub fn start(&mut self, number: &str, limit: &str) -> Result<String, NoMemory> {
-        let (Ok(number), Ok(limit)) = (number.parse::<u64>(), limit.parse::<u64>()) else {
+    pub fn start(&mut self, words: &[&str]) -> Result<String, NoMemory> {
+        let [number, limit] = words else {
             return nb_lines::unclear(self.alloc);
         };
-        let step = self.consumer.start(&bytes::wish(number, limit))?;
+        let wish = bytes::wish(nb_lines::number(*number), nb_lines::number(*limit));
+        let step = self.consumer.start(&wish)?;
         self.did(&step)
     }
 
     /// `hear KIND BODY`: a message comes.
-    pub fn hear(&mut self, kind: &str, body: &str) -> Result<String, NoMemory> {
-        let kind = bytes::first(self.alloc, kind);
-        self.hear_body(kind, &nb_lines::spelled(self.alloc, body))
+    pub fn hear(&mut self, words: &[&str]) -> Result<String, NoMemory> {
+        let [kind, body] = words else {
+            return nb_lines::unclear(self.alloc);
+        };
+        let kind = bytes::first(self.alloc, *kind);
+        self.hear_body(kind, &nb_lines::spelled(self.alloc, *body))
     }
 
     fn hear_body(&mut self, kind: u8, body: &[u8]) -> Result<String, NoMemory> {
@@ -176,34 +183,29 @@ impl Trade {
     }
 
     /// `quiet NUMBER`: nothing was heard of a purchase for long.
-    pub fn quiet(&mut self, number: &str) -> Result<String, NoMemory> {
-        let Ok(number) = number.parse::<u64>() else {
+    pub fn quiet(&mut self, words: &[&str]) -> Result<String, NoMemory> {
+        let [number] = words else {
             return nb_lines::unclear(self.alloc);
         };
-        let step = self.consumer.quiet(number)?;
+        let step = self.consumer.quiet(nb_lines::number(*number))?;
         self.did(&step)
     }
 
     /// `phase NUMBER`: how far a purchase has come.
-    pub fn phase(&self, number: &str) -> Result<String, NoMemory> {
-        let Ok(number) = number.parse::<u64>() else {
+    pub fn phase(&self, words: &[&str]) -> Result<String, NoMemory> {
+        let [number] = words else {
             return nb_lines::unclear(self.alloc);
         };
-        telling::phase(self.alloc, self.consumer.state(number))
+        telling::phase(self.alloc, self.consumer.state(nb_lines::number(*number)))
     }
 
     /// `goods NUMBER`: the goods of a purchase, by their number of bytes and their digest.
-    pub fn goods(&self, number: &str) -> Result<String, NoMemory> {
-        let Ok(number) = number.parse::<u64>() else {
+    pub fn goods(&self, words: &[&str]) -> Result<String, NoMemory> {
+        let [number] = words else {
             return nb_lines::unclear(self.alloc);
         };
-        match self.consumer.goods(number)? {
-            Some(goods) => {
-                let goods = nb_lines::shown(self.alloc, goods.as_slice())?;
-                Ok(format!(in self.alloc; "goods {goods}")?)
-            }
-            None => Ok("no goods".to_string(self.alloc)?),
-        }
+        let goods = self.consumer.goods(nb_lines::number(*number))?;
+        telling::goods(self.alloc, &goods)
     }
 
     /// `bytes`: the item that the last step kept, and the frame that it sent.
@@ -214,28 +216,31 @@ impl Trade {
     }
 
     /// `seal BYTES`: so many bytes of goods, which count up, are sealed for purchase 1. They are told by their number and their digest.
-    pub fn seal(&mut self, len: &str) -> Result<String, NoMemory> {
-        let Ok(len) = len.parse::<usize>() else {
+    pub fn seal(&mut self, words: &[&str]) -> Result<String, NoMemory> {
+        let [len] = words else {
             return nb_lines::unclear(self.alloc);
         };
-        self.goods = bytes::counting(self.alloc, len)?;
+        let goods = bytes::counting(self.alloc, nb_lines::number(*len))?;
+        self.goods = bytes::seal_up(self.alloc, &goods)?;
         nb_lines::shown(self.alloc, self.goods.as_slice())
     }
 
     /// `part HEAD FROM TO BENT`: a part of these goods comes, under this sealed head, with the last bit of one of its bytes turned.
-    pub fn part(
-        &mut self,
-        head: &str,
-        from: &str,
-        to: &str,
-        bent: &str,
-    ) -> Result<String, NoMemory> {
-        let (Ok(from), Ok(to)) = (from.parse::<usize>(), to.parse::<usize>()) else {
+    pub fn part(&mut self, words: &[&str]) -> Result<String, NoMemory> {
+        let [head, from, to, bent] = words else {
             return nb_lines::unclear(self.alloc);
         };
-        let goods = self.goods.as_slice();
-        let part = bytes::piece(self.alloc, goods, from, to, bent.parse::<usize>().ok())?;
-        let body = bytes::goods_body(self.alloc, &nb_lines::spelled(self.alloc, head), &part)?;
+        let part = self.piece(*from, *to, *bent)?;
+        let body = bytes::goods_body(self.alloc, &nb_lines::spelled(self.alloc, *head), &part)?;
         self.hear_body(0x04, &body)
+    }
+
+    // The bytes of the sealed goods from one place to another.
+    fn piece(&self, from: &str, to: &str, bent: &str) -> Result<Vec<u8>, NoMemory> {
+        let (Ok(from), Ok(to)) = (from.parse::<usize>(), to.parse::<usize>()) else {
+            return Ok(Vec::new(self.alloc));
+        };
+        let bent = bent.parse::<usize>().ok();
+        bytes::piece(self.alloc, self.goods.as_slice(), from, to, bent)
     }
 }

@@ -3,7 +3,7 @@
 ghost use Rattle.nb_merchant.specs.Sending.{StepIs};
 
 use crate::trade::Trade;
-use crate::{bytes, telling};
+use crate::{bytes, shelves, telling};
 use nb_merchant::Merchant;
 use nb_msgs::Step;
 use nb_price::Catalogue;
@@ -11,7 +11,7 @@ use nb_stall::Stall;
 use nb_units::{AcctId, Blob, NoMemory, PartyId};
 use std::alloc::Global;
 
-const STALL: Stall = Stall {
+pub(crate) const STALL: Stall = Stall {
     id: PartyId(2),
     acct: AcctId(2),
     key: [0x55; 32],
@@ -27,7 +27,7 @@ impl Trade {
     /// `shelf LINE..`: what the merchant sells from its next start on, which are these lines, with a line feed between two.
     pub fn shelf(&mut self, words: &[&str]) -> Result<String, NoMemory> {
         let mut shelf = Vec::new(self.alloc);
-        for line in words.iter().skip(1) {
+        for line in words {
             if !shelf.is_empty() {
                 shelf.push(0x0A)?;
             }
@@ -40,13 +40,13 @@ impl Trade {
     /// `stall ITEM..`: a merchant starts with these items, each a number or spelled, and sells what is on the shelf.
     pub fn stall(&mut self, words: &[&str]) -> Result<String, NoMemory> {
         let mut items = Vec::new(self.alloc);
-        for word in words.iter().skip(1) {
+        for word in words {
             let item = self.named(*word)?;
             items.push(item)?;
         }
-        match bytes::catalogue(self.alloc, &self.shelf)? {
-            Some(catalogue) => self.open(catalogue, &items),
-            None => nb_lines::unclear(self.alloc),
+        match shelves::read(self.alloc, &self.shelf) {
+            Ok(catalogue) => self.open(catalogue, &items),
+            Err(fault) => shelves::fault(self.alloc, fault),
         }
     }
 
@@ -79,25 +79,24 @@ impl Trade {
     }
 
     /// `consumer KIND BODY MOMENT`: a message of a consumer comes to the merchant at this moment.
-    pub fn consumer_says(
-        &mut self,
-        kind: &str,
-        body: &str,
-        moment: &str,
-    ) -> Result<String, NoMemory> {
-        let (Some(message), Ok(moment)) = (
-            bytes::said(self.alloc, kind, body),
-            moment.parse::<u64>(),
-        ) else {
+    pub fn consumer_says(&mut self, words: &[&str]) -> Result<String, NoMemory> {
+        let [kind, body, moment] = words else {
             return nb_lines::unclear(self.alloc);
         };
+        let Some(message) = bytes::said(self.alloc, *kind, *body) else {
+            return nb_lines::unclear(self.alloc);
+        };
+        let moment = nb_lines::number(*moment);
         let step = self.merchant.on_consumer(self.alloc, &message, moment)?;
         self.sold(&step)
     }
 
     /// `house KIND BODY`: a message of the house comes to the merchant.
-    pub fn house_says(&mut self, kind: &str, body: &str) -> Result<String, NoMemory> {
-        let Some(message) = bytes::said(self.alloc, kind, body) else {
+    pub fn house_says(&mut self, words: &[&str]) -> Result<String, NoMemory> {
+        let [kind, body] = words else {
+            return nb_lines::unclear(self.alloc);
+        };
+        let Some(message) = bytes::said(self.alloc, *kind, *body) else {
             return nb_lines::unclear(self.alloc);
         };
         let step = self.merchant.on_server(self.alloc, &message)?;
@@ -105,30 +104,38 @@ impl Trade {
     }
 
     /// `silent CONSUMER NUMBER`: the merchant heard nothing of a purchase for long.
-    pub fn silent(&mut self, consumer: &str, number: &str) -> Result<String, NoMemory> {
-        let (Ok(consumer), Ok(number)) = (consumer.parse::<u32>(), number.parse::<u64>()) else {
+    pub fn silent(&mut self, words: &[&str]) -> Result<String, NoMemory> {
+        let [consumer, number] = words else {
             return nb_lines::unclear(self.alloc);
         };
-        let step = self.merchant.quiet(self.alloc, PartyId(consumer), number)?;
+        let number = nb_lines::number(*number);
+        let step = self
+            .merchant
+            .quiet(self.alloc, bytes::party(*consumer), number)?;
         self.sold(&step)
     }
 
     /// `stage CONSUMER NUMBER`: how far a purchase of the merchant has come.
-    pub fn stage(&self, consumer: &str, number: &str) -> Result<String, NoMemory> {
-        let (Ok(consumer), Ok(number)) = (consumer.parse::<u32>(), number.parse::<u64>()) else {
+    pub fn stage(&self, words: &[&str]) -> Result<String, NoMemory> {
+        let [consumer, number] = words else {
             return nb_lines::unclear(self.alloc);
         };
-        telling::stage(self.alloc, self.merchant.state(PartyId(consumer), number))
+        let number = nb_lines::number(*number);
+        telling::stage(
+            self.alloc,
+            self.merchant.state(bytes::party(*consumer), number),
+        )
     }
 
     /// `asker KIND BODY MOMENT`: whose ticket a message to the merchant shows at this moment.
-    pub fn asker(&self, kind: &str, body: &str, moment: &str) -> Result<String, NoMemory> {
-        let (Some(message), Ok(moment)) = (
-            bytes::said(self.alloc, kind, body),
-            moment.parse::<u64>(),
-        ) else {
+    pub fn asker(&self, words: &[&str]) -> Result<String, NoMemory> {
+        let [kind, body, moment] = words else {
             return nb_lines::unclear(self.alloc);
         };
+        let Some(message) = bytes::said(self.alloc, *kind, *body) else {
+            return nb_lines::unclear(self.alloc);
+        };
+        let moment = nb_lines::number(*moment);
         telling::asker(self.alloc, self.merchant.asker(&message, moment))
     }
 }

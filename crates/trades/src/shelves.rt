@@ -1,0 +1,72 @@
+//! What shelves tell.
+
+use nb_price::{Catalogue, MAX_SHELF, ShelfFault};
+use nb_units::{NoMemory, Price};
+use std::alloc::Global;
+
+/// `catalogue SHELF NUMBER..`: a shelf is read, which these bytes are in hexadecimal. It tells its fault, or the price and the goods of each product
+/// of these numbers, and what a copy of the catalogue tells of them.
+pub(crate) fn catalogue(alloc: Global, words: &[&str]) -> Result<String, NoMemory> {
+    let [shelf, numbers @ ..] = words else {
+        return nb_lines::unclear(alloc);
+    };
+    match read(alloc, &nb_lines::spelled(alloc, *shelf)) {
+        Ok(catalogue) => both(alloc, &catalogue, numbers),
+        Err(why) => fault(alloc, why),
+    }
+}
+
+/// `shortage`: what is told where there is no memory for a shelf's goods.
+pub(crate) fn shortage(alloc: Global) -> Result<String, NoMemory> {
+    fault(alloc, ShelfFault::NoMemory)
+}
+
+// The catalogue of a shelf.
+pub(crate) fn read(alloc: Global, shelf: &[u8]) -> Result<Catalogue, ShelfFault> {
+    if shelf.len() > MAX_SHELF {
+        return Err(ShelfFault::NoMemory);
+    }
+    Catalogue::read(alloc, shelf)
+}
+
+// A fault, and its words.
+pub(crate) fn fault(alloc: Global, fault: ShelfFault) -> Result<String, NoMemory> {
+    let words = fault.to_string(alloc)?;
+    Ok(match fault {
+        ShelfFault::BadItem { item } => format!(in alloc; "bad item {item}: {words}")?,
+        ShelfFault::Twice { item, id } => format!(in alloc; "item {item}, {id} again: {words}")?,
+        ShelfFault::NoMemory => words,
+    })
+}
+
+// What a catalogue tells of these products, and what its copy does.
+fn both(alloc: Global, catalogue: &Catalogue, numbers: &[&str]) -> Result<String, NoMemory> {
+    let read = products(alloc, catalogue, numbers)?;
+    let copied = products(alloc, &catalogue.copy()?, numbers)?;
+    Ok(format!(in alloc; "read{read}\ncopy{copied}")?)
+}
+
+fn products(alloc: Global, catalogue: &Catalogue, numbers: &[&str]) -> Result<String, NoMemory> {
+    let mut told = String::new(alloc);
+    for number in numbers {
+        let number = number.parse::<u32>().unwrap_or(0);
+        let price = price(alloc, catalogue, number)?;
+        let goods = goods(alloc, catalogue, number)?;
+        told.push_str(format!(in alloc; " {number}: {price}, {goods};")?.as_str())?;
+    }
+    Ok(told)
+}
+
+fn price(alloc: Global, catalogue: &Catalogue, number: u32) -> Result<String, NoMemory> {
+    Ok(match catalogue.quote(number) {
+        Ok(Price(price)) => format!(in alloc; "price {price}")?,
+        Err(none) => none.to_string(alloc)?,
+    })
+}
+
+fn goods(alloc: Global, catalogue: &Catalogue, number: u32) -> Result<String, NoMemory> {
+    match catalogue.goods(number) {
+        Some(goods) => nb_lines::shown(alloc, goods),
+        None => Ok("no goods".to_string(alloc)?),
+    }
+}
