@@ -125,8 +125,3 @@ PortNexts old new (outs.Got link) =
 PortNexts old new outs.Closed = (old.coming ≡ []) × (new ≡ old)
 PortNexts old new outs.Failed =
     (old.coming ≢ []) × (new ≡ record old { calls = one_made old.calls; faults = one_more old.faults })
-
--- a link, and how many writes it had
-pub record Counted (L : Type 0) : Type 0 where
-  pub over : L
-  pub writes : ℕ

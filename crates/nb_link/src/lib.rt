@@ -9,19 +9,17 @@
 //! where its count rose in it.
 //!
 //! [`MemLink`] and [`MemPort`] hold all in memory and tell all of it. Calls chosen when one is made fail, and no others, but for
-//! want of memory. A gate has no contract: what passes it is for trials to see, by a gate of their own. How many writes a link had is
-//! told by a [`CountingLink`].
+//! want of memory. A gate has no contract: what passes it is for trials to see, by a gate of their own, and into how many writes bytes
+//! are cut by a link of their own.
 //!
 //! Left to others: the adapters to the system.
 #![tactic(auto)]
 
-mod counting;
 mod gate;
 mod link;
 mod memory;
 mod port;
 
-pub use counting::CountingLink;
 pub use gate::{Gate, OpenGate, Point};
 pub use link::{Link, Reading};
 pub use memory::{MemLink, MemPort};
