@@ -16,7 +16,7 @@
 //! claims of the entries and the request (`Claims.antt`), and what any other reply tells, and under which keys (`Replies.antt`).
 //!
 //! Left to others: recording the entry, the bytes of the reply, and the moment's clock. Worked cases of every refusal stand in
-//! the tests of `nb_cases`, the lowest crate above this one.
+//! the stored run of `runs`, whose lines `examples/runs` writes.
 #![tactic(auto)]
 
 mod checks;

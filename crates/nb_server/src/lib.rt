@@ -9,7 +9,7 @@
 //! and each line of that number stands within one of them; each link that was given was taken back. [`laws`] say what follows where
 //! nothing fails.
 //!
-//! That the workers run side by side, and that each line has the number of a pass that a worker asked with, is shown by tests alone.
+//! That the workers run side by side, and that each line has the number of a pass that a worker asked with, is shown by the stored run of `houses` alone.
 //!
 //! Left to others: words, files and sockets.
 #![tactic(auto)]
