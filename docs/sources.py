@@ -213,7 +213,7 @@ class Definition:
         self.crate, self.module, self.name, self.words, self.shared, self.text = crate, module, name, words, shared, text
 
 
-ITEM = re.compile(rf"(?:abbrev |unfoldable )*pub (?:record |data )?(?P<name>[^\s:({{]+)")
+ITEM = re.compile(r"^(?:abbrev |unfoldable )*pub (?:record |data )?(?P<name>[^\s:({]+)", re.M)
 
 
 def module_words(path):
@@ -223,19 +223,27 @@ def module_words(path):
     return [line[2:].removeprefix(" ") for line in lines[:count]]
 
 
+def own_words(definition):
+    """The words of a definition that do not stand at the head of its module."""
+    head = module_words(CRATES / definition.crate / "specs" / f"{definition.module}.antt")
+    return [] if definition.words == head else definition.words
+
+
 def definitions_in(crate):
-    """The definitions of a crate, in the order of the source. One that has no words of its own shares those of the one before, and the first of a
-    module those at the head of that."""
+    """The definitions of a crate, in the order of the source. One that has no words of its own shares those of the one before. The words of the only one
+    of a module stand at the head of that."""
     for path in files_of(crate, "specs", ".antt"):
         if path.stem == "Lib":
             continue
-        shared, own, last = module_words(path), [], None
-        for line in path.read_text().split("\n")[len(shared):]:
+        text = path.read_text()
+        shared = module_words(path)
+        own, last = shared if len(ITEM.findall(text)) == 1 else [], None
+        for line in text.split("\n")[len(shared):]:
             item = ITEM.match(line)
             if line.startswith("-- ----"):
                 own, last = [], None
             elif line.startswith("--"):
-                own, last = own + [line[2:].removeprefix(" ")], None
+                own, last = (own if own is not shared else []) + [line[2:].removeprefix(" ")], None
             elif item:
                 shared = own or shared
                 last, own = Definition(crate, path.stem, item.group("name"), own, shared, line), []

@@ -1,7 +1,6 @@
 -- What a `Cut` is seen as: all the bytes, and how many of them were read.
 use Rattle.std.specs.Prelude.{ℕ, List}
 
--- a cut: all the bytes, and how many of them were read
 pub record Reading : Type 0 where
   pub bytes : List ℕ
   pub place : ℕ

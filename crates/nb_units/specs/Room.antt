@@ -2,6 +2,5 @@
 use Rattle.std.specs.Prelude.{ℕ, ◌-◌, vec_capacity, vec_len}
 use Rattle.std.specs.Global.{Vec}
 
--- how many bytes can be appended to a vector without taking memory
 abbrev pub spare_of : Vec ℕ → ℕ
 spare_of out = vec_capacity out - vec_len out
