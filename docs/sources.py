@@ -45,15 +45,15 @@ def in_order(crate):
     files = list(files_of(crate, "src", ".rt"))
     listed = [root_of(crate)]
     for path in listed:
-        folder = path.parent if path in (root_of(crate),) else path.with_suffix("")
+        folder = path.parent if path == root_of(crate) else path.with_suffix("")
         for module in re.findall(r"^(?:pub(?:\([a-z]+\))? )?mod (\w+);", path.read_text(), re.M):
             listed += [other for other in files if other == folder / f"{module}.rt" and other not in listed]
     return listed + [path for path in files if path not in listed]
 
 
-def head_of(crate):
-    """The text at the head of a crate's root, paragraph by paragraph."""
-    lines = re.match(r"(?://![^\n]*\n)*", root_of(crate).read_text()).group(0).splitlines()
+def head_of(path):
+    """The text at the head of a file of code, paragraph by paragraph."""
+    lines = re.match(r"(?://![^\n]*\n)*", path.read_text()).group(0).splitlines()
     text = "\n".join(line[3:].removeprefix(" ") for line in lines)
     return [part for part in text.split("\n\n") if part]
 
@@ -61,16 +61,16 @@ def head_of(crate):
 # ---- calls
 
 
-Clause = collections.namedtuple("Clause", "kind name text words")
+Clause = collections.namedtuple("Clause", "kind name text words line")
 
 
 class Call:
-    """A function: the type or trait that it belongs to, whether it is public, its words, its signature, its clauses, and the file in which it
-    stands; a law does nothing. The name of a clause is '-' where it has none, and 'requires' of a condition."""
+    """A function: the type or trait that it belongs to, the trait that it is a part of, whether it is public, its words, its signature, its clauses,
+    and the file and line at which it stands. The name of a clause is '-' where it has none, and 'requires' of a condition."""
 
-    def __init__(self, owner, name, public, path, words):
-        self.owner, self.name, self.public, self.path, self.words = owner, name, public, path, words
-        self.signature, self.parts, self.is_law = "", [], False
+    def __init__(self, owner, trait, name, public, path, line, words):
+        self.owner, self.trait, self.name, self.public, self.path, self.line, self.words = owner, trait, name, public, path, line, words
+        self.signature, self.parts, self.module = "", [], None
 
     @property
     def clauses(self):
@@ -78,70 +78,88 @@ class Call:
 
     @property
     def title(self):
-        return f"{self.owner}::{self.name}" if self.owner else self.name
+        owner = f"<{self.owner} as {self.trait}>" if self.trait else self.owner or self.module
+        return f"{owner}::{self.name}" if owner else self.name
+
+    @property
+    def is_law(self):
+        """Whether it is a law: it takes nothing, gives nothing, and promises something."""
+        return bool(self.parts) and re.search(r"fn \w+(?:<.*>)?\(\)$", self.signature) is not None
 
 
 BLOCK = re.compile(r"(pub(?:\([a-z]+\))? )?(?:impl(?:<.*?>)? (?:(?P<of>.+?)(?:<.*>)? for )?(?P<type>\w+)|trait (?P<trait>\w+))")
 FUNCTION = re.compile(r"(?P<in> *)(?P<pub>pub )?(?:pub\([a-z]+\) )?(?:const )?fn (?P<name>\w+)")
-CLAUSE = re.compile(r"\s*(?P<kind>requires|ensures)\*?(?: (?P<name>[a-z_]\w*))?\s*\{")
+CLAUSE = re.compile(r"\s*(?P<kind>(?:requires|ensures)\*?)(?: (?P<name>[a-z_]\w*))?\s*\{")
+# What an impl of a trait of conversion promises, in the place of a clause.
+GIVES = re.compile(r"    ghost (?P<name>\w*gives) = \{ (?P<text>.*) \};$")
 
 
 def calls_of(path):
     """The functions of a source, in order."""
     text = re.sub(r"#\[cfg\(test\)\]\s*mod tests \{.*\Z", "", path.read_text(), flags=re.S)
     lines = text.split("\n")
-    owner = owners = None
-    words, at = [], 0
+    owner = kind = trait = None
+    words, said, given, at = [], [], [], 0
     while at < len(lines):
         line = lines[at]
         at += 1
-        if line.startswith("}"):
-            owner = None
         block = None if line.startswith((" ", "/", "}")) else BLOCK.match(line)
-        if block and "fn " not in line.split("(")[0]:
-            owner = block.group("type") or block.group("trait")
-            owners = "trait" if block.group("trait") and block.group(1) else "impl of a trait" if block.group("of") else "impl"
-        function = FUNCTION.match(line)
+        if line.startswith("}"):
+            owner = trait = None
+        elif block and "fn " not in line.split("(")[0]:
+            owner, trait, given = block.group("type") or block.group("trait"), block.group("of"), []
+            kind = "trait" if block.group("trait") and block.group(1) else "impl of a trait" if trait else "impl"
+        function, gives = FUNCTION.match(line), GIVES.match(line)
+        if gives:
+            given.append(Clause("ensures", gives.group("name"), gives.group("text"), said, at))
         if function:
             inside = function.group("in") != ""
-            public = bool(function.group("pub")) or (inside and owner is not None and owners == "trait")
-            call = Call(owner if inside else None, function.group("name"), public, path, words)
+            public = bool(function.group("pub")) or (inside and owner is not None and kind == "trait")
+            call = Call(owner if inside else None, trait if inside else None, function.group("name"), public, path, at, words)
             at = read_head(call, lines, at - 1)
+            call.parts, given = call.parts + given, []
             yield call
         stripped = line.strip()
         words = words + [stripped[3:].removeprefix(" ")] if stripped.startswith("///") else words if stripped.startswith("#[") else []
+        said = said + [stripped[2:].removeprefix(" ")] if stripped.startswith("// ") else []
 
 
 def read_head(call, lines, at):
     """Reads the signature and the clauses of a call from its first line on, up to its body, and answers the line behind it."""
     signature, words = [], []
     while at < len(lines):
-        line = re.sub(r"\s*//.*", "", lines[at]) if not lines[at].strip().startswith("//") else lines[at]
+        line = lines[at]
         at += 1
         stripped = line.strip()
         clause = CLAUSE.match(line)
         if clause:
-            text = line[clause.end():]
+            first, text = at, line[clause.end():]
             while text.count("{") >= text.count("}") and at < len(lines):
                 text += " " + lines[at].strip()
                 at += 1
             is_last = text.rstrip().endswith(";")
-            name = clause.group("name") or ("requires" if clause.group("kind") == "requires" else "-")
-            call.parts.append(Clause(clause.group("kind"), name, " ".join(text.rstrip().rstrip(";").rstrip()[:-1].split()), words))
+            name = clause.group("name") or ("requires" if clause.group("kind").startswith("requires") else "-")
+            call.parts.append(Clause(clause.group("kind"), name, " ".join(text.rstrip().rstrip(";").rstrip()[:-1].split()), words, first))
             words = []
             if is_last:
                 break
         elif stripped.startswith("//"):
             words = words + [stripped.lstrip("/").removeprefix(" ")]
         elif stripped in ("{", "{}"):
-            call.is_law = stripped == "{}"
             break
         else:
             signature.append(stripped)
             if stripped.endswith(("{", "{}", ";")):
                 break
-    call.signature = " ".join(signature).rstrip("{};").strip().replace("( ", "(").replace(", )", ")")
+    call.signature = tidied(" ".join(signature).rstrip("{};").strip())
     return at
+
+
+def tidied(signature):
+    """A signature of several lines on one."""
+    for away, put in (("( ", "("), (", )", ")"), ("< ", "<"), (", >", ">"), ("[ ", "["), (", ]", "]")):
+        signature = signature.replace(away, put)
+    return signature
 
 
 def exported(crate):
@@ -157,9 +175,10 @@ def calls_in(crate):
     lets_out, open_modules = exported(crate)
     for path in in_order(crate):
         for call in calls_of(path):
-            call.public = call.public and (path.stem in open_modules or (call.owner or call.name) in lets_out)
-            if path.stem in open_modules and call.owner is None:
-                call.owner = path.stem
+            is_out = path.stem in open_modules or (call.owner or call.name) in lets_out
+            call.public = call.public and is_out
+            call.is_told = call.public or (call.trait is not None and call.parts != [] and is_out)
+            call.module = path.stem if path.stem in open_modules else None
             yield call
 
 
@@ -167,10 +186,11 @@ def calls_in(crate):
 
 
 class Type:
-    """A public type: its name, its words, its declaration where it has anything to show, and what contracts see of it."""
+    """A public type or constant: the open module in which it stands, its name, its words, its declaration where it has anything to show, and what
+    contracts see of it."""
 
-    def __init__(self, name, words, text):
-        self.name, self.words, self.text, self.view = name, words, text, ""
+    def __init__(self, module, name, words, text):
+        self.module, self.name, self.words, self.text, self.seen = module, name, words, text, []
 
 
 TYPE = re.compile(r"pub (struct|enum|trait|type|const) (\w+)")
@@ -181,39 +201,67 @@ def types_in(crate):
     lets_out, open_modules = exported(crate)
     for path in in_order(crate):
         text = path.read_text()
-        views = dict(re.findall(r"^impl(?:<[^\n]*?>)? Model for (\w+).*?ghost view = \{ (.*?) \};", text, re.M | re.S))
+        models = {name: block for name, block in re.findall(r"^impl(?:<[^\n]*?>)? Model for (\w+)(.*?)^\}", text, re.M | re.S)}
         words, lines = [], text.split("\n")
         for at, line in enumerate(lines):
             declared = TYPE.match(line)
             if declared and (path.stem in open_modules or declared.group(2) in lets_out):
-                found = Type(declared.group(2), words, declaration(lines, at, declared.group(1)))
-                found.view = " ".join(views.get(found.name, "").split())
+                found = Type(path.stem if path.stem in open_modules else None, declared.group(2), words, declaration(lines, at, declared.group(1)))
+                members = re.findall(r"ghost (view|invariant) = \{ (.*?) \};", models.get(found.name, ""), re.S)
+                found.seen = [(what, " ".join(seen.split())) for what, seen in members]
                 yield found
             words = words + [line[4:]] if line.startswith("/// ") else words if line.startswith(("#[", "    ", ")]", "///")) else []
 
 
 def declaration(lines, at, kind):
-    """What a declaration shows: its variants or its public fields with their words, a constant's value."""
-    if kind == "trait":
-        return [lines[at].rstrip("{ ") ]
-    end = next((more for more in range(at, len(lines)) if lines[more].startswith("}") or lines[more].endswith(";")), at)
+    """What a declaration shows: its variants or its public fields with their words, what contracts see of a trait, a constant's value."""
+    end = next((more for more in range(at, len(lines)) if lines[more].startswith("}") or lines[more].endswith(";") and not lines[more].startswith(" ")), at)
     shown = lines[at:end + 1]
+    if kind == "trait":
+        return [shown[0].rstrip("{ "), *members_of(shown[1:])]
     if kind == "struct" and not any(line.strip().startswith("pub ") for line in shown[1:]):
-        return [lines[at].rstrip("{ ;") ]
+        return [shown[0].rstrip("{ ;")]
     return shown
+
+
+def members_of(lines):
+    """Of a trait what contracts see of it and the types that it names, with their words."""
+    words = []
+    for line in lines:
+        if line.startswith("    ///"):
+            words.append(line)
+        elif re.match(r"    (ghost \w+:|type )", line):
+            yield from [*words, line]
+            words = []
+        elif line.strip():
+            words = []
 
 
 # ---- definitions
 
 
 class Definition:
-    """A definition: its crate, its module, its name, its own words, those that it shares with the one before where it has none, and its text."""
+    """A definition: its crate, its module, its name, its own words, its text, and the line at which it stands. One that has no words of its own shares
+    those of the one before it."""
 
-    def __init__(self, crate, module, name, words, shared, text):
-        self.crate, self.module, self.name, self.words, self.shared, self.text = crate, module, name, words, shared, text
+    def __init__(self, crate, module, name, words, text, line):
+        self.crate, self.module, self.name, self.words, self.text, self.line = crate, module, name, words, text, line
 
 
-ITEM = re.compile(r"^(?:abbrev |unfoldable )*pub (?:record |data )?(?P<name>[^\s:({]+)", re.M)
+ITEM = re.compile(
+    r"^(?:(?:abbrev |unfoldable )*pub (?!use )(?:record |data )?|  (?:(?:abbrev |unfoldable )+pub |pub record |pub data ))(?P<name>[^\s:({]+)", re.M
+)
+
+
+def module_file(crate, module):
+    """The file of a module of definitions."""
+    return CRATES / crate / "specs" / f"{module}.antt"
+
+
+def modules_of(crate):
+    """The modules of a crate's definitions, in the order of specs/Lib.antt."""
+    listed = CRATES / crate / "specs" / "Lib.antt"
+    return re.findall(r"^pub mod (\w+)", listed.read_text(), re.M) if listed.exists() else []
 
 
 def module_words(path):
@@ -225,34 +273,31 @@ def module_words(path):
 
 def own_words(definition):
     """The words of a definition that do not stand at the head of its module."""
-    head = module_words(CRATES / definition.crate / "specs" / f"{definition.module}.antt")
-    return [] if definition.words == head else definition.words
+    return [] if definition.words == module_words(module_file(definition.crate, definition.module)) else definition.words
 
 
 def definitions_in(crate):
-    """The definitions of a crate, in the order of the source. One that has no words of its own shares those of the one before. The words of the only one
-    of a module stand at the head of that."""
-    for path in files_of(crate, "specs", ".antt"):
-        if path.stem == "Lib":
-            continue
-        text = path.read_text()
-        shared = module_words(path)
-        own, last = shared if len(ITEM.findall(text)) == 1 else [], None
-        for line in text.split("\n")[len(shared):]:
-            item = ITEM.match(line)
-            if line.startswith("-- ----"):
+    """The definitions of a crate, in the order of the source. The words of the only one of a module stand at the head of that."""
+    for module in modules_of(crate):
+        text = module_file(crate, module).read_text()
+        head = module_words(module_file(crate, module))
+        own, last = head if len(ITEM.findall(text)) == 1 else [], None
+        for number, line in enumerate(text.split("\n")[len(head):], len(head) + 1):
+            item, stripped = ITEM.match(line), line.strip()
+            if stripped.startswith("-- ----"):
                 own, last = [], None
-            elif line.startswith("--"):
-                own, last = (own if own is not shared else []) + [line[2:].removeprefix(" ")], None
+            elif re.match(r"(?:  )?--", line):
+                own, last = (own if own is not head else []) + [stripped[2:].removeprefix(" ")], None
             elif item:
-                shared = own or shared
-                last, own = Definition(crate, path.stem, item.group("name"), own, shared, line), []
+                last, own = Definition(crate, module, item.group("name"), own, stripped, number), []
                 yield last
-            elif line.startswith(" ") or last is not None and line:
-                if last is not None:
-                    last.text += "\n" + line
             elif line == "":
                 last = None
+            elif last is not None:
+                last.text += "\n" + line
+            elif not line.startswith((" ", "use ", "}", "infix")):
+                # what is private takes its words with it
+                own = own if own is head else []
 
 
 # ---- who cites what
@@ -273,12 +318,15 @@ def uses_of(path):
 
 
 def cited_in(text, names, aliases):
-    """The definitions that a text names, by crate, module and name."""
-    for alias, name in re.findall(rf"(?:({NAME})\.)?({NAME})", text):
+    """The definitions that a text names, by crate, module and name: not its comments, nor the fields of records."""
+    text = re.sub(r"--[^\n]*", "", text)
+    text = re.sub(rf"(?m)^\s*pub {NAME}(?: {NAME})* :", ":", text)
+    text = re.sub(rf"([{{;]\s*){NAME} =", r"\1=", text)
+    for before, alias, name in re.findall(rf"(\.?)(?<![\w'-])(?:({NAME})\.)?({NAME})", text):
         if alias in aliases:
             yield (*aliases[alias], name)
-        elif name in names:
-            yield names[name]
+        elif not before and (alias or name) in names:
+            yield names[alias or name]
     for name in names:
         if "◌" in name and name.strip("◌") in text.split():
             yield names[name]

@@ -14,8 +14,8 @@
 //!
 //! Left to others: what the numbers mean, and how a key is made.
 //!
-//! Not said: on which slot a key falls, which a clause of the private `slot_of` tells, and the stored run of `books` by slots of another program's
-//! making; that slots are chosen by the key that the shape shows, which is the invariant of the type (`specs/Slots.antt`), since what is found does not
+//! Not said: on which slot a key falls, which a clause of the private `slot_of` tells; the keys that the stored run of `books` puts fall on one slot by
+//! another program's reckoning, which what it prints does not show; that slots are chosen by the key that the shape shows, which is the invariant of the type (`specs/Slots.antt`), since what is found does not
 //! depend on it; how many puts a call goes over, since no clause counts steps: there are at most half as many puts as slots, rounded up; that
 //! [`FixedIndex::new`] does not answer [`NoMemory`] where memory is there, since no clause can say that memory is left.
 #![tactic(auto)]

@@ -7,7 +7,7 @@ use crate::width::{ACCOUNT, LENGTH, SECRET};
 use arrayvec::ArrayVec;
 use std::marker::Model;
 
-/// The most bytes of a [`Buffer`]: as many as the longest text that is spelled in one can have, an endorsement whose order
+/// The most bytes of a [`Buffer`], 604: as many as the longest text that is spelled in one can have, an endorsement whose order
 /// and memo are as long as a [`Small`](crate::Small) can be, each behind its length, with an account and a key.
 pub const MAX_BUFFER: usize = LENGTH + MAX_SMALL + ACCOUNT + LENGTH + MAX_SMALL + SECRET;
 

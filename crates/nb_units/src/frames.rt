@@ -85,17 +85,17 @@ pub fn front_is_frame()
     ensures { law.FrontIsFrame }
 {}
 
-/// A law: what is read as a frame at the front of a stream is a frame's spelling.
+/// A law: what is read as a frame at the front of a stream is a frame's spelling, within its limits.
 pub fn frame_is_front()
     ensures { law.FrameIsFront }
 {}
 
-/// A law: a part of a frame, from its front on, is read neither as a frame nor as bad.
+/// A law: a front part of a frame, neither empty nor the whole, is read as `Partial`: neither as a frame nor as bad.
 pub fn part_is_partial()
     ensures { law.PartIsPartial }
 {}
 
-/// A law: what is read as a part of a frame is one, from its front on. Only while one, two or three of the four bytes
+/// A law: what is read as a part of a frame is one, from its front on, neither empty nor the whole. Only while one, two or three of the four bytes
 /// of its length are there, the length may still turn out too long.
 pub fn partial_is_part()
     ensures { law.PartialIsPart }
@@ -116,7 +116,7 @@ pub fn has_reading()
     ensures { law.HasReading }
 {}
 
-/// A law: the frames of a stream are the longest list of frames that it begins with.
+/// A law: any list of frames that a stream begins with is a front part of the one that splits it, which so is the longest.
 pub fn longest_reading()
     ensures { law.LongestReading }
 {}
@@ -126,7 +126,7 @@ pub fn one_reading()
     ensures { law.OneReading }
 {}
 
-/// A law: bytes that no frame begins with stay so, whatever comes behind them.
+/// A law: bytes that no frame begins with stay so, with the same fault, whatever comes behind them.
 #[tactic(auto, using(crate::proofs::FrameLaws::bad_stays))]
 pub fn bad_stays()
     ensures { law.BadStays }

@@ -12,10 +12,10 @@ pub const HEAD: usize = 80;
 /// The most bytes of a memo, which is a party's own note.
 pub const MAX_MEMO: usize = 64;
 
-/// The most bytes of the hidden part of an order, sealed: account, nonce, and the memo behind its length.
+/// The most bytes of the hidden part of an order, sealed, which are 112: account, nonce, and the memo behind its length.
 pub const MAX_HIDDEN: usize = SEAL + ACCOUNT + NONCE + LENGTH + MAX_MEMO;
 
-/// The most bytes of an order: consumer, merchant, product, price, identifier, three digests, the hidden part behind its
+/// The most bytes of an order, which are 280: consumer, merchant, product, price, identifier, three digests, the hidden part behind its
 /// length, and the tag.
 pub const MAX_ORDER: usize = PARTY
     + PARTY

@@ -21,6 +21,7 @@ impl From<CutFault> for Malformed {
     ghost use Rattle.std.specs.Prelude.{◌≡◌};
     ghost use Rattle.nb_units.specs.Fields.{place_of};
 
+    // the place of the fault
     ghost from_gives = { λ fault m. m.place ≡ place_of fault };
 
     fn from(fault: CutFault) -> Malformed {

@@ -4,7 +4,7 @@ ghost use Rattle.nb_units.specs.Room.{spare_of};
 use std::alloc::{AllocError, AllocFailed};
 use std::fmt;
 
-/// There was no memory for what a call had to make or to keep.
+/// There was no memory for what a call had to make or to keep. The library's allocation errors become it.
 #[derive(Clone, Copy, PartialEq, Eq, Debug)]
 pub struct NoMemory;
 

@@ -5,7 +5,7 @@ ghost use Rattle.nb_units.specs.declared.small.TheConstants.{MAX_SMALL};
 use crate::limits::MAX_ORDER;
 use std::marker::Model;
 
-/// The most bytes of a [`Small`]: as many as the longest list that is held in one, an order.
+/// The most bytes of a [`Small`], 280: as many as the longest list that is held in one, an order.
 pub const MAX_SMALL: usize = MAX_ORDER;
 
 /// A list of at most [`MAX_SMALL`] bytes that takes no memory.
