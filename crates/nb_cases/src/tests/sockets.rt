@@ -266,11 +266,13 @@ fn a_peer_is_silent(rt: HostRuntime) -> Result<(), Fail> {
     Ok(())
 }
 
-// A listener that does not wait has no connection, and its port fails.
+// A listener that does not wait has no connection: it says that it failed, and not that a connection was gone, and its port fails.
 #[test]
 fn a_listener_that_fails_is_told(rt: HostRuntime) -> Result<(), Fail> {
     let listener = TcpListener::bind(&rt, "127.0.0.1:0")?;
     listener.set_nonblocking(true)?;
+    let mut twin = StdListener::over(listener.try_clone()?);
+    assert!(rt; matches!(twin.accept(), AcceptOut::Failed));
     let mut port = TcpPort::over(listener, 1);
     assert!(rt; matches!(port.next(), PortOut::Failed) && port.left() == 1);
     Ok(())
