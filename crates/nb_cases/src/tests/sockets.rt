@@ -1,5 +1,7 @@
 // Links and ports: over sockets and listeners that fail in turn, and over real ones.
 
+ghost use Rattle.std.specs.Prelude.{◌<◌, IfOk};
+
 use nb_link::{Link, Port, PortOut};
 use nb_net::{
     AcceptOut, IDLE_SECONDS, Listener, SetOut, Socket, SocketRead, SocketWrite, StdListener,
@@ -194,8 +196,10 @@ fn dial(rt: &HostRuntime, address: SocketAddr) -> Result<(TcpLink<StdSocket>, Tc
     Ok((TcpLink::over(stream).ok_or("no link is dialled")?, same))
 }
 
-// The next link of a port.
-fn next_of(port: &mut TcpPort<StdListener>) -> Result<TcpLink<StdSocket>, Fail> {
+// The next link of a port, which has one out then.
+fn next_of(port: &mut TcpPort<StdListener>) -> Result<TcpLink<StdSocket>, Fail>
+    ensures { IfOk result (λ link. 0 < port.new.out) }
+{
     match port.next() {
         PortOut::Got(link) => Ok(link),
         PortOut::Closed | PortOut::Failed => Err("no link comes".into()),
