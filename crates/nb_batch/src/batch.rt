@@ -26,7 +26,7 @@ pub const MOST_FRAMES: u32 = 10_000_000;
 const ASKER: u64 = 0;
 
 /// How a batch ended.
-#[derive(Clone, Copy, PartialEq, Eq, Debug)]
+#[derive(Clone, Copy)]
 pub enum BatchEnd {
     /// The input ended at a frame's end, and every frame was answered.
     Clean,
@@ -45,7 +45,7 @@ pub enum BatchEnd {
 }
 
 // What came of one look at the input.
-#[derive(Clone, Copy, PartialEq, Eq, Debug)]
+#[derive(Clone, Copy)]
 enum Step {
     Answered,
     Ended(BatchEnd),

@@ -8,7 +8,7 @@ use nb_frame::{FrameAt, Frames, Next};
 use nb_port::{ReadOut, Source};
 
 /// What comes next in the input.
-#[derive(Clone, Copy, PartialEq, Eq, Debug)]
+#[derive(Clone, Copy)]
 pub enum Fetched {
     /// A frame, which the reader of frames holds.
     Frame(FrameAt),

@@ -6,7 +6,7 @@ use nb_port::{Disk, Sink, WriteOut};
 use nb_vault::Vault;
 
 /// How sending went.
-#[derive(Clone, Copy, PartialEq, Eq, Debug)]
+#[derive(Clone, Copy)]
 pub enum Sent {
     /// All of the piece.
     All,

@@ -7,7 +7,7 @@ use crate::limits::{CONSUMER_ROLE, MERCHANT_ROLE};
 use nb_units::{AcctId, Buffer, Cut, Malformed, PartyId, Secret, Tag, allow};
 
 /// The operator asks to enrol a party.
-#[derive(Clone, Copy, PartialEq, Eq, Debug)]
+#[derive(Clone, Copy, Debug)]
 pub struct Enrolment {
     /// The party's number, 4 bytes wide.
     pub id: PartyId,

@@ -8,7 +8,7 @@ use crate::limits::MAX_AMOUNT;
 use nb_units::{AcctId, Buffer, Cut, Malformed, Tag, allow};
 
 /// The operator asks to put money into an account.
-#[derive(Clone, Copy, PartialEq, Eq, Debug)]
+#[derive(Clone, Copy, Debug)]
 pub struct Funding {
     /// The number of the account, 4 bytes wide.
     pub acct: AcctId,

@@ -6,7 +6,7 @@ ghost use Rattle.nb_body.specs.Reading.{goods_head_of};
 use nb_units::{Buffer, Cut, Digest, Epoid, Malformed};
 
 /// What a merchant says of a part of the goods, before it is sealed: [`GOODS_HEAD_BYTES`] bytes.
-#[derive(Clone, Copy, PartialEq, Eq, Debug)]
+#[derive(Clone, Copy, Debug)]
 pub struct GoodsHead {
     /// The consumer's number of the purchase, 8 bytes wide.
     pub transaction: u64,

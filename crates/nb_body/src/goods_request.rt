@@ -6,7 +6,7 @@ ghost use Rattle.nb_body.specs.Reading.{goods_request_of};
 use nb_units::{Buffer, Cut, Malformed};
 
 /// What a consumer asks a merchant for goods, before it is sealed: [`GOODS_REQUEST_BYTES`] bytes.
-#[derive(Clone, Copy, PartialEq, Eq, Debug)]
+#[derive(Clone, Copy, Debug)]
 pub struct GoodsRequest {
     /// The consumer's number of the purchase, 8 bytes wide.
     pub transaction: u64,

@@ -6,7 +6,7 @@ ghost use Rattle.nb_body.specs.Reading.{payment_request_of};
 use nb_units::{Buffer, Cut, MAX_ORDER, Malformed, Small};
 
 /// What a consumer sends a merchant to be paid by, before it is sealed: at most [`MAX_PAYMENT_REQUEST`] bytes.
-#[derive(Clone, Copy, PartialEq, Eq, Debug)]
+#[derive(Clone, Copy, Debug)]
 pub struct PaymentRequest {
     /// The consumer's number of the purchase, 8 bytes wide.
     pub transaction: u64,

@@ -8,7 +8,7 @@ use crate::limits::MAX_REQUEST;
 use nb_units::{Buffer, Cut, Malformed, Small};
 
 /// What a consumer asks a merchant for a price, before it is sealed: at most [`MAX_PRICE_REQUEST`] bytes.
-#[derive(Clone, Copy, PartialEq, Eq, Debug)]
+#[derive(Clone, Copy, Debug)]
 pub struct PriceRequest {
     /// The consumer's own number of the purchase, 8 bytes wide.
     pub transaction: u64,

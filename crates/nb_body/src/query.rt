@@ -6,7 +6,7 @@ ghost use Rattle.nb_body.specs.Reading.{query_of};
 use nb_units::{Buffer, Cut, Epoid, Malformed, PartyId, Tag};
 
 /// A party asks for the status of an order.
-#[derive(Clone, Copy, PartialEq, Eq, Debug)]
+#[derive(Clone, Copy, Debug)]
 pub struct StatusQuery {
     /// The number of who asks, 4 bytes wide.
     pub asker: PartyId,

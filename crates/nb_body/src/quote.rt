@@ -6,7 +6,7 @@ ghost use Rattle.nb_body.specs.Reading.{quote_of};
 use nb_units::{Buffer, Cut, Malformed, Price};
 
 /// What a merchant answers to a request for a price, before it is sealed: [`QUOTE_BYTES`] bytes.
-#[derive(Clone, Copy, PartialEq, Eq, Debug)]
+#[derive(Clone, Copy, Debug)]
 pub struct Quote {
     /// The consumer's number of the purchase, 8 bytes wide.
     pub transaction: u64,

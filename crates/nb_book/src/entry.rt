@@ -13,7 +13,7 @@ pub const CONSUMER: u8 = 1;
 pub const MERCHANT: u8 = 2;
 
 /// What a book records.
-#[derive(Clone, Copy, PartialEq, Eq, Debug)]
+#[derive(Clone, Copy, PartialEq, Eq)]
 pub enum Entry {
     /// A party takes a role, [`CONSUMER`] or [`MERCHANT`], and opens its account. The nonce is the number that its
     /// orders must show, the key is the one that it shares with the house.

@@ -1,7 +1,7 @@
 use nb_units::AcctId;
 
 /// A fund: its place, and what it put into which account.
-#[derive(Clone, Copy, PartialEq, Eq, Debug)]
+#[derive(Clone, Copy)]
 pub struct Funded {
     /// The number of entries before it, 8 bytes wide.
     pub at: u64,

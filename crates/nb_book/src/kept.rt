@@ -1,7 +1,7 @@
 use crate::entry::Entry;
 
 /// A payment or a refusal, and its place.
-#[derive(Clone, Copy, PartialEq, Eq, Debug)]
+#[derive(Clone, Copy)]
 pub struct Kept {
     /// The number of entries before it, 8 bytes wide.
     pub at: u64,

@@ -1,7 +1,7 @@
 use nb_units::{AcctId, PartyId, Secret};
 
 /// An enrolled party: the place of its enrolment, and what that says.
-#[derive(Clone, Copy, PartialEq, Eq, Debug)]
+#[derive(Clone, Copy)]
 pub struct Party {
     /// The number of entries before its enrolment, 8 bytes wide.
     pub at: u64,

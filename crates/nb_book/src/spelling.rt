@@ -14,7 +14,6 @@ use crate::entry::{CONSUMER, Entry, MERCHANT};
 use nb_units::{
     AcctId, Buffer, Cut, Digest, Epoid, Malformed, PartyId, Pen, Price, allow, is_reason,
 };
-use std::fmt;
 
 /// The most bytes of an entry.
 pub const MAX_ENTRY: usize = 117;
@@ -33,15 +32,9 @@ const REFUSED_ENTRY: u8 = 4;
 
 /// No entry stands at the front of a cut. The place is that of the first field that fails, in bytes from the front of the
 /// cut's slice.
-#[derive(Clone, Copy, PartialEq, Eq, Debug)]
+#[derive(Clone, Copy)]
 pub struct EntryFault {
     pub place: usize,
-}
-
-impl fmt::Display for EntryFault {
-    fn fmt<W: fmt::Write>(&self, f: &mut fmt::Formatter<W>) -> fmt::Result {
-        write!(f, "at byte {}: no entry stands there", self.place)
-    }
 }
 
 /// Appends the entry's bytes. It needs room for [`MAX_ENTRY`] bytes, also for a shorter entry; the role of an enrolment must
@@ -274,7 +267,7 @@ fn read_fund(mut cut: Cut) -> Result<Entry, Malformed>
 }
 
 // What a payment and a refusal both say, behind their kind.
-#[derive(Clone, Copy, PartialEq, Eq, Debug)]
+#[derive(Clone, Copy)]
 struct OrderTerms {
     digest: Digest,
     epoid: Epoid,

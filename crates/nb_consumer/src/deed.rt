@@ -4,7 +4,7 @@ use nb_units::NoMemory;
 use nb_wallet::Item;
 
 /// What a consumer does where it does something, before what is kept is spelled.
-#[derive(Debug, Drop)]
+#[derive(Drop)]
 pub enum Deed {
     /// It sends a message, and keeps nothing.
     Sends {
@@ -45,7 +45,7 @@ pub enum Deed {
 }
 
 // Why a row does nothing.
-#[derive(Clone, Copy, PartialEq, Eq, Debug)]
+#[derive(Clone, Copy)]
 pub(crate) enum Halt {
     Ignored(Reason),
     NoMemory,

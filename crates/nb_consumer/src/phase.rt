@@ -1,5 +1,5 @@
 /// How far a purchase has come.
-#[derive(Clone, Copy, PartialEq, Eq, Debug)]
+#[derive(Clone, Copy, PartialEq, Eq)]
 pub enum Phase {
     /// A ticket was asked for.
     Ticketing,

@@ -23,7 +23,7 @@ use nb_wallet::{Item, Purchase, Wallet, request_digest};
 use std::alloc::Global;
 
 // Why bytes are not recalled.
-#[derive(Clone, Copy, PartialEq, Eq, Debug)]
+#[derive(Clone, Copy)]
 pub(crate) enum RecallFault {
     // No row keeps them behind what is known.
     Bad,

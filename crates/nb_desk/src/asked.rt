@@ -4,7 +4,7 @@ ghost use Rattle.nb_desk.specs.Asking.{asked_of, asked_all_of};
 use nb_vault::{Answer, AnswerAll};
 
 /// How a request was answered at a desk.
-#[derive(Clone, Copy, PartialEq, Eq, Debug)]
+#[derive(Clone, Copy)]
 pub enum Asked {
     /// It was decided over `at` entries, and its reply is handed out: every later stop leaves what it recorded.
     Served { at: u64 },
@@ -17,7 +17,7 @@ pub enum Asked {
 }
 
 /// How the requests of a turn were answered at a desk.
-#[derive(Clone, Copy, PartialEq, Eq, Debug)]
+#[derive(Clone, Copy)]
 pub enum AskedAll {
     /// They were decided one after another, and their places and replies are handed out: every later stop leaves what they
     /// recorded.

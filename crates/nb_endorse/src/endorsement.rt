@@ -69,7 +69,7 @@ pub fn read_sealed(bytes: &[u8], key: &Secret) -> Result<Endorsement, SealedFaul
 }
 
 /// An endorsement that was read, and its digest.
-#[derive(Clone, Copy, PartialEq, Eq, Debug)]
+#[derive(Clone, Copy)]
 pub struct DigestedEndorsement {
     pub endorsement: Endorsement,
     /// What [`digest_of`] gives of it.

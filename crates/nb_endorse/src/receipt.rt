@@ -75,7 +75,7 @@ pub struct Receipt {
 }
 
 /// A receipt, and the house's tag over it: the HMAC-SHA-256 (RFC 2104) of "rcpt" and the receipt's bytes.
-#[derive(Clone, Copy, PartialEq, Eq, Debug)]
+#[derive(Clone, Copy, Debug)]
 pub struct Signed {
     pub receipt: Receipt,
     pub tag: Tag,

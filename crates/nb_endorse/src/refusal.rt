@@ -75,7 +75,7 @@ pub const NOT_SERVED: u8 = 53;
 pub const SHOWN_BYTES: usize = 32;
 
 /// Why a request is refused, or its turn failed: a code, one byte wide, and what it shows. What a code does not show is zeros.
-#[derive(Clone, Copy, PartialEq, Eq, Debug)]
+#[derive(Clone, Copy, Debug)]
 pub struct Refusal {
     pub code: u8,
     /// The first number that is shown, 8 bytes wide.

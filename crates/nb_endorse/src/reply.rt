@@ -17,7 +17,7 @@ use nb_units::{AcctId, Epoid, PartyId, Secret};
 use std::marker::Model;
 
 /// What the house answers to one request.
-#[derive(Clone, Copy, PartialEq, Eq, Debug)]
+#[derive(Clone, Copy)]
 pub enum Reply {
     /// The order was decided: the receipt of each party.
     Result {
@@ -62,7 +62,7 @@ pub enum Reply {
 /// The keys that a reply is made with. For the result of an order `first` is the merchant's and `second` the consumer's; for
 /// a status `first` is the asker's; for a grant `first` is the consumer's and `second` the merchant's. Keys that a reply of
 /// this kind has no use for are zeros.
-#[derive(Clone, Copy, PartialEq, Eq, Debug)]
+#[derive(Clone, Copy)]
 pub struct ReplyKeys {
     /// The house's own key, which the tags of receipts are made with.
     pub house: Secret,

@@ -15,7 +15,7 @@ use std::fmt;
 const HIDE_LABEL: [u8; 4] = *b"hide";
 
 /// What an order says to the house alone.
-#[derive(Clone, Copy, PartialEq, Eq, Debug)]
+#[derive(Clone, Copy, Debug)]
 pub struct Hidden {
     /// The account that pays, 4 bytes wide.
     pub acct: AcctId,
@@ -26,7 +26,7 @@ pub struct Hidden {
 }
 
 /// Why a hidden part was not revealed.
-#[derive(Clone, Copy, PartialEq, Eq, Debug)]
+#[derive(Clone, Copy, Debug)]
 pub enum RevealFault {
     /// The bytes are the seal of no text under the key. The iv is the first 32 bytes given, with zeros where there are
     /// fewer.

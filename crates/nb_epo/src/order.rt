@@ -17,7 +17,7 @@ use nb_units::{
 const ORDER_LABEL: [u8; 4] = *b"ordr";
 
 /// A consumer's promise to pay for one product.
-#[derive(Clone, Copy, PartialEq, Eq, Debug)]
+#[derive(Clone, Copy, Debug)]
 pub struct Order {
     /// Who pays, 4 bytes wide.
     pub consumer: PartyId,

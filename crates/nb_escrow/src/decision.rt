@@ -22,7 +22,7 @@ use nb_units::frames::{
 };
 
 /// The house's answer to one request, and the entry that it records for it, if any.
-#[derive(Clone, Copy, PartialEq, Eq, Debug)]
+#[derive(Clone, Copy)]
 pub struct Decision {
     pub reply: Reply,
     /// What the reply is signed and sealed under.

@@ -7,7 +7,7 @@ use nb_units::{HEAD, Secret};
 const KEY: usize = 32;
 
 /// What a house's journal begins with: its own key, the operator's key, and the key of its index.
-#[derive(Clone, Copy, PartialEq, Eq, Debug)]
+#[derive(Clone, Copy)]
 pub struct Head {
     /// What receipts are signed with, 32 bytes.
     pub house: Secret,

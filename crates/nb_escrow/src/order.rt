@@ -34,7 +34,7 @@ use nb_units::{Buffer, Digest, Epoid, Malformed, PartyId, Small};
 
 /// An order whose parties, seals, grammar and tag were tested: who takes part, and what each of them says. Whether it was
 /// settled before, and whether it is paid, is tested next.
-#[derive(Clone, Copy, PartialEq, Eq, Debug)]
+#[derive(Clone, Copy)]
 pub struct Presented {
     /// Who endorses the order.
     pub merchant: Party,

@@ -11,7 +11,7 @@ use nb_endorse::{PAID_CODE, Receipt};
 use nb_units::{AcctId, Digest, Epoid, PartyId, Price, Secret};
 
 /// Why an order was refused: one of the codes of [`reason`](nb_book::reason), and the two numbers of which it speaks.
-#[derive(Clone, Copy, PartialEq, Eq, Debug)]
+#[derive(Clone, Copy)]
 pub struct RefusalReason {
     /// One byte wide.
     pub code: u8,
@@ -22,7 +22,7 @@ pub struct RefusalReason {
 }
 
 /// What became of an order.
-#[derive(Clone, Copy, PartialEq, Eq, Debug)]
+#[derive(Clone, Copy)]
 pub enum PaymentOutcome {
     /// The price moved from the consumer's account, `cacct`, to the merchant's, `macct`. The key, 32 bytes, is the one that
     /// the merchant gave for the goods.
@@ -36,7 +36,7 @@ pub enum PaymentOutcome {
 }
 
 /// How an order was settled: the entry that records it, with its place.
-#[derive(Clone, Copy, PartialEq, Eq, Debug)]
+#[derive(Clone, Copy)]
 pub struct Settlement {
     /// The number of entries before it, 8 bytes wide.
     pub at: u64,

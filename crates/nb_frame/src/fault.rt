@@ -1,11 +1,9 @@
 ghost use Rattle.std.specs.Prelude.{◌≡◌, ◌+◌, ◌<◌, ◌^◌};
 ghost use Rattle.nb_frame.specs.Faults.{place_of, moved};
 
-use std::fmt;
-
 /// What stands in a stream is no frame. The place is that of the first part of a header that is not allowed, in bytes from the
 /// first byte of the stream.
-#[derive(Clone, Copy, PartialEq, Eq, Debug)]
+#[derive(Clone, Copy)]
 pub enum FrameFault {
     /// One of the two bytes of the magic is another one.
     BadMagic { place: u64, found: u8 },
@@ -52,25 +50,6 @@ impl FrameFault {
                 place: before + place,
                 len,
             },
-        }
-    }
-}
-
-impl fmt::Display for FrameFault {
-    fn fmt<W: fmt::Write>(&self, f: &mut fmt::Formatter<W>) -> fmt::Result {
-        match self {
-            FrameFault::BadMagic { place, found } => {
-                write!(f, "at byte {place}: {found} is no byte of a frame's magic")
-            }
-            FrameFault::BadVersion { place, found } => {
-                write!(f, "at byte {place}: there is no version {found}")
-            }
-            FrameFault::BadKind { place, found } => {
-                write!(f, "at byte {place}: there is no kind {found}")
-            }
-            FrameFault::TooLong { place, len } => {
-                write!(f, "at byte {place}: no body has {len} bytes")
-            }
         }
     }
 }

@@ -11,7 +11,7 @@ use nb_units::frames::{FIRST_MAGIC, HEADER, LAST_KIND, MAX_BODY, SECOND_MAGIC, V
 use nb_units::u32_of;
 
 // What stands at the front.
-#[derive(Clone, Copy, PartialEq, Eq, Debug)]
+#[derive(Clone, Copy)]
 pub enum Seen {
     // A frame of this kind, whose body has so many bytes.
     Whole { kind: u8, len: usize },

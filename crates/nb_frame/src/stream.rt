@@ -19,7 +19,7 @@ pub const MAX_PIECE: usize = 65_536;
 pub const MAX_HELD: usize = HEADER + MAX_BODY as usize + MAX_PIECE;
 
 /// A frame that was given out, among the bytes since the last feed.
-#[derive(Clone, Copy, PartialEq, Eq, Debug)]
+#[derive(Clone, Copy)]
 pub struct FrameAt {
     /// The kind, from 1 to 16.
     pub kind: u8,
@@ -30,7 +30,7 @@ pub struct FrameAt {
 }
 
 /// What comes next in a stream of frames.
-#[derive(Clone, Copy, PartialEq, Eq, Debug)]
+#[derive(Clone, Copy)]
 pub enum Next {
     /// A whole frame, which is given out.
     Frame(FrameAt),

@@ -17,7 +17,7 @@ use std::fmt;
 const KEY_LABEL: [u8; 5] = *b"goods";
 
 /// Why sealed goods were not opened.
-#[derive(Clone, Copy, PartialEq, Eq, Debug)]
+#[derive(Clone, Copy, Debug)]
 pub enum OpenGoods {
     /// The bytes are no sealed goods under the key. The iv is the first 32 bytes given, with zeros where there are fewer.
     BadSeal { iv: [u8; 32] },

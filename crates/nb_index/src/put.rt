@@ -1,5 +1,5 @@
 /// What was put into an index: a number under a key.
-#[derive(Clone, Copy, PartialEq, Eq, Debug)]
+#[derive(Clone, Copy)]
 pub struct Put {
     /// 16 bytes, of any content.
     pub key: [u8; 16],

@@ -7,8 +7,6 @@ mod resting;
 mod settling;
 mod state;
 
-use std::fmt;
-
 /// A journal on a disk.
 #[derive(Drop)]
 pub struct Journal<D> {
@@ -36,7 +34,7 @@ pub struct Journal<D> {
 }
 
 /// Why an item was not appended.
-#[derive(Clone, Copy, PartialEq, Eq, Debug)]
+#[derive(Clone, Copy)]
 pub enum AppendFault {
     /// As many items are held as the journal may hold. Nothing was done.
     Full { cap: u32 },
@@ -47,7 +45,7 @@ pub enum AppendFault {
 }
 
 /// What settling found out.
-#[derive(Clone, Copy, PartialEq, Eq, Debug)]
+#[derive(Clone, Copy)]
 pub enum Settled {
     /// The item that was in doubt is there, behind the others.
     Kept,
@@ -58,33 +56,8 @@ pub enum Settled {
 }
 
 /// The disk failed between these two counts of its faults, and the item is still in doubt.
-#[derive(Clone, Copy, PartialEq, Eq, Debug)]
+#[derive(Clone, Copy)]
 pub struct StillStale {
     pub before: u64,
     pub after: u64,
-}
-
-impl fmt::Display for AppendFault {
-    fn fmt<W: fmt::Write>(&self, f: &mut fmt::Formatter<W>) -> fmt::Result {
-        match self {
-            AppendFault::Full { cap } => write!(f, "the journal has its {cap} items"),
-            AppendFault::TooBig { len, room } => {
-                write!(f, "an item of {len} bytes, where {room} are allowed")
-            }
-            AppendFault::DiskFault { before, after } => write!(
-                f,
-                "the disk failed: {before} faults became {after}"
-            ),
-        }
-    }
-}
-
-impl fmt::Display for StillStale {
-    fn fmt<W: fmt::Write>(&self, f: &mut fmt::Formatter<W>) -> fmt::Result {
-        write!(
-            f,
-            "the disk failed, and an item is still in doubt: {} faults became {}",
-            self.before, self.after
-        )
-    }
 }

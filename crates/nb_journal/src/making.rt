@@ -9,13 +9,12 @@ use crate::opening::front::first_eight;
 use crate::putting::put_synced;
 use crate::reading::same_bytes;
 use nb_port::{Disk, DiskOut, DiskRead};
-use std::fmt;
 
 // The bytes of a journal without items: its front, and a gate.
 const EMPTY: usize = FRONT as usize + 1;
 
 /// Why no journal was made.
-#[derive(Clone, Copy, PartialEq, Eq, Debug)]
+#[derive(Clone, Copy)]
 pub enum InitFault {
     /// The cap is 0 or above [`MAX_CAP`](crate::MAX_CAP). The disk was not touched.
     BadCap { cap: u32 },
@@ -25,17 +24,6 @@ pub enum InitFault {
     LookFailed { before: u64, after: u64 },
     /// The disk, which had no journal, failed between these two counts of its faults. The front may be written in part.
     DiskFault { before: u64, after: u64 },
-}
-
-impl fmt::Display for InitFault {
-    fn fmt<W: fmt::Write>(&self, f: &mut fmt::Formatter<W>) -> fmt::Result {
-        match self {
-            InitFault::BadCap { cap } => write!(f, "no journal has a cap of {cap}"),
-            InitFault::Exists { .. } => f.write_str("there is a journal"),
-            InitFault::LookFailed { before, after } | InitFault::DiskFault { before, after } =>
-                write!(f, "the disk failed: {before} faults became {after}"),
-        }
-    }
 }
 
 // What the content begins with.

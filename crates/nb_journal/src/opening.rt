@@ -15,7 +15,6 @@ use crate::opening::contents::{ContentsRead, read_contents};
 use nb_port::Disk;
 use nb_units::Blob;
 use std::alloc::Global;
-use std::fmt;
 
 /// A journal that was opened, and what it holds.
 #[derive(Drop)]
@@ -30,7 +29,7 @@ pub struct Opened<D> {
 }
 
 /// Why no journal was opened.
-#[derive(Clone, Copy, PartialEq, Eq, Debug)]
+#[derive(Clone, Copy)]
 pub enum OpenFault {
     /// The content does not begin with the magic, but with this. Bytes that are missing count as zeros.
     Unborn { found: [u8; MAGIC_BYTES] },
@@ -42,23 +41,6 @@ pub enum OpenFault {
     DiskFault { before: u64, after: u64 },
     /// There was no memory for the items, or for the place where one is laid out.
     NoMemory,
-}
-
-impl fmt::Display for OpenFault {
-    fn fmt<W: fmt::Write>(&self, f: &mut fmt::Formatter<W>) -> fmt::Result {
-        match self {
-            OpenFault::Unborn { .. } => f.write_str("there is no journal"),
-            OpenFault::Damaged { item, place } => write!(
-                f,
-                "the journal is damaged at item {item}, place {place}"
-            ),
-            OpenFault::DiskFault { before, after } => write!(
-                f,
-                "the disk failed: {before} faults became {after}"
-            ),
-            OpenFault::NoMemory => f.write_str("out of memory"),
-        }
-    }
 }
 
 impl<D: Disk> Journal<D> {

@@ -1,5 +1,5 @@
 /// Where a session passes a gate.
-#[derive(Clone, Copy, PartialEq, Eq, Debug)]
+#[derive(Clone, Copy)]
 pub enum Point {
     /// Before the turn that answers a request.
     BeforeTurn,
@@ -14,7 +14,7 @@ pub trait Gate: Sync {
 }
 
 /// A gate that holds nobody up.
-#[derive(Clone, Copy, PartialEq, Eq, Debug)]
+#[derive(Clone, Copy)]
 pub struct OpenGate;
 
 impl Gate for OpenGate {

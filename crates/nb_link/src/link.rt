@@ -4,7 +4,7 @@ ghost use Rattle.nb_link.specs.Link.{LinkSeen, LinkReads, LinkWrites};
 use nb_port::{ReadOut, WriteOut};
 
 /// A read of a link that gave bytes.
-#[derive(Clone, Copy, PartialEq, Eq, Debug)]
+#[derive(Clone, Copy)]
 pub struct Reading {
     /// How many bytes there was room for.
     pub asked: usize,

@@ -19,7 +19,7 @@ pub(crate) struct Planned {
 }
 
 // Why a row does nothing.
-#[derive(Clone, Copy, PartialEq, Eq, Debug)]
+#[derive(Clone, Copy)]
 pub(crate) enum Halt {
     Ignored(Reason),
     NoMemory,

@@ -2,7 +2,7 @@ use nb_units::{CutFault, Malformed, NoMemory};
 use std::fmt;
 
 /// Why a body was not read.
-#[derive(Clone, Copy, PartialEq, Eq, Debug)]
+#[derive(Clone, Copy, Debug)]
 pub enum BodyFault {
     /// The body is not spelled as bodies of its kind are. The place is that of the first field that fails, in bytes from the front: a
     /// field of which bytes are missing, the length of a text that is too long or not all there, a value that is not allowed, or the

@@ -1,9 +1,8 @@
 use crate::message::Message;
 use nb_units::{Blob, NoMemory, PartyId};
-use std::fmt;
 
 /// Whom a message is for.
-#[derive(Clone, Copy, PartialEq, Eq, Debug)]
+#[derive(Clone, Copy)]
 pub enum To {
     /// The house.
     Server,
@@ -14,7 +13,7 @@ pub enum To {
 }
 
 /// What a node, a consumer or a merchant, does at a message or at a word of its holder.
-#[derive(Debug, Drop)]
+#[derive(Drop)]
 pub enum Step {
     /// It sends a message.
     Move {
@@ -37,7 +36,7 @@ pub enum Step {
 }
 
 /// How a purchase ended for its consumer.
-#[derive(Debug, Drop)]
+#[derive(Drop)]
 pub enum End {
     /// It was paid, and the key opened the goods, which these bytes are.
     Paid(Blob),
@@ -48,7 +47,7 @@ pub enum End {
 }
 
 /// Why a node ignores a message or a word of its holder.
-#[derive(Clone, Copy, PartialEq, Eq, Debug)]
+#[derive(Clone, Copy)]
 pub enum Reason {
     /// It knows no such purchase.
     Unknown,
@@ -67,26 +66,12 @@ pub enum Reason {
 }
 
 /// Why a node does not start again with the items of its journal.
-#[derive(Clone, Copy, PartialEq, Eq, Debug)]
+#[derive(Clone, Copy)]
 pub enum RestartFault {
     /// This is the first item that a node could not have kept behind those before it, counted from 0 on, 4 bytes wide.
     BadItem { item: u32 },
     /// There is no memory for what it holds.
     NoMemory,
-}
-
-impl fmt::Display for RestartFault {
-    fn fmt<W: fmt::Write>(&self, f: &mut fmt::Formatter<W>) -> fmt::Result {
-        match self {
-            RestartFault::BadItem { item } => {
-                write!(
-                    f,
-                    "item {item}: not what a node keeps behind the items before it"
-                )
-            }
-            RestartFault::NoMemory => write!(f, "there is no memory"),
-        }
-    }
 }
 
 impl From<NoMemory> for RestartFault {

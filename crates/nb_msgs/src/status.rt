@@ -18,7 +18,7 @@ pub(crate) const MOST_TEXT: usize = PLACE + EPOID + FLAG + SIGNED_BYTES;
 pub const MOST_STATUS: usize = SEAL + MOST_TEXT;
 
 /// What the house tells of an order to one of its parties, before it is sealed.
-#[derive(Clone, Copy, PartialEq, Eq, Debug)]
+#[derive(Clone, Copy, Debug)]
 pub struct StatusText {
     /// The number of entries that were looked at, from the first on, 8 bytes wide.
     pub place: u64,

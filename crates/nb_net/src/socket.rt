@@ -4,7 +4,7 @@ ghost use Rattle.nb_net.specs.declared.socket.SetOut.TheVariants as sets;
 ghost use Rattle.nb_net.specs.declared.socket.AcceptOut.TheVariants as accepts;
 
 /// What one read of a socket gives.
-#[derive(Clone, Copy, PartialEq, Eq, Debug)]
+#[derive(Clone, Copy)]
 pub enum SocketRead {
     /// So many bytes, at least one, stand at the front of the buffer.
     Got(usize),
@@ -17,7 +17,7 @@ pub enum SocketRead {
 }
 
 /// What one write of a socket gives.
-#[derive(Clone, Copy, PartialEq, Eq, Debug)]
+#[derive(Clone, Copy)]
 pub enum SocketWrite {
     /// So many bytes from the front of the piece were sent.
     Took(usize),
@@ -28,7 +28,7 @@ pub enum SocketWrite {
 }
 
 /// What setting an option of a socket gives.
-#[derive(Clone, Copy, PartialEq, Eq, Debug)]
+#[derive(Clone, Copy)]
 pub enum SetOut {
     /// It is set.
     Done,

@@ -3,7 +3,7 @@ use std::fmt;
 use thiserror::Error;
 
 /// Why a shelf was not read.
-#[derive(Clone, Copy, PartialEq, Eq, Debug, Error)]
+#[derive(Clone, Copy, Debug, Error)]
 pub enum ShelfFault {
     /// The item of this number, from 1 on, is not of the form of items. Those before it are, and their products' numbers differ.
     #[error("shelf item {item} is bad")]
@@ -39,7 +39,7 @@ impl<T: Drop> From<AllocFailed<T>> for ShelfFault {
 }
 
 /// The catalogue has no product of this number.
-#[derive(Clone, Copy, PartialEq, Eq, Debug)]
+#[derive(Clone, Copy)]
 pub struct NoProduct {
     pub id: u32,
 }

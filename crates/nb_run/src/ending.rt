@@ -41,7 +41,7 @@ pub const FRAME_LIMIT: u8 = 11;
 pub const PORT_FAILED: u8 = 13;
 
 /// A status, and the place that it speaks of: 0 where there is none.
-#[derive(Clone, Copy, PartialEq, Eq, Debug)]
+#[derive(Clone, Copy)]
 pub struct Ending {
     pub status: u8,
     pub place: u64,
@@ -73,7 +73,7 @@ impl Ending {
 }
 
 /// What is left to do over links, which a run does not have.
-#[derive(Clone, Copy, PartialEq, Eq, Debug)]
+#[derive(Clone, Copy)]
 pub enum Job {
     /// `serve JOURNAL ADDRESS WORKERS SESSIONS`: answer the links of so many workers, so many of each.
     Serve {
@@ -85,7 +85,7 @@ pub enum Job {
 }
 
 /// What a run of the program came to.
-#[derive(Clone, Copy, PartialEq, Eq, Debug)]
+#[derive(Clone, Copy)]
 pub enum Outcome {
     /// It is over.
     Done(Ending),

@@ -7,7 +7,7 @@ use nb_journal::{HEAD, InitFault, MAX_CAP, init};
 use nb_port::{Disk, ReadOut, Source};
 
 /// How making a journal ended.
-#[derive(Clone, Copy, PartialEq, Eq, Debug)]
+#[derive(Clone, Copy)]
 pub enum InitEnd {
     /// It was made.
     Made,

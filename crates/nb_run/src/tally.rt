@@ -9,7 +9,7 @@ use std::alloc::Global;
 
 /// What a drill tells of the entries that it came to: how many pay an order and how many refuse one, and what came in, in the house's
 /// smallest unit of money: in a Legal list that is the sum of all balances.
-#[derive(Clone, Copy, PartialEq, Eq, Debug)]
+#[derive(Clone, Copy)]
 pub struct Tally {
     pub paid: u64,
     pub refused: u64,

@@ -2,7 +2,7 @@ use std::alloc::AllocError;
 use std::fmt;
 
 /// There was no memory for what a call had to append.
-#[derive(Clone, Copy, PartialEq, Eq, Debug)]
+#[derive(Clone, Copy)]
 pub struct NoMemory;
 
 impl fmt::Display for NoMemory {

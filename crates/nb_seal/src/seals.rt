@@ -13,7 +13,7 @@ use std::alloc::AllocError;
 use std::{fmt, mem};
 
 /// The bytes are the seal of no text under the key and the label.
-#[derive(Clone, Copy, PartialEq, Eq, Debug)]
+#[derive(Clone, Copy, Debug)]
 pub struct BadSeal {
     /// The first 32 bytes given, with zeros where there are fewer.
     pub iv: [u8; CODE_BYTES],
@@ -26,7 +26,7 @@ impl fmt::Display for BadSeal {
 }
 
 /// Why bytes were not unsealed.
-#[derive(Clone, Copy, PartialEq, Eq, Debug)]
+#[derive(Clone, Copy, Debug)]
 pub enum Unsealed {
     /// The bytes are the seal of no text under the key and the label. The iv is the first 32 bytes
     /// given, with zeros where there are fewer.

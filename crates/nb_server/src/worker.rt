@@ -21,7 +21,7 @@ pub struct Worker<P, C> {
 }
 
 /// Why a worker stopped.
-#[derive(Clone, Copy, PartialEq, Eq, Debug)]
+#[derive(Clone, Copy)]
 pub enum How {
     /// Its port had no link left.
     Closed,

@@ -5,7 +5,7 @@ use nb_turns::Mark;
 pub const MOST_FRAMES: usize = 10_000;
 
 /// How a session ended.
-#[derive(Clone, Copy, PartialEq, Eq, Debug)]
+#[derive(Clone, Copy)]
 pub enum SessionEnd {
     /// The link ended at a frame's end, and every frame was answered.
     Clean,

@@ -8,7 +8,7 @@ use nb_port::Clock;
 use nb_vault::AskAt;
 
 /// Why no more frames were gathered.
-#[derive(Clone, Copy, PartialEq, Eq, Debug)]
+#[derive(Clone, Copy)]
 pub enum Gathered {
     /// No whole frame waits any more.
     More,

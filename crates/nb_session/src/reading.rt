@@ -10,7 +10,7 @@ use nb_link::Link;
 use nb_port::ReadOut;
 
 /// How reading on went.
-#[derive(Clone, Copy, PartialEq, Eq, Debug)]
+#[derive(Clone, Copy)]
 pub enum ReadOn {
     /// A piece was read.
     Fed,

@@ -6,7 +6,7 @@ use nb_port::WriteOut;
 use nb_units::frames::HEADER;
 
 /// How sending went.
-#[derive(Clone, Copy, PartialEq, Eq, Debug)]
+#[derive(Clone, Copy)]
 pub enum Sent {
     All,
     Failed,

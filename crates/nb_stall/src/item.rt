@@ -9,7 +9,7 @@ use crate::purchase::Purchase;
 use nb_units::{Buffer, Cut, Digest, Epoid, MAX_ORDER, Malformed, PartyId, Price, Small};
 
 /// What a merchant keeps of a step: an item of its journal.
-#[derive(Clone, Copy, PartialEq, Eq, Debug)]
+#[derive(Clone, Copy)]
 pub enum Item {
     /// A price was told.
     Quoted {

@@ -21,7 +21,7 @@ use nb_ticket::{Ticket, open_ticket};
 use nb_units::{Digest, Secret};
 
 /// A request for a price, and the digest of its bytes.
-#[derive(Clone, Copy, PartialEq, Eq, Debug)]
+#[derive(Clone, Copy)]
 pub struct AskedPrice {
     pub request: PriceRequest,
     /// The SHA-256 (FIPS 180-4) of the request, before it was sealed.

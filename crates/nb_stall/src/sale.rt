@@ -6,7 +6,7 @@ use nb_goods::Parts;
 use nb_units::{Digest, Epoid, Price, Small};
 
 /// How far a purchase has come.
-#[derive(Clone, Copy, PartialEq, Eq, Debug)]
+#[derive(Clone, Copy, PartialEq, Eq)]
 pub enum Stage {
     /// A price was told.
     Quoted,
@@ -19,7 +19,7 @@ pub enum Stage {
 }
 
 /// How far a purchase has come, with what was kept on the way.
-#[derive(Clone, Copy, PartialEq, Eq, Debug)]
+#[derive(Clone, Copy)]
 pub enum Progress {
     /// A price was told.
     Quoted,
@@ -44,7 +44,7 @@ pub enum Progress {
 }
 
 /// What is known of a purchase: what was quoted, and how far it has come.
-#[derive(Clone, Copy, PartialEq, Eq, Debug)]
+#[derive(Clone, Copy)]
 pub struct Sale {
     /// The merchant's number for the product.
     pub product: u32,

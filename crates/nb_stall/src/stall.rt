@@ -1,7 +1,7 @@
 use nb_units::{AcctId, PartyId, Secret};
 
 /// Who a merchant is.
-#[derive(Clone, Copy, PartialEq, Eq, Debug)]
+#[derive(Clone, Copy)]
 pub struct Stall {
     /// Its number, 4 bytes wide.
     pub id: PartyId,

@@ -17,7 +17,7 @@ use std::marker::Model;
 const LAST_PLACE: u64 = i64::MAX as u64;
 
 /// What a disk knows of its file.
-#[derive(Clone, Copy, PartialEq, Eq, Debug)]
+#[derive(Clone, Copy)]
 pub enum FileState {
     /// No call was made: what is kept in memory of it may not be what the device has.
     Unprepared,

@@ -5,7 +5,7 @@ ghost use Rattle.nb_port.specs.declared.disk.DiskOut.TheVariants as outs;
 use nb_port::DiskOut;
 
 /// What one read of a file gives.
-#[derive(Clone, Copy, PartialEq, Eq, Debug)]
+#[derive(Clone, Copy)]
 pub enum FileRead {
     /// So many bytes stand at the front of the buffer: none only where it has no room or the file has no byte there.
     Got(usize),
@@ -16,7 +16,7 @@ pub enum FileRead {
 }
 
 /// What one write of a file gives.
-#[derive(Clone, Copy, PartialEq, Eq, Debug)]
+#[derive(Clone, Copy)]
 pub enum FileWrite {
     /// So many bytes from the front of the piece were written.
     Took(usize),

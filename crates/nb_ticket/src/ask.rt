@@ -11,7 +11,7 @@ use nb_units::{Buffer, Cut, Malformed, PartyId, Secret, Tag};
 const ASK_LABEL: [u8; 4] = *b"tick";
 
 /// A consumer asks the house for a ticket to a merchant.
-#[derive(Clone, Copy, PartialEq, Eq, Debug)]
+#[derive(Clone, Copy, Debug)]
 pub struct TicketAsk {
     /// Who asks, 4 bytes wide.
     pub consumer: PartyId,

@@ -20,7 +20,7 @@ pub const GRANT_BYTES: usize = SEAL + PARTY + NONCE + MOMENT + SECRET + LENGTH +
 pub const GRANT_LABEL: [u8; 4] = *b"gran";
 
 /// What the house tells a consumer who asked for a ticket.
-#[derive(Clone, Copy, PartialEq, Eq, Debug)]
+#[derive(Clone, Copy, Debug)]
 pub struct Granted {
     /// For whom the ticket is, 4 bytes wide.
     pub merchant: PartyId,
@@ -35,7 +35,7 @@ pub struct Granted {
 }
 
 /// Why a grant was not opened.
-#[derive(Clone, Copy, PartialEq, Eq, Debug)]
+#[derive(Clone, Copy, Debug)]
 pub enum GrantFault {
     /// The bytes are the seal of no text under the key. The iv is the first 32 bytes given, with zeros where there are fewer.
     BadSeal { iv: [u8; 32] },

@@ -18,7 +18,7 @@ pub const TICKET_BYTES: usize = SEAL + 2 * PARTY + MOMENT + SECRET;
 pub const TICKET_LABEL: [u8; 4] = *b"tick";
 
 /// What the house tells a merchant of a consumer.
-#[derive(Clone, Copy, PartialEq, Eq, Debug)]
+#[derive(Clone, Copy, Debug)]
 pub struct Ticket {
     /// Who asked for it, 4 bytes wide.
     pub consumer: PartyId,
@@ -31,7 +31,7 @@ pub struct Ticket {
 }
 
 /// Why a ticket was not opened.
-#[derive(Clone, Copy, PartialEq, Eq, Debug)]
+#[derive(Clone, Copy, Debug)]
 pub enum TicketFault {
     /// The bytes are the seal of no text under the key. The iv is the first 32 bytes given, with zeros where there are fewer.
     BadSeal { iv: [u8; 32] },

@@ -5,7 +5,7 @@ use nb_book::Entry;
 
 /// One thing that a turn did, told in the order in which it was done. `by` is the number of who asked, 8 bytes wide. All lines
 /// of one turn have its number, 8 bytes wide: one above that of the line before them, or 0 where there is none.
-#[derive(Clone, Copy, PartialEq, Eq, Debug)]
+#[derive(Clone, Copy)]
 pub enum Line {
     /// The entry of a request is recorded, and every later stop leaves it.
     Commit {

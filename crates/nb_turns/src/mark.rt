@@ -1,5 +1,5 @@
 /// How a request was answered.
-#[derive(Clone, Copy, PartialEq, Eq, Debug)]
+#[derive(Clone, Copy, PartialEq, Eq)]
 pub enum Mark {
     /// It was decided over so many entries: this is the place of what it records.
     At(u64),

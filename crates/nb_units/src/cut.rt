@@ -7,7 +7,7 @@ use std::marker::Model;
 
 /// Why no such field stands at the place of a cut. Each `place` is that of the field's first byte, in bytes from the front
 /// of the slice.
-#[derive(Clone, Copy, PartialEq, Eq, Debug)]
+#[derive(Clone, Copy, Debug)]
 pub enum CutFault {
     /// Fewer bytes are left than the field has: for a text, than the 4 bytes of its length, or than these say.
     Short { place: usize },

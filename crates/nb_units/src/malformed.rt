@@ -6,7 +6,7 @@ use crate::CutFault;
 use std::fmt;
 
 /// Bytes are not spelled as they should be. The place is that of the first field that fails, in bytes from the front.
-#[derive(Clone, Copy, PartialEq, Eq, Debug)]
+#[derive(Clone, Copy, Debug)]
 pub struct Malformed {
     pub place: usize,
 }

@@ -5,7 +5,7 @@ use std::alloc::{AllocError, AllocFailed};
 use std::fmt;
 
 /// There was no memory for what a call had to make or to keep. The library's allocation errors become it.
-#[derive(Clone, Copy, PartialEq, Eq, Debug)]
+#[derive(Clone, Copy)]
 pub struct NoMemory;
 
 impl fmt::Display for NoMemory {

@@ -2,7 +2,7 @@ ghost use Rattle.std.specs.Prelude.{◌≡◌};
 ghost use Rattle.nb_vault.specs.Parts.{one_of};
 
 /// One request of a turn. Its body stands within bytes that are handed over with it.
-#[derive(Clone, Copy, PartialEq, Eq, Debug)]
+#[derive(Clone, Copy)]
 pub struct AskAt {
     /// The kind of its frame.
     pub kind: u8,
@@ -14,7 +14,7 @@ pub struct AskAt {
 }
 
 /// How a request was answered.
-#[derive(Clone, Copy, PartialEq, Eq, Debug)]
+#[derive(Clone, Copy)]
 pub enum Answer {
     /// It was decided over `at` entries, and its reply is handed out: every later stop leaves what it recorded.
     Answered { at: u64 },
@@ -26,7 +26,7 @@ pub enum Answer {
 }
 
 /// How the requests of a turn were answered.
-#[derive(Clone, Copy, PartialEq, Eq, Debug)]
+#[derive(Clone, Copy)]
 pub enum AnswerAll {
     /// They were decided one after another, and their places and replies are handed out: every later stop leaves what they
     /// recorded.

@@ -29,7 +29,7 @@ pub(crate) struct Records<D> {
 }
 
 // The disk's counts of faults before and behind a call that failed.
-#[derive(Clone, Copy, PartialEq, Eq, Debug)]
+#[derive(Clone, Copy)]
 pub(crate) struct Counts {
     pub(crate) before: u64,
     pub(crate) after: u64,

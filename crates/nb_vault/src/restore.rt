@@ -8,14 +8,14 @@ use nb_book::{Book, MAX_ITEM_ENTRIES, read_entry};
 use nb_units::{Blob, Cut};
 
 // How the entries of one item went into the book.
-#[derive(Clone, Copy, PartialEq, Eq, Debug)]
+#[derive(Clone, Copy)]
 pub(crate) enum ItemRead {
     Whole,
     Bad,
 }
 
 // How those of all items went. `item` is the number of the first that is bad, from 0.
-#[derive(Clone, Copy, PartialEq, Eq, Debug)]
+#[derive(Clone, Copy)]
 pub(crate) enum ItemsRead {
     Whole,
     Bad { item: u32 },

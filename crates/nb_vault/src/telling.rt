@@ -8,7 +8,7 @@ use nb_book::Entry;
 use nb_turns::Line;
 
 // What became of an entry in a turn.
-#[derive(Clone, Copy, PartialEq, Eq, Debug)]
+#[derive(Clone, Copy)]
 pub(crate) enum Fate {
     // it was in doubt, and is kept
     Kept,

@@ -24,7 +24,7 @@ use nb_units::{
 use std::alloc::Global;
 
 /// A ticket, and the key that it brings to its merchant.
-#[derive(Clone, Copy, PartialEq, Eq, Debug)]
+#[derive(Clone, Copy)]
 pub struct SessionTicket {
     /// The key that the consumer and the merchant share, 32 bytes.
     pub session: Secret,
@@ -33,7 +33,7 @@ pub struct SessionTicket {
 }
 
 /// What a consumer keeps of one step.
-#[derive(Debug, Drop)]
+#[derive(Drop)]
 pub enum Item {
     /// A purchase was started.
     Started(Start),

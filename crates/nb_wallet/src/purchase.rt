@@ -15,7 +15,7 @@ use nb_units::{Blob, NoMemory, Price, Secret};
 use std::alloc::Global;
 
 /// How far a purchase has come, with what the rest of it needs.
-#[derive(Clone, Copy, PartialEq, Eq, Debug)]
+#[derive(Clone, Copy)]
 pub enum Stage {
     /// A ticket was asked for.
     Ticketing,

@@ -1,7 +1,7 @@
 use nb_units::{AcctId, PartyId, Price, Secret, Small};
 
 /// Who buys: what the house enrolled it with.
-#[derive(Clone, Copy, PartialEq, Eq, Debug)]
+#[derive(Clone, Copy)]
 pub struct Wallet {
     /// Its number, 4 bytes wide.
     pub id: PartyId,
@@ -14,7 +14,7 @@ pub struct Wallet {
 }
 
 /// A wish to buy.
-#[derive(Clone, Copy, PartialEq, Eq, Debug)]
+#[derive(Clone, Copy)]
 pub struct Start {
     /// The consumer's own number of the purchase, 8 bytes wide.
     pub transaction: u64,

@@ -14,7 +14,7 @@ use nb_units::NoMemory;
 use std::alloc::Global;
 
 /// What the words tell the program to do.
-#[derive(Clone, Copy, PartialEq, Eq, Debug)]
+#[derive(Clone, Copy)]
 pub enum Command {
     /// `init JOURNAL CAP`: make a journal that holds at most so many entries.
     Init { cap: u32 },

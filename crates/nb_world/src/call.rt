@@ -1,5 +1,5 @@
 /// How far a call has come.
-#[derive(Clone, Copy, PartialEq, Eq, Debug)]
+#[derive(Clone, Copy)]
 pub enum CallPhase {
     /// It was delivered, and waits for its turn.
     Waiting,
@@ -12,7 +12,7 @@ pub enum CallPhase {
 }
 
 /// A packet that was delivered to the house: a call of it.
-#[derive(Clone, Copy, PartialEq, Eq, Debug)]
+#[derive(Clone, Copy)]
 pub struct Call {
     /// The number of the packet, 4 bytes wide.
     pub packet: u32,

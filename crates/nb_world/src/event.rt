@@ -3,7 +3,7 @@ use nb_units::{Blob, PartyId};
 use nb_wallet::Start;
 
 /// What may happen next in a world. Packets and calls go by their numbers, 4 bytes wide, in the order in which they were made.
-#[derive(Debug, Drop)]
+#[derive(Drop)]
 pub enum Event {
     /// A consumer starts a purchase.
     Buy {

@@ -2,7 +2,7 @@ use nb_msgs::To;
 use nb_units::{Blob, PartyId};
 
 /// Who made a packet.
-#[derive(Clone, Copy, PartialEq, Eq, Debug)]
+#[derive(Clone, Copy)]
 pub enum Maker {
     /// A step of a consumer.
     Consumer(PartyId),
@@ -15,7 +15,7 @@ pub enum Maker {
 }
 
 /// What a node sends: a kind, the bytes of its body, and whom it is for.
-#[derive(Debug, Drop)]
+#[derive(Drop)]
 pub struct Sending {
     /// Whom it is for.
     pub to: To,
@@ -26,7 +26,7 @@ pub struct Sending {
 }
 
 /// What was once put on the network. It may be delivered any number of times, in any order, or never.
-#[derive(Debug, Drop)]
+#[derive(Drop)]
 pub struct Packet {
     /// The kind of a frame.
     pub kind: u8,

@@ -2,7 +2,7 @@ use nb_book::Entry;
 use nb_units::Blob;
 
 /// What the verdict on a request is: the kind and the body of its reply, and what it records.
-#[derive(Debug, Drop)]
+#[derive(Drop)]
 pub struct Verdict {
     /// The kind of the reply's frame.
     pub kind: u8,
@@ -13,7 +13,7 @@ pub struct Verdict {
 }
 
 /// How far a turn has come.
-#[derive(Clone, Copy, PartialEq, Eq, Debug)]
+#[derive(Clone, Copy)]
 pub enum Stage {
     /// The verdict is made.
     Decided,
@@ -24,7 +24,7 @@ pub enum Stage {
 }
 
 /// The turn that the house is at.
-#[derive(Debug, Drop)]
+#[derive(Drop)]
 pub struct Turning {
     /// The number of its call, 4 bytes wide.
     pub call: u32,
@@ -37,7 +37,7 @@ pub struct Turning {
 }
 
 /// The call that an entry came by.
-#[derive(Clone, Copy, PartialEq, Eq, Debug)]
+#[derive(Clone, Copy)]
 pub struct Origin {
     /// The place of the entry, 4 bytes wide.
     pub place: u32,
@@ -46,7 +46,7 @@ pub struct Origin {
 }
 
 /// An entry whose reply was handed out, with its place.
-#[derive(Clone, Copy, PartialEq, Eq, Debug)]
+#[derive(Clone, Copy)]
 pub struct Acknowledged {
     /// The entry.
     pub entry: Entry,

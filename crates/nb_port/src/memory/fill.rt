@@ -1,5 +1,5 @@
 /// What stands in the ranges that were written since the last sync that was done.
-#[derive(Clone, Copy, PartialEq, Eq, Debug)]
+#[derive(Clone, Copy)]
 pub enum Fill {
     /// What stood there before, and nothing past the end at that sync.
     Old,

@@ -17,7 +17,7 @@ use std::alloc::Global;
 use std::fmt;
 
 /// Why no vault was opened.
-#[derive(Clone, Copy, PartialEq, Eq, Debug)]
+#[derive(Clone, Copy)]
 pub enum VaultFault {
     /// The content is no journal: it begins with this, where missing bytes count as zeros.
     Unborn { found: [u8; MAGIC_BYTES] },
