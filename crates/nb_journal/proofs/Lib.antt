@@ -5,6 +5,7 @@ pub mod Moments
 pub mod Telling
 pub mod Windows
 pub mod Appending
+pub mod Growing
 pub mod Tearing
 pub mod Settling
 pub mod Records

@@ -2,6 +2,7 @@ pub mod Layout
 pub mod Stands
 pub mod Time
 pub mod States
+pub mod Growing
 pub mod Reading
 pub mod Scanning
 pub mod Held

@@ -1,6 +1,9 @@
-//! Laws of reading: what each image is read as.
+//! Laws of reading, what each image is read as; and of growing, what appends leave.
 
+ghost use Rattle.nb_journal.specs.Growing.{RestMayAppend, AppendGrows, StaysGrows, GrowsTwice, GrowsToRest, StopLeavesSome};
 ghost use Rattle.nb_journal.specs.Laws.{StandsIsRead, ReadStands, OneJournal, WholeNotDamaged, OneFault, UnbornIsNeither, JournalLayout};
+
+use nb_port::Disk;
 
 /// A law: an image that stands for items is read as a journal with these items.
 pub fn stands_is_read()
@@ -35,4 +38,34 @@ pub fn unborn_is_neither()
 /// A law: the layout of a journal in numbers.
 pub fn layout()
     ensures { JournalLayout }
+{}
+
+/// A law: a journal at rest may be appended to.
+pub fn rest_may_append<D: Disk>()
+    ensures { RestMayAppend D.tells }
+{}
+
+/// A law: an append that said Ok, by its clauses, made the journal grow by its item.
+pub fn append_grows<D: Disk>()
+    ensures { AppendGrows D.tells }
+{}
+
+/// A law: a journal to which nothing was done grew by nothing.
+pub fn stays_grows<D: Disk>()
+    ensures { StaysGrows D.tells }
+{}
+
+/// A law: a journal that grew by some items and then by others grew by both.
+pub fn grows_twice<D: Disk>()
+    ensures { GrowsTwice D.tells }
+{}
+
+/// A law: a journal that was at rest and grew is at rest.
+pub fn grows_to_rest<D: Disk>()
+    ensures { GrowsToRest D.tells }
+{}
+
+/// A law: a stop at any moment while a journal grew leaves its items with the first so many of those that were kept.
+pub fn stop_leaves_some<D: Disk>()
+    ensures { StopLeavesSome D.tells }
 {}

@@ -11,7 +11,8 @@
 //! and once it is appended, kept or dropped, nothing is in doubt. What a journal that was made and an append that is done
 //! leave in the content is said byte for byte. Opening and settling write nothing. Opening gives exactly what the content
 //! holds, or the first fault (`specs/Reading.antt`); that what stands for items is read as these items, and that an image has
-//! one reading, is proved by the functions of [`laws`].
+//! one reading, is proved by the functions of [`laws`]; so is what a journal grew by and what a stop leaves meanwhile, over any
+//! number of appends (`specs/Growing.antt`).
 //!
 //! Left to others: what the items and the head mean, when an item in doubt is settled, and the disk. What a stop leaves while
 //! a journal is being made is not said.
