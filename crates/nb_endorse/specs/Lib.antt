@@ -3,6 +3,7 @@ pub mod Keys
 pub mod Spelling
 pub mod Replies
 pub mod Reading
+pub mod Places
 pub mod Tags
 pub mod Sealed
 pub mod Laws

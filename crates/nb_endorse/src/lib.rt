@@ -21,6 +21,7 @@
 
 mod endorsement;
 pub mod laws;
+pub mod places;
 mod receipt;
 pub mod refusal;
 mod reply;

@@ -1,0 +1,44 @@
+-- The code, the identifier and the key of a receipt in its bytes, each at its place, whether the receipt was read or spelled.
+use Rattle.std.specs.Prelude.{◌≡◌, ℕ, ◌==◌, List, ◌++◌, length, take, drop, slice_index, Option, IfSome, Ok}
+use Rattle.std.specs.Bool.{then_some}
+use Rattle.nb_units.specs.Epoid.{epoid_bytes, epoid_of}
+use Rattle.nb_units.specs.declared.epoid.Epoid.{Epoid}
+use Rattle.nb_endorse.specs.declared.receipt.TheConstants.{PRESENT}
+use Rattle.nb_endorse.specs.declared.receipt.Receipt.{Receipt}
+use Rattle.nb_endorse.specs.declared.receipt.Signed.{Signed}
+use Rattle.nb_endorse.specs.Spelling.{receipt_bytes}
+use Rattle.nb_endorse.specs.Reading.{signed_of}
+
+-- the byte at place 0
+abbrev pub receipt_code_in : List ℕ → ℕ
+receipt_code_in bytes = slice_index bytes 0
+
+-- the identifier that the 16 bytes at place 21 spell
+abbrev pub receipt_epoid_in : List ℕ → Epoid
+receipt_epoid_in bytes = epoid_of (take 16 (drop 21 bytes))
+
+-- the 32 bytes at place 54, where the byte at place 53 says that there is a key
+abbrev pub receipt_key_in : List ℕ → Option (List ℕ)
+receipt_key_in bytes = then_some (slice_index bytes 53 == PRESENT) (take 32 (drop 54 bytes))
+
+-- a receipt has the code, the identifier and the key that stand there in the bytes
+pub record SaysOf (bytes : List ℕ) (r : Receipt) : Type 0 where
+  pub code : r.code ≡ receipt_code_in bytes
+  pub epoid : r.epoid ≡ receipt_epoid_in bytes
+  pub key : r.key ≡ receipt_key_in bytes
+
+-- what is read as a receipt says what stands there
+abbrev pub ReceiptIsRead : Type 0
+ReceiptIsRead = (bytes : List ℕ) (s : Signed) → signed_of bytes ≡ Ok s → SaysOf bytes s.receipt
+
+-- in the spelling of a receipt its code stands there and the identifier that its identifier's bytes spell, whatever its fields are and
+-- whatever follows
+abbrev pub CodeIsSpelled : Type 0
+CodeIsSpelled = (r : Receipt) (more : List ℕ) → receipt_code_in (receipt_bytes r ++ more) ≡ r.code
+
+abbrev pub EpoidIsSpelled : Type 0
+EpoidIsSpelled = (r : Receipt) (more : List ℕ) → receipt_epoid_in (receipt_bytes r ++ more) ≡ epoid_of (epoid_bytes r.epoid)
+
+-- and its key, of 32 bytes where there is one
+abbrev pub KeyIsSpelled : Type 0
+KeyIsSpelled = (r : Receipt) (more : List ℕ) → IfSome r.key (λ key. length key ≡ 32) → receipt_key_in (receipt_bytes r ++ more) ≡ r.key

@@ -1,0 +1,16 @@
+//! Where the code, the identifier and the key of a receipt stand in its bytes. Who reads a receipt and who spells one then speak of the
+//! same bytes, with no condition on the other fields. Each function here does nothing: its contract is the law.
+
+ghost use Rattle.nb_endorse.specs.Places as law;
+
+/// A law: what is read as a receipt has the code that stands at place 0 of the bytes, the identifier at place 21 and the key at place 54.
+pub fn receipt_is_read()
+    ensures { law.ReceiptIsRead }
+{}
+
+/// A law: in the spelling of a receipt its code stands at place 0, its identifier at place 21 and its key at place 54.
+pub fn receipt_is_spelled()
+    ensures code { law.CodeIsSpelled }
+    ensures epoid { law.EpoidIsSpelled }
+    ensures key { law.KeyIsSpelled }
+{}
