@@ -28,7 +28,7 @@ raw_is n bytes place x is = cases (nat_lt (length (drop place bytes)) n) is
     cases false is = cc
 
 -- so does a byte
-byte_is : (bytes : List ℕ) (place x : ℕ) → or_place (u8_at bytes place) ≡ Ok x → x ≡ slice_index bytes place
+pub byte_is : (bytes : List ℕ) (place x : ℕ) → or_place (u8_at bytes place) ≡ Ok x → x ≡ slice_index bytes place
 unfolding u8_at
 byte_is bytes place x is = cases (nat_lt (length (drop place bytes)) 1) is ∙ get_or-drop place bytes 0 0 ∙ ap (λ (i : ℕ). get_or bytes i 0) (omega arith)
   where

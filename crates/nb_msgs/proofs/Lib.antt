@@ -2,5 +2,6 @@ pub mod Layouts
 pub mod Messages
 pub mod Places
 pub mod StatusTexts
+pub mod Placing
 pub mod ReplyMessages
 pub mod Framing

@@ -104,7 +104,7 @@ bind_found : {A B : Type 0} (r : Result A ℕ) (next : A → Result B ℕ) (y : 
 bind_found (Ok x) next y e = (x, refl, e)
 bind_found (Err place) next y e = absurd cc
 
-from_found : (place : ℕ) (r : Result Signed ℕ) (o : Option Signed) → told_from place r ≡ Ok o → (s : Signed) × (r ≡ Ok s) × (Some s ≡ o)
+pub from_found : (place : ℕ) (r : Result Signed ℕ) (o : Option Signed) → told_from place r ≡ Ok o → (s : Signed) × (r ≡ Ok s) × (Some s ≡ o)
 from_found place (Ok s) o e = (s, refl, ok_is (Some s) o e)
 from_found place (Err bad) o e = absurd cc
 

@@ -1,4 +1,5 @@
 pub mod StatusText
+pub mod Places
 pub mod ReplyBytes
 pub mod Limits
 pub mod Bodies

@@ -1,6 +1,7 @@
 //! What holds of every message. Each function here does nothing: its contract is the law.
 
 ghost use Rattle.nb_msgs.specs.Laws as law;
+ghost use Rattle.nb_msgs.specs.Places.{StatusReceiptIsRead, StatusReceiptIsSpelled};
 ghost use Rattle.nb_msgs.specs.ReplyMessages.{ReplyIsMessage, ReplyIsAsLong};
 
 /// A law: what was spelled of a message is read as that message.
@@ -36,6 +37,17 @@ pub fn status_spells_back()
 /// A law: two statuses with one spelling are one.
 pub fn one_status()
     ensures { law.OneStatus }
+{}
+
+/// A law: what is read as a status has the receipt that the bytes from place 25 on are read as, where the byte at place 24 says that there is
+/// one, and else none; with no condition on a field.
+pub fn status_receipt_is_read()
+    ensures { StatusReceiptIsRead }
+{}
+
+/// A law: in the spelling of a status its receipt stands from place 25 on, where there is one, and the byte at place 24 says whether.
+pub fn status_receipt_is_spelled()
+    ensures { StatusReceiptIsSpelled }
 {}
 
 /// A law: a reply whose fields are within their limits is a message within its limits, and its frame is that message's.
