@@ -57,6 +57,13 @@ not_in_map (e ∷ entries) id none = by (not_in_map entries id) (nat_eq id e.0) 
         ap (λ (b : Bool). cond b (Some e.1) (lookup (nat_eq id) entries)) is
         ∙ rest (sym (ap (λ (b : Bool). cond b (Some (product_at e)) (product_in (map product_at entries) id)) is) ∙ none)
 
+-- a product that the list has is there
+pub there_is : (products : List Product) (id : ℕ) (p : Product) → product_in products id ≡ Some p → product_in products id ≡ None → ⊥
+there_is products id p found none = no_none p (sym none ∙ found)
+  where
+    no_none : (x : Product) → ◌≡◌ {A = Option Product} None (Some x) → ⊥
+    no_none x e = cc
+
 -- the products of entries with one more
 pub pushed : (entries new : List (ℕ × Goods)) (id price : ℕ) (bytes : List ℕ) (g : Goods) → new ≡ entries ++ (id, g) ∷ [] → g.price ≡ price → g.bytes.items ≡ bytes
     → map product_at new ≡ map product_at entries ++ record { id = id; price = price; goods = bytes } ∷ []

@@ -20,10 +20,14 @@ IsNameByte b = (0x20 ≤ b) × (b ≤ 0x7E) × (b ≢ SEMICOLON)
 abbrev pub IsName : List ℕ → Type 0
 IsName name = (k : ℕ) → k < length name → IsNameByte (slice_index name k)
 
+-- what a product may cost
+abbrev pub IsPrice : ℕ → Type 0
+IsPrice price = (1 ≤ price) × (price ≤ MAX_PRICE)
+
 -- each part is within its limits
 pub record IsItem (x : Item) : Type 0 where
   pub id : x.id < 2 ^ 32
-  pub price : (1 ≤ x.price) × (x.price ≤ MAX_PRICE)
+  pub price : IsPrice x.price
   pub name : length x.name ≤ MAX_NAME
   pub bytes : IsName x.name
   pub goods : length x.goods ≤ MAX_GOODS

@@ -1,11 +1,14 @@
 ghost use Rattle.std.specs.Prelude.{◌≡◌, ◌≤◌, ◌+◌, ◌++◌, ◌∷◌, [], length, IfOk, IfErr, OnOk, Contains, map, None};
 ghost use Rattle.nb_price.specs.declared.limits.TheConstants.{MAX_SHELF};
 ghost use Rattle.nb_price.specs.Products.{product_in, Product};
+ghost use Rattle.nb_price.specs.Putting.{PutGives};
 ghost use Rattle.nb_price.specs.Reads.{ReadsShelf, Quotes, Holds, Adds};
 
-use crate::fault::{NoProduct, ShelfFault};
+use crate::fault::{NoProduct, PutFault, ShelfFault};
+use crate::limits::MAX_PRICE;
 use crate::line::{Found, item_of};
 use indexmap::IndexMap;
+use nb_goods::MAX_GOODS;
 use nb_units::{NoMemory, Price};
 use std::alloc::{AllocError, Global};
 use std::marker::Model;
@@ -30,7 +33,8 @@ impl Clone for Goods {
     }
 }
 
-/// The products of a shelf, by their numbers. It is seen as the list of them, in the shelf's order.
+/// Products by their numbers. It is seen as the list of them, in the order of the shelf that they were read from or in that in which
+/// they were put.
 #[derive(Drop)]
 pub struct Catalogue {
     products: IndexMap<u32, Goods>,
@@ -46,6 +50,15 @@ impl Model for Catalogue {
 }
 
 impl Catalogue {
+    /// A catalogue with no product.
+    pub fn new(alloc: Global) -> Catalogue
+        ensures { result ≡ [] }
+    {
+        Catalogue {
+            products: IndexMap::new(alloc),
+        }
+    }
+
     /// The catalogue of a shelf of at most [`MAX_SHELF`](crate::MAX_SHELF) bytes, which is the spelling of items whose numbers differ. Each item is a
     /// line `id;price;name;length` that a line feed ends, and then so many bytes of goods. The id is from 0 to 4,294,967,295, the price from 1 to
     /// 1,000,000,000, the length from 0 to 67,108,864; each is decimal without sign or leading zero. The name has 0 to 64 bytes from 20 to
@@ -88,6 +101,35 @@ impl Catalogue {
             return Err(ShelfFault::Twice { item, id: found.id });
         }
         Ok(())
+    }
+
+    /// Puts a product behind the others: its number, its price, from 1 to [`MAX_PRICE`](crate::MAX_PRICE), and its goods, at most 67,108,864
+    /// bytes, which are not copied. Where it answers a fault the catalogue is as before.
+    ///
+    /// It answers [`PutFault::BadPrice`] where the price is out of these limits, [`PutFault::TooLong`] where the goods are longer,
+    /// [`PutFault::Taken`] where the catalogue has a product of this number, and [`PutFault::NoMemory`] where there is none for one more.
+    pub fn put(&mut self, product: u32, price: Price, goods: Vec<u8>) -> Result<(), PutFault>
+        ensures { PutGives self.old self.new product price goods.items result }
+    {
+        if price.0 < 1 || price.0 > u64::from(MAX_PRICE) {
+            return Err(PutFault::BadPrice { price });
+        }
+        let len = goods.len();
+        if len > MAX_GOODS {
+            return Err(PutFault::TooLong { len });
+        }
+        match self.products.get(&product) {
+            Some(_) => return Err(PutFault::Taken { id: product }),
+            None => {}
+        }
+        let goods = Goods {
+            price: price.0,
+            bytes: goods,
+        };
+        match self.products.insert(product, goods) {
+            Ok(_) => Ok(()),
+            Err(_) => Err(PutFault::NoMemory),
+        }
     }
 
     /// What a product costs. It answers [`NoProduct`] exactly where the shelf has none of this number.

@@ -1,3 +1,4 @@
+use nb_units::Price;
 use std::alloc::{AllocError, AllocFailed};
 use std::fmt;
 use thiserror::Error;
@@ -36,6 +37,19 @@ impl<T: Drop> From<AllocFailed<T>> for ShelfFault {
     fn from(_failed: AllocFailed<T>) -> ShelfFault {
         ShelfFault::NoMemory
     }
+}
+
+/// Why a product was not put into a catalogue.
+#[derive(Clone, Copy)]
+pub enum PutFault {
+    /// The price is not from 1 to [`MAX_PRICE`](crate::MAX_PRICE).
+    BadPrice { price: Price },
+    /// The goods have `len` bytes, more than 67,108,864.
+    TooLong { len: usize },
+    /// The catalogue has a product of this number.
+    Taken { id: u32 },
+    /// There was no memory for one product more.
+    NoMemory,
 }
 
 /// The catalogue has no product of this number.
