@@ -1,5 +1,5 @@
 -- What sealed goods open to.
-use Rattle.std.proofs.Common.{◌≡◌, ℕ, ◌+◌, Bool, true, false, List, ◌++◌, length, take, drop, min, ◌-◌, ◌≤◌, refl, sym, ap, ◌∙◌, inl, inr}
+use Rattle.std.proofs.Common.{◌≡◌, ℕ, ◌+◌, Bool, true, false, List, ◌++◌, length, take, drop, min, ◌-◌, ◌≤◌, refl, sym, ap, subst, ◌∙◌, inl, inr, take-append-drop}
 use Rattle.std.specs.Prelude.{◌≢◌, ◌↔◌, ◌⊎◌, codes, Result, Ok, Err}
 use Rattle.std.specs.Str.{bytes_eq}
 use Rattle.std.proofs.lemmas.Bool.{false≢true}
@@ -8,10 +8,10 @@ use Rattle.sha2.specs.Sha256.{sha256}
 use Rattle.nb_seal.specs.Hmac.{hmac_of}
 use Rattle.nb_seal.specs.Keystream.{xored}
 use Rattle.nb_seal.specs.Seal.{seal_of, iv_of, stream_key_of}
-use Rattle.nb_seal.proofs.Opening.{opens_once, length-seal_of}
+use Rattle.nb_seal.proofs.Opening.{opens, no_seal, opens_once, length-seal_of}
 use Rattle.nb_goods.specs.declared.goods.OpenGoods.{OpenGoods}
 use Rattle.nb_goods.specs.declared.goods.OpenGoods.TheVariants.{BadSeal, NoMemory}
-use Rattle.nb_goods.specs.Goods.{OpensTo, sealed_goods, piece_at, part_at, count_of}
+use Rattle.nb_goods.specs.Goods.{OpensTo, OpensToNothing, sealed_goods, piece_at, part_at, count_of}
 use Rattle.nb_goods.specs.Opening.{Opening}
 use Rattle.nb_goods.specs.Collision.{Collision}
 use Rattle.nb_goods.specs.Divided.{Divided}
@@ -23,6 +23,26 @@ pub layout : (key goods iv : List ℕ) → iv ≡ hmac_of key (codes "good" ++ g
     → sealed_goods key goods ≡ iv ++ xored (hmac_of key (codes "enc" ++ iv)) 0 goods
 unfolding seal_of
 layout key goods iv e = rw e refl
+
+-- bytes are their iv and what follows it
+halves : (bytes iv text : List ℕ) → iv ≡ take 32 bytes → text ≡ drop 32 bytes → iv ++ text ≡ bytes
+halves bytes iv text iv_is text_is = rw (iv_is, text_is) (take-append-drop 32 bytes)
+
+-- bytes open where their iv is that of what follows it, deciphered
+pub opens_by_iv : (key bytes iv text stream code : List ℕ) → iv ≡ take 32 bytes → text ≡ drop 32 bytes → stream ≡ stream_key_of key iv
+    → code ≡ hmac_of key (codes "good" ++ xored stream 0 text) → iv ≡ code → (goods : List ℕ) × OpensTo key bytes goods
+opens_by_iv key bytes iv text stream code iv_is text_is stream_is code_is same = (
+  xored stream 0 text,
+  subst (λ (whole : List ℕ). OpensTo key whole (xored stream 0 text)) (halves bytes iv text iv_is text_is)
+      (opens key (codes "good") iv text (xored stream 0 text) (ap (λ (s : List ℕ). xored s 0 text) stream_is) (same ∙ code_is)),
+)
+
+-- and to nothing where it is not
+pub no_goods_by_iv : (key bytes iv text stream code : List ℕ) → length iv ≡ 32 → iv ≡ take 32 bytes → text ≡ drop 32 bytes → stream ≡ stream_key_of key iv
+    → code ≡ hmac_of key (codes "good" ++ xored stream 0 text) → ¬ (iv ≡ code) → OpensToNothing key bytes
+no_goods_by_iv key bytes iv text stream code long iv_is text_is stream_is code_is differs =
+    subst (OpensToNothing key) (halves bytes iv text iv_is text_is)
+    (no_seal key (codes "good") iv text long (λ same. differs (same ∙ ap (λ (s : List ℕ). hmac_of key (codes "good" ++ xored s 0 text)) (sym stream_is) ∙ sym code_is)))
 
 -- bytes have one answer
 pub opening_once : (key bytes : List ℕ) (first second : Result (List ℕ) OpenGoods) → Opening key bytes first → Opening key bytes second

@@ -15,8 +15,8 @@ use sha2::{Digest as _, Sha256};
 use std::alloc::Global;
 use std::marker::Model;
 
-// So many bytes of goods are ciphered at once for the checksum: a multiple of 4.
-const CHUNK: usize = 8192;
+// So many bytes of goods are ciphered at once, for the checksum and where it is told whether bytes open: a multiple of 4.
+pub(crate) const CHUNK: usize = 8192;
 
 /// What the parts of one sale's sealed goods are made from, beside the goods: the key, the iv, the total and the checksum. The goods
 /// are not kept.
