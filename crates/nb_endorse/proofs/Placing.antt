@@ -4,6 +4,8 @@ use Rattle.std.proofs.lemmas.List.{take_at, get_or-drop}
 use Rattle.std.specs.Bool.{then_some}
 use Rattle.std.specs.Prelude.{◌==◌, nat_lt, slice_index, bytes_eq, if◌then◌else◌}
 use Rattle.nb_units.specs.declared.cut.CutFault.TheVariants.{Short}
+use Rattle.nb_seal.specs.Seal.{seal_of}
+use Rattle.nb_seal.proofs.Opening.{opens_once}
 use Rattle.nb_units.specs.Epoid.{epoid_bytes, epoid_of}
 use Rattle.nb_units.specs.Fields.{◌>>=◌, u8_at, u32_at, u64_at, raw_at, done_at, or_place, allowed}
 use Rattle.nb_endorse.specs.declared.receipt.TheConstants.{PRESENT, NO_KEY}
@@ -11,7 +13,7 @@ use Rattle.nb_endorse.specs.declared.receipt.Receipt.{Receipt}
 use Rattle.nb_endorse.specs.declared.receipt.Signed.{Signed}
 use Rattle.nb_endorse.specs.Spelling.{key_bytes, shown_bytes, receipt_bytes}
 use Rattle.nb_endorse.specs.Reading.{is_receipt_code, key_flag, may_show, may_hold, behind_key, behind_moment, signed_of}
-use Rattle.nb_endorse.specs.Places.{receipt_key_in, ReceiptIsRead, CodeIsSpelled, EpoidIsSpelled, KeyIsSpelled}
+use Rattle.nb_endorse.specs.Places.{receipt_key_in, ReceiptIsRead, CodeIsSpelled, EpoidIsSpelled, KeyIsSpelled, SpelledIsRead, SealedIsRead}
 
 -- what a reading that led to a value went through
 pub inside : {A B E : Type 0} (r : Result A E) (f : A → Result B E) (b : B) → (r >>= f) ≡ Ok b → (x : A) × (r ≡ Ok x) × (f x ≡ Ok b)
@@ -101,3 +103,13 @@ unfolding receipt_bytes epoid_bytes
 key_is_spelled r more long =
     let behind : (key_bytes r.key ++ shown_bytes r.shown) ++ more ≡ key_bytes r.key ++ (shown_bytes r.shown ++ more) = append_assoc (key_bytes r.key) (shown_bytes r.shown) more in
     ap (λ (xs : List ℕ). then_some (slice_index xs 0 == PRESENT) (take 32 (drop 1 xs))) behind ∙ key_stands r.key (shown_bytes r.shown ++ more) long
+
+pub spelled_is_read : SpelledIsRead
+spelled_is_read r more s is =
+    let says = receipt_is_read (receipt_bytes r ++ more) s is in
+    record { code = says.code ∙ code_is_spelled r more; epoid = says.epoid ∙ epoid_is_spelled r more; key = λ long. says.key ∙ key_is_spelled r more long }
+
+pub sealed_is_read : SealedIsRead
+sealed_is_read key label r more s opens =
+    let plain : opens.0 ≡ receipt_bytes r ++ more = opens_once key label (seal_of key label (receipt_bytes r ++ more)) opens.0 (receipt_bytes r ++ more) opens.1 refl in
+    spelled_is_read r more s (ap signed_of (sym plain) ∙ opens.2)

@@ -1,6 +1,7 @@
 -- The code, the identifier and the key of a receipt in its bytes, each at its place, whether the receipt was read or spelled.
 use Rattle.std.specs.Prelude.{◌≡◌, ℕ, ◌==◌, List, ◌++◌, length, take, drop, slice_index, Option, IfSome, Ok}
 use Rattle.std.specs.Bool.{then_some}
+use Rattle.nb_seal.specs.Seal.{OpensAs, seal_of}
 use Rattle.nb_units.specs.Epoid.{epoid_bytes, epoid_of}
 use Rattle.nb_units.specs.declared.epoid.Epoid.{Epoid}
 use Rattle.nb_endorse.specs.declared.receipt.TheConstants.{PRESENT}
@@ -42,3 +43,18 @@ EpoidIsSpelled = (r : Receipt) (more : List ℕ) → receipt_epoid_in (receipt_b
 -- and its key, of 32 bytes where there is one
 abbrev pub KeyIsSpelled : Type 0
 KeyIsSpelled = (r : Receipt) (more : List ℕ) → IfSome r.key (λ key. length key ≡ 32) → receipt_key_in (receipt_bytes r ++ more) ≡ r.key
+
+-- a receipt that was told has the code of another, the identifier that that one's bytes spell, and its key, where that has 32 bytes
+pub record SaysAs (told r : Receipt) : Type 0 where
+  pub code : told.code ≡ r.code
+  pub epoid : told.epoid ≡ epoid_of (epoid_bytes r.epoid)
+  pub key : IfSome r.key (λ key. length key ≡ 32) → told.key ≡ r.key
+
+-- what is read of the spelling of a receipt, whatever follows it, says the same
+abbrev pub SpelledIsRead : Type 0
+SpelledIsRead = (r : Receipt) (more : List ℕ) (s : Signed) → signed_of (receipt_bytes r ++ more) ≡ Ok s → SaysAs s.receipt r
+
+-- so does what the seal of that opens to
+abbrev pub SealedIsRead : Type 0
+SealedIsRead = (key label : List ℕ) (r : Receipt) (more : List ℕ) (s : Signed)
+    → OpensAs signed_of key label (seal_of key label (receipt_bytes r ++ more)) (Ok s) → SaysAs s.receipt r

@@ -14,3 +14,9 @@ pub fn receipt_is_spelled()
     ensures epoid { law.EpoidIsSpelled }
     ensures key { law.KeyIsSpelled }
 {}
+
+/// A law: what is read of the spelling of a receipt, and what is read of the seal of that, has its code, its identifier and its key.
+pub fn receipt_is_told()
+    ensures spelled { law.SpelledIsRead }
+    ensures sealed { law.SealedIsRead }
+{}

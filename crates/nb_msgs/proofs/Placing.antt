@@ -1,17 +1,19 @@
 -- The receipt of a status at its place.
-use Rattle.std.proofs.Common.{◌≡◌, ℕ, Bool, true, false, cond, List, ◌++◌, drop, Option, Some, None, Result, Ok, refl, sym, subst, ◌∙◌}
+use Rattle.std.proofs.Common.{◌≡◌, ℕ, Bool, true, false, cond, List, ◌++◌, drop, Option, Some, None, Result, Ok, refl, sym, subst, ◌∙◌, arith, ap}
 use Rattle.std.proofs.lemmas.Bool.{eqb-true, false≢true, eq-eqb}
 use Rattle.std.specs.Prelude.{◌==◌, ◌||◌, slice_index}
 use Rattle.nb_units.specs.declared.epoid.Epoid.{Epoid}
 use Rattle.nb_units.specs.Epoid.{epoid_bytes}
 use Rattle.nb_units.specs.Fields.{◌>>=◌, be8, u8_at, u64_at, raw_at, done_at, or_place, allowed}
+use Rattle.nb_seal.specs.Seal.{seal_of}
+use Rattle.nb_seal.proofs.Opening.{opens_once}
 use Rattle.nb_endorse.specs.declared.receipt.TheConstants.{ABSENT, PRESENT}
 use Rattle.nb_endorse.specs.declared.receipt.Signed.{Signed}
 use Rattle.nb_endorse.specs.Reading.{signed_of}
-use Rattle.nb_endorse.proofs.Placing.{inside, byte_is}
+use Rattle.nb_endorse.proofs.Placing.{inside, byte_is, spelled_is_read}
 use Rattle.nb_msgs.specs.declared.status.StatusText.{StatusText}
-use Rattle.nb_msgs.specs.StatusText.{told_bytes, told_from, told_of, text_of}
-use Rattle.nb_msgs.specs.Places.{ReadsReceipt, StatusReceiptIsRead, SpellsReceipt, StatusReceiptIsSpelled}
+use Rattle.nb_msgs.specs.StatusText.{told_bytes, text_bytes, told_from, told_of, text_of}
+use Rattle.nb_msgs.specs.Places.{ReadsReceipt, StatusReceiptIsRead, SpellsReceipt, StatusReceiptIsSpelled, TellsAs, StatusSpelledIsRead, StatusSealedIsRead}
 use Rattle.nb_msgs.proofs.StatusTexts.{from_found}
 
 same_option : (x y : Option Signed) → ◌≡◌ {A = Result (Option Signed) ℕ} (Ok x) (Ok y) → x ≡ y
@@ -51,3 +53,18 @@ told_stands place e (Some s) = (refl, refl)
 
 pub status_receipt_is_spelled : StatusReceiptIsSpelled
 status_receipt_is_spelled t = told_stands t.place t.epoid t.receipt
+
+-- the receipt in the bytes, spelled and read
+same_receipt : (bytes : List ℕ) (o told : Option Signed) → SpellsReceipt bytes o → ReadsReceipt bytes told → TellsAs told o
+same_receipt bytes None None spelled read = tt
+same_receipt bytes None (Some told) spelled read = absurd (omega (arith, spelled, read.0))
+same_receipt bytes (Some s) None spelled read = absurd (read spelled.0)
+same_receipt bytes (Some s) (Some told) spelled read = spelled_is_read s.receipt s.tag told (ap signed_of (sym spelled.1) ∙ read.1)
+
+pub status_spelled_is_read : StatusSpelledIsRead
+status_spelled_is_read t told is = same_receipt (text_bytes t) t.receipt told.receipt (status_receipt_is_spelled t) (status_receipt_is_read (text_bytes t) told is)
+
+pub status_sealed_is_read : StatusSealedIsRead
+status_sealed_is_read key label t told opens =
+    let plain : opens.0 ≡ text_bytes t = opens_once key label (seal_of key label (text_bytes t)) opens.0 (text_bytes t) opens.1 refl in
+    status_spelled_is_read t told (ap text_of (sym plain) ∙ opens.2)

@@ -1,9 +1,11 @@
 -- The receipt of a status in its bytes, at its place, whether the status was read or spelled.
-use Rattle.std.specs.Prelude.{◌≡◌, ◌≢◌, ℕ, List, drop, slice_index, Option, Some, None, Ok}
+use Rattle.std.specs.Prelude.{◌≡◌, ◌≢◌, ℕ, List, drop, slice_index, Option, Some, None, Ok, ⊤}
+use Rattle.nb_seal.specs.Seal.{OpensAs, seal_of}
 use Rattle.nb_endorse.specs.declared.receipt.TheConstants.{ABSENT, PRESENT}
 use Rattle.nb_endorse.specs.declared.receipt.Signed.{Signed}
 use Rattle.nb_endorse.specs.Spelling.{signed_bytes}
 use Rattle.nb_endorse.specs.Reading.{signed_of}
+use Rattle.nb_endorse.specs.Places.{SaysAs}
 use Rattle.nb_msgs.specs.declared.status.StatusText.{StatusText}
 use Rattle.nb_msgs.specs.StatusText.{text_bytes, text_of}
 
@@ -24,3 +26,18 @@ SpellsReceipt bytes (Some s) = (slice_index bytes 24 ≡ PRESENT) × (drop 25 by
 -- in the spelling of a status its receipt stands there, whatever its other fields are
 abbrev pub StatusReceiptIsSpelled : Type 0
 StatusReceiptIsSpelled = (t : StatusText) → SpellsReceipt (text_bytes t) t.receipt
+
+-- a receipt that was told says what another says, or there is neither
+abbrev pub TellsAs : Option Signed → Option Signed → Type 0
+TellsAs None None = ⊤
+TellsAs (Some told) (Some s) = SaysAs told.receipt s.receipt
+TellsAs told other = ⊥
+
+-- what is read of the spelling of a status tells of the receipt in it
+abbrev pub StatusSpelledIsRead : Type 0
+StatusSpelledIsRead = (t told : StatusText) → text_of (text_bytes t) ≡ Ok told → TellsAs told.receipt t.receipt
+
+-- so does what the seal of that opens to
+abbrev pub StatusSealedIsRead : Type 0
+StatusSealedIsRead = (key label : List ℕ) (t told : StatusText) → OpensAs text_of key label (seal_of key label (text_bytes t)) (Ok told)
+    → TellsAs told.receipt t.receipt

@@ -1,7 +1,7 @@
 //! What holds of every message. Each function here does nothing: its contract is the law.
 
 ghost use Rattle.nb_msgs.specs.Laws as law;
-ghost use Rattle.nb_msgs.specs.Places.{StatusReceiptIsRead, StatusReceiptIsSpelled};
+ghost use Rattle.nb_msgs.specs.Places.{StatusReceiptIsRead, StatusReceiptIsSpelled, StatusSpelledIsRead, StatusSealedIsRead};
 ghost use Rattle.nb_msgs.specs.ReplyMessages.{ReplyIsMessage, ReplyIsAsLong};
 
 /// A law: what was spelled of a message is read as that message.
@@ -48,6 +48,13 @@ pub fn status_receipt_is_read()
 /// A law: in the spelling of a status its receipt stands from place 25 on, where there is one, and the byte at place 24 says whether.
 pub fn status_receipt_is_spelled()
     ensures { StatusReceiptIsSpelled }
+{}
+
+/// A law: what is read of the spelling of a status, and what is read of the seal of that, has a receipt where the status has one, with its code,
+/// its identifier and its key.
+pub fn status_is_told()
+    ensures spelled { StatusSpelledIsRead }
+    ensures sealed { StatusSealedIsRead }
 {}
 
 /// A law: a reply whose fields are within their limits is a message within its limits, and its frame is that message's.
