@@ -1,9 +1,10 @@
 //! What a merchant sells, and at which price.
 //!
 //! A shelf is a list of bytes: items one behind the other, each a line `id;price;name;length` and then so many bytes of goods.
-//! [`Catalogue::read`] reads it, or tells the first item that is bad or has the number of one before it. Without a shelf products are put into a
-//! [`Catalogue::new`] one by one, by [`Catalogue::put`]. A [`Catalogue`] is seen as the list of
-//! its products, in the order of the shelf or in that in which they were put; [`Catalogue::quote`] and [`Catalogue::goods`] find one by its number. Names are read and not kept.
+//! [`Catalogue::read`] reads it, or tells the first item that is bad or has the number of one before it. Without a shelf
+//! [`Catalogue::put`] puts products one by one into a [`Catalogue::new`]. A [`Catalogue`] is seen as the list of its products, in the order of
+//! the shelf or in that in which they were put; [`Catalogue::quote`] and [`Catalogue::goods`] find one by its number. Names are read and not
+//! kept.
 //!
 //! What a shelf is stands once, in `specs/Shelf.antt`, as the spelling of a list of items. That what stands at the front of bytes is
 //! one item is proved by a function of [`laws`].
