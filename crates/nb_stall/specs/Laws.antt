@@ -1,5 +1,5 @@
 -- What holds of every kept item: spelling and reading are the two sides of one thing.
-use Rattle.std.specs.Prelude.{◌≡◌, ℕ, List, [], ◌∷◌, codes, Ok}
+use Rattle.std.specs.Prelude.{◌≡◌, ◌≤◌, ℕ, List, [], ◌∷◌, codes, length, Ok}
 use Rattle.nb_units.specs.Frames.{AreBytes}
 use Rattle.nb_stall.specs.declared.limits.TheConstants.{QUOTED_ITEM, DELIVERED_ITEM, ENDORSED_ITEM, SETTLED_ITEM, MAX_ITEM, MAX_PART, LAST_SERIAL, PRICE_REQUEST_LABEL, QUOTE_LABEL, GOODS_REQUEST_LABEL, GOODS_HEAD_LABEL, PAYMENT_LABEL}
 use Rattle.nb_stall.specs.declared.item.Item.{Item}
@@ -17,6 +17,10 @@ ItemSpellsBack = (bytes : List ℕ) (x : Item) → AreBytes bytes → item_of by
 -- two items with one spelling are one
 abbrev pub OneItem : Type 0
 OneItem = (a b : Item) → IsItem a → IsItem b → item_bytes a ≡ item_bytes b → a ≡ b
+
+-- no item is longer than the longest
+abbrev pub ItemIsShort : Type 0
+ItemIsShort = (x : Item) → IsItem x → length (item_bytes x) ≤ MAX_ITEM
 
 -- the kinds, the limits and the labels
 abbrev pub LimitsAre : Type 0

@@ -17,6 +17,11 @@ pub fn one_item()
     ensures { law.OneItem }
 {}
 
+/// A law: no item has more than [`MAX_ITEM`](crate::MAX_ITEM) bytes, 297. So each has room where a journal takes items of that length.
+pub fn item_is_short()
+    ensures { law.ItemIsShort }
+{}
+
 /// The kinds of items, the longest item, the last serial number and the labels, in numbers and texts.
 pub fn limits()
     ensures { law.LimitsAre }
