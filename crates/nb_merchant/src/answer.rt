@@ -3,12 +3,15 @@ use nb_msgs::{Message, Reason, To};
 use nb_stall::Item;
 use nb_units::NoMemory;
 
-// What a row does: what is kept, and what is sent to whom.
+/// What a merchant does where it does something, before what is kept is spelled.
 #[derive(Drop)]
-pub(crate) struct Answer {
-    pub(crate) keep: Option<Item>,
-    pub(crate) to: To,
-    pub(crate) message: Message,
+pub struct Answer {
+    /// The item that it keeps, if there is one.
+    pub keep: Option<Item>,
+    /// Whom the message is for.
+    pub to: To,
+    /// The message.
+    pub message: Message,
 }
 
 // That, and what the parts of goods that were sealed with it are made from.

@@ -17,4 +17,5 @@ pub mod laws;
 mod merchant;
 mod rows;
 
+pub use answer::Answer;
 pub use merchant::Merchant;
