@@ -1,6 +1,8 @@
 pub mod Keeping
 pub mod Following
 pub mod Serials
+pub mod Parts
+pub mod Lengths
 pub mod Sent
 pub mod Restarting
 pub mod Shelves

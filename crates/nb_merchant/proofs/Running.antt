@@ -27,14 +27,15 @@ use Rattle.nb_stall.specs.Ledger.{serials_from}
 use Rattle.nb_merchant.specs.declared.answer.Answer.{Answer}
 use Rattle.nb_merchant.specs.Shop.{Shop, new_shop, with_item}
 use Rattle.nb_merchant.specs.Table as table
-use Rattle.nb_merchant.specs.Keeping.{follows, all_follow, taken_up, or_bad, restarted, IsKept}
-use Rattle.nb_merchant.specs.Laws.{Word, done_at, Event, Leads, Runs, RunsAreKept, NoSerialAgain, PassedIsHeard}
+use Rattle.nb_merchant.specs.Keeping.{follows, all_follow, taken_up, or_bad, restarted, AllFollow, IsKept}
+use Rattle.nb_merchant.specs.Laws.{Word, done_at, Event, Leads, Runs, RunsAreKept, NoSerialAgain, PassedIsHeard, SentFollows}
 use Rattle.nb_merchant.specs.Laws.Word.{OfConsumer, OfHouse, Nothing}
 use Rattle.nb_merchant.specs.Laws.Event.{Hears, Starts}
 use Rattle.nb_stall.proofs.Layouts.{item_reads_back}
 use Rattle.nb_merchant.proofs.Keeping.{follow_more}
 use Rattle.nb_merchant.proofs.Following.{Follows, heard_follows, heard_of_house_follows, silence_follows}
 use Rattle.nb_merchant.proofs.Serials.{serials_kept}
+use Rattle.nb_merchant.proofs.Sent.{message_so}
 use Rattle.nb_merchant.proofs.Restarting.{shop_is, restart_gives_back}
 use Rattle.nb_merchant.proofs.Shelves.{front_follows}
 use Rattle.nb_merchant.proofs.Serving.{IsNoResult, heard_served}
@@ -54,8 +55,7 @@ all_append : (xs ys : List Item) → AllByRecursion IsItem xs → AllByRecursion
 all_append [] ys first second = second
 all_append (x ∷ xs) ys first second = (first.0, all_append xs ys first.1 second)
 
-after_follows : (shop : Shop) (row : Result Answer Reason) → ((a : Answer) → row ≡ Ok a → Follows shop a) → all_follow (new_shop shop.stall shop.products) shop.items ≡ true
-    → all_follow (new_shop shop.stall shop.products) (shop.items ++ table.kept_by row) ≡ true
+pub after_follows : (shop : Shop) (row : Result Answer Reason) → ((a : Answer) → row ≡ Ok a → Follows shop a) → AllFollow shop → AllFollow (table.after shop row)
 after_follows shop (Err why) each all = subst (λ (items : List Item). all_follow (new_shop shop.stall shop.products) items ≡ true) (sym (append-nil shop.items)) all
 after_follows shop (Ok a) each all = by a.keep (each a refl).0
   where
@@ -98,10 +98,15 @@ starts_next old new products kept e =
       items = ap (λ (s : Shop). s.items) r.0 ∙ sym (append-nil old.items);
     }
 
-word_follows : (old : Shop) (w : Word) (a : Answer) → done_at old w ≡ Ok a → Follows old a
+pub word_follows : (old : Shop) (w : Word) (a : Answer) → done_at old w ≡ Ok a → Follows old a
 word_follows old (OfConsumer m moment) a is = heard_follows old m moment a is
 word_follows old (OfHouse m) a is = heard_of_house_follows old m a is
 word_follows old (Nothing p) a is = silence_follows old p a is
+
+pub sent_follows : SentFollows
+sent_follows shop w a follow is =
+    let follows_now : AllFollow (table.after shop (Ok a)) = after_follows shop (Ok a) (λ b e. word_follows shop w b (is ∙ e)) follow in
+    (follows_now, message_so (table.after shop (Ok a)) a.to a.message follows_now (word_follows shop w a is).1)
 
 leads_next : (old new : Shop) (e : Event) → IsKept old → Leads old e new → Next old new
 leads_next old new (Hears w) kept leads = does_next old new (done_at old w) (word_follows old w) kept leads

@@ -33,7 +33,6 @@ use Rattle.nb_merchant.specs.declared.answer.Halt.{Halt}
 use Rattle.nb_merchant.specs.declared.answer.Halt.TheVariants as halt
 use Rattle.nb_merchant.specs.Telling.{Plans, Performs, performed}
 use Rattle.std.specs.List.{AllByRecursion}
-use Rattle.nb_units.specs.declared.limits.TheConstants.{MAX_ORDER}
 use Rattle.nb_msgs.specs.Bodies.{MessageKeepsRules}
 use Rattle.nb_stall.specs.declared.limits.TheConstants.{MAX_PART}
 use Rattle.nb_stall.specs.Spelling.{IsItem}
@@ -44,12 +43,14 @@ use Rattle.nb_merchant.specs.Shop.{Shop, new_shop, with_item, goods_of, goods_in
 use Rattle.nb_stall.specs.Messages.{key_of, endorsement_for}
 use Rattle.nb_stall.specs.Tests.{field, or_seal}
 use Rattle.nb_merchant.specs.Table as table
-use Rattle.nb_merchant.specs.Keeping.{delivery_follows, order_follows, result_follows, of_sale, follows, all_follow, IsKept}
+use Rattle.nb_merchant.specs.Keeping.{delivery_follows, order_follows, result_follows, of_sale, follows, all_follow, AllFollow, IsKept}
 use Rattle.nb_merchant.specs.Sending.{IsOrderFor, EndorsesKept, PassesKept, Endorses, OpensOrCollides, SentSo, MessageIs, StepIs}
 use Rattle.nb_stall.proofs.Noting.{one_purchase}
 use Rattle.nb_stall.proofs.Serials.{both_true}
 use Rattle.nb_merchant.proofs.Keeping.{sale_from_more}
 use Rattle.nb_merchant.proofs.Following.{Follows, inside, holds}
+use Rattle.nb_merchant.proofs.Parts.{ItemSays, part_says}
+use Rattle.nb_merchant.proofs.Lengths.{read_is_short, endorsement_within}
 
 -- ---- an order that fits
 
@@ -113,12 +114,12 @@ order_taken_is stall products p sale epoid order is =
 
 -- ---- what is known of each sale
 
--- an order that was endorsed is that of the sale
+-- an order that was endorsed is that of the sale, whatever the widths of what was kept
 abbrev ProgressIs : Stall → List Product → Purchase → ℕ → Price → List ℕ → Progress → Type 0
 ProgressIs stall products p product price request progress.Quoted = Unit {0}
 ProgressIs stall products p product price request (progress.Delivered epoid) = Unit {0}
-ProgressIs stall products p product price request (progress.Endorsed epoid order) = IsOrderFor stall products p product price request epoid order × (length order ≤ MAX_ORDER)
-ProgressIs stall products p product price request (progress.Settled epoid order part) = IsOrderFor stall products p product price request epoid order × (length order ≤ MAX_ORDER) × (length part ≤ MAX_PART)
+ProgressIs stall products p product price request (progress.Endorsed epoid order) = IsOrderFor stall products p product price request epoid order
+ProgressIs stall products p product price request (progress.Settled epoid order part) = IsOrderFor stall products p product price request epoid order
 
 abbrev SaleIs : Stall → List Product → Purchase → Sale → Type 0
 SaleIs stall products p sale = (is_some (product_in products sale.product) ≡ true) × ProgressIs stall products p sale.product sale.price sale.request sale.progress
@@ -142,56 +143,56 @@ delivered_is shop p order checksum (Some sale) next is = (is.0, by sale.progress
     by (progress.Endorsed e kept) next = absurd (false≢true next)
     by (progress.Settled e kept part) next = absurd (false≢true next)
 
-endorsed_is : (shop : Shop) (p : Purchase) (order : List ℕ) (o : Option Sale) → length order ≤ MAX_ORDER → of_sale (λ sale. order_follows shop p order sale sale.progress) o ≡ true → IfSome o (SaleIs shop.stall shop.products p)
+endorsed_is : (shop : Shop) (p : Purchase) (order : List ℕ) (o : Option Sale) → of_sale (λ sale. order_follows shop p order sale sale.progress) o ≡ true → IfSome o (SaleIs shop.stall shop.products p)
     → IfSome (moved o (item.Endorsed p order)) (SaleIs shop.stall shop.products p)
-endorsed_is shop p order None short next is = absurd (false≢true next)
-endorsed_is shop p order (Some sale) short next is = (is.0, by sale.progress next)
+endorsed_is shop p order None next is = absurd (false≢true next)
+endorsed_is shop p order (Some sale) next is = (is.0, by sale.progress next)
   where
     by : (before : Progress) → order_follows shop p order sale before ≡ true
         → ProgressIs shop.stall shop.products p sale.product sale.price sale.request (progressed before (item.Endorsed p order))
     by progress.Quoted next = tt
-    by (progress.Delivered e) next = (order_taken_is shop.stall shop.products p sale e order next, short)
+    by (progress.Delivered e) next = order_taken_is shop.stall shop.products p sale e order next
     by (progress.Endorsed e kept) next = absurd (false≢true next)
     by (progress.Settled e kept part) next = absurd (false≢true next)
 
-settled_is : (shop : Shop) (p : Purchase) (part : List ℕ) (o : Option Sale) → length part ≤ MAX_PART → of_sale (λ sale. result_follows sale.progress) o ≡ true → IfSome o (SaleIs shop.stall shop.products p)
+settled_is : (shop : Shop) (p : Purchase) (part : List ℕ) (o : Option Sale) → of_sale (λ sale. result_follows sale.progress) o ≡ true → IfSome o (SaleIs shop.stall shop.products p)
     → IfSome (moved o (item.Settled p part)) (SaleIs shop.stall shop.products p)
-settled_is shop p part None short next is = absurd (false≢true next)
-settled_is shop p part (Some sale) short next is = (is.0, by sale.progress is.1)
+settled_is shop p part None next is = absurd (false≢true next)
+settled_is shop p part (Some sale) next is = (is.0, by sale.progress is.1)
   where
     by : (before : Progress) → ProgressIs shop.stall shop.products p sale.product sale.price sale.request before
         → ProgressIs shop.stall shop.products p sale.product sale.price sale.request (progressed before (item.Settled p part))
     by progress.Quoted is = tt
     by (progress.Delivered e) is = tt
-    by (progress.Endorsed e kept) is = (is.0, is.1, short)
+    by (progress.Endorsed e kept) is = is
     by (progress.Settled e kept part) is = is
 
-moved_is : (shop : Shop) (x : Item) → IsItem x → follows shop x ≡ true → IfSome (sale_in shop.items (purchase_of x)) (SaleIs shop.stall shop.products (purchase_of x))
+moved_is : (shop : Shop) (x : Item) → follows shop x ≡ true → IfSome (sale_in shop.items (purchase_of x)) (SaleIs shop.stall shop.products (purchase_of x))
     → IfSome (moved (sale_in shop.items (purchase_of x)) x) (SaleIs shop.stall shop.products (purchase_of x))
-moved_is shop (item.Quoted p product price request) fits next is = quoted_is shop.stall shop.products p product price request (sale_in shop.items p) next
-moved_is shop (item.Delivered p order checksum) fits next is = delivered_is shop p order checksum (sale_in shop.items p) next is
-moved_is shop (item.Endorsed p order) fits next is = endorsed_is shop p order (sale_in shop.items p) fits.1 next is
-moved_is shop (item.Settled p part) fits next is = settled_is shop p part (sale_in shop.items p) fits.1 next is
+moved_is shop (item.Quoted p product price request) next is = quoted_is shop.stall shop.products p product price request (sale_in shop.items p) next
+moved_is shop (item.Delivered p order checksum) next is = delivered_is shop p order checksum (sale_in shop.items p) next is
+moved_is shop (item.Endorsed p order) next is = endorsed_is shop p order (sale_in shop.items p) next is
+moved_is shop (item.Settled p part) next is = settled_is shop p part (sale_in shop.items p) next is
 
 -- of every purchase
 abbrev SalesAre : Shop → Type 0
 SalesAre shop = (p : Purchase) → IfSome (sale_in shop.items p) (SaleIs shop.stall shop.products p)
 
-sales_more : (shop : Shop) (x : Item) → IsItem x → follows shop x ≡ true → SalesAre shop → SalesAre (with_item shop x)
-sales_more shop x fits next are p = subst (λ (o : Option Sale). IfSome o (SaleIs shop.stall shop.products p)) (sym (sale_from_more p None shop.items x)) (by (is_same (purchase_of x) p) refl)
+sales_more : (shop : Shop) (x : Item) → follows shop x ≡ true → SalesAre shop → SalesAre (with_item shop x)
+sales_more shop x next are p = subst (λ (o : Option Sale). IfSome o (SaleIs shop.stall shop.products p)) (sym (sale_from_more p None shop.items x)) (by (is_same (purchase_of x) p) refl)
   where
     by : (same : Bool) → is_same (purchase_of x) p ≡ same → IfSome (told p (sale_in shop.items p) x) (SaleIs shop.stall shop.products p)
-    by true e = rw e (subst (λ (q : Purchase). IfSome (moved (sale_in shop.items q) x) (SaleIs shop.stall shop.products q)) (one_purchase (purchase_of x) p e) (moved_is shop x fits next (are (purchase_of x))))
+    by true e = rw e (subst (λ (q : Purchase). IfSome (moved (sale_in shop.items q) x) (SaleIs shop.stall shop.products q)) (one_purchase (purchase_of x) p e) (moved_is shop x next (are (purchase_of x))))
     by false e = rw e (are p)
 
-sales_kept : (start : Shop) (items : List Item) → AllByRecursion IsItem items → all_follow start items ≡ true → SalesAre start → SalesAre (record start { items = start.items ++ items })
-sales_kept start [] fits all are = subst (λ (items : List Item). SalesAre (record start { items = items })) (sym (append-nil start.items)) are
-sales_kept start (x ∷ items) fits all are =
+sales_kept : (start : Shop) (items : List Item) → all_follow start items ≡ true → SalesAre start → SalesAre (record start { items = start.items ++ items })
+sales_kept start [] all are = subst (λ (items : List Item). SalesAre (record start { items = items })) (sym (append-nil start.items)) are
+sales_kept start (x ∷ items) all are =
     let parts = both_true (follows start x) (all_follow (with_item start x) items) all in
-    subst (λ (xs : List Item). SalesAre (record start { items = xs })) (append_assoc start.items (x ∷ []) items) (sales_kept (with_item start x) items fits.1 parts.1 (sales_more start x fits.0 parts.0 are))
+    subst (λ (xs : List Item). SalesAre (record start { items = xs })) (append_assoc start.items (x ∷ []) items) (sales_kept (with_item start x) items parts.1 (sales_more start x parts.0 are))
 
-pub sales_are : (shop : Shop) → IsKept shop → SalesAre shop
-sales_are shop kept = sales_kept (new_shop shop.stall shop.products) shop.items kept.all kept.follow (λ p. tt)
+pub sales_are : (shop : Shop) → AllFollow shop → SalesAre shop
+sales_are shop follow = sales_kept (new_shop shop.stall shop.products) shop.items follow (λ p. tt)
 
 -- ---- what was sent
 
@@ -199,11 +200,16 @@ product_is : (o : Option Product) → is_some o ≡ true → (product : Product)
 product_is None is = absurd (false≢true is)
 product_is (Some product) is = (product, refl)
 
-endorses_so : (shop : Shop) (whom : To) (m : Message) → IsKept shop → EndorsesKept shop whom m → Endorses shop whom m
-endorses_so shop whom m kept sent =
-    let of_it = subst (λ (o : Option Sale). IfSome o (SaleIs shop.stall shop.products sent.purchase)) sent.kept (sales_are shop kept sent.purchase) in
-    let fits : IsOrderFor shop.stall shop.products sent.purchase sent.sale.product sent.sale.price sent.sale.request sent.epoid sent.order =
-    (subst (ProgressIs shop.stall shop.products sent.purchase sent.sale.product sent.sale.price sent.sale.request) sent.endorsed of_it.1).0 in
+-- the order of an endorsement is that of its sale
+order_is : (shop : Shop) (whom : To) (m : Message) → AllFollow shop → (sent : EndorsesKept shop whom m)
+    → (is_some (product_in shop.products sent.sale.product) ≡ true) × IsOrderFor shop.stall shop.products sent.purchase sent.sale.product sent.sale.price sent.sale.request sent.epoid sent.order
+order_is shop whom m follow sent =
+    let of_it = subst (λ (o : Option Sale). IfSome o (SaleIs shop.stall shop.products sent.purchase)) sent.kept (sales_are shop follow sent.purchase) in
+    (of_it.0, subst (ProgressIs shop.stall shop.products sent.purchase sent.sale.product sent.sale.price sent.sale.request) sent.endorsed of_it.1)
+
+pub endorses_so : (shop : Shop) (whom : To) (m : Message) → AllFollow shop → EndorsesKept shop whom m → Endorses shop whom m
+endorses_so shop whom m follow sent =
+    let of_it = order_is shop whom m follow sent in
     let there = product_is (product_in shop.products sent.sale.product) of_it.0 in
     let key = key_of shop.stall sent.epoid.serial in
     record {
@@ -214,31 +220,46 @@ endorses_so shop whom m kept sent =
       to_account = refl;
       no_memo = refl;
       of_serial = refl;
-      fits = fits;
+      within = endorsement_within shop.stall sent.epoid sent.order (read_is_short sent.order of_it.1.read of_it.1.spelled);
+      fits = of_it.1;
       product = there.0;
       sold = there.1;
       goods = λ bytes same.
-          subst (λ (goods : List ℕ). OpensOrCollides key goods bytes) (ap goods_of there.1) (right_checksum key (goods_in shop.products sent.sale.product) bytes (same ∙ fits.checksum));
+          subst (λ (goods : List ℕ). OpensOrCollides key goods bytes) (ap goods_of there.1) (right_checksum key (goods_in shop.products sent.sale.product) bytes (same ∙ of_it.1.checksum));
     }
 
-order_short : (shop : Shop) (whom : To) (m : Message) → IsKept shop → (sent : EndorsesKept shop whom m) → length sent.order ≤ MAX_ORDER
-order_short shop whom m kept sent =
-    let of_it = subst (λ (o : Option Sale). IfSome o (SaleIs shop.stall shop.products sent.purchase)) sent.kept (sales_are shop kept sent.purchase) in
-    (subst (ProgressIs shop.stall shop.products sent.purchase sent.sale.product sent.sale.price sent.sale.request) sent.endorsed of_it.1).1
+-- what is sent is as it was kept
+pub message_so : (shop : Shop) (whom : To) (m : Message) → AllFollow shop → SentSo shop whom m → MessageIs shop whom m
+message_so shop whom (message.Quote transaction sealed) follow sent = sent
+message_so shop whom (message.Goods transaction head part) follow sent = sent
+message_so shop whom (message.Endorsed merchant sealed) follow sent = endorses_so shop whom (message.Endorsed merchant sealed) follow sent
+message_so shop whom (message.Passed transaction part) follow sent = sent
+message_so shop whom other follow sent = absurd sent
 
-part_short : (shop : Shop) (whom : To) (transaction : ℕ) (part : List ℕ) → IsKept shop → PassesKept shop whom transaction part → length part ≤ MAX_PART
-part_short shop whom transaction part kept sent =
-    let of_it = subst (λ (o : Option Sale). IfSome o (SaleIs shop.stall shop.products sent.purchase)) sent.kept (sales_are shop kept sent.purchase) in
-    (subst (ProgressIs shop.stall shop.products sent.purchase sent.sale.product sent.sale.price sent.sale.request) sent.settled of_it.1).2
+-- ---- how long what was sent is
+
+parts_short : (items : List Item) → AllByRecursion IsItem items → AllByRecursion (ItemSays (λ p part. length part ≤ MAX_PART)) items
+parts_short [] all = tt
+parts_short (item.Quoted p product price request ∷ items) all = (tt, parts_short items all.1)
+parts_short (item.Delivered p epoid checksum ∷ items) all = (tt, parts_short items all.1)
+parts_short (item.Endorsed p order ∷ items) all = (tt, parts_short items all.1)
+parts_short (item.Settled p part ∷ items) all = (all.0.1, parts_short items all.1)
+
+-- each of its texts is within its limit
+message_within : (shop : Shop) (whom : To) (m : Message) → IsKept shop → SentSo shop whom m → MessageKeepsRules m
+message_within shop whom (message.Quote transaction sealed) kept sent =
+    subst MessageKeepsRules (sym sent.is) (quote_short sent.session (record { transaction = sent.purchase.transaction; product = sent.sale.product; price = sent.sale.price }))
+message_within shop whom (message.Goods transaction head part) kept sent =
+    subst MessageKeepsRules (sym sent.is) (goods_short sent.session sent.purchase.transaction sent.epoid (sealed_for shop.stall shop.products sent.epoid.serial sent.sale.product) sent.place)
+message_within shop whom (message.Endorsed merchant sealed) kept sent =
+    let fits = (order_is shop whom (message.Endorsed merchant sealed) kept.follow sent).1 in
+    subst MessageKeepsRules (sym sent.is) (endorsement_short shop.stall sent.epoid sent.order (read_is_short sent.order fits.read fits.spelled))
+message_within shop whom (message.Passed transaction part) kept sent =
+    part_says (λ p part. length part ≤ MAX_PART) shop.items sent.purchase sent.sale sent.epoid sent.order part (parts_short shop.items kept.all) sent.kept sent.settled
+message_within shop whom other kept sent = absurd sent
 
 message_is : (shop : Shop) (whom : To) (m : Message) → IsKept shop → SentSo shop whom m → MessageIs shop whom m × MessageKeepsRules m
-message_is shop whom (message.Quote transaction sealed) kept sent =
-    (sent, subst MessageKeepsRules (sym sent.is) (quote_short sent.session (record { transaction = sent.purchase.transaction; product = sent.sale.product; price = sent.sale.price })))
-message_is shop whom (message.Goods transaction head part) kept sent =
-    (sent, subst MessageKeepsRules (sym sent.is) (goods_short sent.session sent.purchase.transaction sent.epoid (sealed_for shop.stall shop.products sent.epoid.serial sent.sale.product) sent.place))
-message_is shop whom (message.Endorsed merchant sealed) kept sent = (endorses_so shop whom (message.Endorsed merchant sealed) kept sent, subst MessageKeepsRules (sym sent.is) (endorsement_short shop.stall sent.epoid sent.order (order_short shop whom (message.Endorsed merchant sealed) kept sent)))
-message_is shop whom (message.Passed transaction part) kept sent = (sent, part_short shop whom transaction part kept sent)
-message_is shop whom other kept sent = absurd sent
+message_is shop whom m kept sent = (message_so shop whom m kept.follow sent, message_within shop whom m kept sent)
 
 -- the step of a row, where what is kept then may stand as it does
 step_is : (shop : Shop) (row : Result Answer Reason) → ((a : Answer) → row ≡ Ok a → Follows shop a) → IsKept (table.after shop row) → StepIs (table.after shop row) (table.step_of row)

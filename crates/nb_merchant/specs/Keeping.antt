@@ -60,10 +60,14 @@ abbrev pub all_follow : Shop → List Item → Bool
 all_follow shop [] = true
 all_follow shop (x ∷ items) = follows shop x && all_follow (with_item shop x) items
 
+-- each item of a merchant may stand where it does
+abbrev pub AllFollow : Shop → Type 0
+AllFollow shop = all_follow (new_shop shop.stall shop.products) shop.items ≡ true
+
 -- what a merchant kept is so, and each item within its limits
 pub record IsKept (shop : Shop) : Type 0 where
   pub all : AllByRecursion IsItem shop.items
-  pub follow : all_follow (new_shop shop.stall shop.products) shop.items ≡ true
+  pub follow : AllFollow shop
 
 -- ---- a restart
 

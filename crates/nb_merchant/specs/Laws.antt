@@ -25,7 +25,8 @@ use Rattle.nb_stall.specs.Reading.{purchase_of}
 use Rattle.nb_stall.specs.Sales.{sale_in, stage_of, epoid_in, deliveries_in}
 use Rattle.nb_merchant.specs.Shop.{Shop, new_shop, goods_in, sealed_for}
 use Rattle.nb_merchant.specs.Table.{heard, heard_of_house, silent, asker_in, kept_by, after}
-use Rattle.nb_merchant.specs.Keeping.{IsKept, restarted}
+use Rattle.nb_merchant.specs.Keeping.{AllFollow, IsKept, restarted}
+use Rattle.nb_merchant.specs.Sending.{MessageIs}
 
 -- what a journal has of a merchant
 abbrev pub kept_bytes : Shop → List (List ℕ)
@@ -46,6 +47,11 @@ abbrev pub done_at : Shop → Word → Result Answer Reason
 done_at shop (OfConsumer m moment) = heard shop m moment
 done_at shop (OfHouse m) = heard_of_house shop m
 done_at shop (Nothing p) = silent shop p
+
+-- what is done at a word, whatever the widths of what was heard and kept: where each item of the merchant may stand where it does, so may the one
+-- that is kept, and what is sent is as it was kept
+abbrev pub SentFollows : Type 0
+SentFollows = (shop : Shop) (w : Word) (a : Answer) → AllFollow shop → done_at shop w ≡ Ok a → AllFollow (after shop (Ok a)) × MessageIs (after shop (Ok a)) a.to a.message
 
 -- it hears something; or it stops, and starts again with a catalogue
 pub data Event : Type 0 where

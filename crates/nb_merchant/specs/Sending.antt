@@ -1,6 +1,6 @@
 -- What a message is that a merchant sent: a price is told as it was kept, a part is of the goods that were sealed, an endorsement is of a kept
 -- order, which is that of a sale, and a result is passed on as it was kept. And what an endorsement means for who holds sealed goods.
-use Rattle.std.specs.Prelude.{◌≡◌, ◌⊎◌, ℕ, codes, List, [], Some, Ok}
+use Rattle.std.specs.Prelude.{◌≡◌, ◌⊎◌, ℕ, ◌<◌, ◌^◌, codes, List, [], Some, Ok}
 use Rattle.sha2.specs.Sha256.{sha256}
 use Rattle.nb_units.specs.declared.epoid.Epoid.{Epoid}
 use Rattle.nb_units.specs.declared.ids.Price.{Price}
@@ -9,7 +9,7 @@ use Rattle.nb_epo.specs.Reading.{order_of}
 use Rattle.nb_epo.specs.Places.{checksum_in}
 use Rattle.nb_seal.specs.Seal.{seal_of}
 use Rattle.nb_endorse.specs.declared.endorsement.Endorsement.{Endorsement}
-use Rattle.nb_endorse.specs.Spelling.{endorsement_bytes}
+use Rattle.nb_endorse.specs.Spelling.{endorsement_bytes, IsEndorsement}
 use Rattle.nb_goods.specs.Goods.{OpensTo, sealed_goods}
 use Rattle.nb_goods.specs.Collision.{Collision}
 use Rattle.nb_price.specs.Products.{Product, product_in}
@@ -87,8 +87,9 @@ pub record PassesKept (shop : Shop) (whom : To) (transaction : ℕ) (part : List
 abbrev pub OpensOrCollides : List ℕ → List ℕ → List ℕ → Type 0
 OpensOrCollides key goods bytes = OpensTo key bytes goods ⊎ Collision bytes (sealed_goods key goods)
 
--- the same order, which is that of the sale, in an endorsement with the stall's account, no memo, and the key of the order's serial number: bytes
--- with the order's checksum open under the endorsement's key to the goods of the product
+-- the same order, which is that of the sale, in an endorsement with the stall's account, no memo, and the key of the order's serial number, each
+-- field of which is within its limits where the account has its width: bytes with the order's checksum open under the endorsement's key to the goods
+-- of the product
 pub record Endorses (shop : Shop) (whom : To) (m : Message) : Type 0 where
   pub sent : EndorsesKept shop whom m
   pub endorsement : Endorsement
@@ -97,6 +98,7 @@ pub record Endorses (shop : Shop) (whom : To) (m : Message) : Type 0 where
   pub to_account : endorsement.macct ≡ shop.stall.acct
   pub no_memo : endorsement.memo ≡ []
   pub of_serial : endorsement.key ≡ key_of shop.stall sent.epoid.serial
+  pub within : shop.stall.acct.0 < 2 ^ 32 → IsEndorsement endorsement
   pub fits : IsOrderFor shop.stall shop.products sent.purchase sent.sale.product sent.sale.price sent.sale.request sent.epoid sent.order
   pub product : Product
   pub sold : product_in shop.products sent.sale.product ≡ Some product

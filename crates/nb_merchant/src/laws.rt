@@ -13,6 +13,12 @@ pub fn runs_are_kept()
     ensures { law.RunsAreKept }
 {}
 
+/// A law: where each kept item may stand where it does, whatever the widths of its fields and of what is heard, so may the item that is kept at a message
+/// or word, and what is sent then is as it was kept, as the calls of a [`Merchant`](crate::Merchant) say of it.
+pub fn sent_follows()
+    ensures { law.SentFollows }
+{}
+
 /// A law: the goods that a merchant sealed have the serial numbers 1, 2 and so on, each once, and identifiers of that merchant.
 pub fn serials_follow()
     ensures { law.SerialsFollow }

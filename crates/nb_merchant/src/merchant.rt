@@ -1,4 +1,4 @@
-ghost use Rattle.std.specs.Prelude.{◌≡◌, ◌≤◌, ◌^◌, length, true, Some, None, Ok, Err, IfOk, IfErr, IfSome, OnOk, OnErr, option_map};
+ghost use Rattle.std.specs.Prelude.{◌≡◌, ◌≤◌, ◌<◌, ◌^◌, length, true, Some, None, Ok, Err, IfOk, IfErr, IfSome, OnOk, OnErr, option_map};
 ghost use Rattle.nb_ticket.specs.declared.ticket.TheConstants.{TICKET_BYTES};
 ghost use Rattle.nb_endorse.specs.declared.receipt.TheConstants.{RECEIPT_BYTES};
 ghost use Rattle.nb_msgs.specs.declared.lengths.TheConstants.{MAX_SEALED_PRICE_REQUEST, MAX_SEALED_GOODS_REQUEST, MAX_SEALED_PAYMENT};
@@ -189,9 +189,13 @@ impl Merchant {
 
     /// What this merchant kept may stand in a stall's journal as it does: so a [`restart`](Merchant::restart) over it finds no bad item.
     pub fn witness(&self)
-        ensures { IsKept self.now }
+        // Each item may stand where it does, and is within its limits.
+        ensures kept { IsKept self.now }
+
+        // The stall's account has its width.
+        ensures account { self.now.stall.acct.0 < 2 ^ 32 }
     {
-        let _ = &self.stall;
+        let _account = self.stall.acct.0;
     }
 
     /// The merchant that kept these items, at most 2^32, with this catalogue: each must be the spelling of an item that a merchant keeps

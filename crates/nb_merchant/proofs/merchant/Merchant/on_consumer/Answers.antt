@@ -9,4 +9,4 @@ perform-step-requires-clause-follows c =
     plans_follow shop c.hear-planned.result (heard shop c.args.message.now c.args.moment) c.hear-planned.ensures.row (heard_follows shop c.args.message.now c.args.moment)
 
 pub returns-clause-sent : goal.returns-clause-sent
-returns-clause-sent c = result_is c.args.self.now c.perform-step.new.self c.hear-planned.result (heard c.args.self.now c.args.message.now c.args.moment) c.perform-step.result c.hear-planned.ensures.row (heard_follows c.args.self.now c.args.message.now c.args.moment) c.witness.ensures c.perform-step.ensures.step c.perform-step.ensures.kept
+returns-clause-sent c = result_is c.args.self.now c.perform-step.new.self c.hear-planned.result (heard c.args.self.now c.args.message.now c.args.moment) c.perform-step.result c.hear-planned.ensures.row (heard_follows c.args.self.now c.args.message.now c.args.moment) c.witness.ensures.kept c.perform-step.ensures.step c.perform-step.ensures.kept

@@ -13,4 +13,4 @@ pub perform-step-requires-clause-parts : goal.perform-step-requires-clause-parts
 perform-step-requires-clause-parts c = plain_plans c.args.self.now c.hear_house-planned.result c.hear_house-planned.ensures.parts
 
 pub returns-clause-sent : goal.returns-clause-sent
-returns-clause-sent c = result_is c.args.self.now c.perform-step.new.self c.hear_house-planned.result (heard_of_house c.args.self.now c.args.message.now) c.perform-step.result c.hear_house-planned.ensures.row (heard_of_house_follows c.args.self.now c.args.message.now) c.witness.ensures c.perform-step.ensures.step c.perform-step.ensures.kept
+returns-clause-sent c = result_is c.args.self.now c.perform-step.new.self c.hear_house-planned.result (heard_of_house c.args.self.now c.args.message.now) c.perform-step.result c.hear_house-planned.ensures.row (heard_of_house_follows c.args.self.now c.args.message.now) c.witness.ensures.kept c.perform-step.ensures.step c.perform-step.ensures.kept

@@ -14,4 +14,4 @@ pub perform-step-requires-clause-parts : goal.perform-step-requires-clause-parts
 perform-step-requires-clause-parts c = plain_plans c.args.self.now c.silent-planned.result c.silent-planned.ensures.parts
 
 pub returns-clause-sent : goal.returns-clause-sent
-returns-clause-sent c = result_is c.args.self.now c.perform-step.new.self c.silent-planned.result (silent c.args.self.now (purchase_by c.args.consumer c.args.transaction)) c.perform-step.result c.silent-planned.ensures.row (silence_follows c.args.self.now (purchase_by c.args.consumer c.args.transaction)) c.witness.ensures c.perform-step.ensures.step c.perform-step.ensures.kept
+returns-clause-sent c = result_is c.args.self.now c.perform-step.new.self c.silent-planned.result (silent c.args.self.now (purchase_by c.args.consumer c.args.transaction)) c.perform-step.result c.silent-planned.ensures.row (silence_follows c.args.self.now (purchase_by c.args.consumer c.args.transaction)) c.witness.ensures.kept c.perform-step.ensures.step c.perform-step.ensures.kept
