@@ -273,3 +273,17 @@ result_is shop new (Ok p) row (Ok s) plans each kept performs at = rw (performs,
 result_is shop new (Err (halt.Ignored why)) row (Ok s) plans each kept performs at = rw performs tt
 result_is shop new (Err halt.NoMemory) row (Ok s) plans each kept performs at = absurd performs
 result_is shop new planned row (Err none) plans each kept performs at = tt
+
+-- ---- what was kept
+
+items_behind : (xs ys : List Item) → AllByRecursion IsItem (xs ++ ys) → AllByRecursion IsItem ys
+items_behind [] ys all = all
+items_behind (x ∷ xs) ys all = items_behind xs ys all.1
+
+-- what a call kept
+pub result_keeps : (shop new : Shop) (planned : Result Planned Halt) (row : Result Answer Reason) (r : Result Step NoMemory) → Plans planned row → IsKept new → IfOk r (Performs planned)
+    → OnOk r (new ≡ performed shop planned) → OnOk r (AllByRecursion IsItem (table.kept_by row))
+result_keeps shop new (Ok p) row (Ok s) plans kept performs at = rw plans (items_behind shop.items (table.listed p.answer.keep) (subst IsKept at kept).all)
+result_keeps shop new (Err (halt.Ignored why)) row (Ok s) plans kept performs at = rw plans tt
+result_keeps shop new (Err halt.NoMemory) row (Ok s) plans kept performs at = absurd performs
+result_keeps shop new planned row (Err none) plans kept performs at = tt

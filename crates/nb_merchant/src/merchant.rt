@@ -1,4 +1,5 @@
 ghost use Rattle.std.specs.Prelude.{◌≡◌, ◌≤◌, ◌<◌, ◌^◌, length, true, Some, None, Ok, Err, IfOk, IfErr, IfSome, OnOk, OnErr, option_map};
+ghost use Rattle.std.specs.List.{AllByRecursion};
 ghost use Rattle.nb_ticket.specs.declared.ticket.TheConstants.{TICKET_BYTES};
 ghost use Rattle.nb_endorse.specs.declared.receipt.TheConstants.{RECEIPT_BYTES};
 ghost use Rattle.nb_msgs.specs.declared.lengths.TheConstants.{MAX_SEALED_PRICE_REQUEST, MAX_SEALED_GOODS_REQUEST, MAX_SEALED_PAYMENT};
@@ -109,6 +110,9 @@ impl Merchant {
         ensures kept { OnOk result (self.new ≡ table.after self.old (table.heard self.old message.now moment)) }
         ensures err { OnErr result (self.new ≡ self.old) }
 
+        // What is kept is within its limits.
+        ensures fits { OnOk result (AllByRecursion IsItem (table.kept_by (table.heard self.old message.now moment))) }
+
         // What is sent is as it was kept, and what is endorsed opens the goods, or there is a collision.
         ensures sent { IfOk result (StepIs self.new) }
     {
@@ -125,6 +129,9 @@ impl Merchant {
         ensures step { IfOk result (λ step. step ≡ table.step_of (table.heard_of_house self.old message.now)) }
         ensures kept { OnOk result (self.new ≡ table.after self.old (table.heard_of_house self.old message.now)) }
         ensures err { OnErr result (self.new ≡ self.old) }
+
+        // What is kept is within its limits.
+        ensures fits { OnOk result (AllByRecursion IsItem (table.kept_by (table.heard_of_house self.old message.now))) }
 
         // What is sent is as it was kept, and what is endorsed opens the goods, or there is a collision.
         ensures sent { IfOk result (StepIs self.new) }
@@ -146,6 +153,9 @@ impl Merchant {
         ensures step { IfOk result (λ step. step ≡ table.step_of (table.silent self.old (table.purchase_by consumer transaction))) }
         ensures kept { OnOk result (self.new ≡ table.after self.old (table.silent self.old (table.purchase_by consumer transaction))) }
         ensures err { OnErr result (self.new ≡ self.old) }
+
+        // What is kept is within its limits.
+        ensures fits { OnOk result (AllByRecursion IsItem (table.kept_by (table.silent self.old (table.purchase_by consumer transaction)))) }
 
         // What is sent is as it was kept, and what is endorsed opens the goods, or there is a collision.
         ensures sent { IfOk result (StepIs self.new) }

@@ -1,7 +1,7 @@
 use Rattle.nb_merchant.specs.Table.{purchase_by, silent}
 use Rattle.nb_merchant.proofs.Following.{silence_follows, plans_follow}
 use Rattle.nb_merchant.proofs.Keeping.{plain_plans}
-use Rattle.nb_merchant.proofs.Sent.{result_is}
+use Rattle.nb_merchant.proofs.Sent.{result_is, result_keeps}
 use Rattle.nb_merchant.proofs.merchant.Merchant.quiet.Goals as goal
 
 pub perform-step-requires-clause-follows : goal.perform-step-requires-clause-follows
@@ -15,3 +15,6 @@ perform-step-requires-clause-parts c = plain_plans c.args.self.now c.silent-plan
 
 pub returns-clause-sent : goal.returns-clause-sent
 returns-clause-sent c = result_is c.args.self.now c.perform-step.new.self c.silent-planned.result (silent c.args.self.now (purchase_by c.args.consumer c.args.transaction)) c.perform-step.result c.silent-planned.ensures.row (silence_follows c.args.self.now (purchase_by c.args.consumer c.args.transaction)) c.witness.ensures.kept c.perform-step.ensures.step c.perform-step.ensures.kept
+
+pub returns-clause-fits : goal.returns-clause-fits
+returns-clause-fits c = result_keeps c.args.self.now c.perform-step.new.self c.silent-planned.result (silent c.args.self.now (purchase_by c.args.consumer c.args.transaction)) c.perform-step.result c.silent-planned.ensures.row c.witness.ensures.kept c.perform-step.ensures.step c.perform-step.ensures.kept
