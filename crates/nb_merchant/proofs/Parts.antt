@@ -1,5 +1,5 @@
 -- What is said of the result in each item holds of the result that is known of each purchase.
-use Rattle.std.proofs.Common.{◌≡◌, ℕ, Bool, true, false, cond, List, [], ◌∷◌, Option, Some, None, refl, subst}
+use Rattle.std.proofs.Common.{◌≡◌, ℕ, Bool, true, false, cond, List, [], ◌∷◌, ◌++◌, Option, Some, None, refl, subst}
 use Rattle.std.specs.List.{AllByRecursion}
 use Rattle.nb_units.specs.declared.epoid.Epoid.{Epoid}
 use Rattle.nb_stall.specs.declared.purchase.Purchase.{Purchase}
@@ -59,3 +59,18 @@ sale_says Says p sale (x ∷ items) old all = sale_says Says p (told p sale x) i
 pub part_says : (Says : Purchase → List ℕ → Type 0) (items : List Item) (p : Purchase) (sale : Sale) (epoid : Epoid) (order part : List ℕ) → AllByRecursion (ItemSays Says) items
     → sale_in items p ≡ Some sale → sale.progress ≡ progress.Settled epoid order part → Says p part
 part_says Says items p sale epoid order part all there settled = subst (ProgressSays Says p) settled (subst (SaleSays Says p) there (sale_says Says p None items tt all))
+
+-- ---- of items
+
+item_means : (Says Means : Purchase → List ℕ → Type 0) → ((p : Purchase) (part : List ℕ) → Says p part → Means p part) → (x : Item) → ItemSays Says x → ItemSays Means x
+item_means Says Means each (item.Settled p part) says = each p part says
+item_means Says Means each (item.Quoted p product price request) says = tt
+item_means Says Means each (item.Delivered p epoid checksum) says = tt
+item_means Says Means each (item.Endorsed p order) says = tt
+
+-- of items, and of items behind them
+pub both_mean : (First Second Means : Purchase → List ℕ → Type 0) → ((p : Purchase) (part : List ℕ) → First p part → Means p part) → ((p : Purchase) (part : List ℕ) → Second p part → Means p part)
+    → (xs ys : List Item) → AllByRecursion (ItemSays First) xs → AllByRecursion (ItemSays Second) ys → AllByRecursion (ItemSays Means) (xs ++ ys)
+both_mean First Second Means front behind [] [] first second = tt
+both_mean First Second Means front behind [] (y ∷ ys) first second = (item_means Second Means behind y second.0, both_mean First Second Means front behind [] ys tt second.1)
+both_mean First Second Means front behind (x ∷ xs) ys first second = (item_means First Means front x first.0, both_mean First Second Means front behind xs ys first.1 second)

@@ -1,9 +1,8 @@
 -- Runs, with restarts in them.
-use Rattle.std.proofs.Common.{◌≡◌, ℕ, zero, suc, ◌+◌, ◌<◌, ◌≤◌, ◌==◌, Bool, true, false, cond, List, [], ◌∷◌, ◌++◌, length, map, Option, Some, None, IfSome, Result, Ok, Err, refl, sym, ap, subst, ◌∙◌, append_assoc, append-nil, arith, codes}
+use Rattle.std.proofs.Common.{◌≡◌, ℕ, zero, suc, ◌+◌, ◌<◌, ◌≤◌, ◌==◌, ◌⊎◌, inl, inr, Bool, true, false, cond, List, [], ◌∷◌, ◌++◌, length, map, Option, Some, None, IfSome, Result, Ok, Err, refl, sym, ap, subst, ◌∙◌, append_assoc, append-nil, arith, codes}
 use Rattle.std.proofs.lemmas.List.Elements.{Contains-append_left, Contains-append_right}
 use Rattle.std.specs.Prelude.{slice_get, Contains}
 use Rattle.std.specs.List.{AllByRecursion}
-use Rattle.nb_units.specs.declared.epoid.Epoid.{Epoid}
 use Rattle.nb_endorse.specs.Reading.{signed_of}
 use Rattle.nb_endorse.specs.declared.receipt.Receipt.{Receipt}
 use Rattle.nb_price.specs.Products.{Product}
@@ -11,17 +10,16 @@ use Rattle.nb_msgs.specs.declared.message.Message.{Message}
 use Rattle.nb_msgs.specs.declared.message.Message.TheVariants as message
 use Rattle.nb_msgs.specs.declared.node.Reason.{Reason}
 use Rattle.nb_msgs.specs.declared.node.Reason.TheVariants as reason
+use Rattle.nb_msgs.specs.declared.node.To.TheVariants as to
 use Rattle.nb_stall.specs.declared.delivery.Delivery.{Delivery}
 use Rattle.nb_stall.specs.declared.purchase.Purchase.{Purchase}
-use Rattle.nb_stall.specs.declared.stall.Stall.{Stall}
 use Rattle.nb_stall.specs.declared.item.Item.{Item}
 use Rattle.nb_stall.specs.declared.item.Item.TheVariants as item
 use Rattle.nb_stall.specs.declared.sale.Progress.{Progress}
 use Rattle.nb_stall.specs.declared.sale.Progress.TheVariants as progress
 use Rattle.nb_stall.specs.declared.sale.Sale.{Sale}
 use Rattle.nb_stall.specs.Spelling.{IsItem, item_bytes}
-use Rattle.nb_stall.specs.Reading.{purchase_of}
-use Rattle.nb_stall.specs.Sales.{is_same, progressed, moved, told, sale_from, sale_in, deliveries_in, next_serial, sold_as}
+use Rattle.nb_stall.specs.Sales.{sale_in, deliveries_in, next_serial, sold_as}
 use Rattle.nb_stall.specs.Tests.{field, found, opened}
 use Rattle.nb_stall.specs.Ledger.{serials_from}
 use Rattle.nb_merchant.specs.declared.answer.Answer.{Answer}
@@ -36,6 +34,7 @@ use Rattle.nb_merchant.proofs.Keeping.{follow_more}
 use Rattle.nb_merchant.proofs.Following.{Follows, heard_follows, heard_of_house_follows, silence_follows}
 use Rattle.nb_merchant.proofs.Serials.{serials_kept}
 use Rattle.nb_merchant.proofs.Sent.{message_so}
+use Rattle.nb_merchant.proofs.Parts.{ItemSays, part_says, both_mean}
 use Rattle.nb_merchant.proofs.Restarting.{shop_is, restart_gives_back}
 use Rattle.nb_merchant.proofs.Shelves.{front_follows}
 use Rattle.nb_merchant.proofs.Serving.{IsNoResult, heard_served}
@@ -159,161 +158,128 @@ no_serial_again first events shop kept runs = (next.more, next.items, differ)
 
 -- ---- results
 
--- a result came with a message of the house
-abbrev CameWith : List Event → List ℕ → Type 0
-CameWith events part = (merchant : List ℕ) × Contains events (Hears (OfHouse (message.Result merchant part)))
+-- the result of a purchase came with a message of the house, or was kept before
+abbrev CameWith : List Item → List Event → Purchase → List ℕ → Type 0
+CameWith held events p part = ((merchant : List ℕ) × Contains events (Hears (OfHouse (message.Result merchant part)))) ⊎ Contains held (item.Settled p part)
 
-abbrev ItemCame : List Event → Item → Type 0
-ItemCame events (item.Settled p part) = CameWith events part
-ItemCame events other = Unit {0}
+-- each that is kept behind events did
+abbrev AllCame : List Item → List Event → List Item → Type 0
+AllCame held events items = AllByRecursion (ItemSays (CameWith held events)) items
 
-abbrev ProgressCame : List Event → Progress → Type 0
-ProgressCame events (progress.Settled epoid order part) = CameWith events part
-ProgressCame events other = Unit {0}
+-- behind further events
+came_before : (held : List Item) (events more : List Event) (p : Purchase) (part : List ℕ) → CameWith held events p part → CameWith held (events ++ more) p part
+came_before held events more p part (inl came) = inl (came.0, Contains-append_left events more (Hears (OfHouse (message.Result came.0 part))) came.1)
+came_before held events more p part (inr kept) = inr kept
 
-abbrev SaleCame : List Event → Option Sale → Type 0
-SaleCame events None = Unit {0}
-SaleCame events (Some sale) = ProgressCame events sale.progress
+came_behind : (held : List Item) (events more : List Event) (p : Purchase) (part : List ℕ) → CameWith held more p part → CameWith held (events ++ more) p part
+came_behind held events more p part (inl came) = inl (came.0, Contains-append_right events more (Hears (OfHouse (message.Result came.0 part))) came.1)
+came_behind held events more p part (inr kept) = inr kept
 
--- of a sale, where it did of each item
-progress_came : (events : List Event) (before : Progress) (x : Item) → ProgressCame events before → ItemCame events x → ProgressCame events (progressed before x)
-progress_came events progress.Quoted (item.Quoted p product price request) old new = tt
-progress_came events progress.Quoted (item.Delivered p epoid checksum) old new = tt
-progress_came events progress.Quoted (item.Endorsed p order) old new = tt
-progress_came events progress.Quoted (item.Settled p part) old new = tt
-progress_came events (progress.Delivered e) (item.Quoted p product price request) old new = tt
-progress_came events (progress.Delivered e) (item.Delivered p epoid checksum) old new = tt
-progress_came events (progress.Delivered e) (item.Endorsed p order) old new = tt
-progress_came events (progress.Delivered e) (item.Settled p part) old new = tt
-progress_came events (progress.Endorsed e o) (item.Quoted p product price request) old new = tt
-progress_came events (progress.Endorsed e o) (item.Delivered p epoid checksum) old new = tt
-progress_came events (progress.Endorsed e o) (item.Endorsed p order) old new = tt
-progress_came events (progress.Endorsed e o) (item.Settled p part) old new = new
-progress_came events (progress.Settled e o r) x old new = old
+all_came : (held : List Item) (events more : List Event) (xs ys : List Item) → AllCame held events xs → AllCame held more ys → AllCame held (events ++ more) (xs ++ ys)
+all_came held events more xs ys first second =
+    both_mean (CameWith held events) (CameWith held more) (CameWith held (events ++ more)) (came_before held events more) (came_behind held events more) xs ys first second
 
-moved_came : (events : List Event) (sale : Option Sale) (x : Item) → SaleCame events sale → ItemCame events x → SaleCame events (moved sale x)
-moved_came events (Some sale) x old new = progress_came events sale.progress x old new
-moved_came events None (item.Quoted p product price request) old new = tt
-moved_came events None (item.Delivered p epoid checksum) old new = tt
-moved_came events None (item.Endorsed p order) old new = tt
-moved_came events None (item.Settled p part) old new = tt
+-- before any event
+was_held : (held : List Item) (x : Item) → Contains held x → ItemSays (CameWith held []) x
+was_held held (item.Settled p part) there = inr there
+was_held held (item.Quoted p product price request) there = tt
+was_held held (item.Delivered p epoid checksum) there = tt
+was_held held (item.Endorsed p order) there = tt
 
-sale_came : (events : List Event) (p : Purchase) (sale : Option Sale) (items : List Item) → SaleCame events sale → AllByRecursion (ItemCame events) items → SaleCame events (sale_from p sale items)
-sale_came events p sale [] old all = old
-sale_came events p sale (x ∷ items) old all = sale_came events p (told p sale x) items (by (is_same (purchase_of x) p)) all.1
-  where
-    by : (same : Bool) → SaleCame events (cond same (moved sale x) sale)
-    by true = moved_came events sale x old all.0
-    by false = old
-
--- of items, behind further events
-item_came_before : (events more : List Event) (x : Item) → ItemCame events x → ItemCame (events ++ more) x
-item_came_before events more (item.Settled p part) came = (came.0, Contains-append_left events more (Hears (OfHouse (message.Result came.0 part))) came.1)
-item_came_before events more (item.Quoted p product price request) came = tt
-item_came_before events more (item.Delivered p epoid checksum) came = tt
-item_came_before events more (item.Endorsed p order) came = tt
-
-item_came_behind : (events more : List Event) (x : Item) → ItemCame more x → ItemCame (events ++ more) x
-item_came_behind events more (item.Settled p part) came = (came.0, Contains-append_right events more (Hears (OfHouse (message.Result came.0 part))) came.1)
-item_came_behind events more (item.Quoted p product price request) came = tt
-item_came_behind events more (item.Delivered p epoid checksum) came = tt
-item_came_behind events more (item.Endorsed p order) came = tt
-
-all_came : (events more : List Event) (xs ys : List Item) → AllByRecursion (ItemCame events) xs → AllByRecursion (ItemCame more) ys → AllByRecursion (ItemCame (events ++ more)) (xs ++ ys)
-all_came events more [] [] first second = tt
-all_came events more [] (y ∷ ys) first second = (item_came_behind events more y second.0, all_came events more [] ys tt second.1)
-all_came events more (x ∷ xs) ys first second = (item_came_before events more x first.0, all_came events more xs ys first.1 second)
+all_held : (front back : List Item) → AllCame (front ++ back) [] back
+all_held front [] = tt
+all_held front (x ∷ back) =
+    let here : Contains (x ∷ back) x = (0, omega arith, refl) in (
+      was_held (front ++ x ∷ back) x (Contains-append_right front (x ∷ back) x here),
+      subst (λ (held : List Item). AllCame held [] back) (append_assoc front (x ∷ []) back) (all_held (front ++ x ∷ []) back),
+    )
 
 -- what a row keeps
-no_result : (w : Event) (keep : Option Item) → IfSome keep IsNoResult → AllByRecursion (ItemCame (w ∷ [])) (table.listed keep)
-no_result w None none = tt
-no_result w (Some (item.Quoted p product price request)) none = (tt, tt)
-no_result w (Some (item.Delivered p epoid checksum)) none = (tt, tt)
-no_result w (Some (item.Endorsed p order)) none = (tt, tt)
-no_result w (Some (item.Settled p part)) none = absurd none
+no_result : (held : List Item) (w : Event) (keep : Option Item) → IfSome keep IsNoResult → AllCame held (w ∷ []) (table.listed keep)
+no_result held w None none = tt
+no_result held w (Some (item.Quoted p product price request)) none = (tt, tt)
+no_result held w (Some (item.Delivered p epoid checksum)) none = (tt, tt)
+no_result held w (Some (item.Endorsed p order)) none = (tt, tt)
+no_result held w (Some (item.Settled p part)) none = absurd none
 
-first_came : (p : Purchase) (sale : Sale) (r : Receipt) (merchant part : List ℕ) (a : Answer) → table.first_result p sale r part ≡ Ok a
-    → AllByRecursion (ItemCame (Hears (OfHouse (message.Result merchant part)) ∷ [])) (table.listed a.keep)
+first_came : (held : List Item) (p : Purchase) (sale : Sale) (r : Receipt) (merchant part : List ℕ) (a : Answer) → table.first_result p sale r part ≡ Ok a
+    → AllCame held (Hears (OfHouse (message.Result merchant part)) ∷ []) (table.listed a.keep)
 unfolding table.first_result
-first_came p sale r merchant part a e =
+first_came held p sale r merchant part a e =
     let consumer = inside (field 1 (r.consumer.0 == p.consumer.0)) _ a e in
     let product = inside (field 2 (r.product == sale.product)) _ a consumer.2 in
     let price = inside (field 3 (r.price.0 == sale.price.0)) _ a product.2 in
     let w = Hears (OfHouse (message.Result merchant part)) in
     let here : Contains (w ∷ []) w = (0, omega arith, refl) in
-    subst (λ (b : Answer). AllByRecursion (ItemCame (w ∷ [])) (table.listed b.keep)) (answer_is _ a price.2) ((merchant, here), tt)
+    subst (λ (b : Answer). AllCame held (w ∷ []) (table.listed b.keep)) (answer_is _ a price.2) (inl (merchant, here), tt)
 
-resulted_came : (p : Purchase) (sale : Sale) (r : Receipt) (merchant part : List ℕ) (before : Progress) (a : Answer) → table.resulted p sale r part before ≡ Ok a
-    → AllByRecursion (ItemCame (Hears (OfHouse (message.Result merchant part)) ∷ [])) (table.listed a.keep)
-resulted_came p sale r merchant part progress.Quoted a e = absurd cc
-resulted_came p sale r merchant part (progress.Delivered epoid) a e = absurd cc
-resulted_came p sale r merchant part (progress.Endorsed epoid order) a e = first_came p sale r merchant part a e
-resulted_came p sale r merchant part (progress.Settled epoid order told) a e = absurd cc
+resulted_came : (held : List Item) (p : Purchase) (sale : Sale) (r : Receipt) (merchant part : List ℕ) (before : Progress) (a : Answer) → table.resulted p sale r part before ≡ Ok a
+    → AllCame held (Hears (OfHouse (message.Result merchant part)) ∷ []) (table.listed a.keep)
+resulted_came held p sale r merchant part progress.Quoted a e = absurd cc
+resulted_came held p sale r merchant part (progress.Delivered epoid) a e = absurd cc
+resulted_came held p sale r merchant part (progress.Endorsed epoid order) a e = first_came held p sale r merchant part a e
+resulted_came held p sale r merchant part (progress.Settled epoid order told) a e = absurd cc
 
-result_came : (shop : Shop) (merchant part : List ℕ) (a : Answer) → table.result_sent shop merchant part ≡ Ok a
-    → AllByRecursion (ItemCame (Hears (OfHouse (message.Result merchant part)) ∷ [])) (table.listed a.keep)
+result_came : (held : List Item) (shop : Shop) (merchant part : List ℕ) (a : Answer) → table.result_sent shop merchant part ≡ Ok a
+    → AllCame held (Hears (OfHouse (message.Result merchant part)) ∷ []) (table.listed a.keep)
 unfolding table.result_sent
-result_came shop merchant part a e =
+result_came held shop merchant part a e =
     let s = inside (opened signed_of shop.stall.key (codes "rcpt") merchant) _ a e in
     let p = inside (found reason.Unknown (sold_as (deliveries_in shop.items) s.0.receipt.epoid)) _ a s.2 in
     let sale = inside (found reason.Unknown (sale_in shop.items p.0)) _ a p.2 in
-    resulted_came p.0 sale.0 s.0.receipt merchant part sale.0.progress a sale.2
+    resulted_came held p.0 sale.0 s.0.receipt merchant part sale.0.progress a sale.2
 
-house_came : (shop : Shop) (m : Message) (a : Answer) → table.heard_of_house shop m ≡ Ok a → AllByRecursion (ItemCame (Hears (OfHouse m) ∷ [])) (table.listed a.keep)
-house_came shop (message.Result merchant part) a e = result_came shop merchant part a e
-house_came shop other a e = absurd cc
+house_came : (held : List Item) (shop : Shop) (m : Message) (a : Answer) → table.heard_of_house shop m ≡ Ok a → AllCame held (Hears (OfHouse m) ∷ []) (table.listed a.keep)
+house_came held shop (message.Result merchant part) a e = result_came held shop merchant part a e
+house_came held shop other a e = absurd cc
 
-again_came : (shop : Shop) (p : Purchase) (before : Progress) (a : Answer) → table.unheard shop.stall p before ≡ Ok a → AllByRecursion (ItemCame (Hears (Nothing p) ∷ [])) (table.listed a.keep)
-again_came shop p progress.Quoted a e = absurd cc
-again_came shop p (progress.Delivered epoid) a e = absurd cc
-again_came shop p (progress.Endorsed epoid order) a e = subst (λ (b : Answer). AllByRecursion (ItemCame (Hears (Nothing p) ∷ [])) (table.listed b.keep)) (answer_is _ a e) tt
-again_came shop p (progress.Settled epoid order part) a e = subst (λ (b : Answer). AllByRecursion (ItemCame (Hears (Nothing p) ∷ [])) (table.listed b.keep)) (answer_is _ a e) tt
+again_came : (held : List Item) (shop : Shop) (p : Purchase) (before : Progress) (a : Answer) → table.unheard shop.stall p before ≡ Ok a → AllCame held (Hears (Nothing p) ∷ []) (table.listed a.keep)
+again_came held shop p progress.Quoted a e = absurd cc
+again_came held shop p (progress.Delivered epoid) a e = absurd cc
+again_came held shop p (progress.Endorsed epoid order) a e = subst (λ (b : Answer). AllCame held (Hears (Nothing p) ∷ []) (table.listed b.keep)) (answer_is _ a e) tt
+again_came held shop p (progress.Settled epoid order part) a e = subst (λ (b : Answer). AllCame held (Hears (Nothing p) ∷ []) (table.listed b.keep)) (answer_is _ a e) tt
 
-silent_came : (shop : Shop) (p : Purchase) (a : Answer) → table.silent shop p ≡ Ok a → AllByRecursion (ItemCame (Hears (Nothing p) ∷ [])) (table.listed a.keep)
+silent_came : (held : List Item) (shop : Shop) (p : Purchase) (a : Answer) → table.silent shop p ≡ Ok a → AllCame held (Hears (Nothing p) ∷ []) (table.listed a.keep)
 unfolding table.silent
-silent_came shop p a e =
+silent_came held shop p a e =
     let sale = inside (found reason.Unknown (sale_in shop.items p)) _ a e in
-    again_came shop p sale.0.progress a sale.2
+    again_came held shop p sale.0.progress a sale.2
 
-answer_came : (shop : Shop) (w : Word) (a : Answer) → done_at shop w ≡ Ok a → AllByRecursion (ItemCame (Hears w ∷ [])) (table.listed a.keep)
-answer_came shop (OfConsumer m moment) a e = no_result (Hears (OfConsumer m moment)) a.keep (heard_served shop m moment a e).2.1
-answer_came shop (OfHouse m) a e = house_came shop m a e
-answer_came shop (Nothing p) a e = silent_came shop p a e
+answer_came : (held : List Item) (shop : Shop) (w : Word) (a : Answer) → done_at shop w ≡ Ok a → AllCame held (Hears w ∷ []) (table.listed a.keep)
+answer_came held shop (OfConsumer m moment) a e = no_result held (Hears (OfConsumer m moment)) a.keep (heard_served shop m moment a e).2.1
+answer_came held shop (OfHouse m) a e = house_came held shop m a e
+answer_came held shop (Nothing p) a e = silent_came held shop p a e
 
-row_came : (shop : Shop) (w : Word) (row : Result Answer Reason) → done_at shop w ≡ row → AllByRecursion (ItemCame (Hears w ∷ [])) (table.kept_by row)
-row_came shop w (Ok a) e = answer_came shop w a e
-row_came shop w (Err why) e = tt
+row_came : (held : List Item) (shop : Shop) (w : Word) (row : Result Answer Reason) → done_at shop w ≡ row → AllCame held (Hears w ∷ []) (table.kept_by row)
+row_came held shop w (Ok a) e = answer_came held shop w a e
+row_came held shop w (Err why) e = tt
 
--- what is kept behind an event
-abbrev AllCame : List Event → List Item → Type 0
-AllCame events items = AllByRecursion (ItemCame events) items
-
-leads_came : (past : List Event) (old new : Shop) (e : Event) → IsKept old → Leads old e new → AllCame past old.items → AllCame (past ++ e ∷ []) new.items
-leads_came past old new (Hears w) kept leads all =
-    subst (AllCame (past ++ Hears w ∷ [])) (sym (ap (λ (s : Shop). s.items) leads.0)) (all_came past (Hears w ∷ []) old.items (table.kept_by (done_at old w)) all (row_came old w (done_at old w) refl))
-leads_came past old new (Starts products) kept leads all =
+leads_came : (held : List Item) (past : List Event) (old new : Shop) (e : Event) → IsKept old → Leads old e new → AllCame held past old.items → AllCame held (past ++ e ∷ []) new.items
+leads_came held past old new (Hears w) kept leads all =
+    subst (AllCame held (past ++ Hears w ∷ [])) (sym (ap (λ (s : Shop). s.items) leads.0)) (all_came held past (Hears w ∷ []) old.items (table.kept_by (done_at old w)) all (row_came held old w (done_at old w) refl))
+leads_came held past old new (Starts products) kept leads all =
     let same : new.items ≡ old.items = ap (λ (s : Shop). s.items) (restart_same (new_shop old.stall products) old.items 0 new kept.all leads).0 in
-    subst (AllCame (past ++ Starts products ∷ [])) (append-nil old.items ∙ sym same) (all_came past (Starts products ∷ []) old.items [] all tt)
+    subst (AllCame held (past ++ Starts products ∷ [])) (append-nil old.items ∙ sym same) (all_came held past (Starts products ∷ []) old.items [] all tt)
 
-runs_came : (past events : List Event) (first shop : Shop) → IsKept first → Runs first events shop → AllCame past first.items → AllCame (past ++ events) shop.items
-runs_came past [] first shop kept runs all =
-    subst (λ (events : List Event). AllCame events shop.items) (sym (append-nil past)) (subst (AllCame past) (sym (ap (λ (s : Shop). s.items) runs)) all)
-runs_came past (e ∷ events) first shop kept runs all =
+runs_came : (held : List Item) (past events : List Event) (first shop : Shop) → IsKept first → Runs first events shop → AllCame held past first.items → AllCame held (past ++ events) shop.items
+runs_came held past [] first shop kept runs all =
+    subst (λ (events : List Event). AllCame held events shop.items) (sym (append-nil past)) (subst (AllCame held past) (sym (ap (λ (s : Shop). s.items) runs)) all)
+runs_came held past (e ∷ events) first shop kept runs all =
     let next = leads_next first runs.0 e kept runs.1 in
-    subst (λ (es : List Event). AllCame es shop.items) (append_assoc past (e ∷ []) events)
-    (runs_came (past ++ e ∷ []) events runs.0 shop next.kept runs.2 (leads_came past first runs.0 e kept runs.1 all))
-
-new_is_kept : (stall : Stall) (products : List Product) → IsKept (new_shop stall products)
-new_is_kept stall products = record { all = tt; follow = refl }
-
-settled_came : (events : List Event) (sale : Option Sale) (there : Sale) (epoid : Epoid) (order part : List ℕ) → sale ≡ Some there → there.progress ≡ progress.Settled epoid order part
-    → SaleCame events sale → CameWith events part
-settled_came events sale there epoid order part is settled came = subst (ProgressCame events) settled (subst (SaleCame events) is came)
+    subst (λ (es : List Event). AllCame held es shop.items) (append_assoc past (e ∷ []) events)
+    (runs_came held (past ++ e ∷ []) events runs.0 shop next.kept runs.2 (leads_came held past first runs.0 e kept runs.1 all))
 
 pub passed_is_heard : PassedIsHeard
-passed_is_heard stall products events shop w a transaction part runs done passed =
-    let all = runs_came [] events (new_shop stall products) shop (new_is_kept stall products) runs tt in
-    let now : AllCame (events ++ Hears w ∷ []) (shop.items ++ table.listed a.keep) = all_came events (Hears w ∷ []) shop.items (table.listed a.keep) all (answer_came shop w a done) in
-    let sent : PassesKept (table.after shop (Ok a)) a.to transaction part = subst (SentSo (table.after shop (Ok a)) a.to) passed (word_follows shop w a done).1 in
-    settled_came (events ++ Hears w ∷ []) (sale_in (shop.items ++ table.listed a.keep) sent.purchase) sent.sale sent.epoid sent.order part sent.kept sent.settled
-    (sale_came (events ++ Hears w ∷ []) sent.purchase None (shop.items ++ table.listed a.keep) tt now)
+passed_is_heard first events shop w a transaction part kept runs done passed = by (part_says (CameWith first.items (events ++ Hears w ∷ [])) (shop.items ++ table.listed a.keep) sent.purchase sent.sale sent.epoid sent.order part all sent.kept sent.settled)
+  where
+    all : AllCame first.items (events ++ Hears w ∷ []) (shop.items ++ table.listed a.keep)
+    all = all_came first.items events (Hears w ∷ []) shop.items (table.listed a.keep) (runs_came first.items [] events first shop kept runs (all_held [] first.items)) (answer_came first.items shop w a done)
+
+    sent : PassesKept (table.after shop (Ok a)) a.to transaction part
+    sent = subst (SentSo (table.after shop (Ok a)) a.to) passed (word_follows shop w a done).1
+
+    by : CameWith first.items (events ++ Hears w ∷ []) sent.purchase part
+        → ((merchant : List ℕ) × Contains (events ++ Hears w ∷ []) (Hears (OfHouse (message.Result merchant part))))
+        ⊎ ((p : Purchase) × (transaction ≡ p.transaction) × (a.to ≡ to.Consumer p.consumer) × Contains first.items (item.Settled p part))
+    by (inl came) = inl came
+    by (inr there) = inr (sent.purchase, sent.number, sent.consumer, there)

@@ -44,7 +44,7 @@ use Rattle.nb_stall.specs.Messages.{key_of, endorsement_for}
 use Rattle.nb_stall.specs.Tests.{field, or_seal}
 use Rattle.nb_merchant.specs.Table as table
 use Rattle.nb_merchant.specs.Keeping.{delivery_follows, order_follows, result_follows, of_sale, follows, all_follow, AllFollow, IsKept}
-use Rattle.nb_merchant.specs.Sending.{IsOrderFor, EndorsesKept, PassesKept, Endorses, OpensOrCollides, SentSo, MessageIs, StepIs}
+use Rattle.nb_merchant.specs.Sending.{IsOrderFor, EndorsesKept, Endorses, OpensOrCollides, SentSo, MessageIs, StepIs}
 use Rattle.nb_stall.proofs.Noting.{one_purchase}
 use Rattle.nb_stall.proofs.Serials.{both_true}
 use Rattle.nb_merchant.proofs.Keeping.{sale_from_more}

@@ -78,10 +78,13 @@ abbrev pub NoSerialAgain : Type 0
 NoSerialAgain = (first : Shop) (events : List Event) (shop : Shop) → IsKept first → Runs first events shop → (more : List Item) × (shop.items ≡ first.items ++ more)
     × ((i j : ℕ) (d e : Delivery) → slice_get (deliveries_in first.items) i ≡ Some d → slice_get (deliveries_in more) j ≡ Some e → d.epoid.serial < e.epoid.serial)
 
--- what is passed on, behind every list of events, is the consumer's part of a message that came from the house
+-- what is passed on, behind every list of events, is the consumer's part of a message that came from the house in it, or was kept for that purchase
+-- before it
 abbrev pub PassedIsHeard : Type 0
-PassedIsHeard = (stall : Stall) (products : List Product) (events : List Event) (shop : Shop) (w : Word) (a : Answer) (transaction : ℕ) (part : List ℕ) → Runs (new_shop stall products) events shop
-    → done_at shop w ≡ Ok a → a.message ≡ message.Passed transaction part → (merchant : List ℕ) × Contains (events ++ Hears w ∷ []) (Hears (OfHouse (message.Result merchant part)))
+PassedIsHeard = (first : Shop) (events : List Event) (shop : Shop) (w : Word) (a : Answer) (transaction : ℕ) (part : List ℕ) → IsKept first → Runs first events shop
+    → done_at shop w ≡ Ok a → a.message ≡ message.Passed transaction part
+    → ((merchant : List ℕ) × Contains (events ++ Hears w ∷ []) (Hears (OfHouse (message.Result merchant part))))
+    ⊎ ((p : Purchase) × (transaction ≡ p.transaction) × (a.to ≡ to.Consumer p.consumer) × Contains first.items (item.Settled p part))
 
 -- the goods that were sealed have the numbers 1, 2 and so on, and identifiers of this merchant
 abbrev pub SerialsFollow : Type 0

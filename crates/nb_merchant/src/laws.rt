@@ -30,8 +30,8 @@ pub fn no_serial_again()
     ensures { law.NoSerialAgain }
 {}
 
-/// A law: a result that is passed on, behind every such list from a merchant on that kept nothing, is the consumer's part of a message of the house in
-/// it, unchanged.
+/// A law: a result that is passed on, behind every such list, is, unchanged, the consumer's part of a message of the house in it, or was kept for the same
+/// purchase before it.
 pub fn passed_is_heard()
     ensures { law.PassedIsHeard }
 {}
