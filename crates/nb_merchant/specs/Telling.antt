@@ -35,8 +35,21 @@ TakesUp taken new number (Ok done) = taken ≡ Some new
 TakesUp taken new number (Err (fault.BadItem n)) = (n ≡ number) × (taken ≡ None)
 TakesUp taken new number (Err fault.NoMemory) = ⊤
 
--- a restart gave the merchant, or the number of the first item that is bad. Of want of memory nothing is said
+-- it is who it is, and sells what it sells
+abbrev pub IsSameMerchant : Shop → Shop → Type 0
+IsSameMerchant old new = (new.stall ≡ old.stall) × (new.products ≡ old.products)
+
+-- the number of the first item that is bad was told. Of want of memory nothing is said
+abbrev pub TellsBad : Result Shop ℕ → RestartFault → Type 0
+TellsBad all (fault.BadItem n) = all ≡ Err n
+TellsBad all fault.NoMemory = ⊤
+
+-- all items were taken up, or that was told
+abbrev pub TakesAll : Result Shop ℕ → Shop → Result (Unit {0}) RestartFault → Type 0
+TakesAll all new (Ok done) = all ≡ Ok new
+TakesAll all new (Err why) = TellsBad all why
+
+-- a restart gave the merchant, or that was told
 abbrev pub Restarts : Result Shop ℕ → Result Shop RestartFault → Type 0
 Restarts all (Ok shop) = all ≡ Ok shop
-Restarts all (Err (fault.BadItem n)) = all ≡ Err n
-Restarts all (Err fault.NoMemory) = ⊤
+Restarts all (Err why) = TellsBad all why

@@ -8,7 +8,7 @@ ghost use Rattle.nb_merchant.specs.Keeping.{follows, order_follows, taken_up, re
 ghost use Rattle.nb_stall.specs.Reading.{item_of};
 ghost use Rattle.nb_stall.specs.Tests.{ticket_in};
 ghost use Rattle.nb_merchant.specs.Noting.{held_of, HasParts, PlansParts, PlansPlain, IsNoDelivery, SealsNext};
-ghost use Rattle.nb_merchant.specs.Telling.{Performs, performed, TakesUp, Restarts};
+ghost use Rattle.nb_merchant.specs.Telling.{Performs, performed, TakesUp, IsSameMerchant, TakesAll, Restarts};
 ghost use Rattle.nb_stall.specs.Sales.{sale_in, epoid_in, stage_of, deliveries_in, next_serial, sold_as};
 ghost use Rattle.nb_merchant.specs.Shop.{new_shop, with_item};
 ghost use Rattle.nb_merchant.specs.Sending.{StepIs};
@@ -31,6 +31,7 @@ use nb_units::{Blob, Digest, Epoid, NoMemory, PartyId, Small};
 use std::alloc::Global;
 use std::collections::BTreeMap;
 use std::marker::Model;
+use std::mem;
 
 /// A merchant: who it is, what it sells, and what it kept.
 #[derive(Drop)]
@@ -223,15 +224,48 @@ impl Merchant {
         ensures { Restarts (restarted (new_shop stall catalogue) 0 items.now) result }
     {
         let mut merchant = Merchant::new(alloc, stall, catalogue);
-        for i in 0..items.len() {
-            merchant.take_up(alloc, i as u32, items[i].as_slice())?;
-        }
+        merchant.take_all(items)?;
         Ok(merchant)
     }
 
+    /// Starts again with these items, at most 2^32, in place of those that it kept: as [`restart`](Merchant::restart) does, with who it is and the
+    /// catalogue that it has. Where it answers a fault it is as before.
+    pub fn start_again(&mut self, items: &[Blob]) -> Result<(), RestartFault>
+        requires few { length items.now ≤ 2 ^ 32 }
+        ensures taken { TakesAll (restarted (new_shop self.old.stall self.old.products) 0 items.now) self.new result }
+        ensures err { OnErr result (self.new ≡ self.old) }
+    {
+        let alloc = *self.items.allocator();
+        let kept = mem::replace(&mut self.items, Vec::new(alloc));
+        let sales = mem::replace(&mut self.sales, BTreeMap::new(alloc));
+        let deliveries = mem::replace(&mut self.deliveries, Vec::new(alloc));
+        match self.take_all(items) {
+            Ok(()) => Ok(()),
+            Err(fault) => {
+                self.items = kept;
+                self.sales = sales;
+                self.deliveries = deliveries;
+                Err(fault)
+            }
+        }
+    }
+
+    // Keeps the items that these bytes spell behind those that it kept, up to the first that may not stand where it does.
+    fn take_all(&mut self, items: &[Blob]) -> Result<(), RestartFault>
+        requires few { length items.now ≤ 2 ^ 32 }
+        ensures taken { TakesAll (restarted self.old 0 items.now) self.new result }
+        ensures same { IsSameMerchant self.old self.new }
+    {
+        for i in 0..items.len() {
+            self.take_up(i as u32, items[i].as_slice())?;
+        }
+        Ok(())
+    }
+
     // Keeps the item that the bytes spell, where it may stand next. This is its number.
-    fn take_up(&mut self, alloc: Global, number: u32, bytes: &[u8]) -> Result<(), RestartFault>
-        ensures { TakesUp (taken_up self.old (item_of bytes.now)) self.new number result }
+    fn take_up(&mut self, number: u32, bytes: &[u8]) -> Result<(), RestartFault>
+        ensures taken { TakesUp (taken_up self.old (item_of bytes.now)) self.new number result }
+        ensures same { IsSameMerchant self.old self.new }
     {
         let bad = RestartFault::BadItem { item: number };
         let Ok(item) = Item::read(bytes) else {
