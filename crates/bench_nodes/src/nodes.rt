@@ -121,7 +121,7 @@ fn merchant_of(alloc: Global, size: u32) -> Result<Option<Merchant>, NoMemory> {
     for number in 0..size {
         let message = price_asked(alloc, number)?;
         let _ = merchant
-            .on_consumer(alloc, &message, MOMENT)
+            .on_consumer(&message, MOMENT)
             .map_err(|_| NoMemory)?;
     }
     Ok(Some(merchant))
@@ -136,7 +136,7 @@ fn told_again(alloc: Global, size: u32, times: u32) -> Result<Made, NoMemory> {
     let mut sum = 0;
     for _ in 0..times {
         let step = merchant
-            .on_consumer(alloc, &message, MOMENT)
+            .on_consumer(&message, MOMENT)
             .map_err(|_| NoMemory)?;
         sum = mixed(sum, &step);
     }

@@ -100,12 +100,7 @@ impl Merchant {
     /// A role in it is one of the two, and an amount in its range. The step is that of the table in `specs/Table.antt`, and what is kept is the step's
     /// item. Messages of other kinds are ignored.
     /// Answers [`NoMemory`] where there is none for what has to be made or kept: then nothing changes.
-    pub fn on_consumer(
-        &mut self,
-        alloc: Global,
-        message: &Message,
-        moment: u64,
-    ) -> Result<Step, NoMemory>
+    pub fn on_consumer(&mut self, message: &Message, moment: u64) -> Result<Step, NoMemory>
         requires { MessageKeepsRules message.now }
         ensures step { IfOk result (λ step. step ≡ table.step_of (table.heard self.old message.now moment)) }
         ensures kept { OnOk result (self.new ≡ table.after self.old (table.heard self.old message.now moment)) }
@@ -117,6 +112,7 @@ impl Merchant {
         // What is sent is as it was kept, and what is endorsed opens the goods, or there is a collision.
         ensures sent { IfOk result (StepIs self.new) }
     {
+        let alloc = *self.items.allocator();
         let planned = self.hear(alloc, message, moment);
         let step = self.perform(alloc, planned);
         self.witness();
@@ -125,7 +121,7 @@ impl Merchant {
 
     /// What the merchant does at a message of the house, of which each text is within its limit. It is as with
     /// [`on_consumer`](Merchant::on_consumer).
-    pub fn on_server(&mut self, alloc: Global, message: &Message) -> Result<Step, NoMemory>
+    pub fn on_server(&mut self, message: &Message) -> Result<Step, NoMemory>
         requires { MessageKeepsRules message.now }
         ensures step { IfOk result (λ step. step ≡ table.step_of (table.heard_of_house self.old message.now)) }
         ensures kept { OnOk result (self.new ≡ table.after self.old (table.heard_of_house self.old message.now)) }
@@ -137,6 +133,7 @@ impl Merchant {
         // What is sent is as it was kept, and what is endorsed opens the goods, or there is a collision.
         ensures sent { IfOk result (StepIs self.new) }
     {
+        let alloc = *self.items.allocator();
         let planned = self.hear_house(alloc, message);
         let step = self.perform(alloc, planned);
         self.witness();
@@ -145,12 +142,7 @@ impl Merchant {
 
     /// What the merchant does where it heard nothing of a purchase for long: it endorses the kept order again, or passes the kept result
     /// on again.
-    pub fn quiet(
-        &mut self,
-        alloc: Global,
-        consumer: PartyId,
-        transaction: u64,
-    ) -> Result<Step, NoMemory>
+    pub fn quiet(&mut self, consumer: PartyId, transaction: u64) -> Result<Step, NoMemory>
         ensures step { IfOk result (λ step. step ≡ table.step_of (table.silent self.old (table.purchase_by consumer transaction))) }
         ensures kept { OnOk result (self.new ≡ table.after self.old (table.silent self.old (table.purchase_by consumer transaction))) }
         ensures err { OnErr result (self.new ≡ self.old) }
@@ -161,6 +153,7 @@ impl Merchant {
         // What is sent is as it was kept, and what is endorsed opens the goods, or there is a collision.
         ensures sent { IfOk result (StepIs self.new) }
     {
+        let alloc = *self.items.allocator();
         let planned = self.silent(
             alloc,
             Purchase {

@@ -87,7 +87,7 @@ impl Trade {
             return nb_lines::unclear(self.alloc);
         };
         let moment = nb_lines::number(*moment);
-        let step = self.merchant.on_consumer(self.alloc, &message, moment)?;
+        let step = self.merchant.on_consumer(&message, moment)?;
         self.sold(&step)
     }
 
@@ -99,7 +99,7 @@ impl Trade {
         let Some(message) = bytes::said(self.alloc, *kind, *body) else {
             return nb_lines::unclear(self.alloc);
         };
-        let step = self.merchant.on_server(self.alloc, &message)?;
+        let step = self.merchant.on_server(&message)?;
         self.sold(&step)
     }
 
@@ -109,9 +109,7 @@ impl Trade {
             return nb_lines::unclear(self.alloc);
         };
         let number = nb_lines::number(*number);
-        let step = self
-            .merchant
-            .quiet(self.alloc, bytes::party(*consumer), number)?;
+        let step = self.merchant.quiet(bytes::party(*consumer), number)?;
         self.sold(&step)
     }
 

@@ -153,7 +153,7 @@ fn merchant_asked(
 ) -> Result<Option<Frame>, NoMemory>
     requires { MessageKeepsRules message.now }
 {
-    match merchant.on_consumer(alloc, message, MOMENT)? {
+    match merchant.on_consumer(message, MOMENT)? {
         Step::Move { to, message, .. } => posted(alloc, MERCHANT, to, &message),
         _ => Ok(None),
     }
@@ -166,14 +166,14 @@ fn merchant_paid(
 ) -> Result<Option<Frame>, NoMemory>
     requires { MessageKeepsRules message.now }
 {
-    match merchant.on_server(alloc, message)? {
+    match merchant.on_server(message)? {
         Step::Move { to, message, .. } => posted(alloc, MERCHANT, to, &message),
         _ => Ok(None),
     }
 }
 
 fn merchant_waited(alloc: Global, merchant: &mut Merchant) -> Result<Option<Frame>, NoMemory> {
-    match merchant.quiet(alloc, WALLET.id, PURCHASE)? {
+    match merchant.quiet(WALLET.id, PURCHASE)? {
         Step::Move { to, message, .. } => posted(alloc, MERCHANT, to, &message),
         _ => Ok(None),
     }
