@@ -44,12 +44,12 @@ use Rattle.nb_consumer.specs.State.{Buyer, number_of, place_of, purchase_at, pur
 use Rattle.nb_consumer.specs.Table.{started, granted, quoted, price_quoted, pass_of, is_ticketing, pass_of_asked, delivered, head_told, goods_came, goods_wrong, goods_ordered, part_kept, order_made, wanting_in, owing_in, passed, told_status, status_told, receipt_told, receipt_fits, silent, unheard, heard, is_same_epoid}
 use Rattle.nb_consumer.specs.Restart.{is_rest, is_short}
 use Rattle.nb_epo.specs.declared.order.Order.{Order}
-use Rattle.nb_consumer.specs.Known.{HeldSo, PurchaseSo, AllSo}
+use Rattle.nb_consumer.specs.Known.{HeldSo, AllSo}
 use Rattle.nb_consumer.specs.Runs.{Starts, Hears, Waits}
 use Rattle.nb_consumer.specs.Laws.{RowSaysAgain, SaysAgain, EndIsTold, EndsAre, PaidHasGoods, RestIsShort}
 use Rattle.nb_consumer.proofs.Purchases.{no_some, found_some, found_number, numbers_set}
 use Rattle.nb_consumer.proofs.Keeping.{Fits, head_is, tests_are, both}
-use Rattle.nb_consumer.proofs.Knowing.{all_at, known_is_so}
+use Rattle.nb_consumer.proofs.Knowing.{wanting_is, so_of, known_is_so}
 
 -- ---- the purchase of a number, behind a change of it
 
@@ -58,7 +58,7 @@ get_set [] i p q e = no_some p e
 get_set (r ∷ ps) zero p q e = refl
 get_set (r ∷ ps) (suc i) p q e = get_set ps i p q e
 
-found_behind : (b : Buyer) (t : ℕ) (p : Purchase) (f : Purchase → Purchase) → purchase_of b t ≡ Some p → number_of (f p) ≡ number_of p
+pub found_behind : (b : Buyer) (t : ℕ) (p : Purchase) (f : Purchase → Purchase) → purchase_of b t ≡ Some p → number_of (f p) ≡ number_of p
     → purchase_at (changed b.purchases t f) (place_of (changed b.purchases t f) t) ≡ Some (f p)
 found_behind b t p f known same = by (place_of b.purchases t) refl
   where
@@ -118,13 +118,6 @@ silent_is : (b : Buyer) (t : ℕ) (p : Purchase) → purchase_of b t ≡ Some p 
 unfolding silent
 silent_is b t p known = ap (λ (o : Option Purchase). found reason.Unknown o >>= λ q. unheard b.wallet q q.stage) known
 
-so_of : (b : Buyer) (t : ℕ) (p : Purchase) → AllSo b → purchase_of b t ≡ Some p → PurchaseSo p
-so_of b t p all = by (place_of b.purchases t)
-  where
-    by : (o : Option ℕ) → purchase_at b.purchases o ≡ Some p → PurchaseSo p
-    by None e = no_some p e
-    by (Some i) e = all_at b.purchases i p all e
-
 again_row : {A : Type 0} (b : Buyer) (r : Result A Reason) (next : A → Result Deed Reason) → ((x : A) → r ≡ Ok x → RowSaysAgain b (next x)) → RowSaysAgain b (r >>= next)
 again_row b (Ok x) next each = each x refl
 again_row b (Err why) next each = tt
@@ -162,18 +155,6 @@ asked_is (stage.Paid key) pass e = absurd cc
 asked_is (stage.Refused code) pass e = absurd cc
 asked_is stage.Foul pass e = absurd cc
 
-wanting_is : (s : Stage) (w : Wanting) → wanting_in s ≡ Some w → s ≡ stage.Wanted w.pass w.price w.head
-wanting_is stage.Ticketing w e = absurd cc
-wanting_is (stage.Asked pass) w e = absurd cc
-wanting_is (stage.Wanted pass price head) w e = ap (λ (v : Wanting). stage.Wanted v.pass v.price v.head) (same (record { pass = pass; price = price; head = head }) w e)
-  where
-    same : (v w : Wanting) → ◌≡◌ {A = Option Wanting} (Some v) (Some w) → v ≡ w
-    same v w e = cc
-wanting_is (stage.Ordered pass order least) w e = absurd cc
-wanting_is (stage.Paid key) w e = absurd cc
-wanting_is (stage.Refused code) w e = absurd cc
-wanting_is stage.Foul w e = absurd cc
-
 -- the last part is the rest of what is held
 rest_short : (head : Option GoodsHead) (pass : SessionTicket) (price : Price) (held : List ℕ) (o : Order) (part : List ℕ) → HeldSo (stage.Wanted pass price head) held
     → is_rest head held o part ≡ true → length part ≤ 1000000 → is_short held part ≡ true
@@ -184,7 +165,7 @@ rest_short (Some k) pass price held o part so rest long =
 
 pub rest_is_short : RestIsShort
 rest_is_short items b t p v o part kept known wanted rest long =
-    rest_short v.head v.pass v.price p.held o part (subst (λ (s : Stage). HeldSo s p.held) (wanting_is p.stage v wanted) (so_of b t p (known_is_so items b kept) known)) rest long
+    rest_short v.head v.pass v.price p.held o part (subst (λ (s : Stage). HeldSo s p.held) (wanting_is p.stage v wanted) (so_of b t p (known_is_so items b kept) known).0) rest long
 
 -- goods are asked for from the place where what is held ends
 asks_again : (c : Buyer) (t : ℕ) (p q : Purchase) (pass : SessionTicket) (price : Price) (head : Option GoodsHead) (n : ℕ) → purchase_of c t ≡ Some q
@@ -202,7 +183,7 @@ quoted_again b t sealed all =
     again_row b (price_quoted p.start pass sealed) _ (λ price is.
     let known : purchase_of b t ≡ Some p = found_some reason.Unknown (purchase_of b t) p first in
     let at : p.stage ≡ stage.Asked pass = asked_is p.stage pass (found_some reason.State (pass_of_asked p.stage) pass second) in
-    let none : p.held ≡ [] = subst (λ (s : Stage). HeldSo s p.held) at (so_of b t p all known) in
+    let none : p.held ≡ [] = subst (λ (s : Stage). HeldSo s p.held) at (so_of b t p all known).0 in
     asks_again (remembered b (item.Wanted t price)) t p (behind_item (item.Wanted t price) p) pass price None 0
     (found_behind b t p (behind_item (item.Wanted t price)) known refl) refl (ap (λ (s : Stage). wanted_from s price) at) (ap length none))))
 
@@ -405,6 +386,6 @@ paid_has_goods items b t kept = by (purchase_of b t) refl
         × ((goods : List ℕ) → goods_in o ≡ Some goods → phase_in o ≡ Some (phase.Paid (length goods)))
     by None e = (λ n is. no_some (phase.Paid n) is, λ goods is. no_some goods is)
     by (Some p) e = (
-      λ n is. paid_has p.stage p.held n (so_of b t p (known_is_so items b kept) e) (phase_is (phase_of p.stage p.held) (phase.Paid n) is),
+      λ n is. paid_has p.stage p.held n (so_of b t p (known_is_so items b kept) e).0 (phase_is (phase_of p.stage p.held) (phase.Paid n) is),
       λ goods is. ap Some (has_paid p.stage p.held goods is),
     )

@@ -284,6 +284,7 @@ came_so b transaction p w h part known wanted f = by_place (nat_lt (h.place + le
         wanting = w;
         known = known;
         wanted = wanted;
+        names = record { consumer = refl; merchant = refl; product = refl };
         price = refl;
         checksum = checksum_is_spelled (order_made b p w h) (ap length (sym ((bytes_eq-Decides (sha256 (p.held ++ part)) h.checksum).0 is)) ∙ length-sha256 (p.held ++ part))
             ∙ sym ((bytes_eq-Decides (sha256 (p.held ++ part)) h.checksum).0 is);

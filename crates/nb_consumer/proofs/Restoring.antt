@@ -48,7 +48,7 @@ found_at : (ps : List Purchase) (o : Option ℕ) → purchase_at (map untold_pur
 found_at ps (Some i) = at_untold ps i
 found_at ps None = refl
 
-same_found : (b : Buyer) (t : ℕ) → purchase_of (untold b) t ≡ option_map untold_purchase (purchase_of b t)
+pub same_found : (b : Buyer) (t : ℕ) → purchase_of (untold b) t ≡ option_map untold_purchase (purchase_of b t)
 same_found b t = ap (purchase_at (map untold_purchase b.purchases)) (same_place b.purchases t) ∙ found_at b.purchases (place_of b.purchases t)
 
 -- ---- what is allowed

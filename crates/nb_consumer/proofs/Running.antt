@@ -46,7 +46,7 @@ first_item n b c bytes items e = by_read (item_of bytes) refl e
     by_read (Ok x) read e = by_test x (allows b x) read refl e
     by_read (Err place) read e = absurd cc
 
-restarted_wallet : (n : ℕ) (b c : Buyer) (items : List (List ℕ)) → restarted_from n b items ≡ Ok c → c.wallet ≡ b.wallet
+pub restarted_wallet : (n : ℕ) (b c : Buyer) (items : List (List ℕ)) → restarted_from n b items ≡ Ok c → c.wallet ≡ b.wallet
 restarted_wallet n b c [] e = ap (λ (d : Buyer). d.wallet) (sym (buyer_is b c e))
 restarted_wallet n b c (bytes ∷ items) e =
     let f = first_item n b c bytes items e in

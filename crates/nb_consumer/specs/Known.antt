@@ -2,10 +2,14 @@
 use Rattle.std.specs.Prelude.{◌≡◌, ℕ, ◌<◌, ◌≤◌, List, [], length, Some, None}
 use Rattle.std.specs.List.{AllByRecursion}
 use Rattle.sha2.specs.Sha256.{sha256}
+use Rattle.nb_units.specs.declared.ids.Price.{Price}
+use Rattle.nb_epo.specs.declared.order.Order.{Order}
 use Rattle.nb_epo.specs.Spelling.{order_bytes}
 use Rattle.nb_epo.specs.Places.{checksum_in}
 use Rattle.nb_goods.specs.Goods.{OpensTo}
 use Rattle.nb_goods.specs.declared.limits.TheConstants.{MAX_SEALED}
+use Rattle.nb_wallet.specs.declared.wallet.Wallet.{Wallet}
+use Rattle.nb_wallet.specs.declared.wallet.Start.{Start}
 use Rattle.nb_wallet.specs.declared.purchase.Stage.{Stage}
 use Rattle.nb_wallet.specs.declared.purchase.Stage.TheVariants as stage
 use Rattle.nb_wallet.specs.declared.purchase.Purchase.{Purchase}
@@ -23,8 +27,24 @@ HeldSo (stage.Paid key) held = (goods : List ℕ) × OpensTo key held goods
 HeldSo (stage.Refused code) held = Unit {0}
 HeldSo stage.Foul held = Unit {0}
 
-abbrev pub PurchaseSo : Purchase → Type 0
-PurchaseSo p = HeldSo p.stage p.held
+-- a price is from 1 to a limit
+abbrev pub IsWithin : Price → Price → Type 0
+IsWithin price limit = (1 ≤ price.0) × (price.0 ≤ limit.0)
+
+-- an order is of the wallet's consumer, and of the merchant and the product that its purchase was started for
+pub record OrderNames (w : Wallet) (s : Start) (order : Order) : Type 0 where
+  pub consumer : order.consumer ≡ w.id
+  pub merchant : order.merchant ≡ s.merchant
+  pub product : order.product ≡ s.product
+
+-- the price at which goods are wanted or ordered is within the purchase's limit, and an order names what its purchase was started for
+abbrev pub AskedSo : Wallet → Start → Stage → Type 0
+AskedSo w s (stage.Wanted pass price head) = IsWithin price s.limit
+AskedSo w s (stage.Ordered pass order least) = OrderNames w s order × IsWithin order.price s.limit
+AskedSo w s other = Unit {0}
+
+abbrev pub PurchaseSo : Wallet → Purchase → Type 0
+PurchaseSo w p = HeldSo p.stage p.held × AskedSo w p.start p.stage
 
 abbrev pub AllSo : Buyer → Type 0
-AllSo b = AllByRecursion PurchaseSo b.purchases
+AllSo b = AllByRecursion (PurchaseSo b.wallet) b.purchases

@@ -37,7 +37,7 @@ use Rattle.nb_wallet.specs.Messages.{payment}
 use Rattle.nb_consumer.specs.Table.{started, heard, silent, wanting_in, owing_in, receipt_fits, status_told}
 use Rattle.nb_consumer.specs.declared.phase.Phase.TheVariants as phase
 use Rattle.nb_consumer.specs.Goods.{phase_in, phase_at, goods_in, goods_at}
-use Rattle.nb_consumer.specs.Known.{AllSo}
+use Rattle.nb_consumer.specs.Known.{IsWithin, OrderNames, AllSo}
 use Rattle.nb_wallet.specs.Reading.{item_of}
 use Rattle.nb_goods.specs.declared.limits.TheConstants.{PART_BYTES}
 use Rattle.nb_consumer.specs.Restart.{allows, is_rest, is_short, restarted, Restarts, Kept}
@@ -45,13 +45,14 @@ use Rattle.nb_consumer.specs.Deeds.{Answers}
 use Rattle.nb_consumer.specs.Runs.{Call, row_of, kept_of, Event, Runs, IsJournal, GivesBack}
 use Rattle.nb_wallet.specs.declared.item.Item.{Item}
 
--- an order that is kept behind what is known: its purchase is known and its goods are wanted; its bytes name the checksum of all sealed goods that are
--- held then; and it is what is sent
+-- an order that is kept behind what is known: its purchase is known and its goods are wanted; it names what its purchase was started for, at the price
+-- that was quoted; its bytes name the checksum of all sealed goods that are held then; and it is what is sent
 pub record OrderSo (b : Buyer) (transaction : ℕ) (order : Order) (part : List ℕ) (sent : Message) : Type 0 where
   pub purchase : Purchase
   pub wanting : Wanting
   pub known : purchase_of b transaction ≡ Some purchase
   pub wanted : wanting_in purchase.stage ≡ Some wanting
+  pub names : OrderNames b.wallet purchase.start order
   pub price : order.price ≡ wanting.price
   pub checksum : checksum_in (order_bytes order) ≡ sha256 (purchase.held ++ part)
   pub message : sent ≡ payment wanting.pass purchase.start order
@@ -119,6 +120,12 @@ EndIsTold = (b : Buyer) (transaction : ℕ) (receipt : Signed) (how : End) → E
 abbrev pub KnownIsSo : Type 0
 KnownIsSo = (items : List (List ℕ)) (b : Buyer) → Kept items b → AllSo b
 
+-- such a consumer orders what it asked for, at a price from 1 to its limit
+abbrev pub OrdersAsAsked : Type 0
+OrdersAsAsked = (items : List (List ℕ)) (b : Buyer) (call : Call) (transaction : ℕ) (order : Order) (part : List ℕ) (to : To) (message : Message) → Kept items b
+    → row_of b call ≡ Ok (deed.Keeps (item.Ordered transaction order part) to message)
+    → (p : Purchase) × (purchase_of b transaction ≡ Some p) × OrderNames b.wallet p.start order × IsWithin order.price p.start.limit
+
 -- such a purchase has goods exactly where its phase is that it was paid, and as many bytes as that says
 abbrev pub PaidHasGoods : Type 0
 PaidHasGoods = (items : List (List ℕ)) (b : Buyer) (transaction : ℕ) → Kept items b
@@ -130,11 +137,13 @@ abbrev pub RestIsShort : Type 0
 RestIsShort = (items : List (List ℕ)) (b : Buyer) (transaction : ℕ) (p : Purchase) (v : Wanting) (order : Order) (part : List ℕ) → Kept items b → purchase_of b transaction ≡ Some p
     → wanting_in p.stage ≡ Some v → is_rest v.head p.held order part ≡ true → length part ≤ PART_BYTES → is_short p.held part ≡ true
 
--- an order in a journal that a restart takes up names, in its bytes, the checksum of what is held of its purchase behind the items before it and of the part in its item
+-- an order in a journal that a restart takes up names what its purchase was started for, at a price from 1 to its limit, and, in its bytes, the checksum of what
+-- is held of the purchase behind the items before it and of the part in its item
 abbrev pub KeptOrderIsSo : Type 0
 KeptOrderIsSo = (w : Wallet) (front back : List (List ℕ)) (bytes : List ℕ) (b : Buyer) (transaction : ℕ) (order : Order) (part : List ℕ) → restarted w (front ++ bytes ∷ back) ≡ Ok b
     → item_of bytes ≡ Ok (item.Ordered transaction order part)
     → (before : Buyer) × (p : Purchase) × (restarted w front ≡ Ok before) × (purchase_of before transaction ≡ Some p) × (checksum_in (order_bytes order) ≡ sha256 (p.held ++ part))
+    × OrderNames w p.start order × IsWithin order.price p.start.limit
 
 -- ---- what is said again
 

@@ -30,9 +30,15 @@ pub fn paid_has_goods()
 {}
 
 /// A law: of each purchase of a consumer that starts again with what it kept, what is held is what its stage says: nothing before a part came, less
-/// than all before the last came, all that the order names the checksum of, and what the key of a paid one opens.
+/// than all before the last came, all that the order names the checksum of, and what the key of a paid one opens. The price at which goods are wanted or
+/// ordered is from 1 to the limit, and an order names the consumer, the merchant and the product.
 pub fn known_is_so()
     ensures { law.KnownIsSo }
+{}
+
+/// A law: such a consumer orders in its own name, of the merchant and the product that the purchase was started for, at a price from 1 to its limit.
+pub fn orders_as_asked()
+    ensures { law.OrdersAsAsked }
 {}
 
 /// A law: of such a consumer, a last part that is the rest of what is held makes all parts no longer than sealed goods may be, so that a restart's
@@ -41,8 +47,8 @@ pub fn rest_is_short()
     ensures { law.RestIsShort }
 {}
 
-/// A law: an order in a journal that a restart takes up names, in its bytes, the checksum of what is held behind the items before it and of the part
-/// in its item.
+/// A law: an order in a journal that a restart takes up names the consumer, and the merchant and the product that its purchase was started for, at a
+/// price from 1 to its limit, and, in its bytes, the checksum of what is held behind the items before it and of the part in its item.
 pub fn kept_order_is_so()
     ensures { law.KeptOrderIsSo }
 {}
