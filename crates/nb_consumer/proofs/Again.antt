@@ -114,7 +114,7 @@ found_started ps q none =
 
 -- ---- what is said again
 
-silent_is : (b : Buyer) (t : ℕ) (p : Purchase) → purchase_of b t ≡ Some p → silent b t ≡ unheard b.wallet p p.stage
+pub silent_is : (b : Buyer) (t : ℕ) (p : Purchase) → purchase_of b t ≡ Some p → silent b t ≡ unheard b.wallet p p.stage
 unfolding silent
 silent_is b t p known = ap (λ (o : Option Purchase). found reason.Unknown o >>= λ q. unheard b.wallet q q.stage) known
 

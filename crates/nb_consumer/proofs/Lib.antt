@@ -5,3 +5,4 @@ pub mod Running
 pub mod Knowing
 pub mod Again
 pub mod Ending
+pub mod Moving

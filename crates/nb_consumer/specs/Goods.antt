@@ -30,6 +30,14 @@ abbrev pub phase_in : Option Purchase → Option Phase
 phase_in (Some p) = Some (phase_of p.stage p.held)
 phase_in None = None
 
+-- a purchase of this phase is known, and not over
+abbrev pub IsOpen : Option Phase → Type 0
+IsOpen (Some phase.Ticketing) = Unit {0}
+IsOpen (Some phase.Asked) = Unit {0}
+IsOpen (Some phase.Wanted) = Unit {0}
+IsOpen (Some phase.Ordered) = Unit {0}
+IsOpen other = ⊥
+
 -- the goods of a purchase that was paid
 abbrev pub goods_of : Stage → List ℕ → Option (List ℕ)
 goods_of (stage.Paid key) sealed = text_in key (codes "good") sealed

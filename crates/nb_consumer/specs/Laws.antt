@@ -16,7 +16,9 @@ use Rattle.nb_msgs.specs.declared.node.End.TheVariants as end
 use Rattle.nb_msgs.specs.declared.node.Reason.{Reason}
 use Rattle.nb_msgs.specs.declared.node.RestartFault.{RestartFault}
 use Rattle.nb_msgs.specs.declared.node.To.{To}
+use Rattle.nb_msgs.specs.declared.node.To.TheVariants as to
 use Rattle.nb_msgs.specs.declared.node.Step.{Step}
+use Rattle.nb_msgs.specs.declared.node.Step.TheVariants as step
 use Rattle.nb_units.specs.declared.memory.NoMemory.{NoMemory}
 use Rattle.nb_wallet.specs.declared.wallet.Start.{Start}
 use Rattle.nb_wallet.specs.declared.wallet.Wallet.{Wallet}
@@ -33,12 +35,13 @@ use Rattle.nb_msgs.specs.declared.status.StatusText.{StatusText}
 use Rattle.nb_msgs.specs.StatusText.{text_of}
 use Rattle.nb_msgs.specs.declared.message.Message.TheVariants as message
 use Rattle.nb_wallet.specs.Tests.{opened}
-use Rattle.nb_wallet.specs.Messages.{payment}
-use Rattle.nb_consumer.specs.Table.{started, heard, silent, wanting_in, owing_in, receipt_fits, status_told}
+use Rattle.nb_wallet.specs.Messages.{ticket_request, payment}
+use Rattle.nb_consumer.specs.Table.{started, heard, silent, wanting_in, owing_in, receipt_fits, status_told, step_of}
 use Rattle.nb_consumer.specs.declared.phase.Phase.TheVariants as phase
-use Rattle.nb_consumer.specs.Goods.{phase_in, phase_at, goods_in, goods_at}
+use Rattle.nb_consumer.specs.Goods.{phase_in, phase_at, IsOpen, goods_in, goods_at}
 use Rattle.nb_consumer.specs.Known.{IsWithin, OrderNames, AllSo}
 use Rattle.nb_wallet.specs.Reading.{item_of}
+use Rattle.nb_wallet.specs.Spelling.{item_bytes}
 use Rattle.nb_goods.specs.declared.limits.TheConstants.{PART_BYTES}
 use Rattle.nb_consumer.specs.Restart.{allows, is_rest, is_short, restarted, Restarts, Kept}
 use Rattle.nb_consumer.specs.Deeds.{Answers}
@@ -159,6 +162,17 @@ RowSaysAgain b other = Unit {0}
 -- what is sent with an item is what is said again behind it
 abbrev pub SaysAgain : Type 0
 SaysAgain = (items : List (List ℕ)) (b : Buyer) (call : Call) → Kept items b → RowSaysAgain b (row_of b call)
+
+-- ---- what is sent
+
+-- a start of a number that is not known is kept, and the house is asked for a ticket
+abbrev pub StartMoves : Type 0
+StartMoves = (b : Buyer) (s : Start) → phase_in (purchase_of b s.transaction) ≡ None
+    → step_of (started b s) ≡ step.Move (Some (item_bytes (item.Started s))) to.Server (ticket_request b.wallet s)
+
+-- a quiet time of a purchase that is known and not over keeps nothing, and sends a message
+abbrev pub SilentMoves : Type 0
+SilentMoves = (b : Buyer) (transaction : ℕ) → IsOpen (phase_in (purchase_of b transaction)) → (whom : To) × (sent : Message) × (step_of (silent b transaction) ≡ step.Move None whom sent)
 
 -- ---- starting again
 

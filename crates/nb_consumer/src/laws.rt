@@ -59,6 +59,16 @@ pub fn says_again()
     ensures { law.SaysAgain }
 {}
 
+/// A law: a start of a number that is not known is kept, and asks the house for a ticket.
+pub fn start_moves()
+    ensures { law.StartMoves }
+{}
+
+/// A law: a quiet time of a purchase that is known and not over sends a message, and keeps nothing.
+pub fn silent_moves()
+    ensures { law.SilentMoves }
+{}
+
 /// A law: what a row keeps may stand behind what is known. An order that is kept names, in its bytes, the checksum of all sealed goods that are held
 /// then, and is what is sent; a receipt that is kept fits the order.
 pub fn rows_are_so()
