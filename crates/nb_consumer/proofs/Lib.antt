@@ -6,3 +6,4 @@ pub mod Knowing
 pub mod Again
 pub mod Ending
 pub mod Moving
+pub mod Staying

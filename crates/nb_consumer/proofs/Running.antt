@@ -116,7 +116,7 @@ wallet_stays b (Ok (deed.Ends t r end)) = same_wallet b (item.Ended t r)
 -- ---- a run
 
 -- what a restart gives keeps what it was given
-again_kept : (w : Wallet) (journal : List (List ℕ)) (first : Buyer) → restarted w journal ≡ Ok first → (first.wallet ≡ w) × Kept journal first
+pub again_kept : (w : Wallet) (journal : List (List ℕ)) (first : Buyer) → restarted w journal ≡ Ok first → (first.wallet ≡ w) × Kept journal first
 again_kept w journal first again =
     let same : first.wallet ≡ w = restarted_wallet 0 (new_buyer w) first journal again in
     (same, ap (λ (v : Wallet). restarted v journal) same ∙ again ∙ ap Ok (sym (restarted_untold 0 (new_buyer w) first journal refl again)))

@@ -38,6 +38,13 @@ IsOpen (Some phase.Wanted) = Unit {0}
 IsOpen (Some phase.Ordered) = Unit {0}
 IsOpen other = ⊥
 
+-- it is over
+abbrev pub IsOver : Option Phase → Type 0
+IsOver (Some (phase.Paid len)) = Unit {0}
+IsOver (Some (phase.Refused code)) = Unit {0}
+IsOver (Some phase.Foul) = Unit {0}
+IsOver other = ⊥
+
 -- the goods of a purchase that was paid
 abbrev pub goods_of : Stage → List ℕ → Option (List ℕ)
 goods_of (stage.Paid key) sealed = text_in key (codes "good") sealed

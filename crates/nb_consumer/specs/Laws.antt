@@ -36,14 +36,14 @@ use Rattle.nb_msgs.specs.StatusText.{text_of}
 use Rattle.nb_msgs.specs.declared.message.Message.TheVariants as message
 use Rattle.nb_wallet.specs.Tests.{opened}
 use Rattle.nb_wallet.specs.Messages.{ticket_request, payment}
-use Rattle.nb_consumer.specs.Table.{started, heard, silent, wanting_in, owing_in, receipt_fits, status_told, step_of}
+use Rattle.nb_consumer.specs.Table.{started, heard, silent, wanting_in, owing_in, receipt_fits, status_told, step_of, after}
 use Rattle.nb_consumer.specs.declared.phase.Phase.TheVariants as phase
-use Rattle.nb_consumer.specs.Goods.{phase_in, phase_at, IsOpen, goods_in, goods_at}
+use Rattle.nb_consumer.specs.Goods.{phase_in, phase_at, IsOpen, IsOver, goods_in, goods_at}
 use Rattle.nb_consumer.specs.Known.{IsWithin, OrderNames, AllSo}
 use Rattle.nb_wallet.specs.Reading.{item_of}
 use Rattle.nb_wallet.specs.Spelling.{item_bytes}
 use Rattle.nb_goods.specs.declared.limits.TheConstants.{PART_BYTES}
-use Rattle.nb_consumer.specs.Restart.{allows, is_rest, is_short, restarted, Restarts, Kept}
+use Rattle.nb_consumer.specs.Restart.{allows, is_rest, is_short, restarted, Restarts, untold, Kept}
 use Rattle.nb_consumer.specs.Deeds.{Answers}
 use Rattle.nb_consumer.specs.Runs.{Call, row_of, kept_of, Event, Runs, IsJournal, GivesBack}
 use Rattle.nb_wallet.specs.declared.item.Item.{Item}
@@ -173,6 +173,18 @@ StartMoves = (b : Buyer) (s : Start) → phase_in (purchase_of b s.transaction) 
 -- a quiet time of a purchase that is known and not over keeps nothing, and sends a message
 abbrev pub SilentMoves : Type 0
 SilentMoves = (b : Buyer) (transaction : ℕ) → IsOpen (phase_in (purchase_of b transaction)) → (whom : To) × (sent : Message) × (step_of (silent b transaction) ≡ step.Move None whom sent)
+
+-- ---- what is over
+
+-- a purchase that is over stays as it is, behind every row and behind a restart
+abbrev pub EndedStays : Type 0
+EndedStays = (b : Buyer) (transaction : ℕ) → IsOver (phase_in (purchase_of b transaction))
+    → ((call : Call) → purchase_of (after b (row_of b call)) transaction ≡ purchase_of b transaction) × (purchase_of (untold b) transaction ≡ purchase_of b transaction)
+
+-- so it does behind every list of calls, with restarts between them
+abbrev pub RunsKeepEnded : Type 0
+RunsKeepEnded = (old : Buyer) (items : List (List ℕ)) (events : List Event) (new : Buyer) (kept : List (List ℕ)) (transaction : ℕ) → Kept items old → Runs old items events new kept
+    → IsOver (phase_in (purchase_of old transaction)) → purchase_of new transaction ≡ purchase_of old transaction
 
 -- ---- starting again
 

@@ -69,6 +69,17 @@ pub fn silent_moves()
     ensures { law.SilentMoves }
 {}
 
+/// A law: a purchase that is over stays as it is, its start, its stage and what is held, behind every start, message and quiet time, and behind a
+/// restart.
+pub fn ended_stays()
+    ensures { law.EndedStays }
+{}
+
+/// A law: so it does behind every list of starts, messages and quiet times, with restarts between them.
+pub fn runs_keep_ended()
+    ensures { law.RunsKeepEnded }
+{}
+
 /// A law: what a row keeps may stand behind what is known. An order that is kept names, in its bytes, the checksum of all sealed goods that are held
 /// then, and is what is sent; a receipt that is kept fits the order.
 pub fn rows_are_so()
