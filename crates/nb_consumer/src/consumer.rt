@@ -1,4 +1,4 @@
-ghost use Rattle.std.specs.Prelude.{◌≡◌, ◌≤◌, ◌<◌, ◌+◌, [], length, is_some, is_none, option_copied, slice_get, IfOk, IfErr, IfSome, OnOk, OnErr, Some, None, Ok};
+ghost use Rattle.std.specs.Prelude.{◌≡◌, ◌≤◌, ◌<◌, ◌+◌, [], length, map, is_some, is_none, option_copied, slice_get, IfOk, IfErr, IfSome, OnOk, OnErr, Some, None, Ok};
 ghost use Rattle.indexmap.specs.IndexMap.{spare};
 ghost use Rattle.nb_consumer.specs.Deeds as deeds;
 ghost use Rattle.nb_wallet.specs.Changes as changes;
@@ -88,6 +88,13 @@ impl Consumer {
             purchases: Vec::new(alloc),
             orders: IndexMap::new(alloc),
         }
+    }
+
+    /// The number of each purchase, in the order in which they were started.
+    pub fn numbers(&self) -> &[u64]
+        ensures { result.now ≡ map state.number_of self.now.purchases }
+    {
+        self.numbers.as_slice()
     }
 
     // Its wallet.
