@@ -95,7 +95,7 @@ numbers_push : (ps : List Purchase) (q : Purchase) → map number_of (ps ++ q �
 numbers_push [] q = refl
 numbers_push (p ∷ ps) q = ap (λ (ns : List ℕ). number_of p ∷ ns) (numbers_push ps q)
 
-found_started : (ps : List Purchase) (q : Purchase) → place_of ps (number_of q) ≡ None → purchase_at (ps ++ q ∷ []) (place_of (ps ++ q ∷ []) (number_of q)) ≡ Some q
+pub found_started : (ps : List Purchase) (q : Purchase) → place_of ps (number_of q) ≡ None → purchase_at (ps ++ q ∷ []) (place_of (ps ++ q ∷ []) (number_of q)) ≡ Some q
 found_started ps q none =
     let t : ℕ = number_of q in
     let ns : List ℕ = map number_of ps in
@@ -327,7 +327,7 @@ paid_long key sealed goods e =
     omega (arith, ap length opens, length-seal_of key (codes "good") goods)
 
 -- the stage behind a receipt tells the end
-stage_tells : (r : Receipt) (held : List ℕ) → (phase_of (stage_ended r held) held ≡ phase_at (end_of r held)) × (goods_of (stage_ended r held) held ≡ goods_at (end_of r held))
+pub stage_tells : (r : Receipt) (held : List ℕ) → (phase_of (stage_ended r held) held ≡ phase_at (end_of r held)) × (goods_of (stage_ended r held) held ≡ goods_at (end_of r held))
 stage_tells r held = by_code (r.code == 0)
   where
     by_text : (key : List ℕ) (o : Option (List ℕ)) → text_in key (codes "good") held ≡ o

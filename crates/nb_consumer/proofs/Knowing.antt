@@ -41,7 +41,7 @@ use Rattle.nb_consumer.proofs.Running.{first_item, restarted_wallet}
 
 -- ---- tests that were passed
 
-known_for : (o : Option Purchase) (test : Purchase → Bool) → holds_for o test ≡ true → (p : Purchase) × (o ≡ Some p) × (test p ≡ true)
+pub known_for : (o : Option Purchase) (test : Purchase → Bool) → holds_for o test ≡ true → (p : Purchase) × (o ≡ Some p) × (test p ≡ true)
 known_for (Some p) test e = (p, refl, e)
 known_for None test e = absurd cc
 
@@ -49,12 +49,12 @@ pub test_of : (o : Option Purchase) (p : Purchase) (test : Purchase → Bool) �
 test_of o p test found e = sym (ap (λ (q : Option Purchase). holds_for q test) found) ∙ e
 
 -- the goods of a purchase are wanted, and it passes the test
-record WantedSo (s : Stage) (test : Wanting → Bool) : Type 0 where
-  pass : SessionTicket
-  price : Price
-  head : Option GoodsHead
-  is : s ≡ stage.Wanted pass price head
-  so : test (record { pass = pass; price = price; head = head }) ≡ true
+pub record WantedSo (s : Stage) (test : Wanting → Bool) : Type 0 where
+  pub pass : SessionTicket
+  pub price : Price
+  pub head : Option GoodsHead
+  pub is : s ≡ stage.Wanted pass price head
+  pub so : test (record { pass = pass; price = price; head = head }) ≡ true
 
 pub wanting_is : (s : Stage) (w : Wanting) → wanting_in s ≡ Some w → s ≡ stage.Wanted w.pass w.price w.head
 wanting_is stage.Ticketing w e = absurd cc
@@ -68,7 +68,7 @@ wanting_is (stage.Paid key) w e = absurd cc
 wanting_is (stage.Refused code) w e = absurd cc
 wanting_is stage.Foul w e = absurd cc
 
-wanted_so : (s : Stage) (test : Wanting → Bool) → holds_at (wanting_in s) test ≡ true → WantedSo s test
+pub wanted_so : (s : Stage) (test : Wanting → Bool) → holds_at (wanting_in s) test ≡ true → WantedSo s test
 wanted_so stage.Ticketing test e = absurd cc
 wanted_so (stage.Asked pass) test e = absurd cc
 wanted_so (stage.Wanted pass price head) test e = record { pass = pass; price = price; head = head; is = refl; so = e }
@@ -310,7 +310,7 @@ known_is_so items b kept = all_told b.wallet b.purchases (all_restarted 0 (new_b
 
 -- ---- an order in a journal
 
-split : (n : ℕ) (b c : Buyer) (front back : List (List ℕ)) → restarted_from n b (front ++ back) ≡ Ok c
+pub split : (n : ℕ) (b c : Buyer) (front back : List (List ℕ)) → restarted_from n b (front ++ back) ≡ Ok c
     → (m : ℕ) × (d : Buyer) × (restarted_from n b front ≡ Ok d) × (restarted_from m d back ≡ Ok c)
 split n b c [] back e = (n, b, refl, e)
 split n b c (bytes ∷ front) back e =
@@ -320,7 +320,7 @@ split n b c (bytes ∷ front) back e =
     ap (behind_read b) f.1 ∙ ap (λ (test : Bool). cond test (Some (remembered b f.0)) None) f.2 in
     (s.0, s.1, ap (λ (o : Option Buyer). option_map_or (λ d. restarted_from (n + 1) d front) o (Err n)) known ∙ s.2, s.3)
 
-item_is : (x y : Item) → (let one : Result Item ℕ = Ok x in one ≡ Ok y) → x ≡ y
+pub item_is : (x y : Item) → (let one : Result Item ℕ = Ok x in one ≡ Ok y) → x ≡ y
 item_is x y e = cc
 
 -- behind what a restart gives

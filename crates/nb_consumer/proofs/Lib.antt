@@ -7,3 +7,4 @@ pub mod Again
 pub mod Ending
 pub mod Moving
 pub mod Staying
+pub mod Telling

@@ -79,11 +79,15 @@ changed_other b n t f apart same = by (place_of b.purchases n) refl
     by None is = refl
     by (Some i) is = by_got i (slice_get b.purchases i) is refl
 
-pub pushed_other : (ps : List Purchase) (q : Purchase) (t : ℕ) (p : Purchase) → purchase_at ps (place_of ps t) ≡ Some p
-    → purchase_at (ps ++ q ∷ []) (place_of (ps ++ q ∷ []) t) ≡ Some p
-pushed_other ps q t p known =
+or_none : (o : Option Purchase) → option_or o None ≡ o
+or_none None = refl
+or_none (Some p) = refl
+
+pub pushed_other : (ps : List Purchase) (q : Purchase) (t : ℕ) → ¬ (t ≡ number_of q) → purchase_at (ps ++ q ∷ []) (place_of (ps ++ q ∷ []) t) ≡ purchase_at ps (place_of ps t)
+pushed_other ps q t apart =
     found_first (ps ++ q ∷ []) t ∙ find-append (is_of t) ps (q ∷ [])
-    ∙ ap (λ (o : Option Purchase). option_or o (find (is_of t) (q ∷ []))) (sym (found_first ps t) ∙ known)
+    ∙ ap (λ (test : Bool). option_or (find (is_of t) ps) (cond test (Some q) None)) (other_number t (number_of q) apart)
+    ∙ or_none (find (is_of t) ps) ∙ sym (found_first ps t)
 
 -- ---- no row is of a purchase that is over
 
@@ -107,7 +111,7 @@ over_is stage.Foul held over = record { ticketing = refl; asked = refl; wanting 
 apart_from : (b : Buyer) (t n : ℕ) (p : Purchase) (test : Purchase → Bool) → purchase_of b t ≡ Some p → test p ≡ false → holds_for (purchase_of b n) test ≡ true → ¬ (t ≡ n)
 apart_from b t n p test known fails allowed same = false≢true (sym fails ∙ test_of (purchase_of b n) p test (ap (purchase_of b) (sym same) ∙ known) allowed)
 
-unknown : (o : Option ℕ) → is_none o ≡ true → o ≡ None
+pub unknown : (o : Option ℕ) → is_none o ≡ true → o ≡ None
 unknown None e = refl
 unknown (Some i) e = absurd cc
 
@@ -129,17 +133,17 @@ item_apart b (item.Ended n r) t p known over allowed =
 
 -- ---- behind an item, a row and a restart
 
-pub item_other : (b : Buyer) (x : Item) (t : ℕ) (p : Purchase) → purchase_of b t ≡ Some p → ¬ (t ≡ number_in x) → purchase_of (remembered b x) t ≡ purchase_of b t
-item_other b (item.Started s) t p known apart = pushed_other b.purchases (fresh s) t p known ∙ sym known
-item_other b (item.Granted n pass) t p known apart = changed_other b n t (behind_item (item.Granted n pass)) apart (λ q. refl)
-item_other b (item.Wanted n price) t p known apart = changed_other b n t (behind_item (item.Wanted n price)) apart (λ q. refl)
-item_other b (item.Part h part) t p known apart = changed_other b h.transaction t (behind_item (item.Part h part)) apart (λ q. refl)
-item_other b (item.Forgotten n) t p known apart = changed_other b n t (behind_item (item.Forgotten n)) apart (λ q. refl)
-item_other b (item.Ordered n o part) t p known apart = changed_other b n t (behind_item (item.Ordered n o part)) apart (λ q. refl)
-item_other b (item.Ended n r) t p known apart = changed_other b n t (behind_item (item.Ended n r)) apart (λ q. refl)
+pub item_other : (b : Buyer) (x : Item) (t : ℕ) → ¬ (t ≡ number_in x) → purchase_of (remembered b x) t ≡ purchase_of b t
+item_other b (item.Started s) t apart = pushed_other b.purchases (fresh s) t apart
+item_other b (item.Granted n pass) t apart = changed_other b n t (behind_item (item.Granted n pass)) apart (λ q. refl)
+item_other b (item.Wanted n price) t apart = changed_other b n t (behind_item (item.Wanted n price)) apart (λ q. refl)
+item_other b (item.Part h part) t apart = changed_other b h.transaction t (behind_item (item.Part h part)) apart (λ q. refl)
+item_other b (item.Forgotten n) t apart = changed_other b n t (behind_item (item.Forgotten n)) apart (λ q. refl)
+item_other b (item.Ordered n o part) t apart = changed_other b n t (behind_item (item.Ordered n o part)) apart (λ q. refl)
+item_other b (item.Ended n r) t apart = changed_other b n t (behind_item (item.Ended n r)) apart (λ q. refl)
 
 item_keeps : (b : Buyer) (x : Item) (t : ℕ) (p : Purchase) → purchase_of b t ≡ Some p → Over p.stage → allows b x ≡ true → purchase_of (remembered b x) t ≡ purchase_of b t
-item_keeps b x t p known over allowed = item_other b x t p known (item_apart b x t p known over allowed)
+item_keeps b x t p known over allowed = item_other b x t (item_apart b x t p known over allowed)
 
 row_keeps : (b : Buyer) (t : ℕ) (p : Purchase) (row : Result Deed Reason) → purchase_of b t ≡ Some p → Over p.stage → RowSo b row → purchase_of (after b row) t ≡ purchase_of b t
 row_keeps b t p (Err why) known over so = refl

@@ -1,5 +1,5 @@
 -- What rows keep, how purchases end, and what starting again gives.
-use Rattle.std.specs.Prelude.{◌≡◌, ◌≤◌, ℕ, List, ◌∷◌, ◌++◌, length, codes, true, Some, None, Ok, Result}
+use Rattle.std.specs.Prelude.{◌≡◌, ◌≤◌, ℕ, List, [], ◌∷◌, ◌++◌, length, flat_map, codes, true, Some, None, Ok, Result}
 use Rattle.std.specs.List.{AllByRecursion}
 use Rattle.nb_units.specs.Frames.{AreBytes}
 use Rattle.sha2.specs.Sha256.{sha256}
@@ -37,8 +37,9 @@ use Rattle.nb_msgs.specs.declared.message.Message.TheVariants as message
 use Rattle.nb_wallet.specs.Tests.{opened}
 use Rattle.nb_wallet.specs.Messages.{ticket_request, payment}
 use Rattle.nb_consumer.specs.Table.{started, heard, silent, wanting_in, owing_in, receipt_fits, status_told, step_of, after}
+use Rattle.nb_consumer.specs.declared.phase.Phase.{Phase}
 use Rattle.nb_consumer.specs.declared.phase.Phase.TheVariants as phase
-use Rattle.nb_consumer.specs.Goods.{phase_in, phase_at, IsOpen, IsOver, goods_in, goods_at}
+use Rattle.nb_consumer.specs.Goods.{phase_of, phase_in, phase_at, IsOpen, IsOver, goods_in, goods_at}
 use Rattle.nb_consumer.specs.Known.{IsWithin, OrderNames, AllSo}
 use Rattle.nb_wallet.specs.Reading.{item_of}
 use Rattle.nb_wallet.specs.Spelling.{item_bytes}
@@ -185,6 +186,38 @@ EndedStays = (b : Buyer) (transaction : ℕ) → IsOver (phase_in (purchase_of b
 abbrev pub RunsKeepEnded : Type 0
 RunsKeepEnded = (old : Buyer) (items : List (List ℕ)) (events : List Event) (new : Buyer) (kept : List (List ℕ)) (transaction : ℕ) → Kept items old → Runs old items events new kept
     → IsOver (phase_in (purchase_of old transaction)) → purchase_of new transaction ≡ purchase_of old transaction
+
+-- ---- what items say
+
+-- the identifier of an order, and the number of its purchase
+abbrev pub order_in : Result Item ℕ → List (List ℕ × ℕ)
+order_in (Ok (item.Ordered transaction order part)) = (epoid_bytes order.epoid, transaction) ∷ []
+order_in other = []
+
+-- an identifier finds the purchase of the first order under it among the items that were kept
+abbrev pub FirstOrderFound : Type 0
+FirstOrderFound = (items : List (List ℕ)) (b : Buyer) (epoid : List ℕ) → Kept items b → ordered_with b.orders epoid ≡ ordered_with (flat_map (λ bytes. order_in (item_of bytes)) items) epoid
+
+-- the phase behind an item, where this is held then
+abbrev pub phase_behind : Item → List ℕ → Phase
+phase_behind (item.Started start) held = phase.Ticketing
+phase_behind (item.Granted transaction pass) held = phase.Asked
+phase_behind (item.Wanted transaction price) held = phase.Wanted
+phase_behind (item.Part head part) held = phase.Wanted
+phase_behind (item.Forgotten transaction) held = phase.Wanted
+phase_behind (item.Ordered transaction order part) held = phase.Ordered
+phase_behind (item.Ended transaction receipt) held = phase_at (end_of receipt.receipt held)
+
+-- no item is of this purchase
+abbrev pub NoneOf : ℕ → List (List ℕ) → Type 0
+NoneOf transaction items = AllByRecursion (λ bytes. (x : Item) → item_of bytes ≡ Ok x → ¬ (number_in x ≡ transaction)) items
+
+-- a purchase is as far as the last of its items that were kept says; one without an item is not known
+abbrev pub LastItemTells : Type 0
+LastItemTells = (b : Buyer)
+    → ((front back : List (List ℕ)) (bytes : List ℕ) (x : Item) → Kept (front ++ bytes ∷ back) b → item_of bytes ≡ Ok x → NoneOf (number_in x) back
+    → (p : Purchase) × (purchase_of b (number_in x) ≡ Some p) × (phase_of p.stage p.held ≡ phase_behind x p.held))
+    × ((items : List (List ℕ)) (transaction : ℕ) → Kept items b → NoneOf transaction items → purchase_of b transaction ≡ None)
 
 -- ---- starting again
 

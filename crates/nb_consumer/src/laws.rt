@@ -86,6 +86,16 @@ pub fn rows_are_so()
     ensures { law.RowsAreSo }
 {}
 
+/// A law: an order's identifier finds the purchase that was ordered under it first, among the items that were kept.
+pub fn first_order_found()
+    ensures { law.FirstOrderFound }
+{}
+
+/// A law: [`state`](crate::Consumer::state) tells of a purchase what its last kept item says, and nothing of one without an item.
+pub fn last_item_tells()
+    ensures { law.LastItemTells }
+{}
+
 /// A law: a consumer that starts again with the items that it kept is as it was, but for the places that it was told: so it stays behind every
 /// start, message and quiet time, whatever was answered.
 pub fn keeps_restarting()
