@@ -32,11 +32,11 @@ pub record SaysOf (bytes : List ℕ) (r : Receipt) : Type 0 where
 abbrev pub ReceiptIsRead : Type 0
 ReceiptIsRead = (bytes : List ℕ) (s : Signed) → signed_of bytes ≡ Ok s → SaysOf bytes s.receipt
 
--- in the spelling of a receipt its code stands there, whatever its other fields are and whatever follows
+-- in the spelling of a receipt its code stands there, whatever its fields are and whatever follows
 abbrev pub CodeIsSpelled : Type 0
 CodeIsSpelled = (r : Receipt) (more : List ℕ) → receipt_code_in (receipt_bytes r ++ more) ≡ r.code
 
--- so does the identifier that its identifier's bytes spell
+-- and so does the identifier that its identifier's bytes spell
 abbrev pub EpoidIsSpelled : Type 0
 EpoidIsSpelled = (r : Receipt) (more : List ℕ) → receipt_epoid_in (receipt_bytes r ++ more) ≡ epoid_of (epoid_bytes r.epoid)
 

@@ -95,3 +95,9 @@ now_counts start steps t c within is =
 pub now_only : (start : List ℕ) (steps : List DiskStep) (c : List ℕ) → LeftFrom start steps (length steps) c
     → Images start steps c
 now_only start steps c left = subst (λ (xs : List DiskStep). Images start xs c) (take_all left.0 steps left.1) left.3
+
+-- ---- bytes that are lent
+
+-- they are what a stop leaves
+pub lent_counts : (bytes c : List ℕ) → Some bytes ≡ Some c → bytes ≡ c
+lent_counts bytes c is = subst (λ (told : Option (List ℕ)). IfSome told (λ found. bytes ≡ found)) is refl

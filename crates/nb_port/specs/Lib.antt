@@ -4,6 +4,7 @@ pub mod Sink
 pub mod Tells
 pub mod Disk
 pub mod Images
+pub mod Lent
 pub mod Clock
 pub mod Calls
 pub mod Memory

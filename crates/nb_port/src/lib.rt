@@ -17,18 +17,23 @@
 //! made fail, and no others, but for want of memory. A [`MemDisk`] keeps a record of its calls, and gives an image at each
 //! moment, with what a [`Fill`] says in place of the bytes that are not sure to stay.
 //!
+//! A [`ByteDisk`] reads bytes that are lent to it, of which a stop leaves these; its writes fail.
+//!
 //! Left to others: the adapters to the system, of which none tells its content.
 #![tactic(auto)]
 
 mod clock;
 mod disk;
 pub mod laws;
+mod lent;
 mod memory;
+mod reading;
 mod sink;
 mod source;
 
 pub use clock::Clock;
 pub use disk::{Disk, DiskOut, DiskRead};
+pub use lent::ByteDisk;
 pub use memory::{DiskStep, Fill, MemClock, MemDisk, MemSink, MemSource};
 pub use sink::{Sink, WriteOut};
 pub use source::{ReadOut, Source};

@@ -1,6 +1,6 @@
 ghost use Rattle.std.specs.Prelude.{◌≡◌, ◌⊎◌, ◌≤◌, ◌<◌, ◌+◌, ◌*◌, ◌^◌, Some, [], length, take, IfOk};
 ghost use Rattle.nb_port.specs.Calls.{no_calls, NextFails};
-ghost use Rattle.nb_port.specs.Disk.{DiskReadGives, DiskWriteGives, DiskSyncGives, ReadsContent, Torn};
+ghost use Rattle.nb_port.specs.Disk.{DiskReadGives, DiskWriteGives, DiskSyncGives, Torn};
 ghost use Rattle.nb_port.specs.Disk.{SameImages, NoneNew, NoneLost, Follows, Elapses};
 ghost use Rattle.nb_port.specs.Images.{Images, LeftFrom, image_at};
 ghost use Rattle.nb_port.specs.Memory.{content_of, DiskReads, DiskWrites, DiskSyncs};
@@ -12,6 +12,7 @@ use crate::memory::fill::Fill;
 use crate::memory::record::{record_pause, record_sync, record_tear, record_write};
 use crate::memory::replay::{put, replay};
 use crate::memory::step::DiskStep;
+use crate::reading::copy_at;
 use nb_units::{Blob, NoMemory};
 use std::alloc::Global;
 use std::marker::Model;
@@ -193,16 +194,4 @@ impl Disk for MemDisk {
             }
         }
     }
-}
-
-// Copies the bytes of `content` from `place` on to the front of `buf`, and says how many.
-fn copy_at(content: &[u8], place: u64, buf: &mut [u8]) -> usize
-    ensures { ReadsContent (Some content.now) place (length buf.old) buf.new result }
-{
-    let at = (content.len() as u64).min(place) as usize;
-    let (_, rest) = content.split_at(at);
-    let n = rest.len().min(buf.len());
-    let (front, _) = rest.split_at(n);
-    buf[..n].copy_from_slice(front);
-    n
 }

@@ -1,0 +1,66 @@
+ghost use Rattle.std.specs.Prelude.{◌≡◌, Some};
+ghost use Rattle.nb_port.specs.DiskLaws.{lent_counts};
+ghost use Rattle.nb_port.specs.Lent.{IsLent};
+
+use crate::disk::{Disk, DiskOut, DiskRead};
+use crate::reading::copy_at;
+use std::marker::Model;
+
+/// A disk whose content is bytes that somebody lends: they can be read, and never change. A sync has nothing to do, and each write
+/// fails.
+#[derive(Drop)]
+pub struct ByteDisk<'a> {
+    bytes: &'a [u8],
+    faults: u64,
+}
+
+impl<'a> Model for ByteDisk<'a> {
+    ghost use Rattle.nb_port.specs.Lent.{Lent};
+
+    ghost Value = { Lent };
+
+    ghost view = { λ d. record { bytes = d.bytes.now; faults = d.faults } };
+}
+
+impl<'a> ByteDisk<'a> {
+    /// A disk that holds these bytes from place 0 on, and has not failed.
+    pub fn over(bytes: &'a [u8]) -> ByteDisk<'a>
+        ensures bytes { result.bytes ≡ bytes.now }
+        ensures faults { result.faults ≡ 0 }
+    {
+        ByteDisk { bytes, faults: 0 }
+    }
+}
+
+impl<'a> Disk for ByteDisk<'a> {
+    ghost tells = { record {
+      faults = λ d. d.faults;
+      content = λ d. Some d.bytes;
+      allowed = IsLent;
+      moment = λ _. 0;
+      left = λ d _. IsLent d;
+    } };
+
+    ghost content_counts = { λ d c is. lent_counts d.bytes c is };
+
+    ghost counts_now = { λ _ _ _ _ is. is };
+
+    ghost only_now = { λ _ _ is. is };
+
+    fn fault_count(&self) -> u64 {
+        self.faults
+    }
+
+    fn read(&mut self, place: u64, buf: &mut [u8]) -> DiskRead {
+        DiskRead::Got(copy_at(self.bytes, place, buf))
+    }
+
+    fn write(&mut self, _place: u64, _piece: &[u8]) -> DiskOut {
+        self.faults = self.faults.saturating_add(1);
+        DiskOut::Failed
+    }
+
+    fn sync(&mut self) -> DiskOut {
+        DiskOut::Done
+    }
+}
