@@ -1,5 +1,5 @@
 -- The memory forms: what each is seen as, and what a call makes of it.
-use Rattle.std.specs.Prelude.{◌≡◌, ◌≢◌, ℕ, ◌+◌, List, [], ◌∷◌, ◌++◌, Some, Contains, length, map, drop, min}
+use Rattle.std.specs.Prelude.{◌≡◌, ◌≢◌, ℕ, ◌+◌, Bool, true, false, List, [], ◌∷◌, ◌++◌, Some, Contains, length, map, drop, min}
 use Rattle.nb_port.specs.Faults.{one_more}
 use Rattle.nb_port.specs.declared.source.ReadOut.{ReadOut}
 use Rattle.nb_port.specs.declared.source.ReadOut.TheVariants as reads
@@ -100,12 +100,18 @@ pub record PortState : Type 0 where
   pub coming : List LinkState
   pub taken : List LinkState
   pub out : ℕ
+  pub listening : Bool
   pub calls : Planned
   pub faults : ℕ
 
+-- there are links to come
+abbrev pub has_links : List LinkState → Bool
+has_links [] = false
+has_links (link ∷ links) = true
+
 -- a port of which no link was given
 abbrev pub new_port : List LinkState → List ℕ → PortState
-new_port links fails = record { coming = links; taken = []; out = 0; calls = none_made fails; faults = 0 }
+new_port links fails = record { coming = links; taken = []; out = 0; listening = has_links links; calls = none_made fails; faults = 0 }
 
 -- it tells all of it
 abbrev pub port_told : PortState → PortSeen
@@ -115,13 +121,14 @@ port_told p = record {
   faults = p.faults;
   coming = Some (map link_told p.coming);
   taken = Some (map link_told p.taken);
+  listening = Some p.listening;
 }
 
 -- what `next` makes of it; one that is Closed is not counted among its calls
 abbrev pub PortNexts : PortState → PortState → PortOut LinkState → Type 0
 PortNexts old new (outs.Got link) =
     (old.coming ≡ link ∷ new.coming)
-    × (new ≡ record old { coming = new.coming; out = old.out + 1; calls = one_made old.calls })
+    × (new ≡ record old { coming = new.coming; out = old.out + 1; listening = has_links new.coming; calls = one_made old.calls })
 PortNexts old new outs.Closed = (old.coming ≡ []) × (new ≡ old)
 PortNexts old new outs.Failed =
     (old.coming ≢ []) × (new ≡ record old { calls = one_made old.calls; faults = one_more old.faults })

@@ -27,8 +27,8 @@ pub trait Port: Send + Drop {
         ensures left { result ≡ (seen self.now).left }
         ensures told { IfSome (seen self.now).coming (λ links. length links ≡ result) };
 
-    /// Gives the next link. It is Closed exactly where none is left, and then all stays; where it fails the count rises, and all
-    /// else stays.
+    /// Gives the next link. A port listens no more where it gives its last one, so that who comes behind is refused and does not wait.
+    /// It is Closed exactly where none is left, and then all stays; where it fails the count rises, and all else stays.
     fn next(&mut self) -> PortOut<Self::Joined>
         ensures { NextGives Self.Joined.seen (seen self.old) (seen self.new) result };
 

@@ -36,9 +36,9 @@ pub record ListenerPort (A : Type 0) : Type 0 where
   pub out : ℕ
   pub faults : ℕ
 
--- what a port tells: no links
+-- what a port tells: no links, and not whether it listens
 abbrev pub port_over : {A : Type 0} → ListenerPort A → PortSeen
-port_over p = record { left = p.left; out = p.out; faults = p.faults; coming = None; taken = None }
+port_over p = record { left = p.left; out = p.out; faults = p.faults; coming = None; taken = None; listening = None }
 
 -- each look for a connection that one call may make was made, and gave none that could be set up: so many more were counted
 abbrev pub AllTried : ℕ → ℕ → Type 0

@@ -1,4 +1,4 @@
-ghost use Rattle.std.specs.Prelude.{◌≡◌, ◌<◌, ◌≤◌, IfSome, length};
+ghost use Rattle.std.specs.Prelude.{◌≡◌, ◌<◌, ◌≤◌, IfOk, IfErr, IfSome, length};
 ghost use Rattle.nb_port.specs.Source.{ReadGives};
 ghost use Rattle.nb_port.specs.Sink.{WriteGives};
 ghost use Rattle.nb_link.specs.Link.{LinkReads, LinkWrites};
@@ -38,25 +38,26 @@ impl TcpLink<StdSocket> {
     pub fn over(stream: TcpStream) -> Option<TcpLink<StdSocket>>
         ensures { IfSome result (λ link. (link.read_faults ≡ 0) × (link.write_faults ≡ 0)) }
     {
-        TcpLink::of(StdSocket::over(stream))
+        TcpLink::of(StdSocket::over(stream)).ok()
     }
 }
 
 impl<S: Socket> TcpLink<S> {
-    /// A link over `socket`, of which no call failed; None where the socket could not be set.
-    pub fn of(socket: S) -> Option<TcpLink<S>>
-        ensures set { IfSome result (λ link. IsSet S.settings link.socket) }
-        ensures faults { IfSome result (λ link. (link.read_faults ≡ 0) × (link.write_faults ≡ 0)) }
-        ensures bytes { IfSome result (λ link. (S.left link.socket ≡ S.left socket) × (S.sent link.socket ≡ S.sent socket)) }
+    /// A link over `socket`, of which no call failed. A socket that could not be set comes back.
+    pub fn of(socket: S) -> Result<TcpLink<S>, S>
+        ensures set { IfOk result (λ link. IsSet S.settings link.socket) }
+        ensures faults { IfOk result (λ link. (link.read_faults ≡ 0) × (link.write_faults ≡ 0)) }
+        ensures bytes { IfOk result (λ link. (S.left link.socket ≡ S.left socket) × (S.sent link.socket ≡ S.sent socket)) }
+        ensures err { IfErr result S.refused }
     {
         let mut socket = socket;
         match set_up(&mut socket) {
-            SetOut::Done => Some(TcpLink {
+            SetOut::Done => Ok(TcpLink {
                 socket,
                 read_faults: 0,
                 write_faults: 0,
             }),
-            SetOut::Failed => None,
+            SetOut::Failed => Err(socket),
         }
     }
 }
@@ -84,6 +85,7 @@ impl<S: Socket> Link for TcpLink<S> {
 // Sets a socket as that of a link.
 fn set_up<S: Socket>(socket: &mut S) -> SetOut
     ensures done { result ≡ sets.Done → IsSet S.settings socket.new }
+    ensures refused { result ≡ sets.Failed → S.refused socket.new }
     ensures left { S.left socket.new ≡ S.left socket.old }
     ensures sent { S.sent socket.new ≡ S.sent socket.old }
 {

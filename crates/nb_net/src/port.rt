@@ -104,8 +104,8 @@ fn next_link<A: Listener>(listener: &mut A, faults: &mut u64) -> Option<TcpLink<
     for _ in 0..MAX_TRIES {
         match listener.accept() {
             AcceptOut::Joined(socket) => match TcpLink::of(socket) {
-                Some(link) => return Some(link),
-                None => *faults = faults.saturating_add(1),
+                Ok(link) => return Some(link),
+                Err(_) => *faults = faults.saturating_add(1),
             },
             AcceptOut::Aborted => *faults = faults.saturating_add(1),
             AcceptOut::Failed => {

@@ -47,6 +47,9 @@ pub trait Socket: Drop {
     /// How it is set.
     ghost settings: { Settings Self };
 
+    /// It could not be set.
+    ghost refused: { Self → Type 0 };
+
     /// Takes the next bytes, at most as many as `buf` holds, to the front of `buf`.
     fn read(&mut self, buf: &mut [u8]) -> SocketRead
         requires { 0 < length buf.old }
@@ -64,6 +67,7 @@ pub trait Socket: Drop {
     /// Makes it send each write at once (TCP_NODELAY).
     fn set_prompt(&mut self) -> SetOut
         ensures done { result ≡ sets.Done → settings.prompt self.new }
+        ensures refused { result ≡ sets.Failed → refused self.new }
         ensures left { left self.new ≡ left self.old }
         ensures sent { sent self.new ≡ sent self.old }
         ensures set { StaysSet settings self.old self.new };
@@ -72,6 +76,7 @@ pub trait Socket: Drop {
     fn set_read_limit(&mut self, seconds: u64) -> SetOut
         requires { 0 < seconds }
         ensures done { result ≡ sets.Done → settings.reads_within self.new seconds }
+        ensures refused { result ≡ sets.Failed → refused self.new }
         ensures left { left self.new ≡ left self.old }
         ensures sent { sent self.new ≡ sent self.old }
         ensures prompt { settings.prompt self.old → settings.prompt self.new };
@@ -80,6 +85,7 @@ pub trait Socket: Drop {
     fn set_write_limit(&mut self, seconds: u64) -> SetOut
         requires { 0 < seconds }
         ensures done { result ≡ sets.Done → settings.writes_within self.new seconds }
+        ensures refused { result ≡ sets.Failed → refused self.new }
         ensures left { left self.new ≡ left self.old }
         ensures sent { sent self.new ≡ sent self.old }
         ensures prompt { settings.prompt self.old → settings.prompt self.new }

@@ -29,6 +29,8 @@ impl Socket for StdSocket {
 
     ghost settings = { record { prompt = λ _. ⊤; reads_within = λ _ _. ⊤; writes_within = λ _ _. ⊤ } };
 
+    ghost refused = { λ _. ⊤ };
+
     fn read(&mut self, buf: &mut [u8]) -> SocketRead {
         match self.stream.read(buf) {
             Ok(0) => SocketRead::End,

@@ -51,6 +51,8 @@ impl Socket for FlakySocket {
 
     ghost settings = { record { prompt = λ _. ⊤; reads_within = λ _ _. ⊤; writes_within = λ _ _. ⊤ } };
 
+    ghost refused = { λ _. ⊤ };
+
     fn read(&mut self, buf: &mut [u8]) -> SocketRead {
         self.reads = self.reads.saturating_add(1);
         match self.reads {
@@ -89,7 +91,7 @@ impl Socket for FlakySocket {
 
 #[test]
 fn a_link_goes_on_behind_an_interrupted_call(rt: HostRuntime) -> Result<(), Fail> {
-    let mut link = TcpLink::of(flaky_socket(0)).ok_or("no link")?;
+    let mut link = TcpLink::of(flaky_socket(0)).ok().ok_or("no link")?;
     let mut buf = [0u8; 4];
     for wanted in [ReadOut::Bytes(2), ReadOut::End, ReadOut::Failed] {
         assert_eq!(rt; link.read(&mut buf), wanted);
@@ -104,7 +106,7 @@ fn a_link_goes_on_behind_an_interrupted_call(rt: HostRuntime) -> Result<(), Fail
 #[test]
 fn there_is_no_link_where_an_option_cannot_be_set(rt: HostRuntime) {
     for unset in 1..4 {
-        assert!(rt; TcpLink::of(flaky_socket(unset)).is_none());
+        assert!(rt; TcpLink::of(flaky_socket(unset)).is_err());
     }
 }
 

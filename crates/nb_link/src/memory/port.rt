@@ -17,13 +17,14 @@ pub struct MemPort {
     coming: Vec<MemLink>,
     taken: Vec<MemLink>,
     out: u32,
+    listening: bool,
     calls: Plan,
     faults: u64,
 }
 
 impl Model for MemPort {
-    ghost use Rattle.std.specs.Prelude.{◌≤◌, ◌<◌, ◌+◌, ◌^◌, reverse, vec_len, vec_capacity};
-    ghost use Rattle.nb_link.specs.Memory.{PortState};
+    ghost use Rattle.std.specs.Prelude.{◌≡◌, ◌≤◌, ◌<◌, ◌+◌, ◌^◌, reverse, vec_len, vec_capacity};
+    ghost use Rattle.nb_link.specs.Memory.{PortState, has_links};
 
     ghost Value = { PortState };
 
@@ -31,11 +32,16 @@ impl Model for MemPort {
       coming = reverse p.coming.items;
       taken = p.taken.items;
       out = p.out;
+      listening = p.listening;
       calls = p.calls;
       faults = p.faults;
     } };
 
-    ghost invariant = { λ p. (p.out + vec_len p.coming < 2 ^ 32) × (p.out + (vec_len p.coming + vec_len p.taken) ≤ vec_capacity p.taken) };
+    ghost invariant = { λ p. record {
+      few : p.out + vec_len p.coming < 2 ^ 32;
+      room : p.out + (vec_len p.coming + vec_len p.taken) ≤ vec_capacity p.taken;
+      listens : p.listening ≡ has_links (reverse p.coming.items);
+    } };
 }
 
 impl MemPort {
@@ -49,6 +55,7 @@ impl MemPort {
         coming.as_mut_slice().reverse();
         Ok(MemPort {
             taken: Vec::with_capacity(alloc, coming.len())?,
+            listening: !coming.is_empty(),
             coming,
             out: 0,
             calls: Plan::new(alloc, fails)?,
@@ -89,6 +96,7 @@ impl Port for MemPort {
         }
         match self.coming.pop() {
             Some(link) => {
+                self.listening = !self.coming.is_empty();
                 self.out += 1;
                 PortOut::Got(link)
             }
