@@ -1,4 +1,4 @@
-ghost use Rattle.std.specs.Prelude.{◌≡◌, ◌≤◌, ◌<◌, ◌-◌, ◌↔◌, [], ◌∷◌, ◌++◌, length, take, Some, IsTrue, IfOk, IfSome};
+ghost use Rattle.std.specs.Prelude.{◌≡◌, ◌≤◌, ◌<◌, ◌-◌, ◌↔◌, [], ◌∷◌, ◌++◌, length, slice_get, take, Some, IsTrue, IfOk, IfSome};
 ghost use Rattle.std.specs.List.{AllByRecursion};
 ghost use Rattle.nb_units.specs.declared.limits.TheConstants.{MAX_CAP};
 ghost use Rattle.nb_index.specs.Puts.{IsShaped};
@@ -112,6 +112,13 @@ impl Book {
         ensures legal { Legal self.now.entries }
     {
         self.list.order(epoid)
+    }
+
+    /// The entry at this place, counted from 0, if there are so many.
+    pub fn entry(&self, i: u32) -> Option<Entry>
+        ensures { result ≡ slice_get self.now.entries i }
+    {
+        self.list.entry(i)
     }
 
     /// How many entries are held.

@@ -1,4 +1,4 @@
-ghost use Rattle.std.specs.Prelude.{◌≡◌, ◌≤◌, ◌<◌, ◌+◌, ◌*◌, ◌-◌, ◌++◌, ◌∷◌, [], Some, IfOk, IfSome, length, take, vec_capacity, IsSome};
+ghost use Rattle.std.specs.Prelude.{◌≡◌, ◌≤◌, ◌<◌, ◌+◌, ◌*◌, ◌-◌, ◌++◌, ◌∷◌, [], Some, IfOk, IfSome, length, slice_get, take, vec_capacity, IsSome};
 ghost use Rattle.std.specs.List.{HoldsAt, AllByRecursion};
 ghost use Rattle.nb_units.specs.declared.limits.TheConstants.{MAX_CAP};
 ghost use Rattle.nb_book.specs.Searches.{party_in, holder_in, funded_in, order_in};
@@ -6,7 +6,7 @@ ghost use Rattle.nb_book.specs.Money.{account_in, balance, total};
 ghost use Rattle.nb_book.specs.Legal.{Legal, LegalAfter};
 ghost use Rattle.nb_book.specs.Laws.{opens};
 ghost use Rattle.nb_index.specs.Puts.{IsShaped};
-ghost use Rattle.nb_book.specs.Indexes.{Tied, first_place, slots_for, list_places, list_indexes};
+ghost use Rattle.nb_book.specs.Indexes.{AreFresh, IsFresh, Tied, first_place, slots_for, list_places, list_indexes};
 
 use crate::account::Account;
 use crate::entry::Entry;
@@ -37,11 +37,32 @@ pub(crate) struct EntryList {
     total: u64,
 }
 
+// The indexes of a list with no entries.
+#[derive(Drop)]
+struct FreshIndexes {
+    parties: FixedIndex,
+    accounts: FixedIndex,
+    references: FixedIndex,
+    orders: FixedIndex,
+}
+
+// Indexes with room for so many entries.
+fn indexes_for(alloc: Global, cap: u32, key: &[u8; 16]) -> Result<FreshIndexes, NoMemory>
+    requires { cap ≤ MAX_CAP }
+    ensures { IfOk result (AreFresh cap key.now) }
+{
+    Ok(FreshIndexes {
+        parties: index_for(alloc, cap, key)?,
+        accounts: index_for(alloc, cap, key)?,
+        references: index_for(alloc, cap, key)?,
+        orders: index_for(alloc, cap, key)?,
+    })
+}
+
 // An index for so many keys.
 fn index_for(alloc: Global, cap: u32, key: &[u8; 16]) -> Result<FixedIndex, NoMemory>
     requires { cap ≤ MAX_CAP }
-    ensures puts { IfOk result (λ index. index.puts ≡ []) }
-    ensures shape { IfOk result (λ index. IsShaped (slots_for cap) key.now index.shape) }
+    ensures { IfOk result (IsFresh cap key.now) }
 {
     match FixedIndex::new(alloc, 2 * cap + 2, key) {
         Ok(index) => Ok(index),
@@ -59,13 +80,19 @@ impl EntryList {
         ensures indexes { IfOk result (λ list. AllByRecursion (IsShaped (slots_for cap) key.now) (list_indexes list)) }
         ensures tied { IfOk result (λ list. Tied list []) }
     {
+        let FreshIndexes {
+            parties,
+            accounts,
+            references,
+            orders,
+        } = indexes_for(alloc, cap, key)?;
         Ok(EntryList {
             entries: Vec::with_capacity(alloc, cap as usize)?,
             cap,
-            parties: index_for(alloc, cap, key)?,
-            accounts: index_for(alloc, cap, key)?,
-            references: index_for(alloc, cap, key)?,
-            orders: index_for(alloc, cap, key)?,
+            parties,
+            accounts,
+            references,
+            orders,
             balances: Vec::with_capacity(alloc, cap as usize)?,
             total: 0,
         })
@@ -75,6 +102,12 @@ impl EntryList {
         ensures { result ≡ length self.now.entries.items }
     {
         self.entries.len()
+    }
+
+    pub(crate) fn entry(&self, i: u32) -> Option<Entry>
+        ensures { result ≡ slice_get self.now.entries.items i }
+    {
+        self.entries.get(i as usize).copied()
     }
 
     pub(crate) fn cap(&self) -> u32

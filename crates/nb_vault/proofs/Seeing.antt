@@ -11,10 +11,12 @@ use Rattle.nb_turns.specs.Turns.{State}
 use Rattle.nb_turns.specs.Lines.{open_doubt}
 use Rattle.nb_turns.specs.Laws.{IsBalanced}
 use Rattle.nb_vault.specs.declared.parts.Parts.{Parts}
-use Rattle.nb_vault.specs.Holdings.{StandsFor, StandsForEither}
+use Rattle.nb_journal.specs.Layout.{front_bytes, up_to_gate}
+use Rattle.nb_journal.specs.Stands.{Stands}
+use Rattle.nb_vault.specs.Holdings.{Joins, StandsFor, StandsForEither}
 use Rattle.nb_vault.specs.Parts.{IsVault, seen_as}
 use Rattle.nb_vault.specs.Records.{EitherOf, disk_under, doubt_of}
-use Rattle.nb_vault.specs.Vaults.{Keeps, LinesFit, IsDurable, entries_in, doubt_in, state_of, StandsForState}
+use Rattle.nb_vault.specs.Vaults.{EndsAt, Keeps, LinesFit, IsDurable, entries_in, doubt_in, state_of, StandsForState}
 use Rattle.nb_vault.proofs.Resting.{rest_images, rest_content, fresh_images}
 
 -- the state, by the fields
@@ -85,6 +87,23 @@ module _ {D : Type 0} (tells : DiskTells D) (p : Parts D) (vault : IsVault tells
     lawful = vault.lawful;
     open_most = vault.open_most;
     told = omega (arith, vault.has.told, vault.faults_are, ap length entries_seen, length-take p.opening p.records.book.entries);
+  }
+
+  place_with : (b : Bool) → p.records.journal.stale ≡ b → p.records.journal.gate ≡ length (up_to_gate (front_bytes p.records.book.cap p.records.head) vault.rests.items)
+  place_with false fresh = (vault.rests.fresh fresh).place
+  place_with true stale = (vault.rests.doubt stale).rest.place
+
+  stands_with : (b : Bool) → p.records.journal.stale ≡ b → IfSome (cond b None (tells.content (disk_under p.records))) (Stands (front_bytes p.records.book.cap p.records.head) vault.rests.items)
+  stands_with false fresh = (vault.rests.fresh fresh).bytes
+  stands_with true stale = tt
+
+  -- where the first gate that is not open stands
+  pub ends_at : EndsAt tells (seen_as p) p.records.journal.gate
+  ends_at = record {
+    items = vault.rests.items;
+    joins = subst (Joins vault.rests.items) (sym entries_seen) vault.rests.carries.joins;
+    stands = stands_with p.records.journal.stale refl;
+    place = place_with p.records.journal.stale refl;
   }
 
   -- what is answered is durable

@@ -12,6 +12,7 @@ use Rattle.nb_turns.specs.declared.limits.TheConstants.{MAX_REQUESTS}
 use Rattle.nb_vault.specs.declared.parts.Parts.{Parts}
 use Rattle.nb_vault.specs.declared.records.TheConstants.{ROOM}
 use Rattle.nb_vault.specs.declared.vault.opening.Room.{Room}
+use Rattle.nb_vault.specs.declared.vault.opening.TurnRoom.{TurnRoom}
 use Rattle.nb_vault.specs.declared.vault.opening.VaultFault.{VaultFault}
 use Rattle.nb_vault.specs.declared.vault.opening.VaultFault.TheVariants as opens
 use Rattle.nb_vault.specs.Holdings.{Joins, StandsFor}
@@ -82,13 +83,17 @@ pub record IsOpened {D : Type 0} (tells : DiskTells D) (o : Opened D) : Type 0 w
   pub cap : o.journal.cap ≡ o.cap
   pub room : o.journal.room ≡ ROOM
 
+-- memory for a turn
+pub record IsRoomForTurn (turn : TurnRoom) : Type 0 where
+  pub group : MAX_ITEM_ENTRIES ≤ vec_capacity turn.group
+  pub item : ROOM ≤ vec_capacity turn.item
+  pub places : MAX_REQUESTS ≤ vec_capacity turn.places
+
 -- memory for so many entries and for the lines of all turns, and for a turn
 pub record IsRoomFor (cap : ℕ) (room : Room) : Type 0 where
   pub entries : room.book.entries ≡ []
   pub cap_is : room.book.cap ≡ cap
-  pub group : MAX_ITEM_ENTRIES ≤ vec_capacity room.group
-  pub item : ROOM ≤ vec_capacity room.item
-  pub places : MAX_REQUESTS ≤ vec_capacity room.places
+  pub turn : IsRoomForTurn room.turn
   pub told : room.lines.items ≡ []
   pub lines : most_lines cap ≤ vec_capacity room.lines
 

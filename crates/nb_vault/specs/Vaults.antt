@@ -1,5 +1,5 @@
 -- What a vault is seen as, what every vault keeps, and how it answers.
-use Rattle.std.specs.Prelude.{◌≡◌, ◌≢◌, ◌⊎◌, ℕ, ◌+◌, ◌*◌, ◌≤◌, Bool, true, false, List, [], ◌∷◌, ◌++◌, length, IfSome, if◌then◌else◌}
+use Rattle.std.specs.Prelude.{◌≡◌, ◌≢◌, ◌⊎◌, ℕ, ◌+◌, ◌*◌, ◌≤◌, Bool, true, false, List, [], ◌∷◌, ◌++◌, length, None, IfSome, if◌then◌else◌}
 use Rattle.std.proofs.Common.{inl, inr}
 use Rattle.nb_port.specs.Tells.{DiskTells}
 use Rattle.nb_port.specs.Faults.{Rose, Backed}
@@ -18,7 +18,7 @@ use Rattle.nb_vault.specs.declared.answer.Answer.TheVariants as one
 use Rattle.nb_vault.specs.declared.answer.AnswerAll.{AnswerAll}
 use Rattle.nb_vault.specs.declared.answer.AnswerAll.TheVariants as all
 use Rattle.nb_vault.specs.declared.origin.Origin.{Origin}
-use Rattle.nb_vault.specs.Holdings.{StandsFor, StandsForEither, WritesItem, TearsItem}
+use Rattle.nb_vault.specs.Holdings.{StandsFor, StandsForEither, IsGate, WritesItem, TearsItem}
 use Rattle.nb_vault.specs.Rules.{house_of}
 
 -- what it was opened with, what was done since, whether an item is in doubt, and the disk
@@ -81,6 +81,10 @@ pub record Keeps {D : Type 0} (tells : DiskTells D) (v : Chronicled D) : Type 0 
 -- so many lines are enough, and in numbers these are
 abbrev pub LinesFit : {D : Type 0} → DiskTells D → Type 0
 LinesFit {D} tells = ((v : Chronicled D) → Keeps tells v → length v.lines ≤ most_lines v.origin.cap) × ((cap : ℕ) → most_lines cap ≡ cap + 33000)
+
+-- the gate behind the items of all entries that are recorded is at this place, and the content, where nothing is in doubt, says so too
+abbrev pub EndsAt : {D : Type 0} → DiskTells D → Chronicled D → ℕ → Type 0
+EndsAt tells v gate = IsGate v.origin.head v.origin.cap (entries_in v) (if v.stale then None else tells.content v.disk) gate
 
 -- ---- answering
 

@@ -4,16 +4,19 @@ ghost use Rattle.nb_turns.specs.declared.limits.TheConstants.{MAX_REQUESTS};
 ghost use Rattle.nb_journal.specs.Time.{LeavesOnly};
 ghost use Rattle.nb_msgs.specs.declared.reply.TheConstants.{REPLY_ROOM};
 ghost use Rattle.nb_units.specs.Room.{spare_of};
+ghost use Rattle.nb_escrow.specs.Head.{head_of};
 ghost use Rattle.nb_vault.specs.Asking.{IsWithin, request_of, requests_of};
 ghost use Rattle.nb_vault.specs.Parts.{handed_in};
-ghost use Rattle.nb_vault.specs.Vaults.{Keeps, TurnAll, TurnOf, DurableWhere, SameWhere, FaultWithin, StandsForState, all_of, place_in, state_of, entries_in, most_lines};
+ghost use Rattle.nb_vault.specs.Vaults.{Keeps, TurnAll, TurnOf, DurableWhere, SameWhere, FaultWithin, EndsAt, StandsForState, all_of, place_in, state_of, entries_in, most_lines};
 
 mod opening;
 
 use crate::answer::{Answer, AnswerAll, AskAt};
 use crate::parts::Parts;
+use nb_book::Entry;
 use nb_port::Disk;
 use nb_turns::Line;
+use nb_units::Secret;
 pub use opening::VaultFault;
 use std::marker::Model;
 
@@ -117,6 +120,28 @@ impl<D: Disk> Vault<D> {
         ensures within { result ≤ self.now.origin.cap }
     {
         self.parts.records.book.len()
+    }
+
+    /// The entry at this place, counted from 0, if so many are recorded.
+    pub fn entry(&self, i: u32) -> Option<Entry>
+        ensures { result ≡ slice_get (entries_in self.now) i }
+    {
+        self.parts.records.book.entry(i)
+    }
+
+    /// The house's key, 32 bytes, as its head has it.
+    pub fn house(&self) -> Secret
+        ensures { result ≡ (head_of self.now.origin.head).house }
+    {
+        self.parts.head.house
+    }
+
+    /// The place of the first gate of the journal that is not open: it stands behind the items of all entries that are recorded. What is in
+    /// doubt may have it open on the disk.
+    pub fn end(&self) -> u64
+        ensures { EndsAt D.tells self.now result }
+    {
+        self.parts.records.journal.gate()
     }
 
     /// The line with this number, from 0, of what was done since the vault was opened.

@@ -19,6 +19,13 @@ impl<D> Journal<D> {
         self.len
     }
 
+    /// The place of the gate behind the last item, not that of one in doubt.
+    pub fn gate(&self) -> u64
+        ensures { result ≡ self.now.gate }
+    {
+        self.gate
+    }
+
     /// The disk, at the end.
     pub fn into_disk(self) -> D
         ensures { result ≡ self.disk }

@@ -1,7 +1,7 @@
 ghost use Rattle.std.specs.Prelude.{◌≤◌, IfOk};
 ghost use Rattle.nb_units.specs.declared.limits.TheConstants.{MAX_CAP};
 ghost use Rattle.nb_journal.specs.Time.{Unwritten};
-ghost use Rattle.nb_vault.specs.Opens.{VaultOpenGives, WholeOpens, disk_in, IsOpened, IsRoomFor, RestoreGives};
+ghost use Rattle.nb_vault.specs.Opens.{VaultOpenGives, WholeOpens, disk_in, IsOpened, IsRoomFor, IsRoomForTurn, RestoreGives};
 
 use crate::parts::{MOST_LINES, Parts};
 use crate::records::{ROOM, Records};
@@ -117,9 +117,9 @@ fn restored<D: Disk>(
             book: room.book,
             journal,
             head,
-            group: room.group,
-            item: room.item,
-            places: room.places,
+            group: room.turn.group,
+            item: room.turn.item,
+            places: room.turn.places,
             base: 0,
         },
         head: keys,
@@ -130,13 +130,31 @@ fn restored<D: Disk>(
     })
 }
 
+// The memory of a turn.
+#[derive(Drop)]
+struct TurnRoom {
+    group: Vec<Entry>,
+    item: Vec<u8>,
+    places: Vec<u64>,
+}
+
+impl TurnRoom {
+    fn new(alloc: Global) -> Result<TurnRoom, NoMemory>
+        ensures { IfOk result IsRoomForTurn }
+    {
+        Ok(TurnRoom {
+            group: Vec::with_capacity(alloc, MAX_ITEM_ENTRIES)?,
+            item: Vec::with_capacity(alloc, ROOM as usize)?,
+            places: Vec::with_capacity(alloc, MAX_REQUESTS)?,
+        })
+    }
+}
+
 // All memory of a vault, taken at once.
 #[derive(Drop)]
 struct Room {
     book: Book,
-    group: Vec<Entry>,
-    item: Vec<u8>,
-    places: Vec<u64>,
+    turn: TurnRoom,
     lines: Vec<Line>,
 }
 
@@ -149,9 +167,7 @@ impl Room {
     {
         Ok(Room {
             book: Book::new(alloc, cap, key)?,
-            group: Vec::with_capacity(alloc, MAX_ITEM_ENTRIES)?,
-            item: Vec::with_capacity(alloc, ROOM as usize)?,
-            places: Vec::with_capacity(alloc, MAX_REQUESTS)?,
+            turn: TurnRoom::new(alloc)?,
             lines: Vec::with_capacity(alloc, cap as usize + MOST_LINES)?,
         })
     }
