@@ -6,10 +6,12 @@
 //! `src/table.rt` has, for each command, a row of its name and its positions, and one of the ranges of its numbers. Its contract is over the words alone (`specs/Words.antt`): what is told of `clap` on the way
 //! stands in `specs/Table.antt`, and is no part of it.
 //!
+//! [`port_of`] says on which port each worker of a server listens.
+//!
 //! Left to others: which file the words name, and what is done.
 #![tactic(auto)]
 
 mod table;
 mod words;
 
-pub use words::{Command, MAX_LINKS, MAX_WORKERS, command_of, limits};
+pub use words::{Command, MAX_LINKS, MAX_WORKERS, command_of, limits, port_of};

@@ -1,4 +1,4 @@
-ghost use Rattle.std.specs.Prelude.{◌≡◌, ◌↔◌, ◌<◌, ◌^◌, ℕ, map, codes, string_bytes, IsTrue, IfOk, IfSome, IsErr, OnErr, Some, None, List};
+ghost use Rattle.std.specs.Prelude.{◌≡◌, ◌↔◌, ◌<◌, ◌≤◌, ◌+◌, ◌^◌, ℕ, map, codes, string_bytes, IsTrue, IfOk, IfSome, IsErr, OnErr, Some, None, List};
 ghost use Rattle.std.specs.List.{AllByRecursion};
 ghost use Rattle.std.specs.Fmt.{decimal};
 ghost use Rattle.clap.specs.Walk.{first_of};
@@ -60,6 +60,18 @@ pub fn command_of(alloc: Global, words: &[String]) -> Result<Option<Command>, No
         Err(error) => return refused(error.kind()),
     };
     Ok(command_in(&matches))
+}
+
+/// The port that a worker listens on, where the first one listens on this: the worker's number behind it. None where there is no such port.
+pub fn port_of(first: u16, worker: u32) -> Option<u16>
+    ensures some { IfSome result (λ port. port ≡ first + worker) }
+    ensures none { result ≡ None → 2 ^ 16 ≤ first + worker }
+{
+    let port = u64::from(first) + u64::from(worker);
+    if port > u64::from(u16::MAX) {
+        return None;
+    }
+    Some(port as u16)
 }
 
 // There was no memory, or the words are no command.
