@@ -15,7 +15,7 @@ use Rattle.nb_turns.specs.declared.limits.TheConstants.{MAX_FAULTS}
 use Rattle.nb_turns.specs.declared.line.Line.{Line}
 use Rattle.nb_turns.specs.declared.mark.Mark.{Mark}
 use Rattle.nb_turns.specs.Turns.{Request, House, Answered, Outcome, Decides, Fails, Refuses, answered, decided, marks, with_entry, recorded}
-use Rattle.nb_turns.specs.Lines.{faults_of, lines_by, maker_of, AddsLines, DoubtedLines, UnsettledLines, adopts, doubts, next_turn}
+use Rattle.nb_turns.specs.Lines.{faults_of, lines_by, maker_of, AddsLines, IsClosed, DoubtedLines, UnsettledLines, adopts, doubts, next_turn}
 use Rattle.nb_turns.specs.Laws.{IsWorn}
 use Rattle.nb_turns.specs.Callers.{Turned, answers_in, lines_since, own_lines}
 use Rattle.nb_turns.proofs.Lining.{faults_append, no_faults, one_fault}
@@ -24,12 +24,14 @@ use Rattle.nb_turn.specs.declared.chronicle.View.{View}
 use Rattle.nb_turn.specs.Views.{first_sees}
 use Rattle.nb_turn.proofs.Lists.{by-append, first_again}
 use Rattle.nb_vault.specs.declared.origin.Origin.{Origin}
-use Rattle.nb_vault.specs.Vaults.{house_in}
+use Rattle.nb_vault.specs.Vaults.{Chronicled, FaultWithin, house_in}
+use Rattle.nb_vault.proofs.Vaulting.{decided_faults}
+use Rattle.nb_port.specs.Faults.{Rose}
 use Rattle.nb_session.specs.declared.ended.TheConstants.{MOST_FRAMES}
 use Rattle.nb_session.specs.declared.ended.SessionEnd.{SessionEnd}
 use Rattle.nb_session.specs.declared.ended.SessionEnd.TheVariants as ends
-use Rattle.nb_session.specs.Session.{Session, TurnsAt, EndsAs, frames_in, house_at, joined, marks_in}
-use Rattle.nb_session.specs.Laws.{AsManyMarks, LinesTell, Completes, AnswersEach, IsDecided, EndsBy, EndsExactly, EndsOver, GivesBytes}
+use Rattle.nb_session.specs.Session.{Session, TurnsAt, EndsAs, answer_of, frames_in, house_at, joined, marks_in}
+use Rattle.nb_session.specs.Laws.{AsManyMarks, LinesTell, Completes, CompletesWithDisk, NoneRose, AnswersEach, IsDecided, EndsBy, EndsExactly, EndsOver, GivesBytes}
 use Rattle.nb_session.proofs.Going.{all_both}
 use Rattle.nb_session.proofs.Ending.{frames_count, marks_count, moments_count}
 use Rattle.nb_frame.specs.Faults.{placed}
@@ -238,3 +240,26 @@ complete tells by v w old new clock clock' moments told end frames s gives quiet
       all = ended.1;
       decided = subst (AllByRecursion IsDecided) (sym s.marks_are) (all_decided tells by (house_at s.origin) v w s.turns s.at_desk quiet.none quiet.few);
     })
+
+-- ---- where the disk does not fail
+
+-- a turn in which the disk's count did not rise tells no fault
+quiet_adds : {D : Type 0} (tells : DiskTells D) (old new : Chronicled D) (by : ℕ) (requests : List Request) (outcome : Outcome) (added : List Line) → IsClosed old.lines
+    → (Rose (tells.faults old.disk) (tells.faults new.disk) → ⊥) → FaultWithin tells old new (answer_of outcome)
+    → AddsLines (house_in old) old.origin.entries by (next_turn old.lines) old.lines requests outcome added → faults_of added ≡ 0
+quiet_adds tells old new by requests (Decides over) added closed still fault adds =
+    omega (arith, decided_faults (house_in old) old.origin.entries by (next_turn old.lines) old.lines requests added closed over adds, faults_append old.lines added)
+quiet_adds tells old new by requests (Fails from to) added closed still fault adds = absurd (still (omega (arith, fault.0, fault.2, fault.3)))
+quiet_adds tells old new by requests Refuses added closed still fault adds = ap faults_of adds.1 ∙ no_faults [] tt
+
+quiet_own : {D : Type 0} (tells : DiskTells D) (by : ℕ) (v w : View Origin Line) (turns : List Turned) (at : TurnsAt tells by v turns w) → NoneRose tells by v turns w at → faults_of (own_lines turns) ≡ 0
+quiet_own tells by v w [] at still = no_faults [] tt
+quiet_own tells by v w (t ∷ turns) at still =
+    let a = at.1.asks in
+    let one : faults_of t.added ≡ 0 =
+    ap (λ (x : Turned). faults_of x.added) at.1.turn_is ∙ quiet_adds tells a.old a.new by t.requests t.outcome a.went.added a.kept.closed still.0 a.fault a.went.lines in
+    omega (arith, faults_append t.added (own_lines turns), one, quiet_own tells by at.0 w turns at.2 still.1)
+
+pub complete_with_disk : {D : Type 0} (tells : DiskTells D) → CompletesWithDisk tells
+complete_with_disk tells by v w old new clock clock' moments told end frames s gives still few =
+    complete tells by v w old new clock clock' moments told end frames s gives (record { none = quiet_own tells by v w s.turns s.at_desk still; few = few })

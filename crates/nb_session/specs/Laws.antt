@@ -1,5 +1,5 @@
 -- What holds of every session.
-use Rattle.std.specs.Prelude.{◌≡◌, ◌⊎◌, ℕ, ◌<◌, ◌≤◌, List, ◌++◌, Option, Some, length, take}
+use Rattle.std.specs.Prelude.{◌≡◌, ◌⊎◌, ℕ, ◌<◌, ◌≤◌, List, [], ◌∷◌, ◌++◌, Option, Some, length, take}
 use Rattle.std.specs.List.{flat_map, AllByRecursion}
 use Rattle.nb_port.specs.Tells.{DiskTells}
 use Rattle.nb_port.specs.Faults.{Rose}
@@ -19,7 +19,7 @@ use Rattle.nb_vault.specs.declared.origin.Origin.{Origin}
 use Rattle.nb_session.specs.declared.ended.TheConstants.{MOST_FRAMES}
 use Rattle.nb_session.specs.declared.ended.SessionEnd.{SessionEnd}
 use Rattle.nb_session.specs.declared.ended.SessionEnd.TheVariants.{Clean, NoMemory, Cut, BadFrame, Spent}
-use Rattle.nb_session.specs.Session.{Session, frames_in, house_at}
+use Rattle.nb_session.specs.Session.{Session, TurnsAt, frames_in, house_at}
 use Rattle.nb_frame.specs.Faults.{placed}
 
 -- the limit of a session in numbers, and how many bytes each of its reads asks for
@@ -116,4 +116,17 @@ abbrev pub Completes : {D : Type 0} → DiskTells D → Type 0
 Completes {D} tells =
     (by : ℕ) (v w : View Origin Line) (old new : LinkSeen) (clock clock' : Option (List ℕ)) (moments : List ℕ) (marks : List Mark) (end : SessionEnd) (frames : List Frame)
     → (s : Session tells by v w old new clock clock' moments marks end) → GivesFrames old new frames → NoFaults s.turns w.seen
+    → (end ≡ NoMemory) ⊎ AnswersEach (frames_in s.turns) frames marks end
+
+-- the disk's count of faults rose in none of these turns
+abbrev pub NoneRose : {D : Type 0} → (tells : DiskTells D) (by : ℕ) (v : View Origin Line) (turns : List Turned) (w : View Origin Line) → TurnsAt tells by v turns w → Type 0
+NoneRose tells by v [] w at = Unit {0}
+NoneRose tells by v (turn ∷ more) w at = (Rose (tells.faults at.1.asks.old.disk) (tells.faults at.1.asks.new.disk) → ⊥) × NoneRose tells by at.0 more w at.2
+
+-- a session over such a link answers all its frames, or had no memory to begin with, where the disk's count rose in none of its turns and the
+-- vault is not worn
+abbrev pub CompletesWithDisk : {D : Type 0} → DiskTells D → Type 0
+CompletesWithDisk {D} tells =
+    (by : ℕ) (v w : View Origin Line) (old new : LinkSeen) (clock clock' : Option (List ℕ)) (moments : List ℕ) (marks : List Mark) (end : SessionEnd) (frames : List Frame)
+    → (s : Session tells by v w old new clock clock' moments marks end) → GivesFrames old new frames → NoneRose tells by v s.turns w s.at_desk → faults_of w.seen < MAX_FAULTS
     → (end ≡ NoMemory) ⊎ AnswersEach (frames_in s.turns) frames marks end

@@ -32,3 +32,8 @@ pub fn ends_exactly<D: Disk>()
 pub fn completes<D: Disk>()
     ensures { law.Completes D.tells }
 {}
+
+/// The same where the disk's count of faults rose in none of the session's turns: then its own turns tell no fault.
+pub fn completes_with_disk<D: Disk>()
+    ensures { law.CompletesWithDisk D.tells }
+{}
