@@ -27,7 +27,7 @@ pub trait Port: Send + Drop {
         ensures left { result ≡ (seen self.now).left }
         ensures told { IfSome (seen self.now).coming (λ links. length links ≡ result) };
 
-    /// Gives the next link. A port listens no more where it gives its last one, so that who comes behind is refused and does not wait.
+    /// Gives the next link. A port that tells whether it listens does so no more where it gives its last one.
     /// It is Closed exactly where none is left, and then all stays; where it fails the count rises, and all else stays.
     fn next(&mut self) -> PortOut<Self::Joined>
         ensures { NextGives Self.Joined.seen (seen self.old) (seen self.new) result };

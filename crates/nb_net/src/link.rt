@@ -43,12 +43,12 @@ impl TcpLink<StdSocket> {
 }
 
 impl<S: Socket> TcpLink<S> {
-    /// A link over `socket`, of which no call failed. A socket that could not be set comes back.
+    /// A link over `socket`, of which no call failed. A socket that could not be set comes back, with the bytes that it had.
     pub fn of(socket: S) -> Result<TcpLink<S>, S>
         ensures set { IfOk result (λ link. IsSet S.settings link.socket) }
         ensures faults { IfOk result (λ link. (link.read_faults ≡ 0) × (link.write_faults ≡ 0)) }
         ensures bytes { IfOk result (λ link. (S.left link.socket ≡ S.left socket) × (S.sent link.socket ≡ S.sent socket)) }
-        ensures err { IfErr result S.refused }
+        ensures err { IfErr result (λ s. S.refused s × (S.left s ≡ S.left socket) × (S.sent s ≡ S.sent socket)) }
     {
         let mut socket = socket;
         match set_up(&mut socket) {

@@ -1,5 +1,8 @@
-ghost use Rattle.std.specs.Prelude.{◌≡◌, Some};
+ghost use Rattle.std.specs.Prelude.{◌≡◌, ◌≢◌, ◌≤◌, ◌<◌, ◌+◌, ◌^◌, Some, length};
+ghost use Rattle.nb_port.specs.Disk.{DiskReadGives, DiskWriteGives, DiskSyncGives, Torn};
+ghost use Rattle.nb_port.specs.Disk.{SameImages, NoneNew, NoneLost, Follows, Elapses};
 ghost use Rattle.nb_port.specs.DiskLaws.{lent_counts};
+ghost use Rattle.nb_port.specs.Faults.{one_more};
 ghost use Rattle.nb_port.specs.Lent.{IsLent};
 
 use crate::disk::{Disk, DiskOut, DiskRead};
@@ -51,16 +54,43 @@ impl<'a> Disk for ByteDisk<'a> {
         self.faults
     }
 
-    fn read(&mut self, place: u64, buf: &mut [u8]) -> DiskRead {
+    fn read(&mut self, place: u64, buf: &mut [u8]) -> DiskRead
+        ensures gives { DiskReadGives self.old.faults self.new.faults (Some self.old.bytes) place (length buf.old) buf.new result }
+        ensures content { Some self.new.bytes ≡ Some self.old.bytes }
+        ensures images { SameImages (IsLent self.old) (IsLent self.new) }
+        ensures time { Elapses 0 0 (λ _. IsLent self.old) (λ _. IsLent self.new) (IsLent self.new) }
+        ensures count { self.old.faults ≤ self.new.faults }
+        ensures works { result ≢ DiskRead.Failed }
+        ensures same { self.new ≡ self.old }
+    {
         DiskRead::Got(copy_at(self.bytes, place, buf))
     }
 
-    fn write(&mut self, _place: u64, _piece: &[u8]) -> DiskOut {
+    fn write(&mut self, place: u64, piece: &[u8]) -> DiskOut
+        requires inside { place ≤ length self.old.bytes }
+        requires small { place + length piece.now < 2 ^ 63 }
+        ensures gives { DiskWriteGives self.old.faults self.new.faults (Some self.old.bytes) (Some self.new.bytes) place piece.now result }
+        ensures images { Follows (Torn place (length piece.now)) (IsLent self.old) (IsLent self.new) }
+        ensures kept { NoneLost (IsLent self.old) (IsLent self.new) }
+        ensures time { Elapses 0 0 (λ _. IsLent self.old) (λ _. IsLent self.new) (IsLent self.new) }
+        ensures count { self.old.faults ≤ self.new.faults }
+        ensures fails { result ≡ DiskOut.Failed }
+        ensures counted { self.new ≡ record self.old { faults = one_more self.old.faults } }
+    {
+        let (_, _) = (place, piece);
         self.faults = self.faults.saturating_add(1);
         DiskOut::Failed
     }
 
-    fn sync(&mut self) -> DiskOut {
+    fn sync(&mut self) -> DiskOut
+        ensures gives { DiskSyncGives self.old.faults self.new.faults (Some self.old.bytes) (IsLent self.old) (IsLent self.new) result }
+        ensures content { Some self.new.bytes ≡ Some self.old.bytes }
+        ensures images { NoneNew (IsLent self.old) (IsLent self.new) }
+        ensures time { Elapses 0 0 (λ _. IsLent self.old) (λ _. IsLent self.new) (IsLent self.new) }
+        ensures count { self.old.faults ≤ self.new.faults }
+        ensures works { result ≡ DiskOut.Done }
+        ensures same { self.new ≡ self.old }
+    {
         DiskOut::Done
     }
 }
