@@ -10,7 +10,7 @@ use Rattle.nb_index.specs.Puts.{Indexed, IsShaped, Shape}
 use Rattle.nb_book.specs.declared.entry.Entry.{Entry}
 use Rattle.nb_book.specs.declared.entry.Entry.TheVariants.{Enrol, Fund, Paid, Refused}
 use Rattle.nb_book.specs.declared.list.EntryList.{EntryList}
-use Rattle.nb_book.specs.declared.list.FreshIndexes.{FreshIndexes}
+use Rattle.nb_book.specs.declared.list.EmptyIndexes.{EmptyIndexes}
 use Rattle.nb_book.specs.Searches.{first_from}
 use Rattle.nb_book.specs.Money.{balance, total}
 use Rattle.nb_book.specs.Laws.{opens}
@@ -69,16 +69,16 @@ abbrev pub slots_for : ℕ → ℕ
 slots_for cap = 2 * cap + 2
 
 -- an index without a put, for so many entries
-pub record IsFresh (cap : ℕ) (key : List ℕ) (index : Indexed) : Type 0 where
+pub record IsEmptyIndex (cap : ℕ) (key : List ℕ) (index : Indexed) : Type 0 where
   pub puts : index.puts ≡ []
   pub shape : IsShaped (slots_for cap) key index.shape
 
 -- four of them
-pub record AreFresh (cap : ℕ) (key : List ℕ) (made : FreshIndexes) : Type 0 where
-  pub parties : IsFresh cap key made.parties
-  pub accounts : IsFresh cap key made.accounts
-  pub references : IsFresh cap key made.references
-  pub orders : IsFresh cap key made.orders
+pub record AreEmptyIndexes (cap : ℕ) (key : List ℕ) (made : EmptyIndexes) : Type 0 where
+  pub parties : IsEmptyIndex cap key made.parties
+  pub accounts : IsEmptyIndex cap key made.accounts
+  pub references : IsEmptyIndex cap key made.references
+  pub orders : IsEmptyIndex cap key made.orders
 
 -- an index of the entries that have such a key
 pub record Indexes (key : Entry → Option (List ℕ)) (cap : ℕ) (index : Indexed) (H : List Entry) : Type 0 where

@@ -6,7 +6,7 @@ ghost use Rattle.nb_book.specs.Money.{account_in, balance, total};
 ghost use Rattle.nb_book.specs.Legal.{Legal, LegalAfter};
 ghost use Rattle.nb_book.specs.Laws.{opens};
 ghost use Rattle.nb_index.specs.Puts.{IsShaped};
-ghost use Rattle.nb_book.specs.Indexes.{AreFresh, IsFresh, Tied, first_place, slots_for, list_places, list_indexes};
+ghost use Rattle.nb_book.specs.Indexes.{AreEmptyIndexes, IsEmptyIndex, Tied, first_place, slots_for, list_places, list_indexes};
 
 use crate::account::Account;
 use crate::entry::Entry;
@@ -39,7 +39,7 @@ pub(crate) struct EntryList {
 
 // The indexes of a list with no entries.
 #[derive(Drop)]
-struct FreshIndexes {
+struct EmptyIndexes {
     parties: FixedIndex,
     accounts: FixedIndex,
     references: FixedIndex,
@@ -47,11 +47,11 @@ struct FreshIndexes {
 }
 
 // Indexes with room for so many entries.
-fn indexes_for(alloc: Global, cap: u32, key: &[u8; 16]) -> Result<FreshIndexes, NoMemory>
+fn indexes_for(alloc: Global, cap: u32, key: &[u8; 16]) -> Result<EmptyIndexes, NoMemory>
     requires { cap ≤ MAX_CAP }
-    ensures { IfOk result (AreFresh cap key.now) }
+    ensures { IfOk result (AreEmptyIndexes cap key.now) }
 {
-    Ok(FreshIndexes {
+    Ok(EmptyIndexes {
         parties: index_for(alloc, cap, key)?,
         accounts: index_for(alloc, cap, key)?,
         references: index_for(alloc, cap, key)?,
@@ -62,7 +62,7 @@ fn indexes_for(alloc: Global, cap: u32, key: &[u8; 16]) -> Result<FreshIndexes, 
 // An index for so many keys.
 fn index_for(alloc: Global, cap: u32, key: &[u8; 16]) -> Result<FixedIndex, NoMemory>
     requires { cap ≤ MAX_CAP }
-    ensures { IfOk result (IsFresh cap key.now) }
+    ensures { IfOk result (IsEmptyIndex cap key.now) }
 {
     match FixedIndex::new(alloc, 2 * cap + 2, key) {
         Ok(index) => Ok(index),
@@ -80,7 +80,7 @@ impl EntryList {
         ensures indexes { IfOk result (λ list. AllByRecursion (IsShaped (slots_for cap) key.now) (list_indexes list)) }
         ensures tied { IfOk result (λ list. Tied list []) }
     {
-        let FreshIndexes {
+        let EmptyIndexes {
             parties,
             accounts,
             references,

@@ -4,6 +4,7 @@ use Rattle.std.proofs.lemmas.List.{append-nil, length-append, length-take}
 use Rattle.nb_port.specs.Tells.{DiskTells}
 use Rattle.nb_book.specs.declared.entry.Entry.{Entry}
 use Rattle.nb_book.specs.Legal.{Legal}
+use Rattle.nb_book.specs.Spelling.{entries_bytes}
 use Rattle.nb_book.proofs.Counting.{settled_once}
 use Rattle.nb_book.proofs.Summing.{balances_make_total, none_overdrawn}
 use Rattle.nb_turns.specs.declared.limits.TheConstants.{MAX_FAULTS, MAX_REQUESTS}
@@ -12,11 +13,11 @@ use Rattle.nb_turns.specs.Lines.{open_doubt}
 use Rattle.nb_turns.specs.Laws.{IsBalanced}
 use Rattle.nb_vault.specs.declared.parts.Parts.{Parts}
 use Rattle.nb_journal.specs.Layout.{front_bytes, up_to_gate}
-use Rattle.nb_journal.specs.Stands.{Stands}
+use Rattle.nb_journal.specs.Stands.{BeforeOrAfter}
 use Rattle.nb_vault.specs.Holdings.{Joins, StandsFor, StandsForEither}
 use Rattle.nb_vault.specs.Parts.{IsVault, seen_as}
 use Rattle.nb_vault.specs.Records.{EitherOf, disk_under, doubt_of}
-use Rattle.nb_vault.specs.Vaults.{EndsAt, Keeps, LinesFit, IsDurable, entries_in, doubt_in, state_of, StandsForState}
+use Rattle.nb_vault.specs.Vaults.{GateIsAt, HoldsItems, Keeps, LinesFit, IsDurable, entries_in, doubt_in, state_of, StandsForState}
 use Rattle.nb_vault.proofs.Resting.{rest_images, rest_content, fresh_images}
 
 -- the state, by the fields
@@ -93,17 +94,28 @@ module _ {D : Type 0} (tells : DiskTells D) (p : Parts D) (vault : IsVault tells
   place_with false fresh = (vault.rests.fresh fresh).place
   place_with true stale = (vault.rests.doubt stale).rest.place
 
-  stands_with : (b : Bool) → p.records.journal.stale ≡ b → IfSome (cond b None (tells.content (disk_under p.records))) (Stands (front_bytes p.records.book.cap p.records.head) vault.rests.items)
+  stands_with : (b : Bool) → p.records.journal.stale ≡ b
+      → IfSome (tells.content (disk_under p.records)) (HoldsItems b (front_bytes p.records.book.cap p.records.head) vault.rests.items (entries_bytes p.records.group.items))
   stands_with false fresh = (vault.rests.fresh fresh).bytes
-  stands_with true stale = tt
+  stands_with true stale = (vault.rests.doubt stale).rest.bytes
+
+  -- what is in doubt is the group, where anything is
+  doubted_with : (b : Bool) → p.records.journal.stale ≡ b → (c : Option (List ℕ)) (front : List ℕ) (items : List (List ℕ))
+      → IfSome c (HoldsItems b front items (entries_bytes p.records.group.items)) → IfSome c (HoldsItems b front items (entries_bytes (doubt_in (seen_as p))))
+  doubted_with b is None front items holds = tt
+  doubted_with false fresh (Some c) front items holds = holds
+  doubted_with true stale (Some c) front items holds =
+      let group : p.records.group.items ≡ doubt_in (seen_as p) = sym (doubt_seen ∙ ap (λ (d : Bool). cond d p.records.group.items []) stale) in
+      subst (λ (es : List Entry). BeforeOrAfter front items (entries_bytes es) c) group holds
 
   -- where the first gate that is not open stands
-  pub ends_at : EndsAt tells (seen_as p) p.records.journal.gate
-  ends_at = record {
+  pub gate_is_at : GateIsAt tells (seen_as p) p.records.journal.gate
+  gate_is_at = record {
     items = vault.rests.items;
     joins = subst (Joins vault.rests.items) (sym entries_seen) vault.rests.carries.joins;
-    stands = stands_with p.records.journal.stale refl;
     place = place_with p.records.journal.stale refl;
+    stands = doubted_with p.records.journal.stale refl (tells.content (disk_under p.records)) (front_bytes p.records.book.cap p.records.head) vault.rests.items
+        (stands_with p.records.journal.stale refl);
   }
 
   -- what is answered is durable

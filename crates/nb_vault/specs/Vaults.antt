@@ -1,11 +1,13 @@
 -- What a vault is seen as, what every vault keeps, and how it answers.
-use Rattle.std.specs.Prelude.{◌≡◌, ◌≢◌, ◌⊎◌, ℕ, ◌+◌, ◌*◌, ◌≤◌, Bool, true, false, List, [], ◌∷◌, ◌++◌, length, None, IfSome, if◌then◌else◌}
+use Rattle.std.specs.Prelude.{◌≡◌, ◌≢◌, ◌⊎◌, ℕ, ◌+◌, ◌*◌, ◌≤◌, Bool, true, false, List, [], ◌∷◌, ◌++◌, length, IfSome, if◌then◌else◌}
 use Rattle.std.proofs.Common.{inl, inr}
 use Rattle.nb_port.specs.Tells.{DiskTells}
 use Rattle.nb_port.specs.Faults.{Rose, Backed}
 use Rattle.nb_book.specs.declared.entry.Entry.{Entry}
 use Rattle.nb_book.specs.Legal.{Legal}
-use Rattle.nb_journal.specs.Layout.{AreTerms}
+use Rattle.nb_book.specs.Spelling.{entries_bytes}
+use Rattle.nb_journal.specs.Layout.{AreTerms, front_bytes, up_to_gate}
+use Rattle.nb_journal.specs.Stands.{Stands, BeforeOrAfter}
 use Rattle.nb_journal.specs.Time.{LeavesOnly, Unwritten}
 use Rattle.nb_escrow.specs.Head.{head_of}
 use Rattle.nb_turns.specs.declared.limits.TheConstants.{MAX_FAULTS, MAX_REQUESTS}
@@ -18,7 +20,7 @@ use Rattle.nb_vault.specs.declared.answer.Answer.TheVariants as one
 use Rattle.nb_vault.specs.declared.answer.AnswerAll.{AnswerAll}
 use Rattle.nb_vault.specs.declared.answer.AnswerAll.TheVariants as all
 use Rattle.nb_vault.specs.declared.origin.Origin.{Origin}
-use Rattle.nb_vault.specs.Holdings.{StandsFor, StandsForEither, IsGate, WritesItem, TearsItem}
+use Rattle.nb_vault.specs.Holdings.{Joins, StandsFor, StandsForEither, WritesItem, TearsItem}
 use Rattle.nb_vault.specs.Rules.{house_of}
 
 -- what it was opened with, what was done since, whether an item is in doubt, and the disk
@@ -82,9 +84,18 @@ pub record Keeps {D : Type 0} (tells : DiskTells D) (v : Chronicled D) : Type 0 
 abbrev pub LinesFit : {D : Type 0} → DiskTells D → Type 0
 LinesFit {D} tells = ((v : Chronicled D) → Keeps tells v → length v.lines ≤ most_lines v.origin.cap) × ((cap : ℕ) → most_lines cap ≡ cap + 33000)
 
--- the gate behind the items of all entries that are recorded is at this place, and the content, where nothing is in doubt, says so too
-abbrev pub EndsAt : {D : Type 0} → DiskTells D → Chronicled D → ℕ → Type 0
-EndsAt tells v gate = IsGate v.origin.head v.origin.cap (entries_in v) (if v.stale then None else tells.content v.disk) gate
+-- the items of a content, or, where one more is in doubt, these without it or with it
+abbrev pub HoldsItems : Bool → List ℕ → List (List ℕ) → List ℕ → List ℕ → Type 0
+HoldsItems false front items item image = Stands front items image
+HoldsItems true front items item image = BeforeOrAfter front items item image
+
+-- the gate behind the items of all entries that are recorded is at this place, and the content has these items, and where entries are in doubt
+-- these alone or with theirs
+pub record GateIsAt {D : Type 0} (tells : DiskTells D) (v : Chronicled D) (gate : ℕ) : Type 0 where
+  pub items : List (List ℕ)
+  pub joins : Joins items (entries_in v)
+  pub place : gate ≡ length (up_to_gate (front_bytes v.origin.cap v.origin.head) items)
+  pub stands : IfSome (tells.content v.disk) (HoldsItems v.stale (front_bytes v.origin.cap v.origin.head) items (entries_bytes (doubt_in v)))
 
 -- ---- answering
 

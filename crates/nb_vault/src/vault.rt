@@ -7,7 +7,7 @@ ghost use Rattle.nb_units.specs.Room.{spare_of};
 ghost use Rattle.nb_escrow.specs.Head.{head_of};
 ghost use Rattle.nb_vault.specs.Asking.{IsWithin, request_of, requests_of};
 ghost use Rattle.nb_vault.specs.Parts.{handed_in};
-ghost use Rattle.nb_vault.specs.Vaults.{Keeps, TurnAll, TurnOf, DurableWhere, SameWhere, FaultWithin, EndsAt, StandsForState, all_of, place_in, state_of, entries_in, most_lines};
+ghost use Rattle.nb_vault.specs.Vaults.{Keeps, TurnAll, TurnOf, DurableWhere, SameWhere, FaultWithin, GateIsAt, StandsForState, all_of, place_in, state_of, entries_in, most_lines};
 
 mod opening;
 
@@ -136,10 +136,10 @@ impl<D: Disk> Vault<D> {
         self.parts.head.house
     }
 
-    /// The place of the first gate of the journal that is not open: it stands behind the items of all entries that are recorded. What is in
-    /// doubt may have it open on the disk.
+    /// The place of the gate behind the items of all entries that are recorded, in bytes from the front of the journal. It is the first that is
+    /// not open, unless entries are in doubt: then it may be open on the disk, with their item behind it.
     pub fn end(&self) -> u64
-        ensures { EndsAt D.tells self.now result }
+        ensures { GateIsAt D.tells self.now result }
     {
         self.parts.records.journal.gate()
     }
