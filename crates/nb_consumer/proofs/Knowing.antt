@@ -33,7 +33,7 @@ use Rattle.nb_consumer.specs.declared.rows.Wanting.{Wanting}
 use Rattle.nb_consumer.specs.State.{Buyer, new_buyer, place_of, purchase_at, purchase_of, changed_at, changed_with, behind_item, fresh, remembered}
 use Rattle.nb_consumer.specs.Table.{is_ticketing, pass_of_asked, is_price, wanting_in, part_fits}
 use Rattle.nb_consumer.specs.Restart.{allows, holds_for, holds_at, part_follows, order_follows, order_names, is_rest, is_short, behind_read, restarted_from, untold_stage, untold_purchase, untold}
-use Rattle.nb_consumer.specs.Known.{HeldSo, IsWithin, OrderNames, AskedSo, PurchaseSo, AllSo}
+use Rattle.nb_consumer.specs.Known.{HeldSo, IsPriceWithin, OrderIsFor, AskedSo, PurchaseSo, AllSo}
 use Rattle.nb_consumer.specs.Laws.{RowSo, KnownIsSo, KeptOrderIsSo, OrdersAsAsked}
 use Rattle.nb_consumer.proofs.Keeping.{both, tests_are}
 use Rattle.nb_consumer.proofs.Restoring.{buyer_is, call_so}
@@ -159,7 +159,7 @@ price_is a b e = rw e refl
 
 -- the parts of a test of an order
 record Named (w : Wallet) (s : Start) (price : Price) (o : Order) (sealed : List ℕ) : Type 0 where
-  names : OrderNames w s o
+  names : OrderIsFor w s o
   price_is : o.price ≡ price
   checksum : o.checksum ≡ sha256 sealed
 
@@ -192,14 +192,14 @@ named w p o part v e =
 
 -- an order that follows is as it was asked for, and names the checksum of all sealed goods in its bytes
 follows_so : (w : Wallet) (p : Purchase) (o : Order) (part : List ℕ) → PurchaseSo w p → holds_at (wanting_in p.stage) (order_follows w p o part) ≡ true
-    → (checksum_in (order_bytes o) ≡ sha256 (p.held ++ part)) × OrderNames w p.start o × IsWithin o.price p.start.limit
+    → (checksum_in (order_bytes o) ≡ sha256 (p.held ++ part)) × OrderIsFor w p.start o × IsPriceWithin o.price p.start.limit
 follows_so w p o part so e =
     let v = wanted_so p.stage (order_follows w p o part) e in
     let n = named w p o part (record { pass = v.pass; price = v.price; head = v.head }) v.so in
-    let asked : IsWithin v.price p.start.limit = subst (AskedSo w p.start) v.is so.1 in (
+    let asked : IsPriceWithin v.price p.start.limit = subst (AskedSo w p.start) v.is so.1 in (
       checksum_is_spelled o (ap length n.checksum ∙ length-sha256 (p.held ++ part)) ∙ n.checksum,
       n.names,
-      subst (λ (price : Price). IsWithin price p.start.limit) (sym n.price_is) asked,
+      subst (λ (price : Price). IsPriceWithin price p.start.limit) (sym n.price_is) asked,
     )
 
 order_so : (w : Wallet) (p : Purchase) (o : Order) (part : List ℕ) → PurchaseSo w p → holds_at (wanting_in p.stage) (order_follows w p o part) ≡ true
@@ -325,11 +325,11 @@ item_is x y e = cc
 
 -- behind what a restart gives
 allowed_order : (w : Wallet) (b : Buyer) (t : ℕ) (o : Order) (part : List ℕ) → b.wallet ≡ w → AllSo b → allows b (item.Ordered t o part) ≡ true
-    → (p : Purchase) × (purchase_of b t ≡ Some p) × (checksum_in (order_bytes o) ≡ sha256 (p.held ++ part)) × OrderNames w p.start o × IsWithin o.price p.start.limit
+    → (p : Purchase) × (purchase_of b t ≡ Some p) × (checksum_in (order_bytes o) ≡ sha256 (p.held ++ part)) × OrderIsFor w p.start o × IsPriceWithin o.price p.start.limit
 allowed_order w b t o part same all allowed =
     let k = known_for (purchase_of b t) (λ q. holds_at (wanting_in q.stage) (order_follows b.wallet q o part)) allowed in
     let f = follows_so b.wallet k.0 o part (so_of b t k.0 all k.1) k.2 in
-    (k.0, k.1, f.0, subst (λ (x : Wallet). OrderNames x k.0.start o) same f.1, f.2)
+    (k.0, k.1, f.0, subst (λ (x : Wallet). OrderIsFor x k.0.start o) same f.1, f.2)
 
 pub kept_order_is_so : KeptOrderIsSo
 kept_order_is_so w front back bytes b t o part again read =
@@ -346,5 +346,5 @@ pub orders_as_asked : OrdersAsAsked
 orders_as_asked items b call t o part to message kept is =
     let so = (subst (RowSo b) is (call_so b call)).1 in
     let at : so.purchase.stage ≡ stage.Wanted so.wanting.pass so.wanting.price so.wanting.head = wanting_is so.purchase.stage so.wanting so.wanted in
-    let asked : IsWithin so.wanting.price so.purchase.start.limit = subst (AskedSo b.wallet so.purchase.start) at (so_of b t so.purchase (known_is_so items b kept) so.known).1 in
-    (so.purchase, so.known, so.names, subst (λ (price : Price). IsWithin price so.purchase.start.limit) (sym so.price) asked)
+    let asked : IsPriceWithin so.wanting.price so.purchase.start.limit = subst (AskedSo b.wallet so.purchase.start) at (so_of b t so.purchase (known_is_so items b kept) so.known).1 in
+    (so.purchase, so.known, so.names, subst (λ (price : Price). IsPriceWithin price so.purchase.start.limit) (sym so.price) asked)

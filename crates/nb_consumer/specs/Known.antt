@@ -28,19 +28,19 @@ HeldSo (stage.Refused code) held = Unit {0}
 HeldSo stage.Foul held = Unit {0}
 
 -- a price is from 1 to a limit
-abbrev pub IsWithin : Price → Price → Type 0
-IsWithin price limit = (1 ≤ price.0) × (price.0 ≤ limit.0)
+abbrev pub IsPriceWithin : Price → Price → Type 0
+IsPriceWithin price limit = (1 ≤ price.0) × (price.0 ≤ limit.0)
 
 -- an order is of the wallet's consumer, and of the merchant and the product that its purchase was started for
-pub record OrderNames (w : Wallet) (s : Start) (order : Order) : Type 0 where
+pub record OrderIsFor (w : Wallet) (s : Start) (order : Order) : Type 0 where
   pub consumer : order.consumer ≡ w.id
   pub merchant : order.merchant ≡ s.merchant
   pub product : order.product ≡ s.product
 
 -- the price at which goods are wanted or ordered is within the purchase's limit, and an order names what its purchase was started for
 abbrev pub AskedSo : Wallet → Start → Stage → Type 0
-AskedSo w s (stage.Wanted pass price head) = IsWithin price s.limit
-AskedSo w s (stage.Ordered pass order least) = OrderNames w s order × IsWithin order.price s.limit
+AskedSo w s (stage.Wanted pass price head) = IsPriceWithin price s.limit
+AskedSo w s (stage.Ordered pass order least) = OrderIsFor w s order × IsPriceWithin order.price s.limit
 AskedSo w s other = Unit {0}
 
 abbrev pub PurchaseSo : Wallet → Purchase → Type 0

@@ -40,7 +40,7 @@ use Rattle.nb_consumer.specs.Table.{started, heard, silent, wanting_in, owing_in
 use Rattle.nb_consumer.specs.declared.phase.Phase.{Phase}
 use Rattle.nb_consumer.specs.declared.phase.Phase.TheVariants as phase
 use Rattle.nb_consumer.specs.Goods.{phase_of, phase_in, phase_at, IsOpen, IsOver, goods_in, goods_at}
-use Rattle.nb_consumer.specs.Known.{IsWithin, OrderNames, AllSo}
+use Rattle.nb_consumer.specs.Known.{IsPriceWithin, OrderIsFor, AllSo}
 use Rattle.nb_wallet.specs.Reading.{item_of}
 use Rattle.nb_wallet.specs.Spelling.{item_bytes}
 use Rattle.nb_goods.specs.declared.limits.TheConstants.{PART_BYTES}
@@ -56,7 +56,7 @@ pub record OrderSo (b : Buyer) (transaction : ℕ) (order : Order) (part : List 
   pub wanting : Wanting
   pub known : purchase_of b transaction ≡ Some purchase
   pub wanted : wanting_in purchase.stage ≡ Some wanting
-  pub names : OrderNames b.wallet purchase.start order
+  pub names : OrderIsFor b.wallet purchase.start order
   pub price : order.price ≡ wanting.price
   pub checksum : checksum_in (order_bytes order) ≡ sha256 (purchase.held ++ part)
   pub message : sent ≡ payment wanting.pass purchase.start order
@@ -128,7 +128,7 @@ KnownIsSo = (items : List (List ℕ)) (b : Buyer) → Kept items b → AllSo b
 abbrev pub OrdersAsAsked : Type 0
 OrdersAsAsked = (items : List (List ℕ)) (b : Buyer) (call : Call) (transaction : ℕ) (order : Order) (part : List ℕ) (to : To) (message : Message) → Kept items b
     → row_of b call ≡ Ok (deed.Keeps (item.Ordered transaction order part) to message)
-    → (p : Purchase) × (purchase_of b transaction ≡ Some p) × OrderNames b.wallet p.start order × IsWithin order.price p.start.limit
+    → (p : Purchase) × (purchase_of b transaction ≡ Some p) × OrderIsFor b.wallet p.start order × IsPriceWithin order.price p.start.limit
 
 -- such a purchase has goods exactly where its phase is that it was paid, and as many bytes as that says
 abbrev pub PaidHasGoods : Type 0
@@ -147,7 +147,7 @@ abbrev pub KeptOrderIsSo : Type 0
 KeptOrderIsSo = (w : Wallet) (front back : List (List ℕ)) (bytes : List ℕ) (b : Buyer) (transaction : ℕ) (order : Order) (part : List ℕ) → restarted w (front ++ bytes ∷ back) ≡ Ok b
     → item_of bytes ≡ Ok (item.Ordered transaction order part)
     → (before : Buyer) × (p : Purchase) × (restarted w front ≡ Ok before) × (purchase_of before transaction ≡ Some p) × (checksum_in (order_bytes order) ≡ sha256 (p.held ++ part))
-    × OrderNames w p.start order × IsWithin order.price p.start.limit
+    × OrderIsFor w p.start order × IsPriceWithin order.price p.start.limit
 
 -- ---- what is said again
 
@@ -177,7 +177,7 @@ SilentMoves = (b : Buyer) (transaction : ℕ) → IsOpen (phase_in (purchase_of 
 
 -- ---- what is over
 
--- a purchase that is over stays as it is, behind every row and behind a restart
+-- a purchase that is over stays as it is, behind every row, and where the places that were told are forgotten
 abbrev pub EndedStays : Type 0
 EndedStays = (b : Buyer) (transaction : ℕ) → IsOver (phase_in (purchase_of b transaction))
     → ((call : Call) → purchase_of (after b (row_of b call)) transaction ≡ purchase_of b transaction) × (purchase_of (untold b) transaction ≡ purchase_of b transaction)

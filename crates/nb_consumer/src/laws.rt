@@ -69,8 +69,8 @@ pub fn silent_moves()
     ensures { law.SilentMoves }
 {}
 
-/// A law: a purchase that is over stays as it is, its start, its stage and what is held, behind every start, message and quiet time, and behind a
-/// restart.
+/// A law: a purchase that is over stays as it is, its start, its stage and what is held, behind every start, message and quiet time, and where the
+/// places that were told are forgotten, as by a restart.
 pub fn ended_stays()
     ensures { law.EndedStays }
 {}
@@ -80,7 +80,8 @@ pub fn runs_keep_ended()
     ensures { law.RunsKeepEnded }
 {}
 
-/// A law: what a row keeps may stand behind what is known. An order that is kept names, in its bytes, the checksum of all sealed goods that are held
+/// A law: what a row keeps may stand behind what is known. An order that is kept names the consumer, the merchant and the product, at the price that
+/// was quoted, and, in its bytes, the checksum of all sealed goods that are held
 /// then, and is what is sent; a receipt that is kept fits the order.
 pub fn rows_are_so()
     ensures { law.RowsAreSo }

@@ -6,7 +6,7 @@ use Rattle.nb_journal.specs.Stands.{Stands, BeforeOrAfter}
 use Rattle.nb_journal.specs.States.{AtRest, HasGate, SameLimits, AppendGives}
 use Rattle.nb_journal.specs.Time.{LeavesOnly}
 
--- nothing is in doubt, whatever the front and the items are
+-- nothing is in doubt, with some front and some items
 abbrev pub IsAtRest : {D : Type 0} → DiskTells D → Journal D → Type 0
 IsAtRest tells j = (front : List ℕ) × (items : List (List ℕ)) × AtRest tells front items j
 
@@ -14,7 +14,7 @@ IsAtRest tells j = (front : List ℕ) × (items : List (List ℕ)) × AtRest tel
 abbrev pub StandsAmong : List ℕ → List (List ℕ) → List (List ℕ) → List ℕ → Type 0
 StandsAmong front items kept image = (n : ℕ) × (n ≤ length kept) × Stands front (items ++ take n kept) image
 
--- a stop since any moment left what it might have left by then, or what has P
+-- a stop since any moment up to the first disk's left what it might have left by then, or what has P
 pub record StopsIn {D : Type 0} (tells : DiskTells D) (old new : D) (P : List ℕ → Type 0) : Type 0 where
   pub later : tells.moment old ≤ tells.moment new
   pub since : (t : ℕ) (c : List ℕ) → t ≤ tells.moment old → tells.left new t c → tells.left old t c ⊎ P c

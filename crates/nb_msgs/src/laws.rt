@@ -50,8 +50,8 @@ pub fn status_receipt_is_spelled()
     ensures { StatusReceiptIsSpelled }
 {}
 
-/// A law: what is read of the spelling of a status, and what is read of the seal of that, has a receipt where the status has one, with its code,
-/// its identifier and its key.
+/// A law: what is read of the spelling of a status, and what is read of the seal of that, has a receipt exactly where the status has one, with
+/// its code, the identifier that its identifier's bytes spell, and its key, where that has 32 bytes.
 pub fn status_is_told()
     ensures spelled { StatusSpelledIsRead }
     ensures sealed { StatusSealedIsRead }

@@ -1,7 +1,7 @@
 ghost use Rattle.std.specs.Prelude.{◌≡◌, ◌≤◌, ◌+◌, ◌++◌, ◌∷◌, [], length, IfOk, IfErr, OnOk, Contains, map, None};
 ghost use Rattle.nb_price.specs.declared.limits.TheConstants.{MAX_SHELF};
 ghost use Rattle.nb_price.specs.Products.{product_in, Product};
-ghost use Rattle.nb_price.specs.Putting.{PutGives};
+ghost use Rattle.nb_price.specs.Putting.{PutsProduct};
 ghost use Rattle.nb_price.specs.Reads.{ReadsShelf, Quotes, Holds, Adds};
 
 use crate::fault::{NoProduct, PutFault, ShelfFault};
@@ -33,8 +33,8 @@ impl Clone for Goods {
     }
 }
 
-/// Products by their numbers. It is seen as the list of them, in the order of the shelf that they were read from or in that in which
-/// they were put.
+/// Products by their numbers. It is seen as the list of them, in the order of the shelf that they were read from, and behind these in that
+/// in which they were put.
 #[derive(Drop)]
 pub struct Catalogue {
     products: IndexMap<u32, Goods>,
@@ -109,7 +109,7 @@ impl Catalogue {
     /// It answers [`PutFault::BadPrice`] where the price is out of these limits, [`PutFault::TooLong`] where the goods are longer,
     /// [`PutFault::Taken`] where the catalogue has a product of this number, and [`PutFault::NoMemory`] where there is none for one more.
     pub fn put(&mut self, product: u32, price: Price, goods: Vec<u8>) -> Result<(), PutFault>
-        ensures { PutGives self.old self.new product price goods.items result }
+        ensures { PutsProduct self.old self.new product price goods.items result }
     {
         if price.0 < 1 || price.0 > u64::from(MAX_PRICE) {
             return Err(PutFault::BadPrice { price });
@@ -132,7 +132,7 @@ impl Catalogue {
         }
     }
 
-    /// What a product costs. It answers [`NoProduct`] exactly where the shelf has none of this number.
+    /// What a product costs. It answers [`NoProduct`] exactly where the catalogue has none of this number.
     pub fn quote(&self, product: u32) -> Result<Price, NoProduct>
         ensures { Quotes self.now product result }
     {
@@ -142,7 +142,7 @@ impl Catalogue {
         }
     }
 
-    /// The goods of a product, or `None` where the shelf has none of this number.
+    /// The goods of a product, or `None` where the catalogue has none of this number.
     pub fn goods(&self, product: u32) -> Option<&[u8]>
         ensures { Holds self.now product result }
     {

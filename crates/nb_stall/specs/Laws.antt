@@ -18,7 +18,7 @@ ItemSpellsBack = (bytes : List ℕ) (x : Item) → AreBytes bytes → item_of by
 abbrev pub OneItem : Type 0
 OneItem = (a b : Item) → IsItem a → IsItem b → item_bytes a ≡ item_bytes b → a ≡ b
 
--- no item is longer than the longest
+-- no item within its limits is longer than the longest
 abbrev pub ItemIsShort : Type 0
 ItemIsShort = (x : Item) → IsItem x → length (item_bytes x) ≤ MAX_ITEM
 

@@ -17,7 +17,7 @@ pub fn one_item()
     ensures { law.OneItem }
 {}
 
-/// A law: no item has more than [`MAX_ITEM`](crate::MAX_ITEM) bytes, 297. So each has room where a journal takes items of that length.
+/// A law: no item whose fields are within their limits has more than [`MAX_ITEM`](crate::MAX_ITEM) bytes, 297. So each has room where a journal takes items of that length.
 pub fn item_is_short()
     ensures { law.ItemIsShort }
 {}

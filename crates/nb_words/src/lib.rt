@@ -6,7 +6,7 @@
 //! `src/table.rt` has, for each command, a row of its name and its positions, and one of the ranges of its numbers. Its contract is over the words alone (`specs/Words.antt`): what is told of `clap` on the way
 //! stands in `specs/Table.antt`, and is no part of it.
 //!
-//! [`port_of`] says on which port each worker of a server listens.
+//! [`port_of`] says which port is that of a worker, behind the first one's.
 //!
 //! Left to others: which file the words name, and what is done.
 #![tactic(auto)]
