@@ -6,4 +6,5 @@ pub mod Reading
 pub mod Places
 pub mod Tags
 pub mod Sealed
+pub mod Differing
 pub mod Laws

@@ -34,8 +34,7 @@ pub use endorsement::{
 };
 pub use receipt::{
     ABSENT, NO_KEY, PAID_CODE, PRESENT, RECEIPT_BYTES, Receipt, SIGNED_BYTES, Signed, read_receipt,
-    read_signed, receipt_tag_ok, seal_receipt, seal_receipt_with, sign_receipt, sign_receipt_with,
-    write_receipt,
+    read_signed, receipt_tag_ok, seal_receipt, sign_receipt, write_receipt,
 };
 pub use refusal::Refusal;
 pub use reply::{Reply, ReplyKeys, ReplyStates};

@@ -1,4 +1,4 @@
-ghost use Rattle.std.specs.Prelude.{◌≡◌, ◌≤◌, ◌↔◌, ◌+◌, ◌++◌, length, codes, vec_capacity, vec_len, IfOk, IfSome, IsTrue, Ok, ◌<◌, ◌^◌};
+ghost use Rattle.std.specs.Prelude.{◌≡◌, ◌≤◌, ◌↔◌, ◌+◌, ◌++◌, length, codes, vec_capacity, vec_len, IfOk, IfSome, IsTrue, None, Ok, ◌<◌, ◌^◌};
 ghost use Rattle.nb_seal.specs.Seal.{Opens, seal_of};
 ghost use Rattle.nb_units.specs.Room.{spare_of};
 ghost use Rattle.nb_units.specs.Reads.{Reads};
@@ -7,6 +7,7 @@ ghost use Rattle.nb_endorse.specs.declared.receipt.TheConstants.{UNTAGGED_BYTES,
 ghost use Rattle.nb_endorse.specs.Spelling as spelling;
 ghost use Rattle.nb_endorse.specs.Reading as reading;
 ghost use Rattle.nb_endorse.specs.Replies.{ReceiptKeepsRules};
+ghost use Rattle.nb_endorse.specs.Differing.{IsOf, first_difference};
 ghost use Rattle.nb_endorse.specs.Sealed.{ReadsSealed};
 ghost use Rattle.nb_endorse.specs.Tags.{receipt_tag, signed_receipt};
 
@@ -74,6 +75,36 @@ pub struct Receipt {
     pub shown: Option<(u64, u64)>,
 }
 
+impl Receipt {
+    /// The number of the first of five fields in which it differs from these: 1 the identifier, 2 the consumer, 3 the merchant, 4 the product,
+    /// 5 the price. `None` where it is of these.
+    pub fn first_difference(
+        &self,
+        epoid: &Epoid,
+        consumer: PartyId,
+        merchant: PartyId,
+        product: u32,
+        price: Price,
+    ) -> Option<u8>
+        ensures first { result ≡ first_difference self.now epoid.now consumer merchant product price }
+        ensures none { (result ≡ None) ↔ IsOf self.now epoid.now consumer merchant product price }
+    {
+        if self.epoid != *epoid {
+            Some(1)
+        } else if self.consumer != consumer {
+            Some(2)
+        } else if self.merchant != merchant {
+            Some(3)
+        } else if self.product != product {
+            Some(4)
+        } else if self.price != price {
+            Some(5)
+        } else {
+            None
+        }
+    }
+}
+
 /// A receipt, and the house's tag over it: the HMAC-SHA-256 (RFC 2104) of "rcpt" and the receipt's bytes.
 #[derive(Clone, Copy, Debug)]
 pub struct Signed {
@@ -103,8 +134,8 @@ pub fn sign_receipt(r: &Receipt, house: &Secret) -> Signed
     sign_receipt_with(r, &KeyState::new(house))
 }
 
-/// The receipt with its tag, as [`sign_receipt`] gives it, under the house's key of this state.
-pub fn sign_receipt_with(r: &Receipt, house: &KeyState) -> Signed
+// The receipt with its tag, as `sign_receipt` gives it, under the house's key of this state.
+pub(crate) fn sign_receipt_with(r: &Receipt, house: &KeyState) -> Signed
     ensures { result ≡ signed_receipt house.now r.now }
 {
     let plain = spelled(r);
@@ -131,8 +162,8 @@ pub fn seal_receipt(s: &Signed, key: &Secret) -> [u8; RECEIPT_BYTES]
     seal_receipt_with(s, &KeyState::new(key))
 }
 
-/// The receipt and its tag, sealed as [`seal_receipt`] does, under the key of this state.
-pub fn seal_receipt_with(s: &Signed, key: &KeyState) -> [u8; RECEIPT_BYTES]
+// The receipt and its tag, sealed as `seal_receipt` does, under the key of this state.
+pub(crate) fn seal_receipt_with(s: &Signed, key: &KeyState) -> [u8; RECEIPT_BYTES]
     requires lawful { ReceiptKeepsRules s.now.receipt }
     ensures sealed { result ≡ seal_of key.now (codes "rcpt") (spelling.signed_bytes s.now) }
     ensures fits { spelling.IsSigned s.now }

@@ -41,7 +41,8 @@ use Rattle.nb_merchant.proofs.Keeping.{sale_from_more}
 use Rattle.nb_stall.proofs.Noting.{same_purchase}
 use Rattle.nb_stall.specs.Sales.{moved, progressed, sale_in, epoid_in, deliveries_in, sold_as, next_serial}
 use Rattle.nb_merchant.specs.Shop.{Shop, goods_in, sealed_for}
-use Rattle.nb_stall.specs.Tests.{field, found, opened, ticket_in, request_digest}
+use Rattle.nb_msgs.specs.Tests.{field, found, opened}
+use Rattle.nb_stall.specs.Tests.{ticket_in, request_digest}
 use Rattle.nb_merchant.specs.Table as table
 use Rattle.nb_merchant.specs.Keeping.{delivery_follows, order_follows, result_follows, of_sale, follows}
 

@@ -20,7 +20,7 @@ use Rattle.nb_stall.specs.declared.sale.Progress.TheVariants as progress
 use Rattle.nb_stall.specs.declared.sale.Sale.{Sale}
 use Rattle.nb_stall.specs.Spelling.{IsItem, item_bytes}
 use Rattle.nb_stall.specs.Sales.{sale_in, deliveries_in, next_serial, sold_as}
-use Rattle.nb_stall.specs.Tests.{field, found, opened}
+use Rattle.nb_msgs.specs.Tests.{field, found, opened}
 use Rattle.nb_stall.specs.Ledger.{serials_from}
 use Rattle.nb_merchant.specs.declared.answer.Answer.{Answer}
 use Rattle.nb_merchant.specs.Shop.{Shop, new_shop, with_item}

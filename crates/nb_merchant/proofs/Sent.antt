@@ -38,10 +38,11 @@ use Rattle.nb_stall.specs.declared.limits.TheConstants.{MAX_PART}
 use Rattle.nb_stall.specs.Spelling.{IsItem}
 use Rattle.nb_stall.proofs.Lengths.{quote_short, goods_short, endorsement_short}
 use Rattle.nb_stall.specs.Reading.{purchase_of}
-use Rattle.nb_stall.specs.Sales.{is_same, is_same_epoid, progressed, moved, told, sale_in, next_serial}
+use Rattle.nb_units.specs.Epoid.{is_same_epoid}
+use Rattle.nb_stall.specs.Sales.{is_same, progressed, moved, told, sale_in, next_serial}
 use Rattle.nb_merchant.specs.Shop.{Shop, new_shop, with_item, goods_of, goods_in, sealed_for}
 use Rattle.nb_stall.specs.Messages.{key_of, endorsement_for}
-use Rattle.nb_stall.specs.Tests.{field, or_seal}
+use Rattle.nb_msgs.specs.Tests.{field, or_seal}
 use Rattle.nb_merchant.specs.Table as table
 use Rattle.nb_merchant.specs.Keeping.{delivery_follows, order_follows, result_follows, of_sale, follows, all_follow, AllFollow, IsKept}
 use Rattle.nb_merchant.specs.Sending.{IsOrderFor, EndorsesKept, Endorses, OpensOrCollides, SentSo, MessageIs, StepIs}

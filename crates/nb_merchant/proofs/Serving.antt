@@ -24,7 +24,8 @@ use Rattle.nb_stall.specs.declared.sale.Progress.TheVariants as progress
 use Rattle.nb_stall.specs.declared.sale.Sale.{Sale}
 use Rattle.nb_stall.specs.Reading.{purchase_of}
 use Rattle.nb_stall.specs.Sales.{sale_in, epoid_in, next_serial}
-use Rattle.nb_stall.specs.Tests.{field, found, opened, ticket_in, request_digest}
+use Rattle.nb_msgs.specs.Tests.{field, found, opened}
+use Rattle.nb_stall.specs.Tests.{ticket_in, request_digest}
 use Rattle.nb_stall.specs.Messages.{key_of, quote_message, goods_message, endorsed_message}
 use Rattle.nb_merchant.specs.declared.answer.Answer.{Answer}
 use Rattle.nb_merchant.specs.Shop.{Shop, goods_in, sealed_for}

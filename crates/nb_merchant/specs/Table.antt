@@ -36,9 +36,11 @@ use Rattle.nb_stall.specs.declared.sale.Progress.TheVariants as progress
 use Rattle.nb_stall.specs.declared.sale.Sale.{Sale}
 use Rattle.nb_merchant.specs.declared.answer.Answer.{Answer}
 use Rattle.nb_stall.specs.Spelling.{item_bytes}
-use Rattle.nb_stall.specs.Sales.{is_same_epoid, sale_in, epoid_in, deliveries_in, sold_as, next_serial}
+use Rattle.nb_units.specs.Epoid.{is_same_epoid}
+use Rattle.nb_stall.specs.Sales.{sale_in, epoid_in, deliveries_in, sold_as, next_serial}
 use Rattle.nb_merchant.specs.Shop.{Shop, goods_in, sealed_for}
-use Rattle.nb_stall.specs.Tests.{field, found, or_seal, opened, ticket_in, request_digest}
+use Rattle.nb_msgs.specs.Tests.{field, found, or_seal, opened}
+use Rattle.nb_stall.specs.Tests.{ticket_in, request_digest}
 use Rattle.nb_stall.specs.Messages.{key_of, quote_message, goods_message, endorsed_message}
 
 -- to a consumer

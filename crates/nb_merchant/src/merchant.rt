@@ -20,12 +20,12 @@ use crate::answer::{Answer, Halt, Planned};
 use crate::rows;
 use nb_body::GoodsRequest;
 use nb_goods::Parts;
-use nb_msgs::{Message, Reason, RestartFault, Step};
+use nb_msgs::{Message, Reason, RestartFault, Step, open_receipt};
 use nb_price::Catalogue;
 use nb_seal::KeyState;
 use nb_stall::{
     Delivery, Held, Item, Progress, Purchase, Stage, Stall, delivery_at, note, note_delivery,
-    open_for, open_goods_request, open_payment, open_price_request, open_receipt,
+    open_for, open_goods_request, open_payment, open_price_request,
 };
 use nb_units::{Blob, Digest, Epoid, NoMemory, PartyId, Small};
 use std::alloc::Global;

@@ -9,7 +9,8 @@ ghost use Rattle.nb_merchant.specs.Keeping.{delivery_follows, is_sealed_next};
 ghost use Rattle.nb_merchant.specs.Shop.{goods_in};
 ghost use Rattle.nb_merchant.specs.Table as table;
 ghost use Rattle.nb_merchant.specs.Telling.{Plans};
-ghost use Rattle.nb_stall.specs.Tests as tests;
+ghost use Rattle.nb_msgs.specs.Tests as tests;
+ghost use Rattle.nb_stall.specs.Tests.{request_digest};
 
 use crate::answer::{Answer, Halt, Planned};
 use nb_body::{GoodsRequest, Quote};
@@ -81,7 +82,7 @@ pub(crate) fn first_quote(
     consumer: PartyId,
     asked: &AskedPrice,
 ) -> Result<Planned, Halt>
-    requires { asked.now.digest ≡ tests.request_digest asked.now.request }
+    requires { asked.now.digest ≡ request_digest asked.now.request }
     ensures row { Plans result (table.first_quote catalogue.now session.now consumer asked.now.request) }
     ensures parts { IfOk result PlansPlain }
 {
@@ -119,7 +120,7 @@ pub(crate) fn quote_again(
     asked: &AskedPrice,
     sale: &Sale,
 ) -> Result<Planned, Halt>
-    requires { asked.now.digest ≡ tests.request_digest asked.now.request }
+    requires { asked.now.digest ≡ request_digest asked.now.request }
     ensures row { Plans result (table.quote_again session.now consumer asked.now.request sale.now) }
     ensures parts { IfOk result PlansPlain }
 {

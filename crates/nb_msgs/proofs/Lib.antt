@@ -1,3 +1,4 @@
+pub mod Unsealing
 pub mod Layouts
 pub mod Messages
 pub mod Places

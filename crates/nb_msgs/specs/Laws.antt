@@ -1,7 +1,8 @@
 -- What a message is written as and what is read are the two sides of one thing.
-use Rattle.std.specs.Prelude.{◌≡◌, ℕ, List, ◌++◌, length, Option, Some, None, Ok}
+use Rattle.std.specs.Prelude.{◌≡◌, ℕ, List, ◌++◌, codes, length, Option, Some, None, Ok}
 use Rattle.nb_endorse.specs.declared.receipt.Signed.{Signed}
 use Rattle.nb_units.specs.Frames.{AreBytes, IsFrame, Whole, front_of}
+use Rattle.nb_msgs.specs.declared.labels.TheConstants as label
 use Rattle.nb_msgs.specs.declared.lengths.TheConstants as limit
 use Rattle.nb_msgs.specs.declared.status.TheConstants.{MOST_STATUS}
 use Rattle.nb_msgs.specs.declared.status.StatusText.{StatusText}
@@ -50,3 +51,8 @@ StatusIsAsLong = (t : StatusText) → IsStatusText t → length (text_bytes t) �
 abbrev pub MessageLimitsAre : Type 0
 MessageLimitsAre = (limit.MAX_SEALED_PRICE_REQUEST ≡ 112) × (limit.MAX_SEALED_QUOTE ≡ 52) × (limit.MAX_SEALED_GOODS_REQUEST ≡ 48)
     × (limit.MAX_SEALED_HEAD ≡ 104) × (limit.MAX_SEALED_PAYMENT ≡ 324) × (MOST_STATUS ≡ 192)
+
+-- the labels under which parts of messages are sealed, as texts
+abbrev pub LabelsAre : Type 0
+LabelsAre = (label.PRICE_REQUEST_LABEL ≡ codes "m001") × (label.QUOTE_LABEL ≡ codes "m002") × (label.GOODS_REQUEST_LABEL ≡ codes "m003") × (label.GOODS_HEAD_LABEL ≡ codes "m004")
+    × (label.PAYMENT_LABEL ≡ codes "m005") × (label.STATUS_LABEL ≡ codes "stat")

@@ -5,4 +5,5 @@ pub mod Limits
 pub mod Bodies
 pub mod ReplyMessages
 pub mod Reading
+pub mod Tests
 pub mod Laws

@@ -76,3 +76,8 @@ pub fn status_is_as_long()
 pub fn message_limits()
     ensures { law.MessageLimitsAre }
 {}
+
+/// A law: the labels under which parts of messages are sealed, as texts.
+pub fn labels()
+    ensures { law.LabelsAre }
+{}

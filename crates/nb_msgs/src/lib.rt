@@ -15,22 +15,29 @@
 
 mod fault;
 mod grant;
+mod labels;
 pub mod laws;
 mod lengths;
 mod message;
 mod node;
+mod opening;
 mod reading;
 mod reply;
 mod status;
 mod writing;
 
 pub use fault::BodyFault;
+pub use labels::{
+    GOODS_HEAD_LABEL, GOODS_REQUEST_LABEL, PAYMENT_LABEL, PRICE_REQUEST_LABEL, QUOTE_LABEL,
+    STATUS_LABEL,
+};
 pub use lengths::{
     MAX_SEALED_GOODS_REQUEST, MAX_SEALED_HEAD, MAX_SEALED_PAYMENT, MAX_SEALED_PRICE_REQUEST,
     MAX_SEALED_QUOTE,
 };
 pub use message::Message;
 pub use node::{End, Reason, RestartFault, Step, To};
+pub use opening::open_receipt;
 pub use reading::read_body;
 pub use reply::{LONGEST_REPLY, REPLY_ROOM, limits, write_reply, write_reply_with};
 pub use status::{MOST_STATUS, StatusText};

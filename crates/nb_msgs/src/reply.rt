@@ -15,6 +15,7 @@ ghost use Rattle.nb_msgs.specs.declared.reply.TheConstants.{MOST_BODY, REPLY_ROO
 ghost use Rattle.nb_msgs.specs.declared.status.TheConstants.{MOST_STATUS};
 
 use crate::grant::grant_body;
+use crate::labels::STATUS_LABEL;
 use crate::status::StatusText;
 use nb_endorse::{RECEIPT_BYTES, Receipt, Refusal, Reply, ReplyKeys, ReplyStates, Signed};
 use nb_frame::{write_frame, write_header};
@@ -32,9 +33,6 @@ pub const LONGEST_REPLY: usize = HEADER + MOST_BODY;
 
 // The most bytes of a reply's body: those of a result, two sealed receipts, each behind its length.
 const MOST_BODY: usize = 2 * (LENGTH + RECEIPT_BYTES);
-
-// The status of an order is sealed under this label.
-const STATUS_SEAL_LABEL: [u8; 4] = *b"stat";
 
 /// Appends the frame of a reply, which needs room for [`REPLY_ROOM`] bytes and takes no memory. A result, a status and a
 /// grant are sealed under the keys, and the receipts in them are signed. Each receipt must have a code that receipts have, a
@@ -154,7 +152,7 @@ fn write_status(
 {
     let text = told(place, epoid, receipt, keys).spelled();
     write_header(STATUS_REPLY, (SEAL + text.as_slice().len()) as u32, out);
-    keys.seal_text_spare(&STATUS_SEAL_LABEL, text.as_slice(), out);
+    keys.seal_text_spare(&STATUS_LABEL, text.as_slice(), out);
 }
 
 // What is told of an order. A receipt is signed by the house.

@@ -4,7 +4,8 @@ use Rattle.std.specs.Prelude.{slice_get}
 use Rattle.std.proofs.lemmas.Bool.{eqb-true, eqb-false, false≢true}
 use Rattle.nb_units.specs.declared.epoid.Epoid.{Epoid}
 use Rattle.nb_stall.specs.declared.delivery.Delivery.{Delivery}
-use Rattle.nb_stall.specs.Sales.{is_same_epoid, sold_as}
+use Rattle.nb_units.specs.Epoid.{is_same_epoid}
+use Rattle.nb_stall.specs.Sales.{sold_as}
 use Rattle.nb_stall.specs.Ledger.{serials_from, given_as}
 
 pub both_true : (a b : Bool) → (a && b) ≡ true → (a ≡ true) × (b ≡ true)

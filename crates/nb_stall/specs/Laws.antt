@@ -1,7 +1,7 @@
 -- What holds of every kept item: spelling and reading are the two sides of one thing.
 use Rattle.std.specs.Prelude.{◌≡◌, ◌≤◌, ℕ, List, [], ◌∷◌, codes, length, Ok}
 use Rattle.nb_units.specs.Frames.{AreBytes}
-use Rattle.nb_stall.specs.declared.limits.TheConstants.{QUOTED_ITEM, DELIVERED_ITEM, ENDORSED_ITEM, SETTLED_ITEM, MAX_ITEM, MAX_PART, LAST_SERIAL, PRICE_REQUEST_LABEL, QUOTE_LABEL, GOODS_REQUEST_LABEL, GOODS_HEAD_LABEL, PAYMENT_LABEL}
+use Rattle.nb_stall.specs.declared.limits.TheConstants.{QUOTED_ITEM, DELIVERED_ITEM, ENDORSED_ITEM, SETTLED_ITEM, MAX_ITEM, MAX_PART, LAST_SERIAL}
 use Rattle.nb_stall.specs.declared.item.Item.{Item}
 use Rattle.nb_stall.specs.Spelling.{IsItem, item_bytes}
 use Rattle.nb_stall.specs.Reading.{item_of}
@@ -22,7 +22,6 @@ OneItem = (a b : Item) → IsItem a → IsItem b → item_bytes a ≡ item_bytes
 abbrev pub ItemIsShort : Type 0
 ItemIsShort = (x : Item) → IsItem x → length (item_bytes x) ≤ MAX_ITEM
 
--- the kinds, the limits and the labels
+-- the kinds and the limits
 abbrev pub LimitsAre : Type 0
 LimitsAre = (QUOTED_ITEM ∷ DELIVERED_ITEM ∷ ENDORSED_ITEM ∷ SETTLED_ITEM ∷ [] ≡ 1 ∷ 2 ∷ 3 ∷ 4 ∷ []) × (MAX_ITEM ≡ 297) × (MAX_PART ≡ 167) × (LAST_SERIAL ≡ 4294967295)
-    × (PRICE_REQUEST_LABEL ≡ codes "m001") × (QUOTE_LABEL ≡ codes "m002") × (GOODS_REQUEST_LABEL ≡ codes "m003") × (GOODS_HEAD_LABEL ≡ codes "m004") × (PAYMENT_LABEL ≡ codes "m005")

@@ -9,7 +9,8 @@ use Rattle.nb_stall.specs.declared.item.Item.TheVariants as item
 use Rattle.nb_stall.specs.declared.sale.Progress.TheVariants as progress
 use Rattle.nb_stall.specs.declared.sale.Held.{Held}
 use Rattle.nb_stall.specs.Reading.{purchase_of}
-use Rattle.nb_stall.specs.Sales.{is_same, is_same_epoid, progressed}
+use Rattle.nb_units.specs.Epoid.{is_same_epoid}
+use Rattle.nb_stall.specs.Sales.{is_same, progressed}
 
 -- what was held stays where there is nothing new
 abbrev pub or_held : Option Divided → Option Divided → Option Divided

@@ -2,6 +2,7 @@
 use Rattle.std.specs.Prelude.{ℕ, ◌+◌, ◌==◌, ◌&&◌, Bool, List, [], ◌∷◌, length, Option, Some, None, if◌then◌else◌}
 use Rattle.std.specs.declared.cmp.Ordering.{Ordering}
 use Rattle.std.specs.Ordering.{nat_cmp, ordering_then}
+use Rattle.nb_units.specs.Epoid.{is_same_epoid}
 use Rattle.nb_units.specs.declared.epoid.Epoid.{Epoid}
 use Rattle.nb_stall.specs.declared.purchase.Purchase.{Purchase}
 use Rattle.nb_stall.specs.declared.delivery.Delivery.{Delivery}
@@ -14,16 +15,13 @@ use Rattle.nb_stall.specs.declared.sale.Progress.TheVariants as progress
 use Rattle.nb_stall.specs.declared.sale.Sale.{Sale}
 use Rattle.nb_stall.specs.Reading.{purchase_of}
 
--- two names are of one purchase, two identifiers one
+-- two names are of one purchase
 abbrev pub is_same : Purchase → Purchase → Bool
 is_same p q = p.consumer.0 == q.consumer.0 && p.transaction == q.transaction
 
 -- the order of purchases: by the consumer, and then by the number
 abbrev pub purchase_cmp : Purchase → Purchase → Ordering
 purchase_cmp p q = ordering_then (nat_cmp p.consumer.0 q.consumer.0) (nat_cmp p.transaction q.transaction)
-
-abbrev pub is_same_epoid : Epoid → Epoid → Bool
-is_same_epoid a b = a.merchant.0 == b.merchant.0 && a.moment == b.moment && a.serial == b.serial
 
 -- ---- one purchase
 

@@ -22,7 +22,7 @@ pub fn item_is_short()
     ensures { law.ItemIsShort }
 {}
 
-/// The kinds of items, the longest item, the last serial number and the labels, in numbers and texts.
+/// The kinds of items, the longest item and the last serial number, in numbers.
 pub fn limits()
     ensures { law.LimitsAre }
 {}

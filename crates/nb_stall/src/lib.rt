@@ -27,9 +27,7 @@ pub use delivery::Delivery;
 pub use item::Item;
 pub use ledger::{delivery_at, note, note_delivery};
 pub use limits::{ITEM_KIND, LAST_SERIAL, MAX_ITEM, MAX_PART};
-pub use opening::{
-    AskedPrice, open_for, open_goods_request, open_payment, open_price_request, open_receipt,
-};
+pub use opening::{AskedPrice, open_for, open_goods_request, open_payment, open_price_request};
 pub use purchase::Purchase;
 pub use sale::{Held, Progress, Sale, Stage};
 pub use sending::{endorsed_message, goods_message, quote_message};

@@ -1,5 +1,4 @@
-//! How an item of a stall begins, how long it is at most, how many serial numbers there are, and the labels of what a merchant and a
-//! consumer seal for each other.
+//! How an item of a stall begins, how long it is at most, and how many serial numbers there are.
 
 use nb_body::TRANSACTION;
 use nb_endorse::RECEIPT_BYTES;
@@ -26,14 +25,3 @@ pub(crate) const SETTLED_ITEM: u8 = 4;
 
 /// The most bytes of the receipt that is passed on to a consumer.
 pub const MAX_PART: usize = RECEIPT_BYTES;
-
-// What is sealed under the session key, by the kind of its message.
-pub(crate) const PRICE_REQUEST_LABEL: [u8; 4] = *b"m001";
-
-pub(crate) const QUOTE_LABEL: [u8; 4] = *b"m002";
-
-pub(crate) const GOODS_REQUEST_LABEL: [u8; 4] = *b"m003";
-
-pub(crate) const GOODS_HEAD_LABEL: [u8; 4] = *b"m004";
-
-pub(crate) const PAYMENT_LABEL: [u8; 4] = *b"m005";

@@ -2,23 +2,22 @@ ghost use Rattle.std.specs.Prelude.{◌≡◌, ◌≤◌, ◌+◌, length, codes
 ghost use Rattle.nb_seal.specs.declared.limits.TheConstants.{CODE_BYTES, MAX_TEXT};
 ghost use Rattle.nb_seal.specs.Seal.{text_in};
 ghost use Rattle.nb_ticket.specs.declared.ticket.TheConstants.{TICKET_BYTES};
-ghost use Rattle.nb_endorse.specs.declared.receipt.TheConstants.{RECEIPT_BYTES};
-ghost use Rattle.nb_endorse.specs.Reading.{signed_of};
 ghost use Rattle.nb_body.specs.Reading as body;
 ghost use Rattle.nb_msgs.specs.declared.lengths.TheConstants.{MAX_SEALED_PRICE_REQUEST, MAX_SEALED_GOODS_REQUEST, MAX_SEALED_PAYMENT};
 ghost use Rattle.nb_msgs.specs.declared.node.Reason.TheVariants as reason;
+ghost use Rattle.nb_msgs.specs.Tests.{opened};
 ghost use Rattle.nb_stall.specs.Tests as tests;
-ghost use Rattle.nb_stall.specs.Tests.{request_digest};
-ghost use Rattle.nb_stall.specs.Tests.{Unseals};
+ghost use Rattle.nb_stall.specs.Tests.{Unseals, request_digest};
 
-use crate::limits::{GOODS_REQUEST_LABEL, PAYMENT_LABEL, PRICE_REQUEST_LABEL};
 use crate::stall::Stall;
 use nb_body::{GoodsRequest, PaymentRequest, PriceRequest};
-use nb_endorse::{Signed, read_receipt};
-use nb_msgs::{MAX_SEALED_GOODS_REQUEST, MAX_SEALED_PAYMENT, MAX_SEALED_PRICE_REQUEST, Reason};
+use nb_msgs::{
+    GOODS_REQUEST_LABEL, MAX_SEALED_GOODS_REQUEST, MAX_SEALED_PAYMENT, MAX_SEALED_PRICE_REQUEST,
+    PAYMENT_LABEL, PRICE_REQUEST_LABEL, Reason,
+};
 use nb_seal::{KeyState, sha};
 use nb_ticket::{Ticket, open_ticket};
-use nb_units::{Digest, Secret};
+use nb_units::Digest;
 
 /// A request for a price, and the digest of its bytes.
 #[derive(Clone, Copy)]
@@ -60,10 +59,10 @@ fn unsealed(
 }
 
 /// The request for a price that is sealed there under the session key, or [`Reason::Seal`] where there is none.
-#[tactic(auto, unfolding(crate::specs::Tests::opened))]
+#[tactic(auto, unfolding(nb_msgs::specs::Tests::opened))]
 pub fn open_price_request(session: &KeyState, sealed: &[u8]) -> Result<AskedPrice, Reason>
     requires { length sealed.now ≤ MAX_SEALED_PRICE_REQUEST }
-    ensures request { tests.opened body.price_request_of session.now (codes "m001") sealed.now ≡ tests.request_in result }
+    ensures request { opened body.price_request_of session.now (codes "m001") sealed.now ≡ tests.request_in result }
     ensures digest { IfOk result (λ asked. asked.digest ≡ request_digest asked.request) }
 {
     let mut plain = [0u8; MAX_SEALED_PRICE_REQUEST];
@@ -79,10 +78,10 @@ pub fn open_price_request(session: &KeyState, sealed: &[u8]) -> Result<AskedPric
 }
 
 /// The request for goods that is sealed there under the session key, or [`Reason::Seal`] where there is none.
-#[tactic(auto, unfolding(crate::specs::Tests::opened))]
+#[tactic(auto, unfolding(nb_msgs::specs::Tests::opened))]
 pub fn open_goods_request(session: &KeyState, sealed: &[u8]) -> Result<GoodsRequest, Reason>
     requires { length sealed.now ≤ MAX_SEALED_GOODS_REQUEST }
-    ensures { result ≡ tests.opened body.goods_request_of session.now (codes "m003") sealed.now }
+    ensures { result ≡ opened body.goods_request_of session.now (codes "m003") sealed.now }
 {
     let mut plain = [0u8; MAX_SEALED_GOODS_REQUEST];
     let n = unsealed(session, &GOODS_REQUEST_LABEL, sealed, &mut plain)?;
@@ -93,27 +92,15 @@ pub fn open_goods_request(session: &KeyState, sealed: &[u8]) -> Result<GoodsRequ
 }
 
 /// The order for its merchant that is sealed there under the session key, or [`Reason::Seal`] where there is none.
-#[tactic(auto, unfolding(crate::specs::Tests::opened))]
+#[tactic(auto, unfolding(nb_msgs::specs::Tests::opened))]
 pub fn open_payment(session: &KeyState, sealed: &[u8]) -> Result<PaymentRequest, Reason>
     requires { length sealed.now ≤ MAX_SEALED_PAYMENT }
-    ensures { result ≡ tests.opened body.payment_request_of session.now (codes "m005") sealed.now }
+    ensures { result ≡ opened body.payment_request_of session.now (codes "m005") sealed.now }
 {
     let mut plain = [0u8; MAX_SEALED_PAYMENT];
     let n = unsealed(session, &PAYMENT_LABEL, sealed, &mut plain)?;
     match PaymentRequest::read(plain.split_at(n).0) {
         Ok(request) => Ok(request),
         Err(_malformed) => Err(Reason::Seal),
-    }
-}
-
-/// The merchant's receipt that is sealed there under the stall's key, or [`Reason::Seal`] where there is none.
-#[tactic(auto, unfolding(crate::specs::Tests::opened))]
-pub fn open_receipt(key: &Secret, sealed: &[u8]) -> Result<Signed, Reason>
-    requires { length sealed.now ≤ RECEIPT_BYTES }
-    ensures { result ≡ tests.opened signed_of key.now (codes "rcpt") sealed.now }
-{
-    match read_receipt(sealed, key) {
-        Ok(signed) => Ok(signed),
-        Err(_fault) => Err(Reason::Seal),
     }
 }

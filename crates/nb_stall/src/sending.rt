@@ -6,12 +6,11 @@ ghost use Rattle.nb_goods.specs.Goods.{sealed_goods};
 ghost use Rattle.nb_goods.specs.Parts.{parts_of};
 ghost use Rattle.nb_stall.specs.Messages as messages;
 
-use crate::limits::{GOODS_HEAD_LABEL, QUOTE_LABEL};
 use crate::stall::Stall;
 use nb_body::{GoodsHead, Quote};
 use nb_endorse::{Endorsement, MAX_SEALED, write_sealed};
 use nb_goods::{Parts, goods_key};
-use nb_msgs::Message;
+use nb_msgs::{GOODS_HEAD_LABEL, Message, QUOTE_LABEL};
 use nb_seal::KeyState;
 use nb_units::width::SEAL;
 use nb_units::{Blob, Epoid, NoMemory, Small};

@@ -89,19 +89,9 @@ pub fn grant(g: &Granted, key: &Secret) -> Small
     ensures fits { IsGranted g.now }
     ensures long { length result ≡ 88 + length g.now.ticket }
 {
-    grant_with(g, &KeyState::new(key))
-}
-
-/// The grant, sealed as [`grant`] does, under the key of this state.
-pub fn grant_with(g: &Granted, key: &KeyState) -> Small
-    requires ticket { length g.now.ticket ≤ TICKET_BYTES }
-    ensures sealed { result ≡ seal_of key.now (codes "gran") (granted_bytes g.now) }
-    ensures fits { IsGranted g.now }
-    ensures long { length result ≡ 88 + length g.now.ticket }
-{
     let plain = g.spelled();
     let mut sealed = [0u8; GRANT_BYTES];
-    let n = key.seal_to(&GRANT_LABEL, plain.as_slice(), &mut sealed);
+    let n = KeyState::new(key).seal_to(&GRANT_LABEL, plain.as_slice(), &mut sealed);
     Small::of(sealed.split_at(n).0).unwrap()
 }
 

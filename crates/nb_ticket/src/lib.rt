@@ -10,8 +10,7 @@
 //! spelled is read as that value, and what was read is spelled as those bytes. What is sealed stands in `specs/Sealed.antt`,
 //! and what opening gives in `specs/Opening.antt`.
 //!
-//! The house's calls over a key have one over its state beside them: [`request_ok_with`], [`session_key_with`], [`write_ticket_with`],
-//! [`grant_with`].
+//! Two of the house's calls over a key have one over its state beside them: [`request_ok_with`], [`session_key_with`].
 //!
 //! Left to others: whose keys these are, whether the parties are enrolled, and the clock. No memory is taken.
 #![tactic(auto)]
@@ -23,9 +22,7 @@ mod session;
 mod ticket;
 
 pub use ask::{TicketAsk, request, request_ok, request_ok_with};
-pub use granted::{GRANT_BYTES, GRANT_LABEL, GrantFault, Granted, grant, grant_with, open_grant};
+pub use granted::{GRANT_BYTES, GRANT_LABEL, GrantFault, Granted, grant, open_grant};
 pub use nb_units::Malformed;
 pub use session::{TICKET_LIFE, session_key, session_key_with, until};
-pub use ticket::{
-    TICKET_BYTES, TICKET_LABEL, Ticket, TicketFault, open_ticket, write_ticket, write_ticket_with,
-};
+pub use ticket::{TICKET_BYTES, TICKET_LABEL, Ticket, TicketFault, open_ticket, write_ticket};

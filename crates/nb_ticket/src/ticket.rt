@@ -93,18 +93,9 @@ pub fn write_ticket(t: &Ticket, key: &Secret) -> Small
     ensures fits { IsTicket t.now }
     ensures long { length result ≡ TICKET_BYTES }
 {
-    write_ticket_with(t, &KeyState::new(key))
-}
-
-/// The ticket, sealed as [`write_ticket`] does, under the key of this state.
-pub fn write_ticket_with(t: &Ticket, key: &KeyState) -> Small
-    ensures sealed { result ≡ seal_of key.now (codes "tick") (ticket_bytes t.now) }
-    ensures fits { IsTicket t.now }
-    ensures long { length result ≡ TICKET_BYTES }
-{
     let plain = t.spelled();
     let mut sealed = [0u8; TICKET_BYTES];
-    let _all = key.seal_to(&TICKET_LABEL, plain.as_slice(), &mut sealed);
+    let _all = KeyState::new(key).seal_to(&TICKET_LABEL, plain.as_slice(), &mut sealed);
     Small::of(&sealed).unwrap()
 }
 

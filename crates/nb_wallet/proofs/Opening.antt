@@ -1,40 +1,16 @@
--- What opening sealed bytes gives.
-use Rattle.std.proofs.Common.{◌≡◌, ℕ, List, Ok, Err, Result, Option, Some, None, refl}
-use Rattle.nb_seal.specs.Seal.{Opens, OpensAs, IsNoSeal}
-use Rattle.nb_seal.proofs.Opening.{text_in_opens, text_in_no_seal}
-use Rattle.nb_endorse.specs.declared.sealed.SealedFault.{SealedFault}
-use Rattle.nb_endorse.specs.declared.sealed.SealedFault.TheVariants as sealed
-use Rattle.nb_endorse.specs.Sealed.{ReadsSealed}
+-- What opening a grant and a status gives.
+use Rattle.std.proofs.Common.{◌≡◌, ℕ, List, Ok, Err, Result, Option, Some, None}
+use Rattle.std.specs.Prelude.{codes, IfSome}
+use Rattle.nb_endorse.specs.declared.receipt.Signed.{Signed}
+use Rattle.nb_endorse.specs.Spelling.{IsSigned}
+use Rattle.nb_endorse.specs.Replies.{ReceiptKeepsRules}
 use Rattle.nb_ticket.specs.declared.granted.Granted.{Granted}
 use Rattle.nb_ticket.specs.declared.granted.GrantFault.{GrantFault}
 use Rattle.nb_ticket.specs.declared.granted.GrantFault.TheVariants as grant
 use Rattle.nb_ticket.specs.Reading.{granted_of}
 use Rattle.nb_ticket.specs.Opening.{OpensGrant}
-use Rattle.std.specs.Prelude.{codes, IfSome}
-use Rattle.nb_endorse.specs.declared.receipt.Signed.{Signed}
-use Rattle.nb_endorse.specs.Spelling.{IsSigned}
-use Rattle.nb_endorse.specs.Replies.{ReceiptKeepsRules}
-use Rattle.nb_msgs.specs.declared.node.Reason.{Reason}
-use Rattle.nb_msgs.specs.declared.node.Reason.TheVariants as reason
-use Rattle.nb_wallet.specs.Tests.{or_seal, opened}
-
--- the bytes open to a text that is read so
-pub opened_so : {A E : Type 0} (reading : List ℕ → Result A E) (key label bytes plain : List ℕ) (r : Result A E) → Opens key label bytes plain → reading plain ≡ r
-    → or_seal r ≡ opened reading key label bytes
-unfolding opened
-opened_so reading key label bytes plain r opens is = rw ((text_in_opens key label bytes plain).1 opens) (rw is refl)
-
--- they are the seal of none
-pub no_text : {A E : Type 0} (reading : List ℕ → Result A E) (key label bytes : List ℕ) → IsNoSeal key label bytes
-    → (let none : Result A Reason = Err reason.Seal in none ≡ opened reading key label bytes)
-unfolding opened
-no_text reading key label bytes bad = rw ((text_in_no_seal key label bytes).1 bad) refl
-
-pub sealed_so : {A : Type 0} (reading : List ℕ → Result A ℕ) (key label bytes : List ℕ) (r : Result A SealedFault) → ReadsSealed reading key label bytes r
-    → or_seal r ≡ opened reading key label bytes
-sealed_so reading key label bytes (Ok value) is = opened_so reading key label bytes is.0 (Ok value) is.1 is.2
-sealed_so reading key label bytes (Err (sealed.BadSeal iv)) is = no_text reading key label bytes is.0
-sealed_so reading key label bytes (Err (sealed.Malformed place)) is = opened_so reading key label bytes is.0 (Err place) is.1 is.2
+use Rattle.nb_msgs.specs.Tests.{or_seal, opened}
+use Rattle.nb_msgs.proofs.Unsealing.{opened_so, no_text, receipt_lawful}
 
 pub grant_so : (key bytes : List ℕ) (r : Result Granted GrantFault) → OpensGrant key bytes r → or_seal r ≡ opened granted_of key (codes "gran") bytes
 grant_so key bytes (Ok g) is = opened_so granted_of key (codes "gran") bytes is.0 (Ok g) is.1 is.2
@@ -42,9 +18,6 @@ grant_so key bytes (Err (grant.BadSeal iv)) is = no_text granted_of key (codes "
 grant_so key bytes (Err (grant.Malformed place)) is = opened_so granted_of key (codes "gran") bytes is.0 (Err place) is.1 is.2
 
 -- a receipt that was read keeps the rules of receipts
-pub receipt_lawful : (s : Signed) → IsSigned s → ReceiptKeepsRules s.receipt
-receipt_lawful s is = record { code = is.receipt.code; keyed = is.receipt.keyed; showing = is.receipt.showing }
-
 pub told_lawful : (o : Option Signed) → IfSome o IsSigned → IfSome o (λ s. ReceiptKeepsRules s.receipt)
 told_lawful None is = tt
 told_lawful (Some s) is = receipt_lawful s is

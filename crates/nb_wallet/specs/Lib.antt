@@ -2,6 +2,5 @@ pub mod Spelling
 pub mod Reading
 pub mod Stages
 pub mod Changes
-pub mod Tests
 pub mod Messages
 pub mod Laws

@@ -27,7 +27,7 @@ pub use item::{Item, SessionTicket};
 pub use purchase::{
     Change, Purchase, Stage, ordered_from, raised_from, stage_ended, wanted_from, with_head,
 };
-pub use reading::{open_granted, open_head, open_quote, open_receipt, open_status};
+pub use reading::{open_granted, open_head, open_quote, open_status};
 pub use sending::{
     goods_request, order_for, payment, price_request, request_digest, status_query, ticket_request,
 };

@@ -1,20 +1,19 @@
 ghost use Rattle.std.specs.Prelude.{◌≡◌, ◌≤◌, length, codes, IfOk, IfSome};
 ghost use Rattle.nb_body.specs.Reading.{quote_of, goods_head_of};
-ghost use Rattle.nb_endorse.specs.Reading.{signed_of};
 ghost use Rattle.nb_endorse.specs.Replies.{ReceiptKeepsRules};
-ghost use Rattle.nb_endorse.specs.declared.receipt.TheConstants.{RECEIPT_BYTES};
 ghost use Rattle.nb_ticket.specs.Reading.{granted_of};
 ghost use Rattle.nb_ticket.specs.declared.granted.TheConstants.{GRANT_BYTES};
 ghost use Rattle.nb_ticket.specs.declared.ticket.TheConstants.{TICKET_BYTES};
 ghost use Rattle.nb_msgs.specs.StatusText.{text_of};
 ghost use Rattle.nb_msgs.specs.declared.lengths.TheConstants.{MAX_SEALED_QUOTE, MAX_SEALED_HEAD};
 ghost use Rattle.nb_msgs.specs.declared.status.TheConstants.{MOST_STATUS};
-ghost use Rattle.nb_wallet.specs.Tests.{opened};
+ghost use Rattle.nb_msgs.specs.Tests.{opened};
 
-use crate::limits::{GOODS_HEAD_LABEL, QUOTE_LABEL, STATUS_LABEL};
 use nb_body::{GoodsHead, Quote};
-use nb_endorse::{Signed, read_receipt};
-use nb_msgs::{MAX_SEALED_HEAD, MAX_SEALED_QUOTE, MOST_STATUS, Reason, StatusText};
+use nb_msgs::{
+    GOODS_HEAD_LABEL, MAX_SEALED_HEAD, MAX_SEALED_QUOTE, MOST_STATUS, QUOTE_LABEL, Reason,
+    STATUS_LABEL, StatusText,
+};
 use nb_seal::unseal_to;
 use nb_ticket::{Granted, open_grant};
 use nb_units::Secret;
@@ -61,18 +60,6 @@ pub fn open_status(key: &Secret, sealed: &[u8]) -> Result<StatusText, Reason>
     };
     match StatusText::read(plain.split_at(n).0) {
         Ok(text) => Ok(text),
-        Err(_) => Err(Reason::Seal),
-    }
-}
-
-/// The receipt that the house sealed under the consumer's key, or [`Reason::Seal`] where the bytes do not open to one.
-pub fn open_receipt(key: &Secret, sealed: &[u8]) -> Result<Signed, Reason>
-    requires { length sealed.now ≤ RECEIPT_BYTES }
-    ensures opened { result ≡ opened signed_of key.now (codes "rcpt") sealed.now }
-    ensures lawful { IfOk result (λ s. ReceiptKeepsRules s.receipt) }
-{
-    match read_receipt(sealed, key) {
-        Ok(signed) => Ok(signed),
         Err(_) => Err(Reason::Seal),
     }
 }

@@ -9,11 +9,10 @@ ghost use Rattle.nb_msgs.specs.Bodies.{MessageKeepsRules};
 ghost use Rattle.nb_wallet.specs.Spelling.{StartKeepsRules, PassKeepsRules};
 
 use crate::item::{SessionTicket, order_text};
-use crate::limits::{GOODS_REQUEST_LABEL, PAYMENT_LABEL, PRICE_REQUEST_LABEL, STATUS_LABEL};
 use crate::wallet::{Start, Wallet};
 use nb_body::{GoodsRequest, PaymentRequest, PriceRequest, StatusQuery};
 use nb_epo::{Hidden, Order, account_digest, hide, sign_order};
-use nb_msgs::Message;
+use nb_msgs::{GOODS_REQUEST_LABEL, Message, PAYMENT_LABEL, PRICE_REQUEST_LABEL, STATUS_LABEL};
 use nb_seal::{hmac, seal_spare, sha};
 use nb_ticket::request;
 use nb_units::width::SEAL;

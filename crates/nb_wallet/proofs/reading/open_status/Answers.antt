@@ -1,7 +1,8 @@
 use Rattle.std.proofs.Common.{Ok, Err}
 use Rattle.std.specs.Prelude.{codes, take}
 use Rattle.nb_msgs.specs.StatusText.{text_of}
-use Rattle.nb_wallet.proofs.Opening.{opened_so, no_text, told_lawful}
+use Rattle.nb_msgs.proofs.Unsealing.{opened_so, no_text}
+use Rattle.nb_wallet.proofs.Opening.{told_lawful}
 use Rattle.nb_wallet.proofs.reading.open_status.Goals as goal
 
 pub returns-in_default : goal.returns-in_default
