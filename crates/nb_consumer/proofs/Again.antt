@@ -1,9 +1,10 @@
 -- What is sent with an item is what is said again behind it, and how an end is told afterwards.
 use Rattle.std.proofs.Common.{◌≡◌, ℕ, zero, suc, ◌+◌, ◌-◌, ◌≤◌, Bool, true, false, cond, List, [], ◌∷◌, ◌++◌, map, set, length, Option, Some, None, Ok, Err, Result, refl, sym, ap, subst, ◌∙◌, arith, length-append}
-use Rattle.std.specs.Prelude.{slice_get, position, nat_eq, nat_lt, not, is_none, codes, ◌==◌}
+use Rattle.std.specs.Prelude.{slice_get, position, nat_eq, nat_lt, not, is_none, codes, ◌==◌, IfOk}
 use Rattle.std.specs.List.{position_or_len, prefix_len}
 use Rattle.std.specs.Str.{bytes_eq}
 use Rattle.std.proofs.lemmas.Bool.{eqb-true, eq-eqb, lt-ltb, ltb-false, le-leb}
+use Rattle.std.proofs.lemmas.Result.{IfOk-weaker}
 use Rattle.sha2.specs.Sha256.{sha256}
 use Rattle.nb_units.specs.Fields.{◌>>=◌}
 use Rattle.nb_seal.specs.Seal.{text_in}
@@ -24,6 +25,7 @@ use Rattle.nb_msgs.specs.StatusText.{text_of}
 use Rattle.nb_ticket.specs.declared.granted.Granted.{Granted}
 use Rattle.nb_ticket.specs.Reading.{granted_of}
 use Rattle.nb_units.specs.declared.ids.Price.{Price}
+use Rattle.nb_units.specs.declared.memory.NoMemory.{NoMemory}
 use Rattle.nb_wallet.specs.declared.wallet.Start.{Start}
 use Rattle.nb_wallet.specs.declared.item.Item.TheVariants as item
 use Rattle.nb_wallet.specs.declared.item.SessionTicket.{SessionTicket}
@@ -32,17 +34,18 @@ use Rattle.nb_wallet.specs.declared.purchase.Stage.TheVariants as stage
 use Rattle.nb_wallet.specs.declared.purchase.Purchase.{Purchase}
 use Rattle.nb_wallet.specs.Messages.{goods_request}
 use Rattle.nb_wallet.specs.Stages.{wanted_from, with_head, ordered_from, stage_ended, stage_with, stage_opened, end_of, end_with, end_opened}
-use Rattle.nb_wallet.specs.Tests.{unless, field, found, opened}
+use Rattle.nb_msgs.specs.Tests.{unless, field, found, opened}
 use Rattle.nb_consumer.specs.declared.deed.Deed.{Deed}
 use Rattle.nb_consumer.specs.declared.deed.Deed.TheVariants as deed
 use Rattle.nb_consumer.specs.declared.phase.Phase.{Phase}
 use Rattle.nb_consumer.specs.declared.phase.Phase.TheVariants as phase
 use Rattle.nb_consumer.specs.declared.rows.Wanting.{Wanting}
 use Rattle.nb_consumer.specs.declared.rows.Owing.{Owing}
-use Rattle.nb_consumer.specs.Goods.{phase_of, phase_in, goods_of, goods_in, phase_at, goods_at}
+use Rattle.nb_consumer.specs.Goods.{phase_of, phase_in, goods_of, goods_in, phase_at, goods_at, AreGoodsAt, TellsGoods}
 use Rattle.nb_consumer.specs.State.{Buyer, number_of, place_of, purchase_at, purchase_of, ordered_with, epoid_bytes, changed, changed_at, changed_with, behind_item, fresh, remembered}
-use Rattle.nb_consumer.specs.Table.{started, granted, quoted, price_quoted, pass_of, is_ticketing, pass_of_asked, delivered, head_told, goods_came, goods_wrong, goods_ordered, part_kept, order_made, wanting_in, owing_in, passed, told_status, status_told, receipt_told, receipt_fits, silent, unheard, heard, is_same_epoid}
-use Rattle.nb_consumer.specs.Restart.{is_rest, is_short}
+use Rattle.nb_consumer.specs.Table.{started, granted, quoted, price_quoted, pass_of, is_ticketing, pass_of_asked, delivered, head_told, goods_came, goods_wrong, goods_ordered, part_kept, order_made, wanting_in, owing_in, passed, told_status, status_told, receipt_told, receipt_fits, silent, unheard, heard}
+use Rattle.nb_units.specs.Epoid.{is_same_epoid}
+use Rattle.nb_consumer.specs.Restart.{is_rest, is_short, HasKept}
 use Rattle.nb_epo.specs.declared.order.Order.{Order}
 use Rattle.nb_consumer.specs.Known.{HeldSo, AllSo}
 use Rattle.nb_consumer.specs.Runs.{Starts, Hears, Waits}
@@ -389,3 +392,27 @@ paid_has_goods items b t kept = by (purchase_of b t) refl
       λ n is. paid_has p.stage p.held n (so_of b t p (known_is_so items b kept) e).0 (phase_is (phase_of p.stage p.held) (phase.Paid n) is),
       λ goods is. ap Some (has_paid p.stage p.held goods is),
     )
+
+-- ---- the goods that are told
+
+goods_at_stage : (s : Stage) (held : List ℕ) → HeldSo s held → AreGoodsAt s held (goods_of s held)
+goods_at_stage stage.Ticketing held so = refl
+goods_at_stage (stage.Asked pass) held so = refl
+goods_at_stage (stage.Wanted pass price head) held so = refl
+goods_at_stage (stage.Ordered pass order least) held so = refl
+goods_at_stage (stage.Paid key) held so = (so.0, key_opens key held so.0 so.1, so.1)
+goods_at_stage (stage.Refused code) held so = refl
+goods_at_stage stage.Foul held so = refl
+
+tells_goods : (b : Buyer) (t : ℕ) → HasKept b → TellsGoods (purchase_of b t) (goods_in (purchase_of b t))
+unfolding HasKept
+tells_goods b t kept = by (purchase_of b t) refl
+  where
+    by : (o : Option Purchase) → purchase_of b t ≡ o → TellsGoods o (goods_in o)
+    by None e = refl
+    by (Some p) e = goods_at_stage p.stage p.held (so_of b t p (known_is_so kept.0 b kept.1) e).0
+
+pub goods_told : (b : Buyer) (t : ℕ) (result : Result (Option (List ℕ)) NoMemory) → HasKept b → IfOk result (λ told. told ≡ goods_in (purchase_of b t))
+    → IfOk result (TellsGoods (purchase_of b t))
+goods_told b t result kept =
+    IfOk-weaker result (λ told. told ≡ goods_in (purchase_of b t)) (TellsGoods (purchase_of b t)) (λ told is. subst (TellsGoods (purchase_of b t)) (sym is) (tells_goods b t kept))

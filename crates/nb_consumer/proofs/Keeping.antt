@@ -38,8 +38,9 @@ use Rattle.nb_consumer.specs.declared.rows.Owing.{Owing}
 use Rattle.nb_consumer.specs.declared.deed.Deed.{Deed}
 use Rattle.nb_wallet.specs.Stages.{end_with, end_opened}
 use Rattle.nb_consumer.specs.State.{Buyer, place_of, purchase_of, ordered_with, epoid_bytes, number_of}
-use Rattle.nb_wallet.specs.Tests.{unless, field, found, opened}
-use Rattle.nb_consumer.specs.Table.{started, granted, quoted, price_quoted, is_price, pass_of_asked, is_ticketing, delivered, goods_came, goods_wrong, goods_ordered, part_kept, head_told, part_fits, order_made, agrees, is_same_epoid, wanting_in, owing_in, passed, told_status, status_told, receipt_told, receipt_fits, silent, unheard, heard}
+use Rattle.nb_msgs.specs.Tests.{unless, field, found, opened}
+use Rattle.nb_units.specs.Epoid.{is_same_epoid}
+use Rattle.nb_consumer.specs.Table.{started, granted, quoted, price_quoted, is_price, pass_of_asked, is_ticketing, delivered, goods_came, goods_wrong, goods_ordered, part_kept, head_told, part_fits, order_made, agrees, wanting_in, owing_in, passed, told_status, status_told, receipt_told, receipt_fits, silent, unheard, heard}
 use Rattle.nb_consumer.specs.Restart.{holds_for, holds_at, part_follows, order_follows, order_names, is_rest, is_short}
 use Rattle.nb_consumer.specs.Laws.{RowSo, RowsAreSo, PaidOpens}
 use Rattle.nb_consumer.proofs.Purchases.{found_some, found_number}

@@ -13,7 +13,7 @@ use Rattle.indexmap.specs.IndexMap.{insert_entry}
 use Rattle.indexmap.proofs.MapLemmas.{absent_from_lookup, insert_entry-absent}
 use Rattle.nb_units.specs.declared.memory.NoMemory.{NoMemory}
 use Rattle.nb_msgs.specs.declared.node.Reason.{Reason}
-use Rattle.nb_wallet.specs.Tests.{found}
+use Rattle.nb_msgs.specs.Tests.{found}
 use Rattle.nb_wallet.specs.declared.wallet.Start.{Start}
 use Rattle.nb_wallet.specs.declared.purchase.Stage.{Stage}
 use Rattle.nb_wallet.specs.declared.purchase.Stage.TheVariants as stage

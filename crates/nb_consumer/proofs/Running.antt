@@ -18,10 +18,11 @@ use Rattle.nb_wallet.proofs.Items.{item_reads_back, item_spells_back}
 use Rattle.nb_units.specs.Frames.{AreBytes}
 use Rattle.nb_consumer.specs.declared.deed.Deed.{Deed}
 use Rattle.nb_consumer.specs.declared.deed.Deed.TheVariants as deed
+use Rattle.nb_consumer.specs.declared.deed.Halt.{Halt}
 use Rattle.nb_consumer.specs.State.{Buyer, new_buyer, remembered}
 use Rattle.nb_consumer.specs.Table.{step_of, after}
-use Rattle.nb_consumer.specs.Deeds.{Answers, DeedIsSpelled}
-use Rattle.nb_consumer.specs.Restart.{allows, behind, behind_read, restarted, restarted_from, Restarts, untold, Kept, kept_in}
+use Rattle.nb_consumer.specs.Deeds.{Answers, AnswersRow, Gives, DeedIsSpelled}
+use Rattle.nb_consumer.specs.Restart.{allows, behind, behind_read, restarted, restarted_from, Restarts, untold, Kept, HasKept, kept_in}
 use Rattle.nb_consumer.specs.Runs.{Call, row_of, kept_of, Event, Called, Restarted, Runs, AllAllowed, IsJournal, GivesBack}
 use Rattle.nb_consumer.specs.Laws.{RowSo, RunsRestart, RestartsAsKept}
 use Rattle.nb_consumer.proofs.Restoring.{buyer_is, same_allowed, same_remembered, same_wallet, call_so, keeps_restarting}
@@ -180,3 +181,19 @@ restarts_as_kept w journal first events b items are again run =
     let k = again_kept w journal first again in
     let s = run_stands w events first b journal items run (record { wallet = k.0; kept = k.1; journal = restarted_journal 0 (new_buyer w) first journal are again }) in
     (s.journal, gives_back w b items (sym (ap (λ (v : Wallet). restarted v items) s.wallet) ∙ s.kept))
+
+-- ---- what every consumer holds to
+
+pub has_none : (w : Wallet) → HasKept (new_buyer w)
+unfolding HasKept
+has_none w = ([], refl)
+
+pub has_again : (w : Wallet) (items : List (List ℕ)) (b : Buyer) → restarted w items ≡ Ok b → HasKept b
+unfolding HasKept
+has_again w items b again = (items, (again_kept w items b again).1)
+
+pub has_more : (old new : Buyer) (call : Call) (deed : Result Deed Halt) (result : Result Step NoMemory) → AnswersRow old new deed result → Gives deed (row_of old call)
+    → HasKept old → HasKept new
+unfolding HasKept
+has_more old new call deed result answers row kept =
+    (kept.0 ++ kept_of result, keeps_restarting old new call result kept.0 (answers (row_of old call) row) kept.1)

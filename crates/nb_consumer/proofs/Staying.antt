@@ -20,7 +20,7 @@ use Rattle.nb_consumer.specs.declared.deed.Deed.TheVariants as deed
 use Rattle.nb_consumer.specs.declared.rows.Wanting.{Wanting}
 use Rattle.nb_consumer.specs.declared.rows.Owing.{Owing}
 use Rattle.nb_consumer.specs.Deeds.{Answers}
-use Rattle.nb_consumer.specs.Goods.{phase_of, phase_in, IsOver}
+use Rattle.nb_consumer.specs.Goods.{phase_of, phase_in, HasEnded}
 use Rattle.nb_consumer.specs.State.{Buyer, number_of, place_of, purchase_at, purchase_of, changed, changed_at, changed_with, behind_item, fresh, number_in, remembered, raised}
 use Rattle.nb_consumer.specs.Table.{after, is_ticketing, is_price, pass_of_asked, wanting_in, owing_in, receipt_fits}
 use Rattle.nb_consumer.specs.Restart.{allows, holds_for, holds_at, part_follows, order_follows, Kept, untold_stage, untold_purchase, untold}
@@ -98,7 +98,7 @@ record Over (s : Stage) : Type 0 where
   owing : owing_in s ≡ None
   untold : untold_stage s ≡ s
 
-over_is : (s : Stage) (held : List ℕ) → IsOver (Some (phase_of s held)) → Over s
+over_is : (s : Stage) (held : List ℕ) → HasEnded (Some (phase_of s held)) → Over s
 over_is stage.Ticketing held over = absurd over
 over_is (stage.Asked pass) held over = absurd over
 over_is (stage.Wanted pass price head) held over = absurd over
@@ -163,29 +163,29 @@ again_keeps b t p known over = same_found b t ∙ ap (option_map untold_purchase
 pub ended_stays : EndedStays
 ended_stays b t over = by (purchase_of b t) refl over
   where
-    by : (o : Option Purchase) → purchase_of b t ≡ o → IsOver (phase_in o)
+    by : (o : Option Purchase) → purchase_of b t ≡ o → HasEnded (phase_in o)
         → ((call : Call) → purchase_of (after b (row_of b call)) t ≡ purchase_of b t) × (purchase_of (untold b) t ≡ purchase_of b t)
     by None is over = absurd over
     by (Some p) is over = (λ call. row_keeps b t p (row_of b call) is (over_is p.stage p.held over) (call_so b call), again_keeps b t p is (over_is p.stage p.held over))
 
 -- ---- behind a run
 
-call_keeps : (old new : Buyer) (call : Call) (result : Result Step NoMemory) (t : ℕ) → Answers old new (row_of old call) result → IsOver (phase_in (purchase_of old t))
+call_keeps : (old new : Buyer) (call : Call) (result : Result Step NoMemory) (t : ℕ) → Answers old new (row_of old call) result → HasEnded (phase_in (purchase_of old t))
     → purchase_of new t ≡ purchase_of old t
 call_keeps old new call (Ok step) t answers over = ap (λ (b : Buyer). purchase_of b t) answers.after ∙ (ended_stays old t over).0 call
 call_keeps old new call (Err none) t answers over = ap (λ (b : Buyer). purchase_of b t) answers.err
 
-run_keeps : (events : List Event) (old new : Buyer) (items kept : List (List ℕ)) (t : ℕ) → Kept items old → Runs old items events new kept → IsOver (phase_in (purchase_of old t))
+run_keeps : (events : List Event) (old new : Buyer) (items kept : List (List ℕ)) (t : ℕ) → Kept items old → Runs old items events new kept → HasEnded (phase_in (purchase_of old t))
     → purchase_of new t ≡ purchase_of old t
 run_keeps [] old new items kept t stands run over = ap (λ (b : Buyer). purchase_of b t) run.0
 run_keeps (Called call result next ∷ events) old new items kept t stands run over =
     let same : purchase_of next t ≡ purchase_of old t = call_keeps old next call result t run.0 over in
     run_keeps events next new (items ++ kept_of result) kept t (keeps_restarting old next call result items run.0 stands) run.1
-    (subst (λ (o : Option Purchase). IsOver (phase_in o)) (sym same) over) ∙ same
+    (subst (λ (o : Option Purchase). HasEnded (phase_in o)) (sym same) over) ∙ same
 run_keeps (Restarted next ∷ events) old new items kept t stands run over =
     let is : untold old ≡ next = buyer_is (untold old) next (sym stands ∙ run.0) in
     let same : purchase_of next t ≡ purchase_of old t = ap (λ (b : Buyer). purchase_of b t) (sym is) ∙ (ended_stays old t over).1 in
-    run_keeps events next new items kept t (again_kept old.wallet items next run.0).1 run.1 (subst (λ (o : Option Purchase). IsOver (phase_in o)) (sym same) over) ∙ same
+    run_keeps events next new items kept t (again_kept old.wallet items next run.0).1 run.1 (subst (λ (o : Option Purchase). HasEnded (phase_in o)) (sym same) over) ∙ same
 
 pub runs_keep_ended : RunsKeepEnded
 runs_keep_ended old items events new kept t stands run over = run_keeps events old new items kept t stands run over

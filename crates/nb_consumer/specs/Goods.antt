@@ -1,7 +1,8 @@
 -- What a consumer tells of a purchase.
-use Rattle.std.specs.Prelude.{ℕ, ◌-◌, List, length, codes, Option, Some, None}
+use Rattle.std.specs.Prelude.{◌≡◌, ℕ, ◌-◌, List, length, codes, Option, Some, None}
 use Rattle.nb_seal.specs.Seal.{text_in}
 use Rattle.nb_units.specs.declared.width.TheConstants.{SEAL}
+use Rattle.nb_goods.specs.Goods.{OpensTo}
 use Rattle.nb_msgs.specs.declared.node.End.{End}
 use Rattle.nb_msgs.specs.declared.node.End.TheVariants as end
 use Rattle.nb_consumer.specs.declared.phase.Phase.{Phase}
@@ -30,7 +31,7 @@ abbrev pub phase_in : Option Purchase → Option Phase
 phase_in (Some p) = Some (phase_of p.stage p.held)
 phase_in None = None
 
--- a purchase of this phase is known, and not over
+-- a purchase of this phase is known, and has not ended
 abbrev pub IsOpen : Option Phase → Type 0
 IsOpen (Some phase.Ticketing) = Unit {0}
 IsOpen (Some phase.Asked) = Unit {0}
@@ -38,12 +39,12 @@ IsOpen (Some phase.Wanted) = Unit {0}
 IsOpen (Some phase.Ordered) = Unit {0}
 IsOpen other = ⊥
 
--- it is over
-abbrev pub IsOver : Option Phase → Type 0
-IsOver (Some (phase.Paid len)) = Unit {0}
-IsOver (Some (phase.Refused code)) = Unit {0}
-IsOver (Some phase.Foul) = Unit {0}
-IsOver other = ⊥
+-- it has ended
+abbrev pub HasEnded : Option Phase → Type 0
+HasEnded (Some (phase.Paid len)) = Unit {0}
+HasEnded (Some (phase.Refused code)) = Unit {0}
+HasEnded (Some phase.Foul) = Unit {0}
+HasEnded other = ⊥
 
 -- the goods of a purchase that was paid
 abbrev pub goods_of : Stage → List ℕ → Option (List ℕ)
@@ -58,3 +59,13 @@ goods_at other = None
 abbrev pub goods_in : Option Purchase → Option (List ℕ)
 goods_in (Some p) = goods_of p.stage p.held
 goods_in None = None
+
+-- what is told as the goods: at a paid stage those that its key opens what is held to, and at any other none
+abbrev pub AreGoodsAt : Stage → List ℕ → Option (List ℕ) → Type 0
+AreGoodsAt (stage.Paid key) held told = (goods : List ℕ) × (told ≡ Some goods) × OpensTo key held goods
+AreGoodsAt other held told = told ≡ None
+
+-- so of a purchase, and none of one that is not known
+abbrev pub TellsGoods : Option Purchase → Option (List ℕ) → Type 0
+TellsGoods (Some p) told = AreGoodsAt p.stage p.held told
+TellsGoods None told = told ≡ None

@@ -34,12 +34,12 @@ use Rattle.nb_endorse.specs.Reading.{signed_of}
 use Rattle.nb_msgs.specs.declared.status.StatusText.{StatusText}
 use Rattle.nb_msgs.specs.StatusText.{text_of}
 use Rattle.nb_msgs.specs.declared.message.Message.TheVariants as message
-use Rattle.nb_wallet.specs.Tests.{opened}
+use Rattle.nb_msgs.specs.Tests.{opened}
 use Rattle.nb_wallet.specs.Messages.{ticket_request, payment}
 use Rattle.nb_consumer.specs.Table.{started, heard, silent, wanting_in, owing_in, receipt_fits, status_told, step_of, after}
 use Rattle.nb_consumer.specs.declared.phase.Phase.{Phase}
 use Rattle.nb_consumer.specs.declared.phase.Phase.TheVariants as phase
-use Rattle.nb_consumer.specs.Goods.{phase_of, phase_in, phase_at, IsOpen, IsOver, goods_in, goods_at}
+use Rattle.nb_consumer.specs.Goods.{phase_of, phase_in, phase_at, IsOpen, HasEnded, goods_in, goods_at}
 use Rattle.nb_consumer.specs.Known.{IsPriceWithin, OrderIsFor, AllSo}
 use Rattle.nb_wallet.specs.Reading.{item_of}
 use Rattle.nb_wallet.specs.Spelling.{item_bytes}
@@ -179,13 +179,13 @@ SilentMoves = (b : Buyer) (transaction : ℕ) → IsOpen (phase_in (purchase_of 
 
 -- a purchase that is over stays as it is, behind every row, and where the places that were told are forgotten
 abbrev pub EndedStays : Type 0
-EndedStays = (b : Buyer) (transaction : ℕ) → IsOver (phase_in (purchase_of b transaction))
+EndedStays = (b : Buyer) (transaction : ℕ) → HasEnded (phase_in (purchase_of b transaction))
     → ((call : Call) → purchase_of (after b (row_of b call)) transaction ≡ purchase_of b transaction) × (purchase_of (untold b) transaction ≡ purchase_of b transaction)
 
 -- so it does behind every list of calls, with restarts between them
 abbrev pub RunsKeepEnded : Type 0
 RunsKeepEnded = (old : Buyer) (items : List (List ℕ)) (events : List Event) (new : Buyer) (kept : List (List ℕ)) (transaction : ℕ) → Kept items old → Runs old items events new kept
-    → IsOver (phase_in (purchase_of old transaction)) → purchase_of new transaction ≡ purchase_of old transaction
+    → HasEnded (phase_in (purchase_of old transaction)) → purchase_of new transaction ≡ purchase_of old transaction
 
 -- ---- what items say
 

@@ -21,7 +21,8 @@ use Rattle.nb_consumer.specs.declared.rows.Wanting.{Wanting}
 use Rattle.nb_wallet.specs.Reading.{item_of}
 use Rattle.nb_consumer.specs.State.{Buyer, new_buyer, place_of, purchase_of, remembered}
 use Rattle.nb_wallet.specs.Messages.{price_request_of_start}
-use Rattle.nb_consumer.specs.Table.{is_ticketing, is_price, pass_of_asked, wanting_in, owing_in, is_same_epoid, part_fits, receipt_fits}
+use Rattle.nb_units.specs.Epoid.{is_same_epoid}
+use Rattle.nb_consumer.specs.Table.{is_ticketing, is_price, pass_of_asked, wanting_in, owing_in, part_fits, receipt_fits}
 
 -- ---- what may stand behind what is known
 
@@ -114,6 +115,10 @@ untold b = record b { purchases = map untold_purchase b.purchases }
 -- these are the items that a consumer kept: it is what one is that starts again with them, but for the places that it was told
 abbrev pub Kept : List (List ℕ) → Buyer → Type 0
 Kept items b = restarted b.wallet items ≡ Ok (untold b)
+
+-- there are items that it kept
+unfoldable pub HasKept : Buyer → Type 0
+HasKept b = (items : List (List ℕ)) × Kept items b
 
 -- the item that a step keeps, if it keeps one
 abbrev pub kept_in : Step → List (List ℕ)

@@ -3,6 +3,7 @@
 use Rattle.std.specs.Prelude.{ℕ, ◌+◌, ◌-◌, ◌==◌, ◌&&◌, nat_lt, nat_le, min, is_none, Bool, true, false, List, ◌++◌, codes, length, Option, Some, None, Result, Ok, Err, if◌then◌else◌}
 use Rattle.std.specs.Str.{bytes_eq}
 use Rattle.sha2.specs.Sha256.{sha256}
+use Rattle.nb_units.specs.Epoid.{is_same_epoid}
 use Rattle.nb_units.specs.Fields.{◌>>=◌}
 use Rattle.nb_units.specs.Epoid.{epoid_bytes}
 use Rattle.nb_units.specs.declared.ids.PartyId.{PartyId}
@@ -13,6 +14,7 @@ use Rattle.nb_body.specs.Reading.{quote_of, goods_head_of}
 use Rattle.nb_epo.specs.declared.order.Order.{Order}
 use Rattle.nb_endorse.specs.declared.receipt.Receipt.{Receipt}
 use Rattle.nb_endorse.specs.declared.receipt.Signed.{Signed}
+use Rattle.nb_endorse.specs.Differing.{first_difference}
 use Rattle.nb_endorse.specs.Reading.{signed_of}
 use Rattle.nb_ticket.specs.declared.granted.Granted.{Granted}
 use Rattle.nb_ticket.specs.Reading.{granted_of}
@@ -39,7 +41,7 @@ use Rattle.nb_consumer.specs.declared.deed.Deed.TheVariants as deed
 use Rattle.nb_wallet.specs.Spelling.{item_bytes}
 use Rattle.nb_wallet.specs.Stages.{end_of}
 use Rattle.nb_consumer.specs.State.{Buyer, place_of, purchase_of, ordered_with, changed, raised, remembered}
-use Rattle.nb_wallet.specs.Tests.{unless, field, found, opened}
+use Rattle.nb_msgs.specs.Tests.{unless, field, found, opened}
 use Rattle.nb_wallet.specs.Messages.{ticket_request, price_request, goods_request, payment, status_query, order_for}
 
 -- ---- a start: the number is not known. A ticket is asked for
@@ -97,9 +99,6 @@ quoted b transaction sealed = do
 abbrev pub wanting_in : Stage → Option Wanting
 wanting_in (stage.Wanted pass price head) = Some (record { pass = pass; price = price; head = head })
 wanting_in other = None
-
-abbrev pub is_same_epoid : Epoid → Epoid → Bool
-is_same_epoid p q = (p.merchant.0 == q.merchant.0) && (p.moment == q.moment) && (p.serial == q.serial)
 
 -- where parts are held, what was said of them passes this test
 abbrev pub agrees : (GoodsHead → Bool) → Option GoodsHead → Bool
@@ -159,13 +158,13 @@ abbrev pub owing_in : Stage → Option Owing
 owing_in (stage.Ordered pass order least) = Some (record { pass = pass; order = order; least = least })
 owing_in other = None
 
+-- no test failed, or the one of this number
+abbrev pub none_failed : Option ℕ → Result (Unit {0}) Reason
+none_failed None = Ok tt
+none_failed (Some n) = Err (reason.Field n)
+
 unfoldable pub receipt_fits : Order → Receipt → Result (Unit {0}) Reason
-receipt_fits o r = do
-  identifier ← field 1 (is_same_epoid r.epoid o.epoid)
-  consumer ← field 2 (r.consumer.0 == o.consumer.0)
-  merchant ← field 3 (r.merchant.0 == o.merchant.0)
-  product ← field 4 (r.product == o.product)
-  field 5 (r.price.0 == o.price.0)
+receipt_fits o r = none_failed (first_difference r o.epoid o.consumer o.merchant o.product o.price)
 
 unfoldable pub receipt_told : ℕ → Purchase → Owing → Signed → Result Deed Reason
 receipt_told transaction p o s = do

@@ -1,355 +1,138 @@
-ghost use Rattle.std.specs.Prelude.{◌≡◌, ◌≤◌, ◌<◌, ◌+◌, [], length, map, is_some, is_none, option_copied, slice_get, IfOk, IfErr, IfSome, OnOk, OnErr, Some, None, Ok};
-ghost use Rattle.indexmap.specs.IndexMap.{spare};
-ghost use Rattle.nb_consumer.specs.Deeds as deeds;
-ghost use Rattle.nb_wallet.specs.Changes as changes;
-ghost use Rattle.nb_consumer.specs.State as state;
-ghost use Rattle.nb_wallet.specs.Stages.{end_of};
+ghost use Rattle.std.specs.Prelude.{◌≡◌, ◌<◌, ◌^◌, length, map, IfOk};
+ghost use Rattle.nb_msgs.specs.Bodies.{MessageKeepsRules};
+ghost use Rattle.nb_consumer.specs.Deeds.{Answers, StepKeepsRules};
+ghost use Rattle.nb_consumer.specs.Goods.{goods_in, phase_in, TellsGoods};
+ghost use Rattle.nb_consumer.specs.Restart.{Restarts, HasKept};
+ghost use Rattle.nb_wallet.specs.Spelling.{StartKeepsRules};
+ghost use Rattle.nb_consumer.specs.State.{new_buyer, number_of, purchase_of};
 ghost use Rattle.nb_consumer.specs.Table as table;
-ghost use Rattle.nb_wallet.specs.Tests.{found};
-ghost use Rattle.nb_msgs.specs.declared.node.Reason.TheVariants.{Unknown};
-ghost use Rattle.nb_wallet.specs.declared.item.Item.TheVariants as items;
 
-use crate::deed::Deed;
-use indexmap::{IndexMap, IndexSet};
-use nb_body::GoodsHead;
-use nb_endorse::Signed;
-use nb_epo::Order;
-use nb_msgs::{End, Reason, Step};
-use nb_units::{Blob, Epoid, NoMemory, Price};
-use nb_wallet::{
-    Change, Held, Item, Purchase, Stage, Start, Wallet, ordered_from, raised_from, stage_ended,
-    wanted_from, with_head,
-};
+use crate::knowledge::Knowledge;
+use crate::phase::Phase;
+use nb_msgs::{Message, RestartFault, Step};
+use nb_units::width::SEAL;
+use nb_units::{Blob, NoMemory};
+use nb_wallet::{Stage, Start, Wallet};
 use std::alloc::Global;
 use std::marker::Model;
 
 /// A consumer: its wallet, and what its kept items say of each of its purchases. It is seen as these (`specs/State.antt`).
 #[derive(Drop)]
 pub struct Consumer {
-    alloc: Global,
-    wallet: Wallet,
-    // The number of each purchase, in their order.
-    numbers: IndexSet<u64>,
-    purchases: Vec<Purchase>,
-    // For the identifier of each order the number of the purchase that was ordered with it first.
-    orders: IndexMap<[u8; 16], u64>,
+    known: Knowledge,
 }
 
 impl Model for Consumer {
-    ghost use Rattle.std.specs.Prelude.{◌≡◌, map};
-    ghost use Rattle.std.specs.List.{AllByRecursion};
-    ghost use Rattle.nb_consumer.specs.State.{Buyer, number_of};
-    ghost use Rattle.nb_wallet.specs.Changes.{Sound};
+    ghost use Rattle.nb_consumer.specs.Restart.{HasKept};
+    ghost use Rattle.nb_consumer.specs.State.{Buyer};
 
     ghost Value = { Buyer };
 
-    ghost view = { λ c. record { wallet = c.wallet; purchases = c.purchases.items; orders = c.orders.entries } };
+    ghost view = { λ c. c.known };
 
-    ghost invariant = { λ c. record {
-      numbers : c.numbers.keys ≡ map number_of c.purchases.items;
-      sound : AllByRecursion Sound c.purchases.items;
-    } };
-}
-
-// An identifier that has no purchase gets this one.
-fn note(orders: &mut IndexMap<[u8; 16], u64>, epoid: &[u8; 16], transaction: u64)
-    requires { 0 < spare orders.old }
-    ensures { orders.new.entries ≡ state.noted orders.old.entries epoid.now transaction }
-{
-    if orders.get(epoid).is_none() {
-        let _was = orders.insert(*epoid, transaction).unwrap();
-    }
-}
-
-// Changes the purchase at a place. After want of memory all is as before.
-fn change_at(
-    purchases: &mut Vec<Purchase>,
-    at: usize,
-    stage: Stage,
-    parts: Change,
-) -> Result<(), NoMemory>
-    requires within { at < length purchases.old.items }
-    requires fits { IfSome (slice_get purchases.old.items at) (λ p. changes.ChangeFits p.held parts) }
-    ensures changed { OnOk result (purchases.new.items ≡ state.changed_at purchases.old.items (Some at) (changes.changed_to stage parts)) }
-    ensures err { OnErr result (purchases.new.items ≡ purchases.old.items) }
-{
-    purchases[at].change(stage, parts)
+    ghost invariant = { λ c. HasKept c.known };
 }
 
 impl Consumer {
     /// A consumer that has kept nothing. It takes no memory now.
     pub fn new(alloc: Global, wallet: Wallet) -> Consumer
-        ensures { result ≡ state.new_buyer wallet }
+        ensures { result ≡ new_buyer wallet }
     {
         Consumer {
-            alloc,
-            wallet,
-            numbers: IndexSet::new(alloc),
-            purchases: Vec::new(alloc),
-            orders: IndexMap::new(alloc),
+            known: Knowledge::new(alloc, wallet),
         }
+    }
+
+    /// A consumer that starts again with the items of its journal, fewer than 2^32. It answers [`RestartFault::BadItem`] at the first item that is not
+    /// the spelling of one that a row keeps behind the items before it, counted from 0 on. What it was told of the house's entries is not kept.
+    pub fn restart(alloc: Global, wallet: Wallet, items: &[Blob]) -> Result<Consumer, RestartFault>
+        requires { length items.now < 2 ^ 32 }
+        ensures { Restarts wallet items.now result }
+    {
+        let known = Knowledge::restart(alloc, wallet, items)?;
+        Ok(Consumer { known })
+    }
+
+    /// What this consumer knows is what it kept: there are items with which a [`restart`](Consumer::restart) gives it, but for the places that it was
+    /// told. So each law of a consumer that starts again with what it kept holds of it.
+    pub fn witness(&self)
+        ensures { HasKept self.now }
+    {
+        let _ = &self.known;
     }
 
     /// The number of each purchase, in the order in which they were started.
     pub fn numbers(&self) -> &[u64]
-        ensures { result.now ≡ map state.number_of self.now.purchases }
+        ensures { result.now ≡ map number_of self.now.purchases }
     {
-        self.numbers.as_slice()
+        self.known.numbers()
     }
 
-    // Its wallet.
-    pub(crate) fn wallet(&self) -> &Wallet
-        ensures { result.now ≡ self.now.wallet }
+    /// Starts a purchase: a ticket is asked for. The request and the memo have at most 64 bytes each. A number that is known is ignored
+    /// ([`Reason::State`](nb_msgs::Reason::State)).
+    pub fn start(&mut self, start: &Start) -> Result<Step, NoMemory>
+        requires { StartKeepsRules start.now }
+        // The row of the table; an ignored start changes nothing, and neither does want of memory.
+        ensures answers { Answers self.old self.new (table.started self.old start.now) result }
+
+        // A message that is sent can be written.
+        ensures lawful { IfOk result StepKeepsRules }
     {
-        &self.wallet
+        let deed = self.known.begin(start);
+        self.known.answer(deed)
     }
 
-    pub(crate) fn alloc(&self) -> Global {
-        self.alloc
+    /// Hears a message. Each of its texts has at most as many bytes as it may have, a role is one of the two, and an amount in its range.
+    pub fn on(&mut self, message: &Message) -> Result<Step, NoMemory>
+        requires { MessageKeepsRules message.now }
+        // The row of the table; an ignored message changes nothing, and neither does want of memory.
+        ensures answers { Answers self.old self.new (table.heard self.old message.now) result }
+
+        // A message that is sent can be written.
+        ensures lawful { IfOk result StepKeepsRules }
+    {
+        let deed = self.known.hear(message);
+        self.known.answer(deed)
     }
 
-    // The purchase of this number.
-    pub(crate) fn purchase_of(&self, transaction: u64) -> Option<&Purchase>
-        ensures found { option_copied result ≡ state.purchase_of self.now transaction }
-        ensures sound { IfSome result (λ p. changes.Sound p.now) }
+    /// Hears nothing of a purchase for long: its last message is sent again, and of an order the house is asked for the status.
+    pub fn quiet(&mut self, transaction: u64) -> Result<Step, NoMemory>
+        // The row of the table; nothing changes.
+        ensures answers { Answers self.old self.new (table.silent self.old transaction) result }
+
+        // A message that is sent can be written.
+        ensures lawful { IfOk result StepKeepsRules }
     {
-        let at = self.numbers.get_index_of(&transaction)?;
-        self.purchases.get(at)
+        let deed = self.known.wait(transaction);
+        self.known.answer(deed)
     }
 
-    // The same, or the reason for which a message of it is ignored.
-    pub(crate) fn known(&self, transaction: u64) -> Result<&Purchase, Reason>
-        ensures found { deeds.seen result ≡ found Unknown (state.purchase_of self.now transaction) }
-        ensures sound { IfOk result (λ p. changes.Sound p.now) }
+    /// How far the purchase of this number has come, or `None` where there is none.
+    pub fn state(&self, transaction: u64) -> Option<Phase>
+        ensures { result ≡ phase_in (purchase_of self.now transaction) }
     {
-        match self.purchase_of(transaction) {
-            Some(purchase) => Ok(purchase),
-            None => Err(Reason::Unknown),
-        }
+        let purchase = self.known.purchase_of(transaction)?;
+        Some(match purchase.stage {
+            Stage::Ticketing => Phase::Ticketing,
+            Stage::Asked { .. } => Phase::Asked,
+            Stage::Wanted { .. } => Phase::Wanted,
+            Stage::Ordered { .. } => Phase::Ordered,
+            Stage::Paid { .. } => Phase::Paid {
+                len: purchase.held.len().saturating_sub(SEAL as u64),
+            },
+            Stage::Refused { code } => Phase::Refused { code },
+            Stage::Foul => Phase::Foul,
+        })
     }
 
-    // Whether there is a purchase of this number.
-    pub(crate) fn is_new(&self, transaction: u64) -> bool
-        ensures { result ≡ is_none (state.place_of self.now.purchases transaction) }
-    {
-        self.numbers.get_index_of(&transaction).is_none()
-    }
+    /// The goods of the purchase of this number, where it was paid; else `None`. They are opened from the sealed bytes that are held.
+    pub fn goods(&self, transaction: u64) -> Result<Option<Blob>, NoMemory>
+        // The goods that are known.
+        ensures known { IfOk result (λ goods. goods ≡ goods_in (purchase_of self.now transaction)) }
 
-    // The number of the purchase that was ordered first with this identifier.
-    fn ordered_with(&self, epoid: &Epoid) -> Option<u64>
-        ensures { result ≡ state.ordered_with self.now.orders (state.epoid_bytes epoid.now) }
+        // A purchase that was paid has goods: those that were sealed to what is held, under the key of its receipt. No other has any.
+        ensures exact { IfOk result (TellsGoods (purchase_of self.now transaction)) }
     {
-        self.orders.get(&epoid.write()).copied()
-    }
-
-    // The same, or the reason for which a message of it is ignored.
-    pub(crate) fn ordered(&self, epoid: &Epoid) -> Result<u64, Reason>
-        ensures { result ≡ found Unknown (state.ordered_with self.now.orders (state.epoid_bytes epoid.now)) }
-    {
-        self.ordered_with(epoid).ok_or(Reason::Unknown)
-    }
-
-    // A purchase more. After want of memory all is as before.
-    fn add(&mut self, start: Start) -> Result<(), NoMemory>
-        requires { deeds.ItemFits self.old (items.Started start) }
-        ensures added { OnOk result (self.new ≡ state.remembered self.old (items.Started start)) }
-        ensures err { OnErr result (self.new ≡ self.old) }
-    {
-        self.purchases.reserve(1)?;
-        let _new = self.numbers.insert(start.transaction)?;
-        self.purchases.push_reserved(Purchase {
-            start,
-            stage: Stage::Ticketing,
-            held: Held::new(self.alloc),
-        });
-        Ok(())
-    }
-
-    // Changes the purchase of this number, if there is one. After want of memory all is as before.
-    fn change(&mut self, transaction: u64, stage: Stage, parts: Change) -> Result<(), NoMemory>
-        requires sound { changes.StageIsSound stage }
-        requires fits { IfSome (state.purchase_of self.old transaction) (λ p. changes.ChangeFits p.held parts) }
-        ensures changed { OnOk result (self.new ≡ record self.old { purchases = state.changed self.old.purchases transaction (changes.changed_to stage parts) }) }
-        ensures err { OnErr result (self.new ≡ self.old) }
-    {
-        match self.numbers.get_index_of(&transaction) {
-            Some(at) => change_at(&mut self.purchases, at, stage, parts),
-            None => Ok(()),
-        }
-    }
-
-    // Remembers an item. After want of memory all is as before.
-    pub(crate) fn remember(&mut self, item: Item) -> Result<(), NoMemory>
-        requires { deeds.ItemFits self.old item }
-        ensures remembered { OnOk result (self.new ≡ state.remembered self.old item) }
-        ensures err { OnErr result (self.new ≡ self.old) }
-    {
-        match item {
-            Item::Started(start) => self.add(start),
-            Item::Granted { transaction, pass } => {
-                self.change(transaction, Stage::Asked { pass }, Change::Same)
-            }
-            Item::Wanted { transaction, price } => self.price(transaction, price),
-            Item::Ordered {
-                transaction,
-                order,
-                part,
-            } => self.order(transaction, order, part),
-            Item::Ended {
-                transaction,
-                receipt,
-            } => self.close(transaction, &receipt),
-            Item::Part { head, part } => self.part(head, part),
-            Item::Forgotten { transaction } => self.forget(transaction),
-        }
-    }
-
-    // A price was quoted.
-    fn price(&mut self, transaction: u64, price: Price) -> Result<(), NoMemory>
-        ensures remembered { OnOk result (self.new ≡ state.remembered self.old (items.Wanted transaction price)) }
-        ensures err { OnErr result (self.new ≡ self.old) }
-    {
-        let Some(p) = self.purchase_of(transaction) else {
-            return Ok(());
-        };
-        let stage = wanted_from(&p.stage, price);
-        self.change(transaction, stage, Change::Same)
-    }
-
-    // A part came.
-    fn part(&mut self, head: GoodsHead, part: Blob) -> Result<(), NoMemory>
-        requires { deeds.ItemFits self.old (items.Part head part) }
-        ensures remembered { OnOk result (self.new ≡ state.remembered self.old (items.Part head part)) }
-        ensures err { OnErr result (self.new ≡ self.old) }
-    {
-        let transaction = head.transaction;
-        let Some(p) = self.purchase_of(transaction) else {
-            return Ok(());
-        };
-        let stage = with_head(&p.stage, Some(head));
-        self.change(transaction, stage, Change::More(part))
-    }
-
-    // The parts are forgotten.
-    fn forget(&mut self, transaction: u64) -> Result<(), NoMemory>
-        ensures remembered { OnOk result (self.new ≡ state.remembered self.old (items.Forgotten transaction)) }
-        ensures err { OnErr result (self.new ≡ self.old) }
-    {
-        let Some(p) = self.purchase_of(transaction) else {
-            return Ok(());
-        };
-        let stage = with_head(&p.stage, None);
-        self.change(transaction, stage, Change::Forgotten)
-    }
-
-    // The last part came, and the goods are ordered.
-    fn order(&mut self, transaction: u64, order: Order, part: Blob) -> Result<(), NoMemory>
-        requires { deeds.ItemFits self.old (items.Ordered transaction order part) }
-        ensures remembered { OnOk result (self.new ≡ state.remembered self.old (items.Ordered transaction order part)) }
-        ensures err { OnErr result (self.new ≡ self.old) }
-    {
-        let Some(purchase) = self.purchase_of(transaction) else {
-            unreachable!()
-        };
-        let stage = ordered_from(&purchase.stage, &order);
-        self.orders.reserve(1)?;
-        let Some(at) = self.numbers.get_index_of(&transaction) else {
-            unreachable!()
-        };
-        change_at(&mut self.purchases, at, stage, Change::More(part))?;
-        note(&mut self.orders, &order.epoid.write(), transaction);
-        Ok(())
-    }
-
-    // A receipt came.
-    fn close(&mut self, transaction: u64, receipt: &Signed) -> Result<(), NoMemory>
-        ensures remembered { OnOk result (self.new ≡ state.remembered self.old (items.Ended transaction receipt.now)) }
-        ensures err { OnErr result (self.new ≡ self.old) }
-    {
-        let Some(purchase) = self.purchase_of(transaction) else {
-            return Ok(());
-        };
-        let end = purchase.end(self.alloc, &receipt.receipt)?;
-        self.finish(transaction, receipt, &end)
-    }
-
-    // A receipt came, with which the purchase ends so. After want of memory all is as before.
-    pub(crate) fn finish(
-        &mut self,
-        transaction: u64,
-        receipt: &Signed,
-        end: &End,
-    ) -> Result<(), NoMemory>
-        requires { IfSome (state.purchase_of self.old transaction) (λ p. end.now ≡ end_of receipt.now.receipt p.held) }
-        ensures remembered { OnOk result (self.new ≡ state.remembered self.old (items.Ended transaction receipt.now)) }
-        ensures err { OnErr result (self.new ≡ self.old) }
-    {
-        let stage = stage_ended(&receipt.receipt, end);
-        self.change(transaction, stage, Change::Same)
-    }
-
-    // The house has at least so many entries. After want of memory all is as before.
-    fn raise(&mut self, transaction: u64, place: u64) -> Result<(), NoMemory>
-        ensures raised { OnOk result (self.new ≡ record self.old { purchases = state.changed self.old.purchases transaction (state.raised place) }) }
-        ensures err { OnErr result (self.new ≡ self.old) }
-    {
-        let Some(p) = self.purchase_of(transaction) else {
-            return Ok(());
-        };
-        let stage = raised_from(&p.stage, place);
-        self.change(transaction, stage, Change::Same)
-    }
-
-    // Does what a row says: what is kept is spelled and remembered.
-    pub(crate) fn carry_out(&mut self, deed: Deed) -> Result<Step, NoMemory>
-        requires { deeds.DeedFits self.old deed }
-        ensures told { IfOk result (λ step. step ≡ table.step_of (Ok deed)) }
-        ensures after { OnOk result (self.new ≡ table.after self.old (Ok deed)) }
-        ensures spelled { OnOk result (deeds.DeedIsSpelled deed) }
-        ensures lawful { IfOk result deeds.StepKeepsRules }
-        ensures err { OnErr result (self.new ≡ self.old) }
-    {
-        match deed {
-            Deed::Sends { to, message } => Ok(Step::Move {
-                keep: None,
-                to,
-                message,
-            }),
-            Deed::Hears {
-                transaction,
-                place,
-                to,
-                message,
-            } => {
-                self.raise(transaction, place)?;
-                Ok(Step::Move {
-                    keep: None,
-                    to,
-                    message,
-                })
-            }
-            Deed::Keeps { item, to, message } => {
-                let keep = item.spelled(self.alloc)?;
-                self.remember(item)?;
-                Ok(Step::Move {
-                    keep: Some(keep),
-                    to,
-                    message,
-                })
-            }
-            Deed::Ends {
-                transaction,
-                receipt,
-                end,
-            } => {
-                let item = Item::Ended {
-                    transaction,
-                    receipt,
-                };
-                let keep = item.spelled(self.alloc)?;
-                self.finish(transaction, &receipt, &end)?;
-                Ok(Step::Ended { keep, end })
-            }
-        }
+        self.known.goods(transaction)
     }
 }

@@ -1,4 +1,5 @@
 //! What holds of every row, of every end and of starting again. Each function here does nothing: its contract is the law.
+//! The laws of a consumer that starts again with what it kept hold of every consumer, by [`witness`](crate::Consumer::witness).
 
 ghost use Rattle.nb_consumer.specs.Laws as law;
 

@@ -8,14 +8,15 @@
 //! before it (`specs/Restart.antt`).
 //!
 //! What is kept, and what is known of one purchase, stands in `nb_wallet`. What holds of all rows and ends, and of starting again, is proved by the
-//! functions of [`laws`]. A purchase is found by its number, and an order by its identifier, without going through the others.
+//! functions of [`laws`]; those that ask for items that a consumer kept hold of every consumer ([`Consumer::witness`]). A purchase is found by its number,
+//! and an order by its identifier, without going through the others.
 //!
 //! Left to others: the journal, links, and when nothing was heard for long.
 #![tactic(auto)]
 
-mod calls;
 mod consumer;
 mod deed;
+mod knowledge;
 pub mod laws;
 mod phase;
 mod restart;

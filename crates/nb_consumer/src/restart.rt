@@ -9,7 +9,7 @@ ghost use Rattle.nb_wallet.specs.Spelling.{IsItem};
 ghost use Rattle.nb_consumer.specs.State.{purchase_of};
 ghost use Rattle.nb_wallet.specs.declared.item.Item.TheVariants as items;
 
-use crate::consumer::Consumer;
+use crate::knowledge::Knowledge;
 use crate::rows::{
     Owing, Wanting, asked, is_price, is_ticketing, ordered_as, part_fits, receipt_fits, wanted_as,
 };
@@ -121,7 +121,7 @@ fn order_follows(
         && len + part.len() as u64 <= MAX_SEALED as u64
 }
 
-impl Consumer {
+impl Knowledge {
     fn allows_grant(&self, transaction: u64) -> bool
         ensures { result ≡ again.holds_for (purchase_of self.now transaction) (λ p. is_ticketing p.stage) }
     {
@@ -227,20 +227,23 @@ impl Consumer {
         Ok(())
     }
 
-    /// A consumer that starts again with the items of its journal, fewer than 2^32. It answers [`RestartFault::BadItem`] at the first item that is not
-    /// the spelling of one that a row keeps behind the items before it, counted from 0 on. What it was told of the house's entries is not kept.
-    pub fn restart(alloc: Global, wallet: Wallet, items: &[Blob]) -> Result<Consumer, RestartFault>
+    // What is known behind the items of a journal, or the first that is bad.
+    pub(crate) fn restart(
+        alloc: Global,
+        wallet: Wallet,
+        items: &[Blob],
+    ) -> Result<Knowledge, RestartFault>
         requires { length items.now < 2 ^ 32 }
         ensures { again.Restarts wallet items.now result }
     {
-        let mut consumer = Consumer::new(alloc, wallet);
+        let mut known = Knowledge::new(alloc, wallet);
         for (i, item) in items.iter().enumerate() {
-            match consumer.recall(item.as_slice()) {
+            match known.recall(item.as_slice()) {
                 Ok(()) => {}
                 Err(RecallFault::Bad) => return Err(RestartFault::BadItem { item: i as u32 }),
                 Err(RecallFault::NoMemory) => return Err(RestartFault::NoMemory),
             }
         }
-        Ok(consumer)
+        Ok(known)
     }
 }

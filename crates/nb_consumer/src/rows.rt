@@ -14,20 +14,20 @@ ghost use Rattle.nb_consumer.specs.State.{purchase_of};
 ghost use Rattle.nb_consumer.specs.declared.deed.Halt.TheVariants as halts;
 ghost use Rattle.nb_msgs.specs.declared.node.Reason.TheVariants as reasons;
 ghost use Rattle.nb_consumer.specs.Table as table;
-ghost use Rattle.nb_wallet.specs.Tests as tests;
+ghost use Rattle.nb_units.specs.Epoid.{is_same_epoid};
+ghost use Rattle.nb_msgs.specs.Tests as tests;
 
-use crate::consumer::Consumer;
 use crate::deed::{Deed, Halt};
+use crate::knowledge::Knowledge;
 use nb_body::GoodsHead;
 use nb_endorse::{Receipt, Signed};
 use nb_epo::Order;
 use nb_goods::{MAX_SEALED, PART_BYTES};
-use nb_msgs::{Message, Reason, To};
+use nb_msgs::{Message, Reason, To, open_receipt};
 use nb_units::{Blob, PartyId, Price};
 use nb_wallet::{
     Item, Purchase, SessionTicket, Stage, Start, goods_request, open_granted, open_head,
-    open_quote, open_receipt, open_status, order_for, payment, price_request, status_query,
-    ticket_request,
+    open_quote, open_status, order_for, payment, price_request, status_query, ticket_request,
 };
 
 // What is asked for holds, or this is why not.
@@ -134,7 +134,7 @@ fn price_quoted(start: &Start, pass: &SessionTicket, sealed: &[u8]) -> Result<Pr
 
 // Whether what is said of a part agrees with what was said of those that are held, where parts are held.
 fn is_held_epoid(held: &Option<GoodsHead>, head: &GoodsHead) -> bool
-    ensures { result ≡ table.agrees (λ k. table.is_same_epoid head.now.epoid k.epoid) held.now }
+    ensures { result ≡ table.agrees (λ k. is_same_epoid head.now.epoid k.epoid) held.now }
 {
     match held {
         Some(known) => head.epoid == known.epoid,
@@ -215,16 +215,21 @@ fn head_told(
 pub(crate) fn receipt_fits(order: &Order, receipt: &Receipt) -> Result<(), Reason>
     ensures { result ≡ table.receipt_fits order.now receipt.now }
 {
-    field(1, receipt.epoid == order.epoid)?;
-    field(2, receipt.consumer == order.consumer)?;
-    field(3, receipt.merchant == order.merchant)?;
-    field(4, receipt.product == order.product)?;
-    field(5, receipt.price == order.price)
+    match receipt.first_difference(
+        &order.epoid,
+        order.consumer,
+        order.merchant,
+        order.product,
+        order.price,
+    ) {
+        None => Ok(()),
+        Some(n) => Err(Reason::Field(n)),
+    }
 }
 
 // ---- rows
 
-impl Consumer {
+impl Knowledge {
     // A start.
     #[tactic(auto, unfolding(crate::specs::Table::started))]
     pub(crate) fn begin(&self, start: &Start) -> Result<Deed, Halt>

@@ -2,7 +2,7 @@ use Rattle.std.proofs.Common.{◌∙◌, sym}
 use Rattle.nb_msgs.specs.declared.node.Reason.TheVariants.{Unknown}
 use Rattle.nb_consumer.specs.State.{purchase_of}
 use Rattle.nb_consumer.proofs.Purchases.{found_number, found_some}
-use Rattle.nb_consumer.proofs.consumer.Consumer.hear_goods.Goals as goal
+use Rattle.nb_consumer.proofs.knowledge.Knowledge.hear_goods.Goals as goal
 
 pub take-requires-clause-number : goal.take-requires-clause-number
 take-requires-clause-number c =

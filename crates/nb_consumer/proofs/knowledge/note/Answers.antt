@@ -1,5 +1,5 @@
 use Rattle.nb_consumer.proofs.Purchases.{noted_new, on_ok}
-use Rattle.nb_consumer.proofs.consumer.note.Goals as goal
+use Rattle.nb_consumer.proofs.knowledge.note.Goals as goal
 
 pub returns-then-is_none : goal.returns-then-is_none
 returns-then-is_none c =

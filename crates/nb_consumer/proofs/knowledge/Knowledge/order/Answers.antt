@@ -3,7 +3,7 @@ use Rattle.nb_wallet.specs.declared.purchase.Change.TheVariants.{More}
 use Rattle.std.specs.Prelude.{position, nat_eq}
 use Rattle.nb_consumer.specs.State.{Buyer, place_of, purchase_of, noted}
 use Rattle.nb_consumer.proofs.Purchases.{change_keeps, order_so}
-use Rattle.nb_consumer.proofs.consumer.Consumer.order.Goals as goal
+use Rattle.nb_consumer.proofs.knowledge.Knowledge.order.Goals as goal
 
 pub invariant_of-self-2 : goal.invariant_of-self-2
 invariant_of-self-2 c =

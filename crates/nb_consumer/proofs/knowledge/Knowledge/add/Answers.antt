@@ -1,7 +1,7 @@
 use Rattle.std.proofs.Common.{◌≡◌, None, sym, subst}
 use Rattle.nb_consumer.specs.State.{Buyer, place_of, fresh}
 use Rattle.nb_consumer.proofs.Purchases.{add_keeps, pushed_so}
-use Rattle.nb_consumer.proofs.consumer.Consumer.add.Goals as goal
+use Rattle.nb_consumer.proofs.knowledge.Knowledge.add.Goals as goal
 
 pub invariant_of-self-2 : goal.invariant_of-self-2
 invariant_of-self-2 c =

@@ -1,5 +1,5 @@
 use Rattle.nb_consumer.proofs.Purchases.{change_keeps}
-use Rattle.nb_consumer.proofs.consumer.Consumer.change.Goals as goal
+use Rattle.nb_consumer.proofs.knowledge.Knowledge.change.Goals as goal
 
 pub invariant_of-self : goal.invariant_of-self
 invariant_of-self c =

@@ -1,0 +1,382 @@
+ghost use Rattle.std.specs.Prelude.{◌≡◌, ◌≤◌, ◌<◌, ◌+◌, [], length, map, is_some, is_none, option_copied, slice_get, IfOk, IfErr, IfSome, OnOk, OnErr, Some, None, Ok};
+ghost use Rattle.indexmap.specs.IndexMap.{spare};
+ghost use Rattle.nb_consumer.specs.Deeds as deeds;
+ghost use Rattle.nb_consumer.specs.Goods.{goods_in};
+ghost use Rattle.nb_wallet.specs.Changes as changes;
+ghost use Rattle.nb_consumer.specs.State as state;
+ghost use Rattle.nb_wallet.specs.Stages.{end_of};
+ghost use Rattle.nb_consumer.specs.Table as table;
+ghost use Rattle.nb_msgs.specs.Tests.{found};
+ghost use Rattle.nb_msgs.specs.declared.node.Reason.TheVariants.{Unknown};
+ghost use Rattle.nb_wallet.specs.declared.item.Item.TheVariants as items;
+
+use crate::deed::{Deed, Halt};
+use indexmap::{IndexMap, IndexSet};
+use nb_body::GoodsHead;
+use nb_endorse::Signed;
+use nb_epo::Order;
+use nb_msgs::{End, Reason, Step};
+use nb_units::{Blob, Epoid, NoMemory, Price};
+use nb_wallet::{
+    Change, Held, Item, Purchase, Stage, Start, Wallet, ordered_from, raised_from, stage_ended,
+    wanted_from, with_head,
+};
+use std::alloc::Global;
+use std::marker::Model;
+
+// What a consumer knows: its wallet, and what its kept items say of each of its purchases. It is seen as these (`specs/State.antt`).
+#[derive(Drop)]
+pub(crate) struct Knowledge {
+    alloc: Global,
+    wallet: Wallet,
+    // The number of each purchase, in their order.
+    numbers: IndexSet<u64>,
+    purchases: Vec<Purchase>,
+    // For the identifier of each order the number of the purchase that was ordered with it first.
+    orders: IndexMap<[u8; 16], u64>,
+}
+
+impl Model for Knowledge {
+    ghost use Rattle.std.specs.Prelude.{◌≡◌, map};
+    ghost use Rattle.std.specs.List.{AllByRecursion};
+    ghost use Rattle.nb_consumer.specs.State.{Buyer, number_of};
+    ghost use Rattle.nb_wallet.specs.Changes.{Sound};
+
+    ghost Value = { Buyer };
+
+    ghost view = { λ c. record { wallet = c.wallet; purchases = c.purchases.items; orders = c.orders.entries } };
+
+    ghost invariant = { λ c. record {
+      numbers : c.numbers.keys ≡ map number_of c.purchases.items;
+      sound : AllByRecursion Sound c.purchases.items;
+    } };
+}
+
+// An identifier that has no purchase gets this one.
+fn note(orders: &mut IndexMap<[u8; 16], u64>, epoid: &[u8; 16], transaction: u64)
+    requires { 0 < spare orders.old }
+    ensures { orders.new.entries ≡ state.noted orders.old.entries epoid.now transaction }
+{
+    if orders.get(epoid).is_none() {
+        let _was = orders.insert(*epoid, transaction).unwrap();
+    }
+}
+
+// Changes the purchase at a place. After want of memory all is as before.
+fn change_at(
+    purchases: &mut Vec<Purchase>,
+    at: usize,
+    stage: Stage,
+    parts: Change,
+) -> Result<(), NoMemory>
+    requires within { at < length purchases.old.items }
+    requires fits { IfSome (slice_get purchases.old.items at) (λ p. changes.ChangeFits p.held parts) }
+    ensures changed { OnOk result (purchases.new.items ≡ state.changed_at purchases.old.items (Some at) (changes.changed_to stage parts)) }
+    ensures err { OnErr result (purchases.new.items ≡ purchases.old.items) }
+{
+    purchases[at].change(stage, parts)
+}
+
+impl Knowledge {
+    // Nothing was kept. It takes no memory now.
+    pub(crate) fn new(alloc: Global, wallet: Wallet) -> Knowledge
+        ensures { result ≡ state.new_buyer wallet }
+    {
+        Knowledge {
+            alloc,
+            wallet,
+            numbers: IndexSet::new(alloc),
+            purchases: Vec::new(alloc),
+            orders: IndexMap::new(alloc),
+        }
+    }
+
+    // The number of each purchase, in the order in which they were started.
+    pub(crate) fn numbers(&self) -> &[u64]
+        ensures { result.now ≡ map state.number_of self.now.purchases }
+    {
+        self.numbers.as_slice()
+    }
+
+    // Its wallet.
+    pub(crate) fn wallet(&self) -> &Wallet
+        ensures { result.now ≡ self.now.wallet }
+    {
+        &self.wallet
+    }
+
+    pub(crate) fn alloc(&self) -> Global {
+        self.alloc
+    }
+
+    // The purchase of this number.
+    pub(crate) fn purchase_of(&self, transaction: u64) -> Option<&Purchase>
+        ensures found { option_copied result ≡ state.purchase_of self.now transaction }
+        ensures sound { IfSome result (λ p. changes.Sound p.now) }
+    {
+        let at = self.numbers.get_index_of(&transaction)?;
+        self.purchases.get(at)
+    }
+
+    // The same, or the reason for which a message of it is ignored.
+    pub(crate) fn known(&self, transaction: u64) -> Result<&Purchase, Reason>
+        ensures found { deeds.seen result ≡ found Unknown (state.purchase_of self.now transaction) }
+        ensures sound { IfOk result (λ p. changes.Sound p.now) }
+    {
+        match self.purchase_of(transaction) {
+            Some(purchase) => Ok(purchase),
+            None => Err(Reason::Unknown),
+        }
+    }
+
+    // Whether there is a purchase of this number.
+    pub(crate) fn is_new(&self, transaction: u64) -> bool
+        ensures { result ≡ is_none (state.place_of self.now.purchases transaction) }
+    {
+        self.numbers.get_index_of(&transaction).is_none()
+    }
+
+    // The number of the purchase that was ordered first with this identifier.
+    fn ordered_with(&self, epoid: &Epoid) -> Option<u64>
+        ensures { result ≡ state.ordered_with self.now.orders (state.epoid_bytes epoid.now) }
+    {
+        self.orders.get(&epoid.write()).copied()
+    }
+
+    // The same, or the reason for which a message of it is ignored.
+    pub(crate) fn ordered(&self, epoid: &Epoid) -> Result<u64, Reason>
+        ensures { result ≡ found Unknown (state.ordered_with self.now.orders (state.epoid_bytes epoid.now)) }
+    {
+        self.ordered_with(epoid).ok_or(Reason::Unknown)
+    }
+
+    // A purchase more. After want of memory all is as before.
+    fn add(&mut self, start: Start) -> Result<(), NoMemory>
+        requires { deeds.ItemFits self.old (items.Started start) }
+        ensures added { OnOk result (self.new ≡ state.remembered self.old (items.Started start)) }
+        ensures err { OnErr result (self.new ≡ self.old) }
+    {
+        self.purchases.reserve(1)?;
+        let _new = self.numbers.insert(start.transaction)?;
+        self.purchases.push_reserved(Purchase {
+            start,
+            stage: Stage::Ticketing,
+            held: Held::new(self.alloc),
+        });
+        Ok(())
+    }
+
+    // Changes the purchase of this number, if there is one. After want of memory all is as before.
+    fn change(&mut self, transaction: u64, stage: Stage, parts: Change) -> Result<(), NoMemory>
+        requires sound { changes.StageIsSound stage }
+        requires fits { IfSome (state.purchase_of self.old transaction) (λ p. changes.ChangeFits p.held parts) }
+        ensures changed { OnOk result (self.new ≡ record self.old { purchases = state.changed self.old.purchases transaction (changes.changed_to stage parts) }) }
+        ensures err { OnErr result (self.new ≡ self.old) }
+    {
+        match self.numbers.get_index_of(&transaction) {
+            Some(at) => change_at(&mut self.purchases, at, stage, parts),
+            None => Ok(()),
+        }
+    }
+
+    // Remembers an item. After want of memory all is as before.
+    pub(crate) fn remember(&mut self, item: Item) -> Result<(), NoMemory>
+        requires { deeds.ItemFits self.old item }
+        ensures remembered { OnOk result (self.new ≡ state.remembered self.old item) }
+        ensures err { OnErr result (self.new ≡ self.old) }
+    {
+        match item {
+            Item::Started(start) => self.add(start),
+            Item::Granted { transaction, pass } => {
+                self.change(transaction, Stage::Asked { pass }, Change::Same)
+            }
+            Item::Wanted { transaction, price } => self.price(transaction, price),
+            Item::Ordered {
+                transaction,
+                order,
+                part,
+            } => self.order(transaction, order, part),
+            Item::Ended {
+                transaction,
+                receipt,
+            } => self.close(transaction, &receipt),
+            Item::Part { head, part } => self.part(head, part),
+            Item::Forgotten { transaction } => self.forget(transaction),
+        }
+    }
+
+    // A price was quoted.
+    fn price(&mut self, transaction: u64, price: Price) -> Result<(), NoMemory>
+        ensures remembered { OnOk result (self.new ≡ state.remembered self.old (items.Wanted transaction price)) }
+        ensures err { OnErr result (self.new ≡ self.old) }
+    {
+        let Some(p) = self.purchase_of(transaction) else {
+            return Ok(());
+        };
+        let stage = wanted_from(&p.stage, price);
+        self.change(transaction, stage, Change::Same)
+    }
+
+    // A part came.
+    fn part(&mut self, head: GoodsHead, part: Blob) -> Result<(), NoMemory>
+        requires { deeds.ItemFits self.old (items.Part head part) }
+        ensures remembered { OnOk result (self.new ≡ state.remembered self.old (items.Part head part)) }
+        ensures err { OnErr result (self.new ≡ self.old) }
+    {
+        let transaction = head.transaction;
+        let Some(p) = self.purchase_of(transaction) else {
+            return Ok(());
+        };
+        let stage = with_head(&p.stage, Some(head));
+        self.change(transaction, stage, Change::More(part))
+    }
+
+    // The parts are forgotten.
+    fn forget(&mut self, transaction: u64) -> Result<(), NoMemory>
+        ensures remembered { OnOk result (self.new ≡ state.remembered self.old (items.Forgotten transaction)) }
+        ensures err { OnErr result (self.new ≡ self.old) }
+    {
+        let Some(p) = self.purchase_of(transaction) else {
+            return Ok(());
+        };
+        let stage = with_head(&p.stage, None);
+        self.change(transaction, stage, Change::Forgotten)
+    }
+
+    // The last part came, and the goods are ordered.
+    fn order(&mut self, transaction: u64, order: Order, part: Blob) -> Result<(), NoMemory>
+        requires { deeds.ItemFits self.old (items.Ordered transaction order part) }
+        ensures remembered { OnOk result (self.new ≡ state.remembered self.old (items.Ordered transaction order part)) }
+        ensures err { OnErr result (self.new ≡ self.old) }
+    {
+        let Some(purchase) = self.purchase_of(transaction) else {
+            unreachable!()
+        };
+        let stage = ordered_from(&purchase.stage, &order);
+        self.orders.reserve(1)?;
+        let Some(at) = self.numbers.get_index_of(&transaction) else {
+            unreachable!()
+        };
+        change_at(&mut self.purchases, at, stage, Change::More(part))?;
+        note(&mut self.orders, &order.epoid.write(), transaction);
+        Ok(())
+    }
+
+    // A receipt came.
+    fn close(&mut self, transaction: u64, receipt: &Signed) -> Result<(), NoMemory>
+        ensures remembered { OnOk result (self.new ≡ state.remembered self.old (items.Ended transaction receipt.now)) }
+        ensures err { OnErr result (self.new ≡ self.old) }
+    {
+        let Some(purchase) = self.purchase_of(transaction) else {
+            return Ok(());
+        };
+        let end = purchase.end(self.alloc, &receipt.receipt)?;
+        self.finish(transaction, receipt, &end)
+    }
+
+    // A receipt came, with which the purchase ends so. After want of memory all is as before.
+    pub(crate) fn finish(
+        &mut self,
+        transaction: u64,
+        receipt: &Signed,
+        end: &End,
+    ) -> Result<(), NoMemory>
+        requires { IfSome (state.purchase_of self.old transaction) (λ p. end.now ≡ end_of receipt.now.receipt p.held) }
+        ensures remembered { OnOk result (self.new ≡ state.remembered self.old (items.Ended transaction receipt.now)) }
+        ensures err { OnErr result (self.new ≡ self.old) }
+    {
+        let stage = stage_ended(&receipt.receipt, end);
+        self.change(transaction, stage, Change::Same)
+    }
+
+    // The house has at least so many entries. After want of memory all is as before.
+    fn raise(&mut self, transaction: u64, place: u64) -> Result<(), NoMemory>
+        ensures raised { OnOk result (self.new ≡ record self.old { purchases = state.changed self.old.purchases transaction (state.raised place) }) }
+        ensures err { OnErr result (self.new ≡ self.old) }
+    {
+        let Some(p) = self.purchase_of(transaction) else {
+            return Ok(());
+        };
+        let stage = raised_from(&p.stage, place);
+        self.change(transaction, stage, Change::Same)
+    }
+
+    // Does what a row says: what is kept is spelled and remembered.
+    pub(crate) fn carry_out(&mut self, deed: Deed) -> Result<Step, NoMemory>
+        requires { deeds.DeedFits self.old deed }
+        ensures told { IfOk result (λ step. step ≡ table.step_of (Ok deed)) }
+        ensures after { OnOk result (self.new ≡ table.after self.old (Ok deed)) }
+        ensures spelled { OnOk result (deeds.DeedIsSpelled deed) }
+        ensures lawful { IfOk result deeds.StepKeepsRules }
+        ensures err { OnErr result (self.new ≡ self.old) }
+    {
+        match deed {
+            Deed::Sends { to, message } => Ok(Step::Move {
+                keep: None,
+                to,
+                message,
+            }),
+            Deed::Hears {
+                transaction,
+                place,
+                to,
+                message,
+            } => {
+                self.raise(transaction, place)?;
+                Ok(Step::Move {
+                    keep: None,
+                    to,
+                    message,
+                })
+            }
+            Deed::Keeps { item, to, message } => {
+                let keep = item.spelled(self.alloc)?;
+                self.remember(item)?;
+                Ok(Step::Move {
+                    keep: Some(keep),
+                    to,
+                    message,
+                })
+            }
+            Deed::Ends {
+                transaction,
+                receipt,
+                end,
+            } => {
+                let item = Item::Ended {
+                    transaction,
+                    receipt,
+                };
+                let keep = item.spelled(self.alloc)?;
+                self.finish(transaction, &receipt, &end)?;
+                Ok(Step::Ended { keep, end })
+            }
+        }
+    }
+
+    // The step of what a row gives.
+    pub(crate) fn answer(&mut self, deed: Result<Deed, Halt>) -> Result<Step, NoMemory>
+        requires { IfOk deed (deeds.DeedFits self.old) }
+        ensures answers { deeds.AnswersRow self.old self.new deed result }
+        ensures lawful { IfOk result deeds.StepKeepsRules }
+    {
+        match deed {
+            Ok(deed) => self.carry_out(deed),
+            Err(Halt::Ignored(why)) => Ok(Step::Ignored(why)),
+            Err(Halt::NoMemory) => Err(NoMemory),
+        }
+    }
+
+    // The goods of a purchase that was paid, opened from what is held.
+    pub(crate) fn goods(&self, transaction: u64) -> Result<Option<Blob>, NoMemory>
+        ensures { IfOk result (λ goods. goods ≡ goods_in (state.purchase_of self.now transaction)) }
+    {
+        let Some(purchase) = self.purchase_of(transaction) else {
+            return Ok(None);
+        };
+        match &purchase.stage {
+            Stage::Paid { key } => purchase.held.open(self.alloc, key),
+            _ => Ok(None),
+        }
+    }
+}
