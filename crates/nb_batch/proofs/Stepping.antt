@@ -13,7 +13,7 @@ use Rattle.nb_frame.specs.declared.stream.FrameAt.{FrameAt}
 use Rattle.nb_turns.specs.declared.limits.TheConstants.{MAX_FAULTS}
 use Rattle.nb_turns.specs.declared.mark.Mark.{Mark}
 use Rattle.nb_turns.specs.declared.mark.Mark.TheVariants.{At, Fault, Worn}
-use Rattle.nb_turns.specs.Turns.{Request, House, State, Outcome, Decides, Fails, Refuses, answered as answered_by}
+use Rattle.nb_turns.specs.Turns.{Request, House, State, Outcome, Decides, Fails, Refuses, answered as answered_by, recorded, replies}
 use Rattle.nb_turns.specs.Laws.{TurnOfOne, one_answer}
 use Rattle.nb_turns.proofs.Single.{one_is_turn}
 use Rattle.nb_vault.specs.declared.answer.AnswerAll.TheVariants as answers
@@ -21,17 +21,17 @@ use Rattle.nb_vault.specs.Asking.{request_of}
 use Rattle.nb_journal.proofs.Moments.{started}
 use Rattle.nb_journal.specs.Time.{LeavesOnly}
 use Rattle.nb_vault.proofs.Resting.{leaves_more}
+use Rattle.nb_vault.specs.Sending.{MaySend, StandsTold}
 use Rattle.nb_vault.specs.Vaults.{Chronicled, Keeps, IsDurable, StandsForState, Went, state_of, entries_in, house_in, TurnOf, FaultWithin}
 use Rattle.nb_vault.specs.declared.origin.Origin.{Origin}
 use Rattle.nb_vault.specs.Rules.{house_of, refused}
 use Rattle.nb_escrow.specs.Head.{head_of}
 use Rattle.nb_book.specs.declared.entry.Entry.{Entry}
-use Rattle.std.proofs.Math.Seq.{take-append_seam}
 use Rattle.nb_batch.specs.declared.batch.BatchEnd.{BatchEnd}
 use Rattle.nb_batch.specs.declared.batch.BatchEnd.TheVariants.{Clean, Cut, BadFrame, ReadFault, WriteFault, NoMemory as Starved, FrameLimit}
 use Rattle.nb_batch.specs.declared.batch.Step.TheVariants as step
 use Rattle.nb_batch.specs.Fetch.{Reads, AheadAs, EndsAs, IsReadEnd}
-use Rattle.nb_batch.specs.Batch.{MaySend, AnswersWith, failure_in_mark, Outside, Stepped, StepIs, FaultOf}
+use Rattle.nb_batch.specs.Batch.{AnswersWith, failure_in_mark, Outside, Stepped, StepIs, FaultOf}
 
 -- ---- where nothing is done
 
@@ -87,26 +87,25 @@ module _ {D : Type 0} (tells : DiskTells D) (old new : Chronicled D) (by : ℕ) 
       answers_with Worn (refused WORN MAX_FAULTS 0) sent (one_turn Refuses [] out out' Worn (refused WORN MAX_FAULTS 0) is.1 refl) rises
       (put ∙ ap (λ (xs : List ℕ). xs ++ refused WORN count 0) (is.1.out_is ∙ append-nil out ∙ none) ∙ ap (λ (n : ℕ). refused WORN n 0) is.0)
 
--- a decided reply may be sent
-pub may_send : {D : Type 0} (tells : DiskTells D) (old new : Chronicled D) (by : ℕ) (request : Request) (out sent : List ℕ) (place : ℕ) → out ≡ [] → new.origin ≡ old.origin → IsDurable tells new
-    → TurnOf tells old new by (request ∷ []) (place ∷ []) out sent answers.Answered → MaySend tells new sent
-may_send tells old new by request out sent place none same durable is =
-    let d = (decided_at tells old new by request is.0 out sent place is.1).1 in
-    let house : house_in old ≡ house_in new = ap (λ (o : Origin). house_of (head_of o.head) o.cap) (sym same) in
-    let entries : entries_in new ≡ d.over ++ option_to_list ((house_in old).rules d.over request).entry = ap (λ (s : State). s.entries) d.left in
-    let front : d.over ≡ take place (entries_in new) =
-    sym (ap (take place) entries ∙ ap (λ (n : ℕ). take n (d.over ++ option_to_list ((house_in old).rules d.over request).entry)) d.at ∙ take-append_seam d.over (option_to_list ((house_in old).rules d.over request).entry)) in
-    let T : House → List Entry → Type 0 = λ h over. sent ≡ (h.rules over request).reply in
-    let R : House → List Entry → Type 0 = λ h over. entries_in new ≡ over ++ option_to_list (h.rules over request).entry in
-    inl (
-      durable,
+  -- what was decided may be sent, and so may each of the two refusals
+  pub may_send : (out sent : List ℕ) (place : ℕ) → out ≡ [] → new.origin ≡ old.origin → IsDurable tells new → TurnOf tells old new by (request ∷ []) (place ∷ []) out sent answers.Answered → MaySend tells new sent
+  may_send out sent place none same durable is =
+      let house : house_in old ≡ house_in new = ap (λ (o : Origin). house_of (head_of o.head) o.cap) (sym same) in
       record {
-        request = request;
-        place = place;
-        told = subst (T (house_in new)) front (subst (λ h. T h d.over) house (sent_is tells old new by request is.0 out sent (place ∷ []) none is.1 ∙ d.told));
-        recorded = subst (R (house_in new)) front (subst (λ h. R h d.over) house entries);
-      },
-    )
+        requests = request ∷ [];
+        outcome = Decides is.0;
+        sent_is = is.1.out_is ∙ ap (λ (xs : List ℕ). xs ++ replies (answered_by (house_in old) (request ∷ []) (Decides is.0))) none ∙ ap (λ (h : House). replies (answered_by h (request ∷ []) (Decides is.0))) house;
+        told = (durable, ap (λ (s : State). s.entries) is.1.turn.2 ∙ ap (λ (h : House). is.0 ++ recorded h is.0 (request ∷ [])) house);
+      }
+
+  pub may_refuse : (outcome : Outcome) (out out' sent reply : List ℕ) → out ≡ [] → Went tells old new by (request ∷ []) outcome [] out out' → out' ≡ out ++ [] → sent ≡ out' ++ reply
+      → reply ++ [] ≡ replies (answered_by (house_in new) (request ∷ []) outcome) → StandsTold tells new (request ∷ []) outcome → MaySend tells new sent
+  may_refuse outcome out out' sent reply none went nothing put is told = record {
+    requests = request ∷ [];
+    outcome = outcome;
+    sent_is = put ∙ ap (λ (xs : List ℕ). xs ++ reply) (nothing ∙ append-nil out ∙ none) ∙ sym (append-nil reply) ∙ is;
+    told = told;
+  }
 
 -- ---- one step
 

@@ -11,14 +11,12 @@ use Rattle.nb_frame.specs.State.{Collected, waiting}
 use Rattle.nb_frame.specs.declared.stream.TheConstants.{MAX_PIECE}
 use Rattle.nb_journal.specs.Time.{LeavesOnly}
 use Rattle.nb_book.specs.declared.entry.Entry.{Entry}
-use Rattle.nb_endorse.specs.declared.refusal.TheConstants.{DISK_FAULT, WORN}
 use Rattle.nb_turns.specs.declared.mark.Mark.{Mark}
 use Rattle.nb_turns.specs.declared.mark.Mark.TheVariants.{At, Fault}
 use Rattle.nb_turns.specs.Turns.{Request, State, Answered, last_state, IsStateOf, replies}
 use Rattle.nb_turns.specs.Laws.{TurnOfOne, RunOfOnes}
 use Rattle.nb_vault.specs.Holdings.{StandsForEither}
-use Rattle.nb_vault.specs.Rules.{refused}
-use Rattle.nb_vault.specs.Vaults.{Chronicled, state_of, entries_in, house_in, IsDurable}
+use Rattle.nb_vault.specs.Vaults.{Chronicled, state_of, house_in}
 use Rattle.nb_batch.specs.declared.batch.TheConstants.{MOST_FRAMES}
 use Rattle.nb_batch.specs.declared.batch.BatchEnd.{BatchEnd}
 use Rattle.nb_batch.specs.declared.batch.BatchEnd.TheVariants.{ReadFault, WriteFault, NoMemory, FrameLimit}
@@ -102,22 +100,6 @@ pub record AnswersWith {D : Type 0} (tells : DiskTells D) (old new : Chronicled 
   pub mark : Mark
   pub turn : TurnOfOne (house_in old) (state_of old) request mark reply (state_of new)
   pub backed : Backed (tells.faults old.disk) (option_to_list (failure_in_mark mark)) (tells.faults new.disk)
-
--- the reply is the refusal of a request that was not decided
-abbrev pub IsUndecided : List ℕ → Type 0
-IsUndecided reply = (a b : ℕ) × ((reply ≡ refused DISK_FAULT a b) ⊎ (reply ≡ refused WORN a b))
-
--- the reply is the verdict's on a request over the entries that stand before a place, and what the verdict records stands there
-pub record IsRecorded {D : Type 0} (house : Chronicled D) (reply : List ℕ) : Type 0 where
-  pub request : Request
-  pub place : ℕ
-  pub told : reply ≡ ((house_in house).rules (take place (entries_in house)) request).reply
-  pub recorded : entries_in house ≡ take place (entries_in house) ++ option_to_list ((house_in house).rules (take place (entries_in house)) request).entry
-
--- a reply may be sent: what it tells of is recorded in this house, and each image that a stop may leave by now stands for the entries
--- of the house; or nothing was decided
-abbrev pub MaySend : {D : Type 0} → DiskTells D → Chronicled D → List ℕ → Type 0
-MaySend tells house reply = (IsDurable tells house × IsRecorded house reply) ⊎ IsUndecided reply
 
 -- a frame was given out, the clock was asked, and a turn answered it
 pub record Stepped {D : Type 0} (tells : DiskTells D) (held held' : Collected) (old new : Chronicled D) (before after : Outside) : Type 0 where

@@ -5,7 +5,9 @@ ghost use Rattle.nb_msgs.specs.declared.reply.TheConstants.{REPLY_ROOM};
 ghost use Rattle.nb_units.specs.Room.{spare_of};
 ghost use Rattle.nb_vault.specs.Asking.{request_of};
 ghost use Rattle.nb_vault.specs.Rules.{refused};
+ghost use Rattle.nb_vault.specs.Sending.{MaySend};
 ghost use Rattle.nb_vault.specs.Vaults.{Keeps, StandsForState, state_of};
+ghost use Rattle.nb_batch.specs.declared.batch.BatchEnd.TheVariants.{NoMemory};
 ghost use Rattle.nb_batch.specs.Batch as batch;
 ghost use Rattle.nb_batch.specs.Numbers.{LimitIs};
 
@@ -67,6 +69,8 @@ pub fn serve<D: Disk, S: Source, K: Sink, C: Clock>(
     ensures source { S.faults source.old ≤ S.faults source.new }
     ensures sink { K.faults sink.old ≤ K.faults sink.new }
     ensures fault { batch.FaultOf (S.faults source.old) (S.faults source.new) (K.faults sink.old) (K.faults sink.new) result }
+    // Where there was no memory all that was lent is as before.
+    ensures starved { result ≡ NoMemory → (house.new ≡ house.old) × (source.new ≡ source.old) × (sink.new ≡ sink.old) × (clock.new ≡ clock.old) }
 {
     // What a stop leaves at the start is what every vault keeps.
     house.witness();
@@ -155,7 +159,7 @@ fn answer_with<D: Disk>(
     ensures origin { house.new.origin ≡ house.old.origin }
     ensures any_moment { LeavesOnly D.tells house.old.disk house.new.disk
         (λ image. StandsForState house.old image ⊎ StandsForState house.new image) }
-    ensures durable { batch.MaySend D.tells house.new reply.new.items }
+    ensures durable { MaySend D.tells house.new reply.new.items }
     ensures keeps { Keeps D.tells house.new }
     ensures quiet { state_of house.new ≡ state_of house.old → D.tells.content house.new.disk ≡ D.tells.content house.old.disk }
     ensures room { vec_capacity reply.new ≡ vec_capacity reply.old }

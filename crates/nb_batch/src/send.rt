@@ -1,5 +1,5 @@
 ghost use Rattle.std.specs.Prelude.{◌≤◌, length};
-ghost use Rattle.nb_batch.specs.Batch.{MaySend};
+ghost use Rattle.nb_vault.specs.Sending.{MaySend};
 ghost use Rattle.nb_batch.specs.Send.{SentIs};
 
 use nb_port::{Disk, Sink, WriteOut};

@@ -10,7 +10,7 @@ use Rattle.nb_turn.specs.declared.chronicle.View.{View}
 use Rattle.nb_turn.specs.Views.{first_sees}
 use Rattle.nb_vault.specs.declared.origin.Origin.{Origin}
 use Rattle.nb_session.specs.declared.ended.Record.{Record}
-use Rattle.nb_session.specs.Session.{IsTold}
+use Rattle.nb_session.specs.Session.{IsTold, around}
 use Rattle.nb_session.proofs.Completing.{lines_tell}
 use Rattle.nb_session.proofs.Cutting.{rose_from}
 use Rattle.nb_server.specs.Served.{WorkerSeen, Sessioned, links_given, links_taken, with_given, with_taken}
@@ -38,13 +38,13 @@ module _ {D : Type 0} (tells : DiskTells D) (by : ℕ) where
   -- ---- sessions
 
   sessions_more : (number : ℕ) (v u : View Origin Line) (clock clock' : Option (List ℕ)) (ss : List Sessioned) (s : Sessioned) → Sessions tells by number v clock ss u clock' → s.first ≡ u
-      → IsTold tells by (number + length ss) s.first s.last s.given s.taken clock' s.clock s.told → Sessions tells by number v clock (ss ++ s ∷ []) s.last s.clock
+      → IsTold tells by (number + length ss) (around s.first s.given clock') (around s.last s.taken s.clock) s.told → Sessions tells by number v clock (ss ++ s ∷ []) s.last s.clock
   sessions_more number v u clock clock' [] s are first told =
       let same : number + 0 ≡ number = omega arith in
-      (first ∙ are.0, subst (λ (x : ℕ × Option (List ℕ)). IsTold tells by x.0 s.first s.last s.given s.taken x.1 s.clock s.told) (λ i. (same i, are.1 i)) told, (refl, refl))
+      (first ∙ are.0, subst (λ (x : ℕ × Option (List ℕ)). IsTold tells by x.0 (around s.first s.given x.1) (around s.last s.taken s.clock) s.told) (λ i. (same i, are.1 i)) told, (refl, refl))
   sessions_more number v u clock clock' (t ∷ ss) s are first told =
       let same : number + suc (length ss) ≡ (number + 1) + length ss = omega arith in
-      (are.0, are.1, sessions_more (number + 1) t.last u t.clock clock' ss s are.2 first (subst (λ (n : ℕ). IsTold tells by n s.first s.last s.given s.taken clock' s.clock s.told) same told))
+      (are.0, are.1, sessions_more (number + 1) t.last u t.clock clock' ss s are.2 first (subst (λ (n : ℕ). IsTold tells by n (around s.first s.given clock') (around s.last s.taken s.clock) s.told) same told))
 
   -- ---- what a worker did
 
@@ -61,7 +61,7 @@ module _ {D : Type 0} (tells : DiskTells D) (by : ℕ) where
   }
 
   pub worked_more : (v u w : View Origin Line) (old mid : WorkerSeen) (between after : PortSeen) (clock : Option (List ℕ)) (given taken : LinkSeen) (records : List Record) (told : Record)
-      → HasServed tells by v u old mid records → GivesLink mid.port between given → IsTold tells by (length records) u w given taken mid.clock clock told → TakesBack between after taken
+      → HasServed tells by v u old mid records → GivesLink mid.port between given → IsTold tells by (length records) (around u given mid.clock) (around w taken clock) told → TakesBack between after taken
       → HasServed tells by v w old (record { port = after; clock = clock }) (records ++ told ∷ [])
   worked_more v u w old mid between after clock given taken records told worked gives is back =
       let s : Sessioned = record { given = given; taken = taken; clock = clock; first = u; last = w; told = told } in
@@ -69,7 +69,7 @@ module _ {D : Type 0} (tells : DiskTells D) (by : ℕ) where
       let coming : between.coming ≡ after.coming = sym (ap (λ (p : PortSeen). p.coming) back.same) in
       record {
         sessions = worked.sessions ++ s ∷ [];
-        are = sessions_more 0 v u old.clock mid.clock worked.sessions s worked.are refl (subst (λ (n : ℕ). IsTold tells by n u w given taken mid.clock clock told) count is);
+        are = sessions_more 0 v u old.clock mid.clock worked.sessions s worked.are refl (subst (λ (n : ℕ). IsTold tells by n (around u given mid.clock) (around w taken clock) told) count is);
         records_are = ap (λ (rs : List Record). rs ++ told ∷ []) worked.records_are ∙ sym (map-append (λ (x : Sessioned). x.told) worked.sessions (s ∷ []));
         given = given_more (links_given worked.sessions) given old.port.coming mid.port.coming after.coming worked.given (gives.coming ∙ ap (with_first given) coming)
             ∙ ap (λ (ls : List LinkSeen). with_given ls after.coming) (sym (map-append (λ (x : Sessioned). x.given) worked.sessions (s ∷ [])));

@@ -12,7 +12,7 @@ use Rattle.nb_turn.specs.declared.chronicle.View.{View}
 use Rattle.nb_vault.specs.declared.origin.Origin.{Origin}
 use Rattle.nb_vault.specs.Vaults.{Chronicled, Keeps, StandsForState, doubt_in, entries_in}
 use Rattle.nb_session.specs.declared.ended.Record.{Record}
-use Rattle.nb_session.specs.Session.{Gave, IsTold}
+use Rattle.nb_session.specs.Session.{Gave, IsTold, around}
 use Rattle.nb_server.specs.declared.worker.How.{How}
 use Rattle.nb_server.specs.declared.worker.How.TheVariants.{Closed, PortFault, NoMemory}
 use Rattle.nb_server.specs.declared.worker.Worker.{Worker}
@@ -74,7 +74,7 @@ HowIs old new NoMemory = 0 < new.left
 -- a session of the pass number `by`, with this number among its worker's, over the first lines of the chronicle: the first `seen_before`
 -- of them are what the pass had seen before it, and the first `seen_after` what it has seen behind it
 pub record IsSessionIn {D : Type 0} (tells : DiskTells D) (origin : Origin) (lines : List Line) (by number : ℕ) (clock : Option (List ℕ)) (s : Sessioned) : Type 0 where
-  pub told : IsTold tells by number s.first s.last s.given s.taken clock s.clock s.told
+  pub told : IsTold tells by number (around s.first s.given clock) (around s.last s.taken s.clock) s.told
   pub origin_is : s.first.origin ≡ Some origin
   pub before : s.first.seen ≡ take s.told.seen_before lines
   pub behind : s.last.seen ≡ take s.told.seen_after lines

@@ -13,7 +13,7 @@ use Rattle.nb_vault.specs.declared.origin.Origin.{Origin}
 use Rattle.nb_vault.specs.Vaults.{Chronicled}
 use Rattle.nb_desk.specs.declared.desk.Desk.{Desk}
 use Rattle.nb_session.specs.declared.ended.Record.{Record}
-use Rattle.nb_session.specs.Session.{IsTold}
+use Rattle.nb_session.specs.Session.{IsTold, around}
 use Rattle.nb_server.specs.declared.job.Job.{Job}
 use Rattle.nb_server.specs.declared.job.Stage.{Stage}
 use Rattle.nb_server.specs.declared.job.Stage.TheVariants.{Waits, Asks, Ran}
@@ -27,7 +27,7 @@ use Rattle.nb_server.specs.Served.{WorkerSeen, Sessioned, HowIs, records_of, lin
 abbrev pub Sessions : {D : Type 0} → DiskTells D → ℕ → ℕ → View Origin Line → Option (List ℕ) → List Sessioned → View Origin Line → Option (List ℕ) → Type 0
 Sessions tells by number v clock [] w clock' = (w ≡ v) × (clock' ≡ clock)
 Sessions tells by number v clock (s ∷ more) w clock' =
-    (s.first ≡ v) × IsTold tells by number s.first s.last s.given s.taken clock s.clock s.told × Sessions tells by (number + 1) s.last s.clock more w clock'
+    (s.first ≡ v) × IsTold tells by number (around s.first s.given clock) (around s.last s.taken s.clock) s.told × Sessions tells by (number + 1) s.last s.clock more w clock'
 
 -- a worker served some links, with these records
 pub record HasServed {D : Type 0} (tells : DiskTells D) (by : ℕ) (v w : View Origin Line) (old new : WorkerSeen) (records : List Record) : Type 0 where

@@ -22,17 +22,18 @@ use Rattle.nb_turns.specs.declared.line.Line.{Line}
 use Rattle.nb_turns.specs.declared.mark.Mark.{Mark}
 use Rattle.nb_turns.specs.declared.mark.Mark.TheVariants.{At, Fault, Worn}
 use Rattle.nb_turns.specs.declared.limits.TheConstants.{MAX_FAULTS, MAX_REQUESTS}
-use Rattle.nb_turns.specs.Turns.{Request, House, Answered, Decides, Fails, Refuses, alike, answered, decided, marks, places, replies, with_entry}
+use Rattle.nb_turns.specs.Turns.{Request, House, State, Outcome, Answered, Decides, Fails, Refuses, alike, answered, decided, marks, places, recorded, replies, with_entry}
 use Rattle.nb_turn.specs.declared.chronicle.View.{View}
 use Rattle.nb_vault.specs.declared.answer.AnswerAll.TheVariants as all
 use Rattle.nb_vault.specs.declared.answer.AskAt.{AskAt}
 use Rattle.nb_vault.specs.declared.origin.Origin.{Origin}
 use Rattle.nb_vault.specs.Asking.{request_at, requests_of}
 use Rattle.nb_vault.specs.Rules.{refused}
+use Rattle.nb_vault.specs.Sending.{StandsTold}
 use Rattle.nb_vault.specs.Vaults.{house_in}
 use Rattle.nb_desk.specs.Asks.{Asks, Gives, GoesOnAtLast, turned}
-use Rattle.nb_session.specs.Session.{frames_of, moments_of, requests_in, replies_in, Gave}
-use Rattle.nb_session.specs.Steps.{Point, AnswersTurn, Gathers, GathersTo, OnlyWrites, SentIs, TurnIs, WroteAs, house_seen}
+use Rattle.nb_session.specs.Session.{answer_of, house_at, frames_of, moments_of, requests_in, replies_in, Gave}
+use Rattle.nb_session.specs.Steps.{Point, AnswersTurn, Gathers, GathersTo, LeftToSend, OnlyWrites, SentIs, TurnIs, WroteAs, house_seen}
 use Rattle.nb_session.specs.declared.ended.TheConstants.{MOST_FRAMES}
 use Rattle.nb_session.specs.declared.gathering.Gathered.{Gathered}
 use Rattle.nb_session.specs.declared.sending.Sent.{Sent}
@@ -148,6 +149,32 @@ module _ {D : Type 0} (tells : DiskTells D) (by : ℕ) (v w : View Origin Line) 
       let g = subst (λ (a : AskedAll). Gives tells by v w (requests_of bytes asks) gives.0 out out' a) is gives.2 in
       worn_turn tells by v w bytes asks gives.0 out out' before behind count sent none g.0 (subst (λ (n : ℕ). Asks tells by v w (requests_of bytes asks) Refuses gives.0 out out' (all.Worn n)) g.0 g.1) goes_on marked
       (put ∙ ap (λ (r : Refusal). out' ++ flat_map (λ (ask : AskAt). reply_bytes no_keys (Refused r)) asks) (made ∙ ap (λ (n : ℕ). refusal WORN n 0) same))
+
+-- ---- what a turn leaves to send
+
+-- where it decided, what it tells of stands in the vault that the pass gave back
+stands_told : {D : Type 0} (tells : DiskTells D) (by : ℕ) (v w : View Origin Line) (requests : List Request) (outcome : Outcome) (found out given : List ℕ) (a : Asks tells by v w requests outcome found out given (answer_of outcome))
+    → StandsTold tells a.new requests outcome
+stands_told tells by v w requests (Decides over) found out given a =
+    (a.durable, ap (λ (s : State). s.entries) a.went.turn.2 ∙ ap (λ (o : Origin). over ++ recorded (house_at o) over requests) (sym a.same_origin))
+stands_told tells by v w requests (Fails before after) found out given a = tt
+stands_told tells by v w requests Refuses found out given a = tt
+
+pub left_to_send : {D : Type 0} (tells : DiskTells D) (by : ℕ) (v w : View Origin Line) (requests : List Request) (before behind : List Mark) (out : List ℕ) → AnswersTurn tells by v w requests before behind out → LeftToSend tells w out
+left_to_send tells by v w requests before behind out t =
+    let a = t.at_desk.asks in
+    let origin : v.origin ≡ Some a.new.origin = a.meets.origin_is ∙ ap (λ (o : Origin). Some o) (sym a.same_origin) in
+    record {
+      house = a.new;
+      origin_is = ap (λ (x : View Origin Line). x.origin) t.at_desk.goes_on.2 ∙ origin;
+      seen_is = a.seen_is;
+      may_send = record {
+        requests = t.turn.requests;
+        outcome = t.turn.outcome;
+        sent_is = t.out_is ∙ ap (λ (o : Option Origin). replies (answered (house_seen o) t.turn.requests t.turn.outcome)) origin;
+        told = stands_told tells by v w t.turn.requests t.turn.outcome t.at_desk.found t.at_desk.out t.at_desk.given a;
+      };
+    }
 
 -- ---- the turn
 

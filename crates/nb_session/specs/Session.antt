@@ -212,9 +212,18 @@ pub record Session {D : Type 0} (tells : DiskTells D) (by : ℕ) (v w : View Ori
   pub read_count : old.read_faults ≤ new.read_faults
   pub write_count : old.write_faults ≤ new.write_faults
 
+-- what stands around a session, before it or behind it: what its pass knows, its link, and the moments that its clock gave
+pub record Around : Type 0 where
+  pub view : View Origin Line
+  pub link : LinkSeen
+  pub moments : Option (List ℕ)
+
+abbrev pub around : View Origin Line → LinkSeen → Option (List ℕ) → Around
+around view link moments = record { view = view; link = link; moments = moments }
+
 -- the record tells of such a session, its number, and how many lines the pass had seen before it and behind it
-pub record IsTold {D : Type 0} (tells : DiskTells D) (by number : ℕ) (v w : View Origin Line) (old new : LinkSeen) (clock clock' : Option (List ℕ)) (told : Record) : Type 0 where
-  pub session : Session tells by v w old new clock clock' told.moments.items told.marks.items told.end
+pub record IsTold {D : Type 0} (tells : DiskTells D) (by number : ℕ) (old new : Around) (told : Record) : Type 0 where
+  pub session : Session tells by old.view new.view old.link new.link old.moments new.moments told.moments.items told.marks.items told.end
   pub number_is : told.number ≡ number
-  pub before : told.seen_before ≡ length v.seen
-  pub behind : told.seen_after ≡ length w.seen
+  pub before : told.seen_before ≡ length old.view.seen
+  pub behind : told.seen_after ≡ length new.view.seen

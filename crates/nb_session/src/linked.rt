@@ -3,7 +3,7 @@ ghost use Rattle.nb_frame.specs.declared.stream.TheConstants.{MAX_PIECE};
 ghost use Rattle.nb_turn.specs.Passes.{sees};
 ghost use Rattle.nb_desk.specs.Desks.{IsAt};
 ghost use Rattle.nb_frame.specs.State.{waiting};
-ghost use Rattle.nb_session.specs.Session.{Session, IsTold};
+ghost use Rattle.nb_session.specs.Session.{Session, IsTold, around};
 ghost use Rattle.nb_session.specs.Steps.{EndsAt, HasRoom, IsBegun, TurnIs, point};
 ghost use Rattle.nb_session.specs.declared.ended.TheConstants.{MOST_FRAMES};
 
@@ -11,7 +11,7 @@ use crate::answering::answer;
 use crate::ended::{MOST_FRAMES, Record, SessionEnd};
 use crate::gathering::{Gathered, gather};
 use crate::reading::{ReadOn, read_on};
-use crate::sending::{Sent, send_each};
+use crate::sending::{Sent, send_replies};
 use nb_desk::{Desk, Pass};
 use nb_frame::{Frames, MAX_PIECE};
 use nb_link::{Gate, Link, Point};
@@ -70,7 +70,7 @@ pub fn session<R: Wait, D: Disk + Drop, L: Link, C: Clock, G: Gate>(
     requires desk { IsAt pass desk.now }
     ensures desk { IsAt result.0 desk.now }
     ensures pass { result.0.number ≡ pass.number }
-    ensures told { IsTold D.tells pass.number number (sees pass) (sees result.0) (L.seen link.old) (L.seen link.new) (C.moments clock.old) (C.moments clock.new) result.1 }
+    ensures told { IsTold D.tells pass.number number (around (sees pass) (L.seen link.old) (C.moments clock.old)) (around (sees result.0) (L.seen link.new) (C.moments clock.new)) result.1 }
 {
     let seen_before = pass.seen();
     let Ok(mut work) = Work::new(alloc) else {
@@ -200,7 +200,7 @@ fn turn<R: Wait, D: Disk + Drop, L: Link, C: Clock, G: Gate>(
         &mut work.marks,
         &mut work.out,
     );
-    let sent = send_each(link, work.out.as_slice());
+    let sent = send_replies(&pass, link, work.out.as_slice());
     gate.at(worker, number, Point::AfterReply);
     (pass, gathered, sent)
 }

@@ -1,8 +1,10 @@
 ghost use Rattle.std.specs.Prelude.{◌≤◌, ◌<◌, length};
-ghost use Rattle.nb_session.specs.Steps.{OnlyWrites, SentIs};
+ghost use Rattle.nb_turn.specs.Passes.{sees};
+ghost use Rattle.nb_session.specs.Steps.{LeftToSend, OnlyWrites, SentIs};
 
+use nb_desk::Pass;
 use nb_link::Link;
-use nb_port::WriteOut;
+use nb_port::{Disk, WriteOut};
 use nb_units::frames::HEADER;
 
 /// How sending went.
@@ -12,8 +14,18 @@ pub enum Sent {
     Failed,
 }
 
-/// Sends replies that stand one behind another, each by writes of its own.
-pub fn send_each<L: Link>(link: &mut L, replies: &[u8]) -> Sent
+/// Sends the replies of the last turn of `pass`. What they tell of is recorded in the house that it left, and each image that a stop may leave
+/// stands for the entries of that house, unless the turn did not decide.
+pub fn send_replies<D: Disk, L: Link>(_pass: &Pass<D>, link: &mut L, replies: &[u8]) -> Sent
+    requires durable { LeftToSend D.tells (sees _pass.now) replies.now }
+    ensures sent { SentIs (L.seen link.old) (L.seen link.new) replies.now result }
+    ensures only { OnlyWrites (L.seen link.old) (L.seen link.new) }
+{
+    send_each(link, replies)
+}
+
+// Sends replies that stand one behind another, each by writes of its own.
+fn send_each<L: Link>(link: &mut L, replies: &[u8]) -> Sent
     ensures sent { SentIs (L.seen link.old) (L.seen link.new) replies.now result }
     ensures only { OnlyWrites (L.seen link.old) (L.seen link.new) }
 {

@@ -5,6 +5,7 @@ pub mod Records
 pub mod Vaults
 pub mod Parts
 pub mod Restoring
+pub mod Sending
 pub mod Opens
 pub mod Paying
 pub mod Gates

@@ -1,7 +1,7 @@
 use Rattle.std.proofs.Common.{List, ℕ, sym, subst}
 use Rattle.std.specs.Io.KnownBytes.{Appends}
 use Rattle.nb_batch.specs.Send.{SentPart}
-use Rattle.nb_batch.specs.Batch.{MaySend}
+use Rattle.nb_vault.specs.Sending.{MaySend}
 use Rattle.nb_batch.proofs.Stepping.{stepped_with}
 use Rattle.nb_batch.proofs.batch.answer_next.Goals as goal
 

@@ -6,8 +6,8 @@ use Rattle.nb_vault.specs.declared.answer.AskAt.{AskAt}
 use Rattle.nb_vault.specs.Asking.{request_at, requests_of}
 use Rattle.nb_turns.specs.declared.limits.TheConstants.{MAX_REQUESTS}
 use Rattle.nb_session.specs.declared.ended.TheConstants.{MOST_FRAMES}
-use Rattle.nb_session.specs.Steps.{AnswersTurn, GathersTo, SentIs, point}
-use Rattle.nb_session.proofs.Turning.{turn_none, turn_some}
+use Rattle.nb_session.specs.Steps.{AnswersTurn, GathersTo, LeftToSend, SentIs, point}
+use Rattle.nb_session.proofs.Turning.{left_to_send, turn_none, turn_some}
 use Rattle.nb_session.proofs.linked.turn.Goals as goal
 
 pub returns-then-is_empty-clause-turn : goal.returns-then-is_empty-clause-turn
@@ -26,8 +26,14 @@ returns-clause-turn g c =
     (λ i. (c.bytes.ensures.held i, c.as_slice.ensures.value i)) c.answer-pass.ensures.answers in
     turn_some g.D.Disk.tells c.args.pass.number
     (point (sees c.args.pass) (g.L.Link.seen c.args.link.now) (g.C.Clock.moments c.args.clock.now) c.args.work.now.frames c.args.work.now.moments.items c.args.work.now.marks.items)
-    (point (sees c.answer-pass.result) (g.L.Link.seen c.send_each-sent.new.link) (g.C.Clock.moments c.gather-gathered.new.clock) c.gather-gathered.new.frames c.gather-gathered.new.moments.items c.answer-pass.new.marks.items)
-    c.gather-gathered.result (requests_of c.gather-gathered.new.frames.held c.gather-gathered.new.asks.items) (length c.gather-gathered.new.asks.items) c.answer-pass.new.out.items c.send_each-sent.result
+    (point (sees c.answer-pass.result) (g.L.Link.seen c.send_replies-sent.new.link) (g.C.Clock.moments c.gather-gathered.new.clock) c.gather-gathered.new.frames c.gather-gathered.new.moments.items c.answer-pass.new.marks.items)
+    c.gather-gathered.result (requests_of c.gather-gathered.new.frames.held c.gather-gathered.new.asks.items) (length c.gather-gathered.new.asks.items) c.answer-pass.new.out.items c.send_replies-sent.result
     (sym (length-map c.gather-gathered.new.asks.items (λ (ask : AskAt). request_at c.gather-gathered.new.frames.held ask)))
     c.gather-gathered.ensures.gathers (subst (λ (m : ℕ). GathersTo c.gather-gathered.new.frames (length c.gather-gathered.new.asks.items) m c.gather-gathered.result) most c.gather-gathered.ensures.to)
-    answers (subst (λ (bs : List ℕ). SentIs (g.L.Link.seen c.args.link.now) (g.L.Link.seen c.send_each-sent.new.link) bs c.send_each-sent.result) c.as_slice-2.ensures.value c.send_each-sent.ensures.sent) c.send_each-sent.ensures.only
+    answers (subst (λ (bs : List ℕ). SentIs (g.L.Link.seen c.args.link.now) (g.L.Link.seen c.send_replies-sent.new.link) bs c.send_replies-sent.result) c.as_slice-2.ensures.value c.send_replies-sent.ensures.sent) c.send_replies-sent.ensures.only
+
+pub send_replies-sent-requires : goal.send_replies-sent-requires
+send_replies-sent-requires g c = record {
+  durable = subst (λ (out : List ℕ). LeftToSend g.D.Disk.tells (sees c.answer-pass.result) out) (sym c.as_slice-2.ensures.value)
+      (left_to_send g.D.Disk.tells c.args.pass.number (sees c.args.pass) (sees c.answer-pass.result) _ _ _ _ c.answer-pass.ensures.answers);
+}
