@@ -1,5 +1,5 @@
 -- An input of whole frames alone ends a batch well, unless something failed or memory was wanting.
-use Rattle.std.proofs.Common.{◌≡◌, ◌≢◌, ℕ, ◌⊎◌, List, [], ◌∷◌, ◌++◌, length, Option, None, Some, Err, refl, sym, ap, subst, ◌∙◌, append_assoc, append-nil, arith, inl, inr}
+use Rattle.std.proofs.Common.{◌≡◌, ◌≢◌, ℕ, ◌⊎◌, List, [], ◌∷◌, ◌++◌, length, Option, None, Some, Err, refl, sym, ap, subst, ◌∙◌, append_assoc, append-nil, arith, inl, inr, ⊎_elim}
 use Rattle.std.specs.Prelude.{map}
 use Rattle.std.specs.List.{flat_map, AllByRecursion}
 use Rattle.std.specs.Io.KnownBytes.{Consumes, IsAtEnd}
@@ -17,7 +17,7 @@ use Rattle.nb_vault.specs.declared.vault.opening.VaultFault.TheVariants.{Unborn,
 use Rattle.nb_vault.specs.Opens.{WholeOpens, VaultOpenFails}
 use Rattle.nb_vault.specs.Vaults.{Chronicled}
 use Rattle.nb_batch.specs.Batch.{frame_of, Outside, Served, FaultOf}
-use Rattle.nb_run.specs.Ending.{ended}
+use Rattle.nb_run.specs.Ending.{EndsEarly, ended}
 use Rattle.nb_run.specs.Run.{EndsWhole, IsWholeInput, IsJournal, unopened}
 use Rattle.nb_batch.proofs.Serving.{nothing_whole}
 
@@ -135,3 +135,20 @@ opened_end WriteFault = (λ e. omega (arith, e), λ e. omega (arith, e))
 opened_end (Cut place) = (λ e. omega (arith, e), λ e. omega (arith, e))
 opened_end (BadFrame fault) = (λ e. omega (arith, e), λ e. omega (arith, e))
 opened_end FrameLimit = (λ e. omega (arith, e), λ e. omega (arith, e))
+
+-- a batch that was opened and ends early had no memory
+starved_end : (end : BatchEnd) → (ended end).status ≡ OUT_OF_MEMORY → end ≡ NoMemory
+starved_end NoMemory e = refl
+starved_end Clean e = absurd (omega (arith, e))
+starved_end ReadFault e = absurd (omega (arith, e))
+starved_end WriteFault e = absurd (omega (arith, e))
+starved_end (Cut place) e = absurd (omega (arith, e))
+starved_end (BadFrame fault) e = absurd (omega (arith, e))
+starved_end FrameLimit e = absurd (omega (arith, e))
+
+pub early_end : (end : BatchEnd) → EndsEarly (ended end) → end ≡ NoMemory
+early_end end early =
+    elim early [
+      | inl starved ↦ starved_end end starved
+      | inr other ↦ absurd (⊎_elim (opened_end end).0 (opened_end end).1 other)
+    ]

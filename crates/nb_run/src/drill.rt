@@ -35,7 +35,7 @@ pub fn drill<K: Sink, D: Disk>(
     ensures counts { (K.faults sink.old ≤ K.faults sink.new) × (D.tells.faults disk ≤ D.tells.faults result.1) }
     ensures sink { result.0.status ≡ SINK_FAILED → Rose (K.faults sink.old) (K.faults sink.new) }
     ensures fault { result.0.status ≡ DISK_FAILED → Rose (D.tells.faults disk) (D.tells.faults result.1) }
-    ensures closed { (result.0.status ≢ CLEAN) → (result.0.status ≢ SINK_FAILED) → (result.0.status ≢ OUT_OF_MEMORY) → sink.new ≡ sink.old }
+    ensures closed { (result.0.status ≢ CLEAN) → (result.0.status ≢ SINK_FAILED) → sink.new ≡ sink.old }
     ensures complete { HasNoJournal (D.tells.content disk) → (Rose (K.faults sink.old) (K.faults sink.new) → ⊥) → (Rose (D.tells.faults disk) (D.tells.faults result.1) → ⊥)
         → (result.0.status ≡ CLEAN) ⊎ (result.0.status ≡ OUT_OF_MEMORY) }
 {
@@ -84,7 +84,7 @@ fn answer<K: Sink, D: Disk>(
     ensures counts { (K.faults sink.old ≤ K.faults sink.new) × (D.tells.faults disk ≤ D.tells.faults result.1) }
     ensures sink { result.0.status ≡ SINK_FAILED → Rose (K.faults sink.old) (K.faults sink.new) }
     ensures fault { result.0.status ≡ DISK_FAILED → Rose (D.tells.faults disk) (D.tells.faults result.1) }
-    ensures closed { (result.0.status ≢ CLEAN) → (result.0.status ≢ SINK_FAILED) → (result.0.status ≢ OUT_OF_MEMORY) → sink.new ≡ sink.old }
+    ensures closed { (result.0.status ≢ CLEAN) → (result.0.status ≢ SINK_FAILED) → sink.new ≡ sink.old }
     ensures complete { drills.IsFresh (D.tells.content disk) seed orders → (Rose (K.faults sink.old) (K.faults sink.new) → ⊥) → (Rose (D.tells.faults disk) (D.tells.faults result.1) → ⊥)
         → (result.0.status ≡ CLEAN) ⊎ (result.0.status ≡ OUT_OF_MEMORY) }
 {
@@ -112,6 +112,7 @@ fn tell<K: Sink>(alloc: Global, orders: u32, lines: &[Line], sink: &mut K) -> En
     ensures count { K.faults sink.old ≤ K.faults sink.new }
     ensures fault { result.status ≡ SINK_FAILED → Rose (K.faults sink.old) (K.faults sink.new) }
     ensures ends { (result.status ≡ CLEAN) ⊎ (result.status ≡ SINK_FAILED) ⊎ (result.status ≡ OUT_OF_MEMORY) }
+    ensures closed { (result.status ≢ CLEAN) → (result.status ≢ SINK_FAILED) → sink.new ≡ sink.old }
 {
     let Ok(line) = tally_of(lines).line(alloc, orders) else {
         return Ending::at_no_place(OUT_OF_MEMORY);

@@ -2,7 +2,8 @@ ghost use Rattle.std.specs.Prelude.{◌≡◌, ◌≢◌, ◌≤◌, ◌⊎◌, 
 ghost use Rattle.nb_port.specs.Faults.{Rose};
 ghost use Rattle.nb_journal.specs.Making.{SparesJournal, IsCap};
 ghost use Rattle.nb_run.specs.declared.ending.TheConstants.{CLEAN, BAD_WORDS, SOURCE_FAILED, SINK_FAILED, OUT_OF_MEMORY, DISK_FAILED, NO_JOURNAL};
-ghost use Rattle.nb_run.specs.Ending.{Ends, EndsWith};
+ghost use Rattle.nb_journal.specs.Time.{Unwritten};
+ghost use Rattle.nb_run.specs.Ending.{Ends, EndsEarly, EndsWith};
 ghost use Rattle.nb_run.specs.declared.ending.Outcome.TheVariants as outcomes;
 ghost use Rattle.nb_run.specs.declared.ending.Job.{Job};
 ghost use Rattle.nb_run.specs.declared.ending.Job.TheVariants as jobs;
@@ -81,22 +82,25 @@ pub fn run<S: Source, K: Sink, D: Disk, C: Clock>(
         ⊎ runs.Unbegun result.0 source.old source.new sink.old sink.new disk result.1 clock.old clock.new }
 
     // What a drill comes to, unless there was no memory to read the words. It takes nothing from the source and asks for no moment, and nothing is
-    // written over a journal that is there. The sink is as before but after 0, 4 and 6.
+    // written over a journal that is there. The sink is as before but after 0 and 4.
     ensures drill { (seed orders : ℕ) → IsDrill (map string_bytes words.now) seed orders
         → Ends result.0 (drills.DrillIs D.tells disk result.1 (K.sent sink.old) (K.sent sink.new) seed orders)
         ⊎ runs.Unbegun result.0 source.old source.new sink.old sink.new disk result.1 clock.old clock.new }
     ensures apart { (seed orders : ℕ) → IsDrill (map string_bytes words.now) seed orders
         → (source.new ≡ source.old) × (clock.new ≡ clock.old) × SparesJournal D.tells disk result.1
-        × ((EndsWith result.0 CLEAN → ⊥) → (EndsWith result.0 SINK_FAILED → ⊥) → (EndsWith result.0 OUT_OF_MEMORY → ⊥) → sink.new ≡ sink.old) }
+        × ((EndsWith result.0 CLEAN → ⊥) → (EndsWith result.0 SINK_FAILED → ⊥) → sink.new ≡ sink.old) }
 
     // A disk that tells no journal, and nothing that fails: the drill ends well, unless memory is wanting.
     ensures drills { (seed orders : ℕ) → IsDrill (map string_bytes words.now) seed orders → HasNoJournal (D.tells.content disk)
         → (Rose (K.faults sink.old) (K.faults sink.new) → ⊥) → (Rose (D.tells.faults disk) (D.tells.faults result.1) → ⊥)
         → EndsWith result.0 CLEAN ⊎ EndsWith result.0 OUT_OF_MEMORY }
 
-    // Nothing is taken, sent or asked for where the words are no command, work is left to do, or a batch ends with 7 or 8.
-    ensures closed { (IsCommand (map string_bytes words.now) → ⊥) ⊎ (EndsWith result.0 NO_JOURNAL × IsBatch (map string_bytes words.now)) ⊎ (EndsWith result.0 DISK_FAILED × IsBatch (map string_bytes words.now)) ⊎ ((job : Job) × (result.0 ≡ outcomes.Work job))
+    // Nothing is taken, sent or asked for where the words are no command, work is left to do, or a batch ends with 6, 7 or 8; and such a batch
+    // wrote nothing.
+    ensures closed { (IsCommand (map string_bytes words.now) → ⊥) ⊎ (Ends result.0 EndsEarly × IsBatch (map string_bytes words.now)) ⊎ ((job : Job) × (result.0 ≡ outcomes.Work job))
         → (source.new ≡ source.old) × (sink.new ≡ sink.old) × (clock.new ≡ clock.old) }
+
+    ensures unwritten { IsBatch (map string_bytes words.now) → Ends result.0 EndsEarly → Unwritten D.tells disk result.1 }
 
     // Whole frames alone over a journal, and nothing that fails: all is done, unless memory is wanting.
     ensures complete { IsBatch (map string_bytes words.now) → runs.IsJournal (D.tells.content disk) → runs.IsWholeInput (S.left source.old)
@@ -161,7 +165,8 @@ pub(crate) fn answer_batch<S: Source, K: Sink, D: Disk, C: Clock>(
     ensures source { result.ending.status ≡ SOURCE_FAILED → Rose (S.faults source.old) (S.faults source.new) }
     ensures sink { result.ending.status ≡ SINK_FAILED → Rose (K.faults sink.old) (K.faults sink.new) }
     ensures fault { result.ending.status ≡ DISK_FAILED → Rose (D.tells.faults disk) (D.tells.faults result.disk) }
-    ensures closed { (result.ending.status ≡ NO_JOURNAL) ⊎ (result.ending.status ≡ DISK_FAILED) → (source.new ≡ source.old) × (sink.new ≡ sink.old) × (clock.new ≡ clock.old) }
+    ensures closed { EndsEarly result.ending → (source.new ≡ source.old) × (sink.new ≡ sink.old) × (clock.new ≡ clock.old) }
+    ensures unwritten { EndsEarly result.ending → Unwritten D.tells disk result.disk }
     ensures whole { runs.IsWholeInput (S.left source.old) → (Rose (K.faults sink.old) (K.faults sink.new) → ⊥) → runs.EndsWhole result.ending }
     ensures opens { runs.IsJournal (D.tells.content disk) → (Rose (D.tells.faults disk) (D.tells.faults result.disk) → ⊥)
         → (result.ending.status ≢ NO_JOURNAL) × (result.ending.status ≢ DISK_FAILED) }

@@ -1,11 +1,12 @@
-use Rattle.std.proofs.Common.{sym, subst, arith, ◌≡◌, ◌≢◌, ◌≤◌, ℕ, List}
+use Rattle.std.proofs.Common.{sym, ap, ◌∙◌, subst, arith, ◌≡◌, ◌≢◌, ◌≤◌, ℕ, List}
 use Rattle.nb_turns.specs.declared.line.Line.{Line}
 use Rattle.nb_run.specs.declared.ending.Ending.{Ending}
 use Rattle.nb_run.specs.declared.ending.TheConstants.{DISK_FAILED, NO_JOURNAL}
 use Rattle.nb_batch.specs.Batch.{Outside}
-use Rattle.nb_run.specs.Ending.{ended}
+use Rattle.nb_journal.specs.Time.{Unwritten}
+use Rattle.nb_run.specs.Ending.{EndsEarly, ended}
 use Rattle.nb_run.specs.Run.{BatchLines, EndsWhole}
-use Rattle.nb_run.proofs.Completeness.{opened_end, unopened_end, unopened_whole, whole_end}
+use Rattle.nb_run.proofs.Completeness.{early_end, opened_end, unopened_end, unopened_whole, whole_end}
 use Rattle.nb_run.proofs.Running.{batch_lines}
 use Rattle.nb_run.proofs.program.answer_batch.Goals as goal
 
@@ -44,3 +45,13 @@ returns-clause-whole g c = λ input no_sink.
 
 pub returns-clause-opens : goal.returns-clause-opens
 returns-clause-opens g c = λ journal no_disk. subst (λ (ending : Ending). (ending.status ≢ NO_JOURNAL) × (ending.status ≢ DISK_FAILED)) (sym c.ended.ensures) (opened_end c.serve-end.result)
+
+pub returns-clause-closed : goal.returns-clause-closed
+returns-clause-closed g c = λ early.
+    let same = c.serve-end.ensures.starved (early_end c.serve-end.result (subst EndsEarly c.ended.ensures early)) in
+    (same.1, same.2, same.3)
+
+pub returns-clause-unwritten : goal.returns-clause-unwritten
+returns-clause-unwritten g c = λ early.
+    let same = (c.serve-end.ensures.starved (early_end c.serve-end.result (subst EndsEarly c.ended.ensures early))).0 in
+    subst (λ (disk : g.row.D.Denot). Unwritten g.D.Disk.tells c.args.disk disk) (sym (c.into_parts-disk.ensures.disk ∙ ap (λ house. house.disk) same)) c.in-Ok.ensures.nothing
