@@ -6,6 +6,7 @@ use Rattle.std.specs.Option.{is_some, is_none}
 use Rattle.std.proofs.lemmas.Bool.{eqb-true, eq-eqb, leb-true, le-leb}
 use Rattle.nb_units.specs.declared.frames.TheConstants.{LAST_KIND, MAX_BODY}
 use Rattle.nb_units.specs.declared.limits.TheConstants.{MAX_MEMO}
+use Rattle.nb_body.specs.declared.limits.TheConstants.{MAX_REQUEST}
 use Rattle.nb_units.specs.declared.ids.PartyId.{PartyId}
 use Rattle.nb_book.specs.declared.entry.Entry.{Entry}
 use Rattle.nb_world.specs.declared.call.CallPhase.{CallPhase}
@@ -105,7 +106,7 @@ module _ {C M : Type 0} (p : Rules C M) (w : World C M) where
   buy_fits id start is =
       let i = some_inside (consumer_at p w id) _ is in
       let c = some_inside (slice_get w.consumers i.0) _ i.2 in
-      let request = some_inside (where_so (nat_le (length start.request) MAX_MEMO)) _ c.2 in
+      let request = some_inside (where_so (nat_le (length start.request) MAX_REQUEST)) _ c.2 in
       let memo = some_inside (where_so (nat_le (length start.memo) MAX_MEMO)) _ request.2 in
       (c.0, record { place = i.0; first = i.1; stands = c.1 }, leb-true _ _ (holds _ request.0 request.1), leb-true _ _ (holds _ memo.0 memo.1), started_is i.0 id (p.consumer_starts c.0 start) memo.2)
 

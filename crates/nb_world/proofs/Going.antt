@@ -5,6 +5,7 @@ use Rattle.std.proofs.lemmas.Bool.{le-leb}
 use Rattle.std.specs.Prelude.{set, IsTrue}
 use Rattle.std.specs.List.{slice_get}
 use Rattle.nb_units.specs.declared.limits.TheConstants.{MAX_MEMO}
+use Rattle.nb_body.specs.declared.limits.TheConstants.{MAX_REQUEST}
 use Rattle.nb_units.specs.declared.ids.PartyId.{PartyId}
 use Rattle.nb_world.specs.declared.event.Event.TheVariants as on
 use Rattle.nb_world.specs.declared.packet.Maker.{Maker}
@@ -71,7 +72,7 @@ module _ {C M : Type 0} (w : World C M) where
 -- ---- each event of a node
 
 module _ {C M : Type 0} (p : Rules C M) (w : World C M) (id : PartyId) where
-  buy_is : (c : C) (is : IsConsumer p w id c) (start : Start) → length start.request ≤ MAX_MEMO → length start.memo ≤ MAX_MEMO
+  buy_is : (c : C) (is : IsConsumer p w id c) (start : Start) → length start.request ≤ MAX_REQUEST → length start.memo ≤ MAX_MEMO
       → next p w (on.Buy id start) ≡ consumer_goes w is.place id (p.consumer_starts c start)
   unfolding buy_of
   buy_is c is start request memo = rw (is.first, is.stands, so _ (le-leb _ _ request), so _ (le-leb _ _ memo)) (started_is w is.place id (p.consumer_starts c start))

@@ -14,3 +14,4 @@ pub mod Answering
 pub mod Going
 pub mod Moving
 pub mod Receipting
+pub mod Holding

@@ -5,6 +5,7 @@ use Rattle.std.specs.Prelude.{◌&&◌, nat_le, if◌then◌else◌}
 use Rattle.std.specs.List.{slice_get, AllByRecursion}
 use Rattle.nb_units.specs.declared.frames.TheConstants.{LAST_KIND, MAX_BODY}
 use Rattle.nb_units.specs.declared.limits.TheConstants.{MAX_MEMO}
+use Rattle.nb_body.specs.declared.limits.TheConstants.{MAX_REQUEST}
 use Rattle.nb_units.specs.declared.ids.PartyId.{PartyId}
 use Rattle.nb_book.specs.declared.entry.Entry.{Entry}
 use Rattle.nb_book.specs.Legal.{Legal}
@@ -179,7 +180,7 @@ module _ {C M : Type 0} (p : Rules C M) (v w : World C M) where
   buy_outside id start is =
       let i = inside (consumer_at p v id) _ w is in
       let c = inside (slice_get v.consumers i.0) _ w i.2 in
-      let request = inside (where_so (nat_le (length start.request) MAX_MEMO)) _ w c.2 in
+      let request = inside (where_so (nat_le (length start.request) MAX_REQUEST)) _ w c.2 in
       let memo = inside (where_so (nat_le (length start.memo) MAX_MEMO)) _ w request.2 in
       started_outside v w i.0 id (p.consumer_starts c.0 start) memo.2
 

@@ -15,7 +15,7 @@ use Rattle.nb_world.specs.declared.turning.Origin.{Origin}
 use Rattle.nb_world.specs.declared.turning.Turning.{Turning}
 use Rattle.nb_world.specs.World.{Rules, World, is_decided, is_written, entry_written}
 use Rattle.nb_world.specs.Steps.{where_so, is_waiting, stopped, phase_stopped, origin_of, left, origins_left, may_answer, acknowledged_by, turn_of, write_of, open_of, answer_of, stop_of, step, next, or_same, run}
-use Rattle.nb_world.specs.Laws.{Begins, RunThen, HasOrigins, EntriesHaveOrigins, IsOver, StopLeaves, StopKeepsPrefix, IsQuiet, OthersAddNothing, AnswerAcknowledges, IsAnswer, OthersAcknowledgeNothing}
+use Rattle.nb_world.specs.Laws.{Begins, RunThen, HasOrigins, EntriesHaveOrigins, IsFinished, StopLeaves, StopKeepsPrefix, IsQuiet, OthersAddNothing, AnswerAcknowledges, IsAnswer, OthersAcknowledgeNothing}
 use Rattle.nb_world.proofs.Chains.{inside, same_some, value}
 use Rattle.nb_world.proofs.Fitting.{fits_step}
 use Rattle.nb_world.proofs.Lists.{begins_same, stopped_remains}
@@ -27,11 +27,11 @@ run_then p w (e ∷ es) more = run_then p (next p w e) es more
 
 -- ---- a stop
 
-all_over : (calls : List Call) → AllByRecursion IsOver (map stopped calls)
+all_over : (calls : List Call) → AllByRecursion IsFinished (map stopped calls)
 all_over [] = tt
 all_over (call ∷ calls) = (over call call.phase refl, all_over calls)
   where
-    over : (call : Call) (phase : CallPhase) → call.phase ≡ phase → IsOver (stopped call)
+    over : (call : Call) (phase : CallPhase) → call.phase ≡ phase → IsFinished (stopped call)
     over call Waiting is = inr (ap phase_stopped is)
     over call InTurn is = inr (ap phase_stopped is)
     over call Answered is = inl (ap phase_stopped is)

@@ -2,6 +2,7 @@
 use Rattle.std.specs.Prelude.{◌≡◌, ◌≢◌, ◌⊎◌, ℕ, ◌≤◌, length, None, Some, IsSome, IsTrue}
 use Rattle.std.specs.List.{slice_get}
 use Rattle.nb_units.specs.declared.limits.TheConstants.{MAX_MEMO}
+use Rattle.nb_body.specs.declared.limits.TheConstants.{MAX_REQUEST}
 use Rattle.nb_units.specs.declared.ids.PartyId.{PartyId}
 use Rattle.nb_units.specs.Frames.{IsFrame}
 use Rattle.nb_world.specs.declared.call.Call.{Call}
@@ -49,7 +50,7 @@ pub record HasTurn {C M : Type 0} (w : World C M) (c : ℕ) : Type 0 where
 
 -- the event fits
 abbrev pub Fits : {C M : Type 0} → Rules C M → World C M → Event → Type 0
-Fits {C} {M} p w (on.Buy id start) = (c : C) × IsConsumer p w id c × (length start.request ≤ MAX_MEMO) × (length start.memo ≤ MAX_MEMO) × (p.consumer_starts c start ≢ Stays)
+Fits {C} {M} p w (on.Buy id start) = (c : C) × IsConsumer p w id c × (length start.request ≤ MAX_REQUEST) × (length start.memo ≤ MAX_MEMO) × (p.consumer_starts c start ≢ Stays)
 Fits p w (on.Deliver k) = (packet : Packet) × (slice_get w.packets k ≡ Some packet) × IsKnown p w packet.to
 Fits p w (on.Turn c) = (w.turn ≡ None) × Waits w c
 Fits p w (on.Write c) = (has : HasTurn w c) × (has.turn.stage ≡ stage.Decided) × IsSome has.turn.verdict.entry

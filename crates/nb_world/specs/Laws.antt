@@ -199,8 +199,8 @@ IgnoredChangesNothing C M = (p : Rules C M) (w : World C M) (id : PartyId)
 -- ---- a stop
 
 -- a call is over: it was answered, or it is gone
-abbrev pub IsOver : Call → Type 0
-IsOver call = (call.phase ≡ Answered) ⊎ (call.phase ≡ Gone)
+abbrev pub IsFinished : Call → Type 0
+IsFinished call = (call.phase ≡ Answered) ⊎ (call.phase ≡ Gone)
 
 -- what is behind a stop: nodes, packets and the clock as before; the commit list, or the durable entries alone; a house without a turn that
 -- works on these; no call that is neither answered nor gone
@@ -212,7 +212,7 @@ pub record IsStopped {C M : Type 0} (w : World C M) (keep : Bool) (behind : Worl
   pub durable : behind.durable ≡ (if keep then commits w else w.durable)
   pub server : behind.server ≡ behind.durable
   pub free : behind.turn ≡ None
-  pub over : AllByRecursion IsOver behind.calls
+  pub over : AllByRecursion IsFinished behind.calls
   pub answered : (c : ℕ) (call : Call) → slice_get w.calls c ≡ Some call → call.phase ≡ Answered → slice_get behind.calls c ≡ Some call
   pub unanswered : (c : ℕ) (call gone : Call) → slice_get w.calls c ≡ Some call → slice_get behind.calls c ≡ Some gone → call.phase ≢ Answered → gone.phase ≡ Gone
 

@@ -2,6 +2,7 @@
 use Rattle.std.specs.Prelude.{◌≡◌, ◌≢◌, ℕ, ◌≤◌, List, [], ◌∷◌, ◌++◌, length, Option, None, Some, IsTrue}
 use Rattle.std.specs.List.{slice_get}
 use Rattle.nb_units.specs.declared.limits.TheConstants.{MAX_MEMO}
+use Rattle.nb_body.specs.declared.limits.TheConstants.{MAX_REQUEST}
 use Rattle.nb_units.specs.declared.ids.PartyId.{PartyId}
 use Rattle.nb_world.specs.declared.event.Event.TheVariants as on
 use Rattle.nb_world.specs.declared.packet.Maker.{Maker}
@@ -60,7 +61,7 @@ MerchantGoes w place id (Goes m sent) behind = MerchantWent w place id m sent be
 -- what the events of this consumer do: it starts a purchase, it hears a packet for it that is spelled as those of its kind are, it has heard nothing
 -- of a purchase that it knows for long, it starts again
 pub record ConsumerDoes {C M : Type 0} (p : Rules C M) (w : World C M) (place : ℕ) (id : PartyId) (c : C) : Type 0 where
-  pub starts : (start : Start) → length start.request ≤ MAX_MEMO → length start.memo ≤ MAX_MEMO
+  pub starts : (start : Start) → length start.request ≤ MAX_REQUEST → length start.memo ≤ MAX_MEMO
       → ConsumerGoes w place id (p.consumer_starts c start) (next p w (on.Buy id start))
   pub hears : (k : ℕ) (packet : Packet) → slice_get w.packets k ≡ Some packet → packet.to ≡ to.Consumer id → IsTrue (p.is_body packet.kind packet.body)
       → ConsumerGoes w place id (p.consumer_hears c packet.kind packet.body) (next p w (on.Deliver k))

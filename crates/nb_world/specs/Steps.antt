@@ -4,6 +4,7 @@ use Rattle.std.specs.List.{position, slice_get}
 use Rattle.std.specs.Option.{option_to_list, option_map, is_none, is_some}
 use Rattle.nb_units.specs.declared.frames.TheConstants.{LAST_KIND, MAX_BODY}
 use Rattle.nb_units.specs.declared.limits.TheConstants.{MAX_MEMO}
+use Rattle.nb_body.specs.declared.limits.TheConstants.{MAX_REQUEST}
 use Rattle.nb_units.specs.declared.ids.PartyId.{PartyId}
 use Rattle.nb_book.specs.declared.entry.Entry.{Entry}
 use Rattle.nb_world.specs.declared.call.Call.{Call}
@@ -76,7 +77,7 @@ unfoldable pub buy_of : {C M : Type 0} → Rules C M → World C M → PartyId �
 buy_of p w id start = do
   i ← consumer_at p w id
   c ← slice_get w.consumers i
-  request ← where_so (nat_le (length start.request) MAX_MEMO)
+  request ← where_so (nat_le (length start.request) MAX_REQUEST)
   memo ← where_so (nat_le (length start.memo) MAX_MEMO)
   started w i id (p.consumer_starts c start)
 
