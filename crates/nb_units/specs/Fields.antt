@@ -1,13 +1,17 @@
 -- Fields in a row. A field is read at a place of the bytes: it gives its value, or the first reason why
 -- no such field stands there. Numbers are big-endian. A text has its length before it, in four bytes.
 use Rattle.std.specs.Prelude.{ℕ, ◌+◌, List, ◌++◌, length, take, drop, slice_index, Bool, true, false, Result, Ok, Err, nat_lt, if◌then◌else◌}
-use Rattle.std.specs.Int.{w32, w64, to_be_bytes, from_be_bytes}
+use Rattle.std.specs.Int.{w16, w32, w64, to_be_bytes, from_be_bytes}
 use Rattle.std.specs.Borrow.{Bor}
 use Rattle.nb_units.specs.declared.cut.CutFault.{CutFault}
 use Rattle.nb_units.specs.declared.cut.CutFault.TheVariants.{Short, Long, Extra}
 use Rattle.nb_units.specs.Reading.{Reading}
 
 -- ---- spelling
+
+-- a number in two bytes
+abbrev pub be2 : ℕ → List ℕ
+be2 n = to_be_bytes w16 n
 
 -- a number in four bytes
 abbrev pub be4 : ℕ → List ℕ

@@ -7,7 +7,7 @@ use Rattle.nb_units.specs.declared.epoid.Epoid.{Epoid}
 use Rattle.nb_units.specs.Fields.{be4, be8, sized, raw_at, u8_at, u32_at, u64_at, bytes_at, done_at}
 use Rattle.nb_units.specs.Frames.{AreBytes}
 use Rattle.nb_units.specs.Epoid.{IsEpoid, epoid_bytes, epoid_of}
-use Rattle.nb_units.specs.declared.limits.TheConstants.{MAX_MEMO, MAX_HIDDEN, MAX_ORDER}
+use Rattle.nb_units.specs.declared.limits.TheConstants.{MAX_MEMO, MAX_HIDDEN, MAX_ORDER, FIRST_VERSION, FEE_VERSION, MAX_RATE}
 use Rattle.nb_units.specs.declared.small.TheConstants.{MAX_SMALL}
 use Rattle.nb_units.specs.declared.buffer.TheConstants.{MAX_BUFFER}
 use Rattle.nb_units.specs.declared.reason.TheConstants.{FIRST_REASON, LAST_REASON}
@@ -87,3 +87,7 @@ FieldLimitsAre = (MAX_MEMO ≡ 64) × (MAX_HIDDEN ≡ 112) × (MAX_ORDER ≡ 280
 -- the least and the greatest code of a reason
 abbrev pub ReasonsAre : Type 0
 ReasonsAre = (FIRST_REASON ≡ 31) × (LAST_REASON ≡ 37)
+
+-- the two versions of a journal, and the highest rate
+abbrev pub VersionsAre : Type 0
+VersionsAre = (FIRST_VERSION ≡ 1) × (FEE_VERSION ≡ 2) × (MAX_RATE ≡ 1000)

@@ -7,4 +7,5 @@ pub mod Epoid
 pub mod Padding
 pub mod Reasons
 pub mod Numerals
+pub mod Charter
 pub mod Laws

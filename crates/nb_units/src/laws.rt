@@ -58,8 +58,9 @@ pub fn epoid_spells_back()
     ensures { law.EpoidSpellsBack }
 {}
 
-/// A law: the limits in numbers, and the least and the greatest code of a reason.
+/// A law: the limits in numbers, the least and the greatest code of a reason, and the versions with the highest rate.
 pub fn limits()
     ensures limits { law.FieldLimitsAre }
     ensures reasons { law.ReasonsAre }
+    ensures versions { law.VersionsAre }
 {}

@@ -22,6 +22,7 @@
 
 mod blob;
 mod buffer;
+mod charter;
 mod cut;
 mod epoid;
 pub mod frames;
@@ -38,10 +39,13 @@ pub mod width;
 
 pub use blob::Blob;
 pub use buffer::{Buffer, MAX_BUFFER};
+pub use charter::Charter;
 pub use cut::{Cut, CutFault};
 pub use epoid::Epoid;
 pub use ids::{AcctId, Digest, PartyId, Price, Secret, Tag};
-pub use limits::{HEAD, MAX_CAP, MAX_HIDDEN, MAX_MEMO, MAX_ORDER};
+pub use limits::{
+    FEE_VERSION, FIRST_VERSION, HEAD, MAX_CAP, MAX_HIDDEN, MAX_MEMO, MAX_ORDER, MAX_RATE,
+};
 pub use malformed::{Malformed, allow};
 pub use memory::{NoMemory, room};
 pub use number::{decimal_of, u32_of};

@@ -1,4 +1,4 @@
-//! How many entries a house may hold, how long its head is, and the most bytes of what parties write. These follow from [`MAX_MEMO`] and
+//! How many entries a house may hold, how long its head is, which versions and rates its journal may have, and the most bytes of what parties write. These follow from [`MAX_MEMO`] and
 //! the widths of the fields.
 
 use crate::width::{ACCOUNT, DIGEST, EPOID, LENGTH, MONEY, NONCE, PARTY, PRODUCT, SEAL, TAG};
@@ -8,6 +8,15 @@ pub const MAX_CAP: u32 = 1_000_000;
 
 /// The bytes of the head of a house.
 pub const HEAD: usize = 80;
+
+/// The version of a journal whose house keeps no fee.
+pub const FIRST_VERSION: u8 = 1;
+
+/// The version of a journal whose house keeps a fee of each payment, at its rate.
+pub const FEE_VERSION: u8 = 2;
+
+/// The highest rate of a fee, in thousandths of the price.
+pub const MAX_RATE: u16 = 1000;
 
 /// The most bytes of a memo, which is a party's own note.
 pub const MAX_MEMO: usize = 64;
