@@ -1,6 +1,6 @@
 -- What was read of a content is what it stands for.
 use Rattle.std.proofs.Common.{◌≡◌, ◌≢◌, ℕ, Bool, true, false, List, [], ◌∷◌, ◌++◌, length, take, drop, Option, IfSome, arith, refl, sym, ap, subst, ◌∙◌, length-append}
-use Rattle.std.specs.Prelude.{◌==◌, if◌then◌else◌, replicate, nat_lt}
+use Rattle.std.specs.Prelude.{◌==◌, if◌then◌else◌, nat_lt}
 use Rattle.std.specs.Int.{w32, from_be_bytes}
 use Rattle.std.specs.List.{flat_map}
 use Rattle.std.proofs.lemmas.Bool.{eqb-false}
@@ -12,7 +12,9 @@ use Rattle.nb_journal.specs.Stands.{Stands}
 use Rattle.nb_journal.specs.Reading.{Seen, Shut, Item, Broken, first_of, behind_gate, item_of, Holds}
 use Rattle.nb_journal.specs.Scanning.{AreItems, IsWholeJournal}
 use Rattle.nb_journal.specs.States.{IsOver}
-use Rattle.nb_journal.specs.Opening.{OpensJournal}
+use Rattle.nb_journal.specs.Opening.{OpensJournal, charter_of}
+use Rattle.nb_units.specs.declared.charter.Charter.{Charter}
+use Rattle.nb_units.specs.Fields.{be2}
 use Rattle.nb_journal.specs.declared.opening.Opened.{Opened}
 use Rattle.nb_journal.proofs.Telling.{some_each}
 
@@ -48,10 +50,10 @@ shut_gate (gate ∷ rest) seen = (gate, rest, tested (gate == open_gate) refl, r
     tested false test = eqb-false gate open_gate test
 
 -- a whole content stands for its items
-pub whole_stands : (image : List ℕ) (cap : ℕ) (head : List ℕ) (items : List (List ℕ)) (place : ℕ) → IsWholeJournal image cap head items place → Stands (front_bytes cap head) items image
-whole_stands image cap head items place whole =
+pub whole_stands : (image : List ℕ) (cap : ℕ) (charter : Charter) (items : List (List ℕ)) (place : ℕ) → IsWholeJournal image cap charter items place → Stands (front_bytes cap charter) items image
+whole_stands image cap charter items place whole =
     let behind = shut_gate (drop place image) whole.read.shut in
-    let front = front_bytes cap head in
+    let front = front_bytes cap charter in
     record {
       gate = behind.0;
       rest = behind.1;
@@ -64,12 +66,12 @@ whole_stands image cap head items place whole =
     }
 
 -- a front has 96 bytes
-pub front_length : (cap : ℕ) (head : List ℕ) → AreTerms cap head → length (front_bytes cap head) ≡ 96
-front_length cap head are = omega (arith, are.whole, length-append head (replicate 4 0))
+pub front_length : (cap : ℕ) (charter : Charter) → AreTerms cap charter → length (front_bytes cap charter) ≡ 96
+front_length cap charter are = omega (arith, are.whole, length-append charter.head (be2 charter.rate ++ 0 ∷ 0 ∷ []))
 
 -- the journal over what was read
-pub opens : {D : Type 0} (tells : DiskTells D) (disk mid : D) (most place count : ℕ) (o : Opened D) → AreTerms o.cap o.head → AreItems o.cap o.items.items place
-    → IfSome (tells.content disk) (λ image. IsWholeJournal image o.cap o.head o.items.items place) → tells.content mid ≡ tells.content disk → Only (tells.content disk) (tells.allowed mid) → count ≡ length o.items.items → IsOver mid place count o.cap most o.journal
+pub opens : {D : Type 0} (tells : DiskTells D) (disk mid : D) (most place count : ℕ) (o : Opened D) → AreTerms o.cap (charter_of o) → AreItems o.cap o.items.items place
+    → IfSome (tells.content disk) (λ image. IsWholeJournal image o.cap (charter_of o) o.items.items place) → tells.content mid ≡ tells.content disk → Only (tells.content disk) (tells.allowed mid) → count ≡ length o.items.items → IsOver mid place count o.cap most o.journal
     → OpensJournal tells disk most o
 opens tells disk mid most place count o terms items whole same only counts over =
     let told : tells.content o.journal.disk ≡ tells.content disk = ap tells.content over.disk ∙ same in
@@ -80,14 +82,14 @@ opens tells disk mid most place count o terms items whole same only counts over 
         fresh = over.fresh;
         place = over.gate ∙ gate;
         count = over.len ∙ counts;
-        bytes = subst (λ (t : Option (List ℕ)). IfSome t (Stands (front_bytes o.cap o.head) o.items.items)) (sym told)
-            (some_each (tells.content disk) (λ image. IsWholeJournal image o.cap o.head o.items.items place) (Stands (front_bytes o.cap o.head) o.items.items) (λ image is. whole_stands image o.cap o.head o.items.items place is) whole);
+        bytes = subst (λ (t : Option (List ℕ)). IfSome t (Stands (front_bytes o.cap (charter_of o)) o.items.items)) (sym told)
+            (some_each (tells.content disk) (λ image. IsWholeJournal image o.cap (charter_of o) o.items.items place) (Stands (front_bytes o.cap (charter_of o)) o.items.items) (λ image is. whole_stands image o.cap (charter_of o) o.items.items place is) whole);
         only = λ image is. told ∙ only image (subst (λ d. tells.allowed d image) over.disk is);
       };
       cap = over.cap;
       room = over.room;
-      holds = some_each (tells.content disk) (λ image. IsWholeJournal image o.cap o.head o.items.items place) (λ image. Holds image o.cap o.head o.items.items) (λ image is. record { terms = terms; front = is.front; found = is.read.found }) whole;
+      holds = some_each (tells.content disk) (λ image. IsWholeJournal image o.cap (charter_of o) o.items.items place) (λ image. Holds image o.cap (charter_of o) o.items.items) (λ image is. record { terms = terms; front = is.front; found = is.read.found }) whole;
     }
   where
-    gate : place ≡ length (up_to_gate (front_bytes o.cap o.head) o.items.items)
-    gate = omega (arith, items.at, front_length o.cap o.head terms, length-append (front_bytes o.cap o.head) (flat_map item_bytes o.items.items))
+    gate : place ≡ length (up_to_gate (front_bytes o.cap (charter_of o)) o.items.items)
+    gate = omega (arith, items.at, front_length o.cap (charter_of o) terms, length-append (front_bytes o.cap (charter_of o)) (flat_map item_bytes o.items.items))

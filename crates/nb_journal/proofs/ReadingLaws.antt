@@ -1,19 +1,21 @@
 -- What is read of an image that stands for items, and what an image stands for that was read.
 use Rattle.std.proofs.Common.{◌≡◌, ◌≢◌, ◌⊎◌, inl, inr, ℕ, zero, suc, ◌+◌, ◌-◌, ◌<◌, ◌≤◌, Bool, true, false, nat_lt, List, [], ◌∷◌, ◌++◌, length, take, drop, get_or, arith, refl, sym, ap, subst, ◌∙◌, length-append}
 use Rattle.std.specs.Prelude.{replicate, ◌==◌, if◌then◌else◌}
-use Rattle.std.specs.Int.{w32, from_be_bytes}
+use Rattle.std.specs.Int.{w16, w32, from_be_bytes}
 use Rattle.std.specs.List.{flat_map, AllByRecursion}
 use Rattle.std.proofs.lemmas.List.{append_assoc, append-nil, take_at, drop_at, take-take, length-take, length-take-le, take-append-drop, get_or-append-add, get_or-take}
 use Rattle.std.proofs.Math.ListN.{get_or-eq_default}
-use Rattle.std.proofs.lemmas.Nat.{from_be_bytes-to_be_bytes_4, be_bytes_4}
+use Rattle.std.proofs.lemmas.Nat.{from_be_bytes-to_be_bytes_2, from_be_bytes-to_be_bytes_4, be_bytes_4}
 use Rattle.std.proofs.Math.Seq.{take-append_seam, drop-append_seam}
 use Rattle.std.proofs.lemmas.Bool.{eqb-true}
-use Rattle.nb_units.specs.Fields.{be4, sized}
+use Rattle.nb_units.specs.Fields.{be2, be4, sized}
+use Rattle.nb_units.specs.declared.charter.Charter.{Charter}
 use Rattle.nb_units.specs.Frames.{AreBytes}
-use Rattle.nb_journal.specs.Layout.{magic, front_bytes, AreTerms, open_gate, IsItem, item_bytes, up_to_gate}
+use Rattle.nb_journal.specs.Layout.{magic, IsMagic, front_bytes, AreTerms, open_gate, IsItem, item_bytes, up_to_gate}
 use Rattle.nb_journal.specs.Stands.{Stands}
 use Rattle.nb_journal.specs.Reading.{Seen, Shut, Item, Broken, first_of, behind_gate, item_of, Found, Whole, Fault, items_from, found_in, Holds, NoFront, ItemFault, IsDamaged, IsUnborn}
 use Rattle.nb_journal.specs.Laws.{IsRead}
+use Rattle.nb_journal.proofs.Fronts.{rate_fits, magic_known}
 use Rattle.nb_journal.proofs.Records.{unless, when, shut_there, sized_reads, item_reads, short_reads}
 use Rattle.nb_journal.proofs.ReadingOn.{items_step, items_shut, items_broken, items_full}
 use Rattle.nb_journal.proofs.Opens.{front_length, shut_gate}
@@ -50,49 +52,67 @@ reads_all (suc left) items (item ∷ more) place gate rest shut fit few =
     ∙ ap Whole (append_assoc items (item ∷ []) more)
 
 -- an image that stands for items is read as these
-pub stands_read : (image head : List ℕ) (cap : ℕ) (items : List (List ℕ)) → AreTerms cap head → AllByRecursion IsItem items → length items ≤ cap → Stands (front_bytes cap head) items image → Holds image cap head items
-stands_read image head cap items are fit few stands =
-    let front = front_bytes cap head in
+pub stands_read : (image : List ℕ) (charter : Charter) (cap : ℕ) (items : List (List ℕ)) → AreTerms cap charter → AllByRecursion IsItem items → length items ≤ cap → Stands (front_bytes cap charter) items image → Holds image cap charter items
+stands_read image charter cap items are fit few stands =
+    let front = front_bytes cap charter in
     let behind = flat_map item_bytes items ++ stands.gate ∷ stands.rest in
     let split : image ≡ front ++ behind = stands.bytes ∙ append_assoc front (flat_map item_bytes items) (stands.gate ∷ stands.rest) in
     record {
       terms = are;
-      front = ap (take 96) split ∙ take_at front behind 96 (front_length cap head are);
-      found = ap (λ (xs : List ℕ). items_from cap [] 96 xs) (ap (drop 96) split ∙ drop_at front behind 96 (front_length cap head are)) ∙ reads_all cap [] items 96 stands.gate stands.rest stands.shut fit few;
+      front = ap (take 96) split ∙ take_at front behind 96 (front_length cap charter are);
+      found = ap (λ (xs : List ℕ). items_from cap [] 96 xs) (ap (drop 96) split ∙ drop_at front behind 96 (front_length cap charter are)) ∙ reads_all cap [] items 96 stands.gate stands.rest stands.shut fit few;
     }
 
 -- ---- one reading
 
 -- two fronts of one image have one cap
-same_cap : (cap cap' : ℕ) (head head' : List ℕ) → AreTerms cap head → AreTerms cap' head' → front_bytes cap head ≡ front_bytes cap' head' → cap ≡ cap'
-same_cap cap cap' head head' are are' same =
+same_cap : (cap cap' : ℕ) (charter charter' : Charter) → AreTerms cap charter → AreTerms cap' charter' → front_bytes cap charter ≡ front_bytes cap' charter' → cap ≡ cap'
+same_cap cap cap' charter charter' are are' same =
     let word : be4 cap ≡ be4 cap' = ap (λ (xs : List ℕ). take 4 (drop 8 xs)) same in
     sym (from_be_bytes-to_be_bytes_4 cap (omega (arith, are.most))) ∙ ap (from_be_bytes w32) word ∙ from_be_bytes-to_be_bytes_4 cap' (omega (arith, are'.most))
 
--- and one head
-same_head : (cap cap' : ℕ) (head head' : List ℕ) → AreTerms cap head → AreTerms cap' head' → front_bytes cap head ≡ front_bytes cap' head' → head ≡ head'
-same_head cap cap' head head' are are' same =
-    let behind : head ++ replicate 4 0 ≡ head' ++ replicate 4 0 = ap (drop 12) same in
-    sym (take_at head (replicate 4 0) 80 are.whole) ∙ ap (take 80) behind ∙ take_at head' (replicate 4 0) 80 are'.whole
+-- behind the cap stand the head, the rate and zeros
+abbrev behind_cap : Charter → List ℕ
+behind_cap charter = charter.head ++ (be2 charter.rate ++ 0 ∷ 0 ∷ [])
+
+-- charters of one version, one head and one rate are one
+same_parts : (charter charter' : Charter) → charter.head ≡ charter'.head → charter.version ≡ charter'.version → charter.rate ≡ charter'.rate → charter ≡ charter'
+same_parts charter charter' head version rate = λ i. record { head = head i; version = version i; rate = rate i }
+
+-- and one charter
+same_charter : (cap cap' : ℕ) (charter charter' : Charter) → AreTerms cap charter → AreTerms cap' charter' → front_bytes cap charter ≡ front_bytes cap' charter' → charter ≡ charter'
+same_charter cap cap' charter charter' are are' same =
+    let last : 48 + charter.version ≡ 48 + charter'.version = ap (λ (xs : List ℕ). get_or xs 7 0) same in
+    let behind : behind_cap charter ≡ behind_cap charter' = ap (drop 12) same in
+    let zeros = be2 charter.rate ++ 0 ∷ 0 ∷ [] in
+    let zeros' = be2 charter'.rate ++ 0 ∷ 0 ∷ [] in
+    let head : charter.head ≡ charter'.head = sym (take_at charter.head zeros 80 are.whole) ∙ ap (take 80) behind ∙ take_at charter'.head zeros' 80 are'.whole in
+    let rest : zeros ≡ zeros' = sym (drop_at charter.head zeros 80 are.whole) ∙ ap (drop 80) behind ∙ drop_at charter'.head zeros' 80 are'.whole in
+    let word : be2 charter.rate ≡ be2 charter'.rate = ap (take 2) rest in
+    let rate : charter.rate ≡ charter'.rate =
+    sym (from_be_bytes-to_be_bytes_2 charter.rate (rate_fits charter.version charter.rate are.ruled))
+    ∙ ap (from_be_bytes w16) word
+    ∙ from_be_bytes-to_be_bytes_2 charter'.rate (rate_fits charter'.version charter'.rate are'.ruled) in
+    same_parts charter charter' head (omega (arith, last)) rate
 
 -- with one cap the same is found
 same_found : (cap cap' : ℕ) (bytes : List ℕ) (x y : Found) → cap ≡ cap' → items_from cap [] 96 bytes ≡ x → items_from cap' [] 96 bytes ≡ y → x ≡ y
 same_found cap cap' bytes x y same first second = sym first ∙ ap (λ (n : ℕ). items_from n [] 96 bytes) same ∙ second
 
 -- an image is read as one journal
-pub one_journal : (image head head' : List ℕ) (cap cap' : ℕ) (items items' : List (List ℕ)) → Holds image cap head items → Holds image cap' head' items' → (cap ≡ cap') × (head ≡ head') × (items ≡ items')
-one_journal image head head' cap cap' items items' first second =
-    let same : front_bytes cap head ≡ front_bytes cap' head' = sym first.front ∙ second.front in
-    let caps = same_cap cap cap' head head' first.terms second.terms same in
+pub one_journal : (image : List ℕ) (charter charter' : Charter) (cap cap' : ℕ) (items items' : List (List ℕ)) → Holds image cap charter items → Holds image cap' charter' items' → (cap ≡ cap') × (charter ≡ charter') × (items ≡ items')
+one_journal image charter charter' cap cap' items items' first second =
+    let same : front_bytes cap charter ≡ front_bytes cap' charter' = sym first.front ∙ second.front in
+    let caps = same_cap cap cap' charter charter' first.terms second.terms same in
     let found = same_found cap cap' (drop 96 image) (Whole items) (Whole items') caps first.found second.found in
-    (caps, same_head cap cap' head head' first.terms second.terms same, cc)
+    (caps, same_charter cap cap' charter charter' first.terms second.terms same, cc)
 
 -- and is then not damaged
-pub whole_not_damaged : (image head : List ℕ) (cap item place : ℕ) (items : List (List ℕ)) → Holds image cap head items → IsDamaged image item place → ⊥
-whole_not_damaged image head cap item place items holds damaged = elim damaged.fault [
-  | inl none ↦ none.2 cap head holds.terms holds.front
+pub whole_not_damaged : (image : List ℕ) (charter : Charter) (cap item place : ℕ) (items : List (List ℕ)) → Holds image cap charter items → IsDamaged image item place → ⊥
+whole_not_damaged image charter cap item place items holds damaged = elim damaged.fault [
+  | inl none ↦ none.2 cap charter holds.terms holds.front
   | inr fault ↦ (
-      let caps = same_cap cap fault.cap head fault.head holds.terms fault.terms (sym holds.front ∙ fault.front) in
+      let caps = same_cap cap fault.cap charter fault.charter holds.terms fault.terms (sym holds.front ∙ fault.front) in
       let found = same_found cap fault.cap (drop 96 image) (Whole items) (Fault item place) caps holds.found fault.found in
       cc
       )
@@ -101,10 +121,10 @@ whole_not_damaged image head cap item place items holds damaged = elim damaged.f
 -- by the grounds of two faults
 faults : (image : List ℕ) (item item' place place' : ℕ) → ((item ≡ 0) × (place ≡ 8) × NoFront image) ⊎ ItemFault image item place → ((item' ≡ 0) × (place' ≡ 8) × NoFront image) ⊎ ItemFault image item' place' → (item ≡ item') × (place ≡ place')
 faults image item item' place place' (inl first) (inl second) = (first.0 ∙ sym second.0, first.1 ∙ sym second.1)
-faults image item item' place place' (inl first) (inr second) = absurd (first.2 second.cap second.head second.terms second.front)
-faults image item item' place place' (inr first) (inl second) = absurd (second.2 first.cap first.head first.terms first.front)
+faults image item item' place place' (inl first) (inr second) = absurd (first.2 second.cap second.charter second.terms second.front)
+faults image item item' place place' (inr first) (inl second) = absurd (second.2 first.cap first.charter first.terms first.front)
 faults image item item' place place' (inr first) (inr second) =
-    let caps = same_cap first.cap second.cap first.head second.head first.terms second.terms (sym first.front ∙ second.front) in
+    let caps = same_cap first.cap second.cap first.charter second.charter first.terms second.terms (sym first.front ∙ second.front) in
     let found = same_found first.cap second.cap (drop 96 image) (Fault item place) (Fault item' place') caps first.found second.found in
     (cc, cc)
 
@@ -112,18 +132,19 @@ faults image item item' place place' (inr first) (inr second) =
 pub one_fault : (image : List ℕ) (item item' place place' : ℕ) → IsDamaged image item place → IsDamaged image item' place' → (item ≡ item') × (place ≡ place')
 one_fault image item item' place place' first second = faults image item item' place place' first.fault second.fault
 
--- a journal begins with the magic
-begins : (image head : List ℕ) (cap : ℕ) → AreTerms cap head → take 96 image ≡ front_bytes cap head → found_in image ≡ magic
-begins image head cap are front =
-    let first : take 8 image ≡ magic = sym (take-take 8 96 image (omega arith)) ∙ ap (take 8) front in
-    let none : 8 - length image ≡ 0 = omega (arith, ap length front, front_length cap head are, length-take 96 image) in
-    ap (λ (xs : List ℕ). xs ++ replicate (8 - length image) 0) first ∙ ap (λ (n : ℕ). magic ++ replicate n 0) none
+-- a journal begins with the magic of its version
+begins : (image : List ℕ) (charter : Charter) (cap : ℕ) → AreTerms cap charter → take 96 image ≡ front_bytes cap charter → IsMagic (found_in image)
+begins image charter cap are front =
+    let first : take 8 image ≡ magic charter.version = sym (take-take 8 96 image (omega arith)) ∙ ap (take 8) front in
+    let none : 8 - length image ≡ 0 = omega (arith, ap length front, front_length cap charter are, length-take 96 image) in
+    let found : found_in image ≡ magic charter.version = ap (λ (xs : List ℕ). xs ++ replicate (8 - length image) 0) first ∙ ap (λ (n : ℕ). magic charter.version ++ replicate n 0) none in
+    subst IsMagic (sym found) (magic_known charter.version charter.rate are.ruled)
 
 -- what begins otherwise is neither a journal nor damaged
-pub unborn_is_neither : (image found head : List ℕ) (cap item place : ℕ) (items : List (List ℕ)) → IsUnborn image found → (Holds image cap head items → ⊥) × (IsDamaged image item place → ⊥)
-unborn_is_neither image found head cap item place items unborn = (
-  λ holds. unborn.1 (unborn.0 ∙ begins image head cap holds.terms holds.front),
-  λ damaged. unborn.1 (unborn.0 ∙ damaged.begins),
+pub unborn_is_neither : (image found : List ℕ) (charter : Charter) (cap item place : ℕ) (items : List (List ℕ)) → IsUnborn image found → (Holds image cap charter items → ⊥) × (IsDamaged image item place → ⊥)
+unborn_is_neither image found charter cap item place items unborn = (
+  λ holds. unborn.1 (subst IsMagic (sym unborn.0) (begins image charter cap holds.terms holds.front)),
+  λ damaged. unborn.1 (subst IsMagic (sym unborn.0) damaged.begins),
 )
 
 -- ---- what was read stands
@@ -266,9 +287,9 @@ reads_back (suc left) items place bytes found (Item item rest) are is read =
     }
 
 -- what was read as a journal stands for its items
-pub read_stands : (image head : List ℕ) (cap : ℕ) (items : List (List ℕ)) → AreBytes image → Holds image cap head items → IsRead image cap head items
-read_stands image head cap items are holds =
-    let front = front_bytes cap head in
+pub read_stands : (image : List ℕ) (charter : Charter) (cap : ℕ) (items : List (List ℕ)) → AreBytes image → Holds image cap charter items → IsRead image cap charter items
+read_stands image charter cap items are holds =
+    let front = front_bytes cap charter in
     let whole : image ≡ take 96 image ++ drop 96 image = sym (take-append-drop 96 image) in
     let back = reads_back cap [] 96 (drop 96 image) items (first_of (drop 96 image)) (bytes_behind image (take 96 image) (drop 96 image) are whole) refl holds.found in
     record {

@@ -1,27 +1,34 @@
 -- The bytes of a journal: a front of 96 bytes, then item after item, each behind its gate, and then a gate that is not open.
-use Rattle.std.specs.Prelude.{◌≡◌, ℕ, ◌≤◌, List, [], ◌∷◌, ◌++◌, length, replicate}
+use Rattle.std.specs.Prelude.{◌≡◌, ◌⊎◌, ℕ, ◌+◌, ◌≤◌, List, [], ◌∷◌, ◌++◌, length}
 use Rattle.std.specs.List.{flat_map}
-use Rattle.nb_units.specs.Fields.{be4, sized}
-use Rattle.nb_units.specs.declared.limits.TheConstants.{HEAD, MAX_CAP}
+use Rattle.nb_units.specs.Charter.{AreVersionAndRate}
+use Rattle.nb_units.specs.Fields.{be2, be4, sized}
+use Rattle.nb_units.specs.declared.charter.Charter.{Charter}
+use Rattle.nb_units.specs.declared.limits.TheConstants.{HEAD, MAX_CAP, FIRST_VERSION, FEE_VERSION}
 use Rattle.nb_journal.specs.declared.limits.TheConstants.{MAX_ITEM}
 
--- what a journal begins with, NBJRNL01
-abbrev pub magic : List ℕ
-magic = 0x4E ∷ 0x42 ∷ 0x4A ∷ 0x52 ∷ 0x4E ∷ 0x4C ∷ 0x30 ∷ 0x31 ∷ []
+-- what a journal of a version begins with: NBJRNL01, NBJRNL02
+abbrev pub magic : ℕ → List ℕ
+magic version = 0x4E ∷ 0x42 ∷ 0x4A ∷ 0x52 ∷ 0x4E ∷ 0x4C ∷ 0x30 ∷ (0x30 + version) ∷ []
 
--- what stands between the magic and the first gate: cap 4 | head 80 | zeros 4
-abbrev pub terms : ℕ → List ℕ → List ℕ
-terms cap head = be4 cap ++ (head ++ replicate 4 0)
+-- what the journals of the two versions begin with
+abbrev pub IsMagic : List ℕ → Type 0
+IsMagic found = (found ≡ magic FIRST_VERSION) ⊎ (found ≡ magic FEE_VERSION)
+
+-- what stands between the magic and the first gate: cap 4 | head 80 | rate 2 | zeros 2
+abbrev pub terms : ℕ → Charter → List ℕ
+terms cap charter = be4 cap ++ (charter.head ++ (be2 charter.rate ++ 0 ∷ 0 ∷ []))
 
 -- the front: magic 8, and its terms
-abbrev pub front_bytes : ℕ → List ℕ → List ℕ
-front_bytes cap head = magic ++ terms cap head
+abbrev pub front_bytes : ℕ → Charter → List ℕ
+front_bytes cap charter = magic charter.version ++ terms cap charter
 
--- a cap in its range, and a head of its length
-pub record AreTerms (cap : ℕ) (head : List ℕ) : Type 0 where
+-- a cap in its range, a head of its length, and a rate that journals of this version may have
+pub record AreTerms (cap : ℕ) (charter : Charter) : Type 0 where
   pub some : 1 ≤ cap
   pub most : cap ≤ MAX_CAP
-  pub whole : length head ≡ HEAD
+  pub whole : length charter.head ≡ HEAD
+  pub ruled : AreVersionAndRate charter.version charter.rate
 
 -- a gate that is open
 abbrev pub open_gate : ℕ

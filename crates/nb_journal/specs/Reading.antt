@@ -1,8 +1,9 @@
 -- What is read from an image, from its front on, and the first fault of one that is no journal.
-use Rattle.std.specs.Prelude.{◌≡◌, ◌≢◌, ◌⊎◌, ℕ, zero, suc, ◌+◌, ◌-◌, List, [], ◌∷◌, ◌++◌, length, take, drop, replicate, nat_lt, ◌==◌, if◌then◌else◌}
+use Rattle.std.specs.Prelude.{◌≡◌, ◌⊎◌, ℕ, zero, suc, ◌+◌, ◌-◌, List, [], ◌∷◌, ◌++◌, length, take, drop, replicate, nat_lt, ◌==◌, if◌then◌else◌}
 use Rattle.std.specs.Int.{w32, from_be_bytes}
+use Rattle.nb_units.specs.declared.charter.Charter.{Charter}
 use Rattle.nb_journal.specs.declared.limits.TheConstants.{FRONT, MAX_ITEM}
-use Rattle.nb_journal.specs.Layout.{magic, front_bytes, AreTerms, open_gate}
+use Rattle.nb_journal.specs.Layout.{IsMagic, front_bytes, AreTerms, open_gate}
 
 -- ---- one record
 
@@ -50,29 +51,29 @@ items_from (suc left) items place bytes = reads_on (items_from left) items place
 abbrev pub found_in : List ℕ → List ℕ
 found_in image = take 8 image ++ replicate (8 - length image) 0
 
--- the image is a journal with this cap, this head and these items
-pub record Holds (image : List ℕ) (cap : ℕ) (head : List ℕ) (items : List (List ℕ)) : Type 0 where
-  pub terms : AreTerms cap head
-  pub front : take FRONT image ≡ front_bytes cap head
+-- the image is a journal with this cap, this charter and these items
+pub record Holds (image : List ℕ) (cap : ℕ) (charter : Charter) (items : List (List ℕ)) : Type 0 where
+  pub terms : AreTerms cap charter
+  pub front : take FRONT image ≡ front_bytes cap charter
   pub found : items_from cap [] FRONT (drop FRONT image) ≡ Whole items
 
--- it has no front: it ends within it, or the cap is out of its range, or the zeros are not zeros
+-- it has no front: it ends within it, or the cap is out of its range, or the rate is none of its version, or the zeros are not zeros
 abbrev pub NoFront : List ℕ → Type 0
-NoFront image = (cap : ℕ) (head : List ℕ) → AreTerms cap head → take FRONT image ≡ front_bytes cap head → ⊥
+NoFront image = (cap : ℕ) (charter : Charter) → AreTerms cap charter → take FRONT image ≡ front_bytes cap charter → ⊥
 
 -- it has a front, and this is the first fault behind it
 pub record ItemFault (image : List ℕ) (item place : ℕ) : Type 0 where
   pub cap : ℕ
-  pub head : List ℕ
-  pub terms : AreTerms cap head
-  pub front : take FRONT image ≡ front_bytes cap head
+  pub charter : Charter
+  pub terms : AreTerms cap charter
+  pub front : take FRONT image ≡ front_bytes cap charter
   pub found : items_from cap [] FRONT (drop FRONT image) ≡ Fault item place
 
--- it begins with the magic and is no journal: this is the first fault, at item 0 and place 8 where it has no front
+-- it begins with a magic and is no journal: this is the first fault, at item 0 and place 8 where it has no front
 pub record IsDamaged (image : List ℕ) (item place : ℕ) : Type 0 where
-  pub begins : found_in image ≡ magic
+  pub begins : IsMagic (found_in image)
   pub fault : ((item ≡ 0) × (place ≡ 8) × NoFront image) ⊎ ItemFault image item place
 
--- it does not begin with the magic, but with this
+-- it begins with no magic, but with this
 abbrev pub IsUnborn : List ℕ → List ℕ → Type 0
-IsUnborn image found = (found ≡ found_in image) × (found ≢ magic)
+IsUnborn image found = (found ≡ found_in image) × (IsMagic found → ⊥)

@@ -1,7 +1,8 @@
 -- For the contracts of private functions alone: the steps of an opening.
-use Rattle.std.specs.Prelude.{◌≡◌, ◌≢◌, ℕ, ◌+◌, ◌-◌, ◌*◌, ◌≤◌, ◌<◌, ⊤, List, [], ◌∷◌, ◌++◌, length, take, drop, Option, IfSome}
+use Rattle.std.specs.Prelude.{◌≡◌, ℕ, ◌+◌, ◌-◌, ◌*◌, ◌≤◌, ◌<◌, ⊤, List, [], ◌∷◌, ◌++◌, length, take, drop, Option, IfSome}
 use Rattle.std.specs.List.{flat_map, AllByRecursion}
 use Rattle.nb_units.specs.Fields.{be4}
+use Rattle.nb_units.specs.declared.charter.Charter.{Charter}
 use Rattle.nb_port.specs.Disk.{Only}
 use Rattle.nb_port.specs.Faults.{Rose}
 use Rattle.nb_journal.specs.declared.opening.record.LeadRead.{LeadRead}
@@ -16,7 +17,7 @@ use Rattle.nb_journal.specs.declared.opening.front.FrontRead.TheVariants as fron
 use Rattle.nb_journal.specs.declared.opening.record.RecordRead.{RecordRead}
 use Rattle.nb_journal.specs.declared.opening.record.RecordRead.TheVariants as records
 use Rattle.nb_journal.specs.declared.limits.TheConstants.{FRONT, AROUND, LEAD, MAX_ITEM}
-use Rattle.nb_journal.specs.Layout.{magic, terms, front_bytes, AreTerms, open_gate, IsItem, item_bytes}
+use Rattle.nb_journal.specs.Layout.{IsMagic, terms, front_bytes, AreTerms, open_gate, IsItem, item_bytes}
 use Rattle.nb_journal.specs.Reading.{Shut, Item, Broken, first_of, Whole, Fault, items_from, found_in, NoFront, IsUnborn, IsDamaged}
 use Rattle.nb_journal.specs.declared.opening.contents.ContentsRead.{ContentsRead}
 use Rattle.nb_journal.specs.declared.opening.contents.ContentsRead.TheVariants as contents
@@ -87,39 +88,40 @@ ItemsGive before after content cap (scans.Damaged item place) = IfSome content (
 ItemsGive before after content cap scans.Failed = Rose before after
 ItemsGive before after content cap scans.NoMemory = ⊤
 
--- no cap and no head make these bytes
-abbrev pub NoTerms : List ℕ → Type 0
-NoTerms bytes = (cap : ℕ) (head : List ℕ) → AreTerms cap head → bytes ≡ terms cap head → ⊥
+-- no cap and no charter of this version make these bytes
+abbrev pub NoTerms : ℕ → List ℕ → Type 0
+NoTerms version bytes = (cap : ℕ) (charter : Charter) → AreTerms cap charter → charter.version ≡ version → bytes ≡ terms cap charter → ⊥
 
--- they are spelled so
-pub record TermsAre (bytes : List ℕ) (t : Terms) : Type 0 where
-  pub are : AreTerms t.cap t.head
-  pub spelled : bytes ≡ terms t.cap t.head
+-- they are spelled so, by a charter of this version
+pub record TermsAre (version : ℕ) (bytes : List ℕ) (t : Terms) : Type 0 where
+  pub are : AreTerms t.cap t.charter
+  pub version_is : t.charter.version ≡ version
+  pub spelled : bytes ≡ terms t.cap t.charter
 
 -- from the first bytes of an image, all of them or ninety-six
 abbrev pub FrontFrom : List ℕ → FrontRead → Type 0
-FrontFrom bytes (fronts.Is t) = AreTerms t.cap t.head × (bytes ≡ front_bytes t.cap t.head)
-FrontFrom bytes (fronts.Unborn found) = (found ≢ magic) × ((image : List ℕ) → bytes ≡ take FRONT image → IsUnborn image found)
-FrontFrom bytes fronts.Missing = (image : List ℕ) → bytes ≡ take FRONT image → (found_in image ≡ magic) × NoFront image
+FrontFrom bytes (fronts.Is t) = AreTerms t.cap t.charter × (bytes ≡ front_bytes t.cap t.charter)
+FrontFrom bytes (fronts.Unborn found) = (IsMagic found → ⊥) × ((image : List ℕ) → bytes ≡ take FRONT image → IsUnborn image found)
+FrontFrom bytes fronts.Missing = (image : List ℕ) → bytes ≡ take FRONT image → IsMagic (found_in image) × NoFront image
 FrontFrom bytes fronts.Failed = ⊥
 
 -- the front of a content
 abbrev pub FrontGives : ℕ → ℕ → Option (List ℕ) → FrontRead → Type 0
-FrontGives before after content (fronts.Is t) = AreTerms t.cap t.head × IfSome content (λ image. take FRONT image ≡ front_bytes t.cap t.head)
-FrontGives before after content (fronts.Unborn found) = (found ≢ magic) × IfSome content (λ image. IsUnborn image found)
-FrontGives before after content fronts.Missing = IfSome content (λ image. (found_in image ≡ magic) × NoFront image)
+FrontGives before after content (fronts.Is t) = AreTerms t.cap t.charter × IfSome content (λ image. take FRONT image ≡ front_bytes t.cap t.charter)
+FrontGives before after content (fronts.Unborn found) = (IsMagic found → ⊥) × IfSome content (λ image. IsUnborn image found)
+FrontGives before after content fronts.Missing = IfSome content (λ image. IsMagic (found_in image) × NoFront image)
 FrontGives before after content fronts.Failed = Rose before after
 
 -- a journal's whole content: its front, and all that stands behind it
-pub record IsWholeJournal (image : List ℕ) (cap : ℕ) (head : List ℕ) (items : List (List ℕ)) (place : ℕ) : Type 0 where
-  pub front : take FRONT image ≡ front_bytes cap head
+pub record IsWholeJournal (image : List ℕ) (cap : ℕ) (charter : Charter) (items : List (List ℕ)) (place : ℕ) : Type 0 where
+  pub front : take FRONT image ≡ front_bytes cap charter
   pub read : AllRead image cap items place
 
 -- a content, and what a stop leaves of it
 abbrev pub ContentsGive : ℕ → ℕ → Option (List ℕ) → (List ℕ → Type 0) → ContentsRead → Type 0
 ContentsGive before after content images (contents.Whole t items place) =
-    AreTerms t.cap t.head × AreItems t.cap items.items place × Only content images × IfSome content (λ image. IsWholeJournal image t.cap t.head items.items place)
-ContentsGive before after content images (contents.Unborn found) = (found ≢ magic) × IfSome content (λ image. IsUnborn image found)
+    AreTerms t.cap t.charter × AreItems t.cap items.items place × Only content images × IfSome content (λ image. IsWholeJournal image t.cap t.charter items.items place)
+ContentsGive before after content images (contents.Unborn found) = (IsMagic found → ⊥) × IfSome content (λ image. IsUnborn image found)
 ContentsGive before after content images (contents.Damaged item place) = IfSome content (λ image. IsDamaged image item place)
 ContentsGive before after content images contents.Failed = Rose before after
 ContentsGive before after content images contents.NoMemory = ⊤

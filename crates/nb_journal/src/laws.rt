@@ -30,7 +30,7 @@ pub fn one_fault()
     ensures { OneFault }
 {}
 
-/// A law: what does not begin with the magic is neither a journal nor a damaged one.
+/// A law: what begins with no magic is neither a journal nor a damaged one.
 pub fn unborn_is_neither()
     ensures { UnbornIsNeither }
 {}

@@ -1,7 +1,8 @@
 //! Items of bytes on a disk, one behind the other, that a stop at any moment leaves whole.
 //!
-//! A journal has a front of 96 bytes with its magic, its cap and a head, and then its items, each behind a gate. The items
-//! are those up to the first gate that is not open. [`init`] makes a journal without items, [`Journal::open`] reads one,
+//! A journal has a front of 96 bytes with its magic, its cap, a head and a rate, and then its items, each behind a gate. The
+//! items are those up to the first gate that is not open. Of its two versions, which the magic tells, the first has no rate.
+//! [`init`] makes a journal of the first version without items, [`init2`] one of the second, [`Journal::open`] reads one,
 //! [`Journal::append`] appends an item: its bytes are written and synced behind the closed gate, and then the gate is opened
 //! and synced. Where the disk fails the item is in doubt, and [`Journal::settle`] finds out whether it is there.
 //!
@@ -14,7 +15,7 @@
 //! one reading, is proved by the functions of [`laws`]; so is what a journal grew by and what a stop leaves meanwhile, over any
 //! number of appends (`specs/Growing.antt`).
 //!
-//! Left to others: what the items and the head mean, when an item in doubt is settled, and the disk. What a stop leaves while
+//! Left to others: what the items, the head and the rate mean, when an item in doubt is settled, and the disk. What a stop leaves while
 //! a journal is being made is not said.
 #![tactic(auto)]
 
@@ -25,8 +26,9 @@ mod making;
 mod opening;
 mod putting;
 mod reading;
+mod versions;
 
 pub use journal::{AppendFault, Journal, Settled, StillStale};
 pub use limits::{HEAD, MAGIC_BYTES, MAX_CAP, MAX_ITEM};
-pub use making::{InitFault, init};
+pub use making::{InitFault, init, init2};
 pub use opening::{OpenFault, Opened};

@@ -1,19 +1,19 @@
 pub use nb_units::width::LENGTH;
 pub use nb_units::{HEAD, MAX_CAP};
 
-/// What a journal begins with, `NBJRNL01`.
-pub const MAGIC: [u8; MAGIC_BYTES] = *b"NBJRNL01";
-
 /// The bytes of the magic.
 pub const MAGIC_BYTES: usize = 8;
 
 /// The bytes of a cap.
 pub const CAP: usize = 4;
 
-/// The zeros behind a head.
-pub const ZEROS: usize = 4;
+/// The bytes of a rate.
+pub const RATE: usize = 2;
 
-/// The bytes before the first gate: magic, cap, head, zeros.
+/// The zeros behind a rate.
+pub const ZEROS: usize = 2;
+
+/// The bytes before the first gate: magic, cap, head, rate, zeros.
 pub const FRONT: u64 = 96;
 
 /// The bytes of a gate and of the length behind it.

@@ -1,14 +1,16 @@
 ghost use Rattle.std.specs.Prelude.{◌≡◌, ◌≤◌, ◌++◌, ◌∷◌, [], replicate, OnOk};
 ghost use Rattle.nb_port.specs.Disk.{wrote_at};
 ghost use Rattle.nb_journal.specs.Layout.{terms, front_bytes};
-ghost use Rattle.nb_journal.specs.Making.{InitGives, SparesJournal, MagicGives};
+ghost use Rattle.nb_units.specs.declared.limits.TheConstants.{FEE_VERSION};
+ghost use Rattle.nb_journal.specs.Making.{InitGives, SparesJournal, MagicGives, with_fee, without_fee};
 ghost use Rattle.nb_journal.specs.Time.{Untouched};
 
-use crate::limits::{CAP, FRONT, HEAD, MAGIC, MAGIC_BYTES, MAX_CAP};
+use crate::limits::{CAP, FRONT, HEAD, MAGIC_BYTES, MAX_CAP, RATE};
 use crate::opening::front::first_eight;
 use crate::putting::put_synced;
-use crate::reading::same_bytes;
+use crate::versions::{magic, version_of};
 use nb_port::{Disk, DiskOut, DiskRead};
+use nb_units::{Charter, FEE_VERSION, FIRST_VERSION, MAX_RATE};
 
 // The bytes of a journal without items: its front, and a gate.
 const EMPTY: usize = FRONT as usize + 1;
@@ -18,7 +20,9 @@ const EMPTY: usize = FRONT as usize + 1;
 pub enum InitFault {
     /// The cap is 0 or above [`MAX_CAP`](crate::MAX_CAP). The disk was not touched.
     BadCap { cap: u32 },
-    /// The content begins with the magic. Nothing was written.
+    /// The rate is above [`MAX_RATE`](nb_units::MAX_RATE). The disk was not touched.
+    BadRate { rate: u16 },
+    /// The content begins with the magic of a version. Nothing was written.
     Exists { magic: [u8; MAGIC_BYTES] },
     /// The disk failed between these two counts of its faults, as it was read what the content begins with. Nothing was written.
     LookFailed { before: u64, after: u64 },
@@ -33,12 +37,49 @@ enum MagicRead {
     Failed,
 }
 
-/// Makes a journal without items on a disk that has none. A journal that is there stays as it is. All but the magic is written
-/// and synced, and then the magic.
+/// Makes a journal of the first version without items on a disk that has none, of either version. A journal that is there stays as
+/// it is. All but the magic is written and synced, and then the magic.
 pub fn init<D: Disk>(disk: &mut D, head: &[u8; HEAD], cap: u32) -> Result<(), InitFault>
-    ensures gives { InitGives D.tells disk.old disk.new head.now cap result }
+    ensures gives { InitGives D.tells disk.old disk.new cap (without_fee head.now) result }
     ensures spares { SparesJournal D.tells disk.old disk.new }
-    ensures bytes { OnOk result (D.tells.content disk.new ≡ wrote_at (D.tells.content disk.old) 0 (front_bytes cap head.now ++ 0 ∷ [])) }
+    ensures bytes { OnOk result (D.tells.content disk.new ≡ wrote_at (D.tells.content disk.old) 0 (front_bytes cap (without_fee head.now) ++ 0 ∷ [])) }
+    ensures count { D.tells.faults disk.old ≤ D.tells.faults disk.new }
+{
+    make(
+        disk,
+        &Charter {
+            head: *head,
+            version: FIRST_VERSION,
+            rate: 0,
+        },
+        cap,
+    )
+}
+
+/// Makes a journal of the second version, whose house keeps a fee of `rate` thousandths, as [`init`] makes one of the first.
+pub fn init2<D: Disk>(disk: &mut D, head: &[u8; HEAD], cap: u32, rate: u16) -> Result<(), InitFault>
+    ensures gives { InitGives D.tells disk.old disk.new cap (with_fee head.now rate) result }
+    ensures spares { SparesJournal D.tells disk.old disk.new }
+    ensures bytes { OnOk result (D.tells.content disk.new ≡ wrote_at (D.tells.content disk.old) 0 (front_bytes cap (with_fee head.now rate) ++ 0 ∷ [])) }
+    ensures count { D.tells.faults disk.old ≤ D.tells.faults disk.new }
+{
+    make(
+        disk,
+        &Charter {
+            head: *head,
+            version: FEE_VERSION,
+            rate,
+        },
+        cap,
+    )
+}
+
+// Makes a journal with this charter and this cap.
+fn make<D: Disk>(disk: &mut D, charter: &Charter, cap: u32) -> Result<(), InitFault>
+    requires { charter.now.version ≤ FEE_VERSION }
+    ensures gives { InitGives D.tells disk.old disk.new cap charter.now result }
+    ensures spares { SparesJournal D.tells disk.old disk.new }
+    ensures bytes { OnOk result (D.tells.content disk.new ≡ wrote_at (D.tells.content disk.old) 0 (front_bytes cap charter.now ++ 0 ∷ [])) }
     ensures count { D.tells.faults disk.old ≤ D.tells.faults disk.new }
 {
     if cap < 1 {
@@ -47,26 +88,28 @@ pub fn init<D: Disk>(disk: &mut D, head: &[u8; HEAD], cap: u32) -> Result<(), In
     if cap > MAX_CAP {
         return Err(InitFault::BadCap { cap });
     }
+    if charter.rate > MAX_RATE {
+        return Err(InitFault::BadRate { rate: charter.rate });
+    }
     let before = disk.fault_count();
     match magic_of(disk) {
         MagicRead::Failed => {
             let after = disk.fault_count();
             return Err(InitFault::LookFailed { before, after });
         }
-        MagicRead::Got(found) => {
-            if same_bytes(&found, &MAGIC) {
-                return Err(InitFault::Exists { magic: found });
-            }
-        }
+        MagicRead::Got(found) => match version_of(&found) {
+            Some(_) => return Err(InitFault::Exists { magic: found }),
+            None => {}
+        },
     }
-    match put_synced(disk, 0, &unborn(head, cap)) {
+    match put_synced(disk, 0, &unborn(charter, cap)) {
         DiskOut::Failed => {
             let after = disk.fault_count();
             return Err(InitFault::DiskFault { before, after });
         }
         DiskOut::Done => {}
     }
-    match put_synced(disk, 0, &MAGIC) {
+    match put_synced(disk, 0, &magic(charter.version)) {
         DiskOut::Failed => {
             let after = disk.fault_count();
             Err(InitFault::DiskFault { before, after })
@@ -89,11 +132,16 @@ fn magic_of<D: Disk>(disk: &mut D) -> MagicRead
 }
 
 // A journal without items, but for the magic.
-fn unborn(head: &[u8; HEAD], cap: u32) -> [u8; EMPTY]
-    ensures { result ≡ replicate 8 0 ++ (terms cap head.now ++ 0 ∷ []) }
+fn unborn(charter: &Charter, cap: u32) -> [u8; EMPTY]
+    ensures { result ≡ replicate 8 0 ++ (terms cap charter.now ++ 0 ∷ []) }
 {
     let mut bytes = [0u8; EMPTY];
-    bytes[MAGIC_BYTES..MAGIC_BYTES + CAP].copy_from_slice(&cap.to_be_bytes());
-    bytes[MAGIC_BYTES + CAP..MAGIC_BYTES + CAP + HEAD].copy_from_slice(head);
+    let (_, terms) = bytes.split_at_mut(MAGIC_BYTES);
+    let (word, rest) = terms.split_at_mut(CAP);
+    let (head, behind) = rest.split_at_mut(HEAD);
+    let (thousandths, _) = behind.split_at_mut(RATE);
+    word.copy_from_slice(&cap.to_be_bytes());
+    head.copy_from_slice(&charter.head);
+    thousandths.copy_from_slice(&charter.rate.to_be_bytes());
     bytes
 }

@@ -13,7 +13,7 @@ use crate::journal::Journal;
 use crate::limits::{HEAD, MAGIC_BYTES};
 use crate::opening::contents::{ContentsRead, read_contents};
 use nb_port::Disk;
-use nb_units::Blob;
+use nb_units::{Blob, Charter};
 use std::alloc::Global;
 
 /// A journal that was opened, and what it holds.
@@ -22,6 +22,10 @@ pub struct Opened<D> {
     pub journal: Journal<D>,
     /// The 80 bytes of its head, as they were given when it was made.
     pub head: [u8; HEAD],
+    /// The version of its layout, 1 byte wide: 1 or 2.
+    pub version: u8,
+    /// The rate of its house's fee in thousandths, 2 bytes wide: at most 1,000, and 0 in version 1.
+    pub rate: u16,
     /// The most items that it may hold.
     pub cap: u32,
     /// Its items, from the first on.
@@ -31,9 +35,9 @@ pub struct Opened<D> {
 /// Why no journal was opened.
 #[derive(Clone, Copy)]
 pub enum OpenFault {
-    /// The content does not begin with the magic, but with this. Bytes that are missing count as zeros.
+    /// The content begins with no magic of a journal, but with this. Bytes that are missing count as zeros.
     Unborn { found: [u8; MAGIC_BYTES] },
-    /// The content begins with the magic and is no journal. `item` is the number, from 0, of the first item that breaks the
+    /// The content begins with a journal's magic and is no journal. `item` is the number, from 0, of the first item that breaks the
     /// layout, also of one past the cap, and `place` is the place of its gate in bytes from the front; they are 0 and 8
     /// where the front is short or bad.
     Damaged { item: u32, place: u64 },
@@ -70,11 +74,17 @@ impl<D: Disk> Journal<D> {
                 items,
                 place,
             } => {
-                let head = terms.head;
+                let Charter {
+                    head,
+                    version,
+                    rate,
+                } = terms.charter;
                 match Journal::over(alloc, disk, place, items.len(), terms.cap, room) {
                     Ok(journal) => Ok(Opened {
                         journal,
                         head,
+                        version,
+                        rate,
                         cap: terms.cap,
                         items,
                     }),

@@ -2,7 +2,7 @@
 
 ghost use Rattle.std.specs.Prelude.{◌≡◌, ◌≤◌, ◌↔◌, IsTrue, length};
 ghost use Rattle.std.specs.Int.{w32, from_be_bytes};
-ghost use Rattle.nb_units.specs.Fields.{be4};
+ghost use Rattle.nb_units.specs.Fields.{be2, be4};
 ghost use Rattle.nb_journal.specs.States.{ByteGives};
 ghost use Rattle.nb_journal.specs.Time.{Unwritten};
 
@@ -45,6 +45,16 @@ pub(crate) fn number(word: &[u8]) -> u32
     ensures spelled { be4 result ≡ word.now }
 {
     u32_of(word)
+}
+
+// The number that two bytes spell.
+pub(crate) fn short_number(word: &[u8]) -> u16
+    requires { length word.now ≡ 2 }
+    ensures { be2 result ≡ word.now }
+{
+    let mut bytes = [0u8; 2];
+    bytes.copy_from_slice(word);
+    u16::from_be_bytes(bytes)
 }
 
 // Whether the bytes are these.

@@ -23,7 +23,7 @@ pub(crate) enum ContentsRead {
         items: Vec<Blob>,
         place: u64,
     },
-    // It does not begin with the magic, but with this.
+    // It begins with no magic, but with this.
     Unborn {
         found: [u8; MAGIC_BYTES],
     },

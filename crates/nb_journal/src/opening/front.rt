@@ -6,24 +6,26 @@ ghost use Rattle.nb_journal.specs.Reading.{found_in};
 ghost use Rattle.nb_journal.specs.Scanning.{FrontFrom, FrontGives, TermsAre, NoTerms};
 ghost use Rattle.nb_journal.specs.Time.{Untouched};
 
-use crate::limits::{CAP, FRONT, HEAD, MAGIC, MAGIC_BYTES, MAX_CAP, ZEROS};
-use crate::reading::{number, same_bytes};
+use crate::limits::{CAP, FRONT, HEAD, MAGIC_BYTES, MAX_CAP, RATE, ZEROS};
+use crate::reading::{number, same_bytes, short_number};
+use crate::versions::{may_have, version_of};
 use nb_port::{Disk, DiskRead};
+use nb_units::Charter;
 
 // What a front says of its journal.
 #[derive(Clone, Copy)]
 pub(crate) struct Terms {
     pub(crate) cap: u32,
-    pub(crate) head: [u8; HEAD],
+    pub(crate) charter: Charter,
 }
 
 // What the first bytes of an image are.
 #[derive(Drop)]
 pub(crate) enum FrontRead {
     Is(Terms),
-    // They do not begin with the magic, but with this.
+    // They begin with no magic, but with this.
     Unborn { found: [u8; MAGIC_BYTES] },
-    // They begin with the magic and are no front.
+    // They begin with a magic and are no front.
     Missing,
     // The disk failed.
     Failed,
@@ -48,13 +50,13 @@ fn front_of(bytes: &[u8]) -> FrontRead
     ensures { FrontFrom bytes.now result }
 {
     let found = first_eight(bytes);
-    if !same_bytes(&found, &MAGIC) {
+    let Some(version) = version_of(&found) else {
         return FrontRead::Unborn { found };
-    }
+    };
     if bytes.len() < FRONT as usize {
         return FrontRead::Missing;
     }
-    match terms_of(bytes.split_at(MAGIC_BYTES).1) {
+    match terms_of(bytes.split_at(MAGIC_BYTES).1, version) {
         Some(terms) => FrontRead::Is(terms),
         None => FrontRead::Missing,
     }
@@ -70,19 +72,25 @@ pub(crate) fn first_eight(bytes: &[u8]) -> [u8; MAGIC_BYTES]
     found
 }
 
-// What the bytes behind the magic say, where the cap is in its range and the zeros are zeros.
-fn terms_of(bytes: &[u8]) -> Option<Terms>
+// What the bytes behind the magic of the version say, where the cap is in its range, the version may have the rate and the zeros
+// are zeros.
+fn terms_of(bytes: &[u8], version: u8) -> Option<Terms>
     requires { length bytes.now ≡ FRONT - MAGIC_BYTES }
-    ensures some { IfSome result (TermsAre bytes.now) }
-    ensures none { IfNone result (NoTerms bytes.now) }
+    ensures some { IfSome result (TermsAre version bytes.now) }
+    ensures none { IfNone result (NoTerms version bytes.now) }
 {
     let (word, rest) = bytes.split_at(CAP);
-    let (front, zeros) = rest.split_at(HEAD);
+    let (front, behind) = rest.split_at(HEAD);
+    let (thousandths, zeros) = behind.split_at(RATE);
     let cap = number(word);
+    let rate = short_number(thousandths);
     if cap < 1 {
         return None;
     }
     if cap > MAX_CAP {
+        return None;
+    }
+    if !may_have(version, rate) {
         return None;
     }
     if !same_bytes(zeros, &[0; ZEROS]) {
@@ -90,5 +98,10 @@ fn terms_of(bytes: &[u8]) -> Option<Terms>
     }
     let mut head = [0u8; HEAD];
     head.copy_from_slice(front);
-    Some(Terms { cap, head })
+    let charter = Charter {
+        head,
+        version,
+        rate,
+    };
+    Some(Terms { cap, charter })
 }
