@@ -13,4 +13,6 @@ pub mod Fronts
 pub mod ReadingOn
 pub mod Opens
 pub mod Makes
+pub mod Laying
+pub mod Crowning
 pub mod ReadingLaws

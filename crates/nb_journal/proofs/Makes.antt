@@ -8,7 +8,7 @@ use Rattle.nb_journal.specs.Making.{NoJournal}
 use Rattle.nb_units.specs.declared.charter.Charter.{Charter}
 use Rattle.nb_journal.specs.Reading.{found_in}
 use Rattle.nb_journal.specs.Stands.{Stands}
-use Rattle.nb_journal.proofs.Telling.{some_each, some_wrote}
+use Rattle.nb_journal.proofs.Telling.{any_content, some_each, some_wrote}
 
 -- all but the magic
 abbrev unborn_bytes : ℕ → Charter → List ℕ
@@ -56,11 +56,6 @@ both_at (Some old) cap charter = ap Some (both_put old cap charter)
 pub begins_other : (told : Option (List ℕ)) (found : List ℕ) → (IsMagic found → ⊥) → IfSome told (λ image. found ≡ found_in image) → NoJournal told
 begins_other told found other is =
     some_each told (λ image. found ≡ found_in image) (λ image. IsMagic (found_in image) → ⊥) (λ image same e. other (subst IsMagic (sym same) e)) is
-
--- of each content something holds
-any_content : (told : Option (List ℕ)) → IfSome told (λ image. ⊤)
-any_content None = tt
-any_content (Some image) = tt
 
 -- both writes, one behind the other
 pub made : (old mid new : Option (List ℕ)) (cap : ℕ) (charter : Charter) → mid ≡ wrote_at old 0 (unborn_bytes cap charter) → new ≡ wrote_at mid 0 (magic charter.version) → IfSome new (Stands (front_bytes cap charter) [])

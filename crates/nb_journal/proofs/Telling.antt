@@ -1,6 +1,12 @@
 -- What holds of the content of a disk that tells, carried through its calls.
 use Rattle.std.proofs.Common.{◌≡◌, ℕ, List, Option, Some, None, IfSome, subst}
+use Rattle.std.specs.Prelude.{⊤}
 use Rattle.nb_port.specs.Disk.{Torn, MayTear, put_at, wrote_at}
+
+-- of each content something holds
+pub any_content : (told : Option (List ℕ)) → IfSome told (λ image. ⊤)
+any_content None = tt
+any_content (Some image) = tt
 
 -- the content is this one
 pub some_of : (told : Option (List ℕ)) (P : List ℕ → Type 0) (c : List ℕ) → told ≡ Some c → IfSome told P → P c

@@ -9,4 +9,5 @@ pub mod Held
 pub mod Window
 pub mod Opening
 pub mod Making
+pub mod Migrating
 pub mod Laws

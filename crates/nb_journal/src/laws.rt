@@ -1,6 +1,7 @@
 //! Laws of reading, what each image is read as; and of growing, what appends leave.
 
 ghost use Rattle.nb_journal.specs.Growing.{RestMayAppend, AppendGrows, StaysGrows, GrowsTwice, GrowsToRest, StopLeavesSome};
+ghost use Rattle.nb_journal.specs.Migrating.{CrownLeaves, CrownStands};
 ghost use Rattle.nb_journal.specs.Laws.{StandsIsRead, ReadStands, OneJournal, WholeNotDamaged, OneFault, UnbornIsNeither, JournalLayout};
 
 use nb_port::Disk;
@@ -38,6 +39,17 @@ pub fn unborn_is_neither()
 /// A law: the layout of a journal in numbers.
 pub fn layout()
     ensures { JournalLayout }
+{}
+
+/// A law: what a stop leaves while a content is crowned, where it begins with the magic of the second version.
+pub fn crown_leaves()
+    ensures { CrownLeaves }
+{}
+
+/// A law: an image of the second version that was laid stands for its items once it is crowned, and so does what a stop leaves
+/// while it is, where that begins with its magic.
+pub fn crown_stands()
+    ensures { CrownStands }
 {}
 
 /// A law: a journal at rest may be appended to.

@@ -15,20 +15,25 @@
 //! one reading, is proved by the functions of [`laws`]; so is what a journal grew by and what a stop leaves meanwhile, over any
 //! number of appends (`specs/Growing.antt`).
 //!
+//! A whole image is put on a disk by [`lay`], which leaves zeros for its magic, and then [`crown`], which writes that of the second
+//! version. A stop within `crown` leaves what is no journal of that version, or the whole one.
+//!
 //! Left to others: what the items, the head and the rate mean, when an item in doubt is settled, and the disk. What a stop leaves while
-//! a journal is being made is not said.
+//! a journal is being made, or an image laid, is not said.
 #![tactic(auto)]
 
 mod journal;
 pub mod laws;
 mod limits;
 mod making;
+mod migrating;
 mod opening;
 mod putting;
 mod reading;
 mod versions;
 
 pub use journal::{AppendFault, Journal, Settled, StillStale};
-pub use limits::{HEAD, MAGIC_BYTES, MAX_CAP, MAX_ITEM};
+pub use limits::{HEAD, MAGIC_BYTES, MAX_CAP, MAX_IMAGE, MAX_ITEM};
 pub use making::{InitFault, init, init2};
+pub use migrating::{CopyFault, crown, lay};
 pub use opening::{OpenFault, Opened};

@@ -16,6 +16,15 @@ pub const ZEROS: usize = 2;
 /// The bytes before the first gate: magic, cap, head, rate, zeros.
 pub const FRONT: u64 = 96;
 
+/// The bytes of a journal without items: its front, and a gate.
+pub const EMPTY: usize = FRONT as usize + 1;
+
+/// The most bytes of an image that is laid on a disk.
+pub const MAX_IMAGE: usize = 268_435_456;
+
+/// The most bytes of one write of an image that is laid on a disk.
+pub const PIECE: usize = 65_536;
+
 /// The bytes of a gate and of the length behind it.
 pub const LEAD: usize = 1 + LENGTH;
 

@@ -5,15 +5,12 @@ ghost use Rattle.nb_units.specs.declared.limits.TheConstants.{FEE_VERSION};
 ghost use Rattle.nb_journal.specs.Making.{InitGives, SparesJournal, MagicGives, with_fee, without_fee};
 ghost use Rattle.nb_journal.specs.Time.{Untouched};
 
-use crate::limits::{CAP, FRONT, HEAD, MAGIC_BYTES, MAX_CAP, RATE};
+use crate::limits::{CAP, EMPTY, HEAD, MAGIC_BYTES, MAX_CAP, RATE};
 use crate::opening::front::first_eight;
 use crate::putting::put_synced;
 use crate::versions::{magic, version_of};
 use nb_port::{Disk, DiskOut, DiskRead};
 use nb_units::{Charter, FEE_VERSION, FIRST_VERSION, MAX_RATE};
-
-// The bytes of a journal without items: its front, and a gate.
-const EMPTY: usize = FRONT as usize + 1;
 
 /// Why no journal was made.
 #[derive(Clone, Copy)]
