@@ -8,7 +8,7 @@ ghost use Rattle.nb_journal.specs.Time.{Untouched};
 use crate::limits::{CAP, EMPTY, HEAD, MAGIC_BYTES, MAX_CAP, RATE};
 use crate::opening::front::first_eight;
 use crate::putting::put_synced;
-use crate::versions::{magic, version_of};
+use crate::versions::{is_magic, magic};
 use nb_port::{Disk, DiskOut, DiskRead};
 use nb_units::{Charter, FEE_VERSION, FIRST_VERSION, MAX_RATE};
 
@@ -94,10 +94,11 @@ fn make<D: Disk>(disk: &mut D, charter: &Charter, cap: u32) -> Result<(), InitFa
             let after = disk.fault_count();
             return Err(InitFault::LookFailed { before, after });
         }
-        MagicRead::Got(found) => match version_of(&found) {
-            Some(_) => return Err(InitFault::Exists { magic: found }),
-            None => {}
-        },
+        MagicRead::Got(found) => {
+            if is_magic(&found) {
+                return Err(InitFault::Exists { magic: found });
+            }
+        }
     }
     match put_synced(disk, 0, &unborn(charter, cap)) {
         DiskOut::Failed => {

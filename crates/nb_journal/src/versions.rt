@@ -32,6 +32,13 @@ pub(crate) fn version_of(found: &[u8; MAGIC_BYTES]) -> Option<u8>
     None
 }
 
+// Whether journals of a version begin with these bytes.
+pub(crate) fn is_magic(found: &[u8; MAGIC_BYTES]) -> bool
+    ensures { IsTrue result ↔ IsMagic found.now }
+{
+    version_of(found).is_some()
+}
+
 // Whether a journal of the version may have the rate.
 pub(crate) fn may_have(version: u8, rate: u16) -> bool
     ensures { IsTrue result ↔ AreVersionAndRate version rate }

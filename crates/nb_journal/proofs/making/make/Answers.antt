@@ -11,7 +11,7 @@ returns-in-Done-put_synced-clause-gives g c =
     let old = g.D.Disk.tells.content c.magic_of.new.disk in
     let mid = g.D.Disk.tells.content c.put_synced.new.disk in
     let new = g.D.Disk.tells.content c.put_synced-2.new.disk in
-    let other = begins_other (g.D.Disk.tells.content c.args.disk.now) c.in-Got.found c.in-None.ensures.none c.in-Got.ensures.gives in
+    let other = begins_other (g.D.Disk.tells.content c.args.disk.now) c.in-Got.found (λ is. cc (c.is_magic.ensures.1 is)) c.in-Got.ensures.gives in
     let first : mid ≡ wrote_at old 0 (replicate 8 0 ++ (terms c.args.cap charter ++ 0 ∷ [])) = c.in-Done.ensures.gives.0 ∙ ap (wrote_at old 0) c.unborn.ensures in
     let second : new ≡ wrote_at mid 0 (magic charter.version) = c.in-Done-put_synced.ensures.gives.0 ∙ ap (wrote_at mid 0) c.magic.ensures in
     (((omega (arith, c.if-cap-lt1.false), omega (arith, c.if-cap-gt-MAX_CAP.false)), c.if-charter-gt-MAX_RATE.false), other, made old mid new c.args.cap charter first second, c.in-Done-put_synced.ensures.gives.1)
