@@ -1,7 +1,7 @@
 -- How many entries answer a look-up.
-use Rattle.std.proofs.Common.{◌≡◌, ℕ, ◌+◌, ◌≤◌, Bool, true, false, cond, ltb, ◌||◌, List, [], ◌∷◌, ◌++◌, Option, Some, None, arith, refl, ap, sym, ◌∙◌, subst, eq-eqb, ◌&&◌}
+use Rattle.std.proofs.Common.{◌≡◌, ℕ, zero, suc, ◌+◌, ◌≤◌, Bool, true, false, cond, ltb, ◌||◌, List, [], ◌∷◌, ◌++◌, Option, Some, None, arith, refl, ap, sym, ◌∙◌, subst, eq-eqb, ◌&&◌}
 use Rattle.std.proofs.lemmas.List.Sums.{sum_by-cons, sum_by_push}
-use Rattle.std.proofs.lemmas.Bool.{eqb-true, ltb-true, ltb-false, and_parts}
+use Rattle.std.proofs.lemmas.Bool.{eqb-true, ltb-true, ltb-false, and_parts, false_from_ne_true, true≢false}
 use Rattle.std.proofs.lemmas.Bool.Decides.{nat_tests}
 use Rattle.std.proofs.lemmas.Option.{same_Some}
 use Rattle.std.proofs.lemmas.Slice.Eq.{bytes_eq-Decides}
@@ -13,7 +13,7 @@ use Rattle.nb_units.specs.declared.ids.PartyId.{PartyId}
 use Rattle.nb_units.specs.declared.ids.AcctId.{AcctId}
 use Rattle.nb_units.specs.declared.epoid.Epoid.{Epoid}
 use Rattle.nb_book.specs.declared.entry.Entry.{Entry}
-use Rattle.nb_book.specs.declared.entry.Entry.TheVariants.{Enrol, Fund, Paid, Refused}
+use Rattle.nb_book.specs.declared.entry.Entry.TheVariants.{Enrol, Fund, Paid, Charged, Refused}
 use Rattle.nb_book.specs.Searches.{first_from, party_at, party_in, holder_at, holder_in, funded_at, funded_in, same_epoid, settles, order_at, order_in, account_of}
 use Rattle.nb_book.specs.Legal.{LegalAfter, Legal}
 use Rattle.nb_book.specs.Laws.{enrols, opens, cites}
@@ -127,6 +127,8 @@ settled_once = along (λ H. (p : Epoid) → count_by (settles p) H ≤ 1) (λ p.
     new : (e : Entry) → LegalAfter H e → settles p e ≡ true → IsNone (order_in H p)
     new (Paid digest epoid consumer merchant product price cacct macct moment key) next names =
         subst (λ (q : Epoid). IsNone (order_in H q)) (same_epoid-true epoid p names) next.0.0
+    new (Charged digest epoid consumer merchant product price fee cacct macct moment key) next names =
+        subst (λ (q : Epoid). IsNone (order_in H q)) (same_epoid-true epoid p names) next.0.0.0
     new (Refused digest epoid consumer merchant product price code a b moment) next names =
         subst (λ (q : Epoid). IsNone (order_in H q)) (same_epoid-true epoid p names) next.0.0
     new other next names = cc
@@ -147,8 +149,30 @@ opened-account_of H id a = from 0 H where
           let opens_it : (acct.0 == a.0) ≡ true = eq-eqb acct.0 a.0 (ap (λ (x : AcctId). x.0) same) in
           rw opens_it (omega arith)
       part false rest is = omega (arith, rest is)
-  from at (Fund acct amount reference ∷ es) is = omega (arith, sum_by-cons (λ x. cond (opens a x) 1 0) (Fund acct amount reference) es, from (at + 1) es is)
-  from at (Paid digest epoid consumer merchant product price cacct macct moment key ∷ es) is =
-      omega (arith, sum_by-cons (λ x. cond (opens a x) 1 0) (Paid digest epoid consumer merchant product price cacct macct moment key) es, from (at + 1) es is)
-  from at (Refused digest epoid consumer merchant product price code x y moment ∷ es) is =
-      omega (arith, sum_by-cons (λ z. cond (opens a z) 1 0) (Refused digest epoid consumer merchant product price code x y moment) es, from (at + 1) es is)
+  from at (other ∷ es) is = omega (arith, sum_by-cons (λ x. cond (opens a x) 1 0) other es, from (at + 1) es is)
+
+-- one or none
+abbrev pub one_if : Bool → ℕ
+one_if b = cond b 1 0
+
+-- an account that a legal entry opens is not the house's
+pub opening_party : (H : List Entry) (e : Entry) → LegalAfter H e → (a : AcctId) → opens a e ≡ true → (a.0 == 0) ≡ false
+opening_party H (Enrol who role acct nonce key) next a names = false_from_ne_true (a.0 == 0) (λ zero. next.1 (eqb-true acct.0 a.0 names ∙ eqb-true a.0 0 zero))
+opening_party H other next a names = cc
+
+-- nor is one that was opened
+pub opened_party : (H : List Entry) → Legal H → (a : AcctId) → 1 ≤ count_by (opens a) H → (a.0 == 0) ≡ false
+opened_party = along (λ H. (a : AcctId) → 1 ≤ count_by (opens a) H → (a.0 == 0) ≡ false) (λ a some. absurd (omega arith)) more where
+  more : (H : List Entry) (e : Entry) → Legal H → LegalAfter H e → ((a : AcctId) → 1 ≤ count_by (opens a) H → (a.0 == 0) ≡ false)
+      → (a : AcctId) → 1 ≤ count_by (opens a) (H ++ e ∷ []) → (a.0 == 0) ≡ false
+  more H e legal next before a some = part (opens a e) refl where
+    part : (b : Bool) → opens a e ≡ b → (a.0 == 0) ≡ false
+    part true names = opening_party H e next a names
+    part false other = before a (omega (arith, some, sum_by_push (λ x. cond (opens a x) 1 0) H e, ap one_if other))
+
+-- so the house's was not
+pub house_unopened : (H : List Entry) → Legal H → (a : AcctId) → (a.0 == 0) ≡ true → count_by (opens a) H ≡ 0
+house_unopened H legal a is = which (count_by (opens a) H) refl where
+  which : (n : ℕ) → count_by (opens a) H ≡ n → count_by (opens a) H ≡ 0
+  which zero none = none
+  which (suc n) some = absurd (true≢false (sym is ∙ opened_party H legal a (omega (arith, some))))

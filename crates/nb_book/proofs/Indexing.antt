@@ -240,9 +240,9 @@ index_less key cap index H e indexes has =
     }
 
 -- what holds of each entry of a list, with one entry more and one less
-pub fit_push : (H : List Entry) (e : Entry) → AllByRecursion KeysFit H → KeysFit e → AllByRecursion KeysFit (H ++ e ∷ [])
-fit_push [] e fit one = (one, tt)
-fit_push (x ∷ H) e fit one = (fit.0, fit_push H e fit.1 one)
+pub each_push : (P : Entry → Type 0) (H : List Entry) (e : Entry) → AllByRecursion P H → P e → AllByRecursion P (H ++ e ∷ [])
+each_push P [] e each one = (one, tt)
+each_push P (x ∷ H) e each one = (each.0, each_push P H e each.1 one)
 
 pub fit_pop : (H : List Entry) (e : Entry) → AllByRecursion KeysFit (H ++ e ∷ []) → AllByRecursion KeysFit H × KeysFit e
 fit_pop [] e fit = (tt, fit.0)

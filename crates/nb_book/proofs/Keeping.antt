@@ -1,6 +1,6 @@
 -- Balances that are kept, behind one entry more and without the last one.
-use Rattle.std.proofs.Common.{◌≡◌, ℕ, ◌+◌, ◌-◌, ◌<◌, ◌≤◌, Bool, true, false, cond, List, [], ◌∷◌, ◌++◌, Option, Some, None, length, take, set, get_or, arith, refl, sym, ap, subst, ◌∙◌, eq-eqb}
-use Rattle.std.proofs.lemmas.Bool.{eqb-true, eqb-false, lt-ltb}
+use Rattle.std.proofs.Common.{◌≡◌, ℕ, ◌+◌, ◌-◌, ◌<◌, ◌≤◌, ◌^◌, Bool, true, false, cond, List, [], ◌∷◌, ◌++◌, Option, Some, None, length, take, set, get_or, arith, refl, sym, ap, subst, ◌∙◌, eq-eqb}
+use Rattle.std.proofs.lemmas.Bool.{eqb-true, eqb-false, false_from_ne_true, lt-ltb}
 use Rattle.std.proofs.lemmas.List.{take_more, take_all, get_or-take, get_or-set_same, get_or-set_other, get_or_push, get_or_append_left, length_push, length-take-le}
 use Rattle.std.proofs.lemmas.Option.{same_Some}
 use Rattle.std.specs.Prelude.{◌==◌}
@@ -8,20 +8,22 @@ use Rattle.std.specs.List.{count_by}
 use Rattle.std.specs.Option.{option_or, is_some, IsSome}
 use Rattle.nb_units.specs.declared.ids.PartyId.{PartyId}
 use Rattle.nb_units.specs.declared.ids.AcctId.{AcctId}
+use Rattle.nb_units.specs.declared.ids.Price.{Price}
+use Rattle.nb_units.specs.declared.epoid.Epoid.{Epoid}
 use Rattle.nb_book.specs.declared.entry.Entry.{Entry}
 use Rattle.nb_book.specs.declared.entry.Entry.TheVariants.{Enrol, Fund}
 use Rattle.nb_book.specs.declared.party.Party.{Party}
 use Rattle.nb_book.specs.Searches.{party_at, party_in, holder_at, holder_in}
-use Rattle.nb_book.specs.Money.{credit, debit, balance}
-use Rattle.nb_book.specs.Legal.{LegalAfter, Legal}
+use Rattle.nb_book.specs.Money.{brought, taken, balance}
+use Rattle.nb_book.specs.Legal.{LegalAfter, Legal, PaidIsLegal, PriceIsLegal}
 use Rattle.nb_book.specs.Laws.{opens}
 use Rattle.nb_book.specs.declared.list.EntryList.{EntryList}
 use Rattle.nb_book.specs.Indexes.{place_if, first_place, KeepsBalances, Tied}
 use Rattle.nb_book.proofs.Growing.{front_legal, along}
-use Rattle.nb_book.proofs.Counting.{found-count, tests_holder}
-use Rattle.nb_book.proofs.Summing.{balance_after}
-use Rattle.nb_book.proofs.Balances.{balance-none}
-use Rattle.nb_book.proofs.Indexing.{both_found, found, first_push, none_of}
+use Rattle.nb_book.proofs.Counting.{found-count, count_by-some, tests_holder, opened-account_of, opening_party, opened_party}
+use Rattle.nb_book.proofs.Summing.{party_after, taken_within, total_fits}
+use Rattle.nb_book.proofs.Balances.{balance-none, balance_le_total}
+use Rattle.nb_book.proofs.Indexing.{both_found, found, first_push, none_of, tests_place}
 
 -- who holds an account does not depend on the place at which its entry is asked
 pub holder_anywhere : (a : AcctId) (m n : ℕ) (e : Entry) → holder_at a m e ≡ holder_at a n e
@@ -32,10 +34,15 @@ holder_anywhere a m n other = refl
 pub held_opened : (H : List Entry) (a : AcctId) → 1 ≤ count_by (opens a) H → IsSome (holder_in H a)
 held_opened H a some = found-count (opens a) (holder_at a) (tests_holder a) 0 H ∙ lt-ltb 0 (count_by (opens a) H) (omega (arith, some))
 
--- an account that has no place has nothing
-pub nothing_kept : (H : List Entry) → Legal H → (a : AcctId) → first_place (opens a) H ≡ None → balance H a ≡ 0
-nothing_kept H legal a none =
-    balance-none H legal a (sym (both_found (opens a) (holder_at a) (tests_holder a) H) ∙ ap (λ (x : Option ℕ). is_some x) none)
+-- an account that has a place is not the house's
+pub placed_party : (H : List Entry) → Legal H → (a : AcctId) (at : ℕ) → first_place (opens a) H ≡ Some at → (a.0 == 0) ≡ false
+placed_party H legal a at placed =
+    opened_party H legal a (count_by-some (opens a) (place_if (opens a)) (tests_place (opens a)) H (ap (λ (x : Option ℕ). is_some x) placed))
+
+-- one that has none has nothing, unless it is the house's
+pub nothing_kept : (H : List Entry) → Legal H → (a : AcctId) → (a.0 == 0) ≡ false → first_place (opens a) H ≡ None → balance H a ≡ 0
+nothing_kept H legal a party none =
+    balance-none H legal a (eqb-false a.0 0 party) (sym (both_found (opens a) (holder_at a) (tests_holder a) H) ∙ ap (λ (x : Option ℕ). is_some x) none)
 
 -- the account of a party is opened at the place of its enrolment, and nowhere before
 pub own_place : (H : List Entry) → Legal H → (id : PartyId) (party : Party) → party_in H id ≡ Some party → first_place (opens party.acct) H ≡ Some party.at
@@ -77,13 +84,13 @@ own_place H legal = along Placed none more H legal where
         enrolled_last H e next id party (sym (ap (λ (x : Option Party). option_or x (party_at id (0 + length H) e)) found_before) ∙ found_now)
 
 -- an enrolment brings nothing into the account that it opens
-opening_credit : (a : AcctId) (e : Entry) → opens a e ≡ true → credit a e ≡ 0
-opening_credit a (Enrol who role acct nonce key) opens_it = refl
-opening_credit a other opens_it = cc
+opening_brings : (a : AcctId) (e : Entry) → opens a e ≡ true → brought a e ≡ 0
+opening_brings a (Enrol who role acct nonce key) opens_it = refl
+opening_brings a other opens_it = cc
 
 -- balances behind one entry more, which changed them by what it brings and takes
 pub kept_push : (H : List Entry) (e : Entry) (before after : List ℕ) → Legal H → LegalAfter H e → KeepsBalances H before → length after ≡ length before
-    → ((a : AcctId) (at : ℕ) → first_place (opens a) H ≡ Some at → get_or after at 0 + debit a e ≡ get_or before at 0 + credit a e)
+    → ((a : AcctId) (at : ℕ) → first_place (opens a) H ≡ Some at → get_or after at 0 + taken a e ≡ get_or before at 0 + brought a e)
     → KeepsBalances (H ++ e ∷ []) (after ++ 0 ∷ [])
 kept_push H e before after legal next kept long moves = record {
   long = omega (arith, length_push after 0, length_push H e, long, kept.long);
@@ -94,7 +101,8 @@ kept_push H e before after legal next kept long moves = record {
   opened_now a at none true opens_it last =
       let here : 0 + length H ≡ at = same_Some (0 + length H) at last in
       let behind : length after ≡ at = omega (arith, here, long, kept.long) in
-      let value : 0 ≡ balance (H ++ e ∷ []) a = omega (arith, balance_after H e legal next a, nothing_kept H legal a none, opening_credit a e opens_it) in
+      let party : (a.0 == 0) ≡ false = opening_party H e next a opens_it in
+      let value : 0 ≡ balance (H ++ e ∷ []) a = omega (arith, party_after H e legal next a party, nothing_kept H legal a party none, opening_brings a e opens_it) in
       get_or_push after 0 0 at behind ∙ value
   opened_now a at none false other last = absurd cc
 
@@ -105,14 +113,14 @@ kept_push H e before after legal next kept long moves = record {
       let place : first_place (opens a) H ≡ Some at = is ∙ ap (λ (n : ℕ). Some n) here in
       let inside : at < length H = (found (opens a) (holder_at a) (tests_holder a) H at e place).within in
       let front : at < length after = omega (arith, long, kept.long, inside) in
-      let value : get_or after at 0 ≡ balance (H ++ e ∷ []) a = omega (arith, moves a at place, kept.each a at place, balance_after H e legal next a) in
+      let value : get_or after at 0 ≡ balance (H ++ e ∷ []) a = omega (arith, moves a at place, kept.each a at place, party_after H e legal next a (placed_party H legal a at place)) in
       get_or_append_left after (0 ∷ []) 0 at front ∙ value
   part a at None is placed =
       opened_now a at is (opens a e) refl (sym (ap (λ (x : Option ℕ). option_or x (place_if (opens a) (0 + length H) e)) is) ∙ placed)
 
 -- balances without the last entry, which was taken back
 pub kept_pop : (H : List Entry) (e : Entry) (before after : List ℕ) → Legal H → LegalAfter H e → KeepsBalances (H ++ e ∷ []) before → length after ≡ length before
-    → ((a : AcctId) (at : ℕ) → first_place (opens a) H ≡ Some at → get_or after at 0 + credit a e ≡ get_or before at 0 + debit a e)
+    → ((a : AcctId) (at : ℕ) → first_place (opens a) H ≡ Some at → get_or after at 0 + brought a e ≡ get_or before at 0 + taken a e)
     → KeepsBalances H (take (length H) after)
 kept_pop H e before after legal next kept long moves = record {
   long = length-take-le (length H) after (omega (arith, length_push H e, long, kept.long));
@@ -120,7 +128,7 @@ kept_pop H e before after legal next kept long moves = record {
       let inside : at < length H = (found (opens a) (holder_at a) (tests_holder a) H at e placed).within in
       let longer : first_place (opens a) (H ++ e ∷ []) ≡ Some at =
       first_push (place_if (opens a)) 0 H e ∙ ap (λ (x : Option ℕ). option_or x (place_if (opens a) (0 + length H) e)) placed in
-      let value : get_or after at 0 ≡ balance H a = omega (arith, moves a at placed, kept.each a at longer, balance_after H e legal next a) in
+      let value : get_or after at 0 ≡ balance H a = omega (arith, moves a at placed, kept.each a at longer, party_after H e legal next a (placed_party H legal a at placed)) in
       get_or-take (length H) after at 0 inside ∙ value;
 }
 
@@ -144,24 +152,57 @@ other_place H b a p at other first second same =
     one_account (Enrol who role acct nonce key) f s = sym (eqb-true acct.0 b.0 f) ∙ eqb-true acct.0 a.0 s
     one_account x f s = cc
 
--- an amount brought to the place of an account is brought to that account alone
-pub gave : (H : List Entry) (b a : AcctId) (p at : ℕ) (before : List ℕ) (amount v : ℕ) → first_place (opens b) H ≡ Some p → first_place (opens a) H ≡ Some at
-    → p < length before → v ≡ get_or before p 0 + amount → get_or (set before p v) at 0 ≡ get_or before at 0 + cond (b.0 == a.0) amount 0
-gave H b a p at before amount v first second within is = part (b.0 == a.0) refl where
-  part : (t : Bool) → (b.0 == a.0) ≡ t → get_or (set before p v) at 0 ≡ get_or before at 0 + cond t amount 0
-  part true same =
-      subst (λ (n : ℕ). get_or (set before p v) n 0 ≡ get_or before n 0 + amount) (same_place H b a p at same first second) (get_or-set_same before p v 0 within ∙ is)
-  part false other = omega (arith, get_or-set_other before p at v 0 (other_place H b a p at other first second))
+-- so two places are one exactly where the accounts are
+pub one_place : (H : List Entry) (b a : AcctId) (p at : ℕ) → first_place (opens b) H ≡ Some p → first_place (opens a) H ≡ Some at → (p == at) ≡ (b.0 == a.0)
+one_place H b a p at first second = part (b.0 == a.0) refl where
+  part : (t : Bool) → (b.0 == a.0) ≡ t → (p == at) ≡ t
+  part true same = eq-eqb p at (same_place H b a p at same first second)
+  part false other = false_from_ne_true (p == at) (λ here. other_place H b a p at other first second (sym (eqb-true p at here)))
+
+-- an amount brought to a place is brought to that place alone
+pub gave_at : (before : List ℕ) (p at amount v : ℕ) → p < length before → v ≡ get_or before p 0 + amount → get_or (set before p v) at 0 ≡ get_or before at 0 + cond (p == at) amount 0
+gave_at before p at amount v within is = part (p == at) refl where
+  part : (t : Bool) → (p == at) ≡ t → get_or (set before p v) at 0 ≡ get_or before at 0 + cond t amount 0
+  part true same = subst (λ (n : ℕ). get_or (set before p v) n 0 ≡ get_or before n 0 + amount) (eqb-true p at same) (get_or-set_same before p v 0 within ∙ is)
+  part false other = omega (arith, get_or-set_other before p at v 0 (λ same. eqb-false p at other (sym same)))
 
 -- and so with one that is taken
+pub took_at : (before : List ℕ) (p at amount v : ℕ) → p < length before → v + amount ≡ get_or before p 0 → get_or (set before p v) at 0 + cond (p == at) amount 0 ≡ get_or before at 0
+took_at before p at amount v within is = part (p == at) refl where
+  part : (t : Bool) → (p == at) ≡ t → get_or (set before p v) at 0 + cond t amount 0 ≡ get_or before at 0
+  part true same =
+      subst (λ (n : ℕ). get_or (set before p v) n 0 + amount ≡ get_or before n 0) (eqb-true p at same) (ap (λ (x : ℕ). x + amount) (get_or-set_same before p v 0 within) ∙ is)
+  part false other = omega (arith, get_or-set_other before p at v 0 (λ same. eqb-false p at other (sym same)))
+
+-- so one brought to the place of an account is brought to that account alone
+pub gave : (H : List Entry) (b a : AcctId) (p at : ℕ) (before : List ℕ) (amount v : ℕ) → first_place (opens b) H ≡ Some p → first_place (opens a) H ≡ Some at
+    → p < length before → v ≡ get_or before p 0 + amount → get_or (set before p v) at 0 ≡ get_or before at 0 + cond (b.0 == a.0) amount 0
+gave H b a p at before amount v first second within is = rw (sym (one_place H b a p at first second)) (gave_at before p at amount v within is)
+
+-- and one that is taken is taken from it alone
 pub took : (H : List Entry) (b a : AcctId) (p at : ℕ) (before : List ℕ) (amount v : ℕ) → first_place (opens b) H ≡ Some p → first_place (opens a) H ≡ Some at
     → p < length before → v + amount ≡ get_or before p 0 → get_or (set before p v) at 0 + cond (b.0 == a.0) amount 0 ≡ get_or before at 0
-took H b a p at before amount v first second within is = part (b.0 == a.0) refl where
-  part : (t : Bool) → (b.0 == a.0) ≡ t → get_or (set before p v) at 0 + cond t amount 0 ≡ get_or before at 0
-  part true same =
-      subst (λ (n : ℕ). get_or (set before p v) n 0 + amount ≡ get_or before n 0) (same_place H b a p at same first second)
-      (ap (λ (x : ℕ). x + amount) (get_or-set_same before p v 0 within) ∙ is)
-  part false other = omega (arith, get_or-set_other before p at v 0 (other_place H b a p at other first second))
+took H b a p at before amount v first second within is = rw (sym (one_place H b a p at first second)) (took_at before p at amount v within is)
+
+-- what is taken at the place of an account and brought to that of another is so with these accounts
+pub transferred : (H : List Entry) (b d a : AcctId) (p q at : ℕ) (before after : List ℕ) (less more : ℕ) → first_place (opens b) H ≡ Some p → first_place (opens d) H ≡ Some q
+    → first_place (opens a) H ≡ Some at → get_or after at 0 + cond (p == at) less 0 ≡ get_or before at 0 + cond (q == at) more 0
+    → get_or after at 0 + cond (b.0 == a.0) less 0 ≡ get_or before at 0 + cond (d.0 == a.0) more 0
+transferred H b d a p q at before after less more first second third each =
+    rw (sym (one_place H b a p at first third), sym (one_place H d a q at second third)) each
+
+-- ---- a payment
+
+-- both accounts are held
+pub both_held : (H : List Entry) (epoid : Epoid) (consumer merchant : PartyId) (price : Price) (cacct macct : AcctId) (moment : ℕ)
+    → PaidIsLegal H epoid consumer merchant price cacct macct moment → IsSome (holder_in H cacct) × IsSome (holder_in H macct)
+both_held H epoid consumer merchant price cacct macct moment paid =
+    (held_opened H cacct (opened-account_of H consumer cacct paid.2.0), held_opened H macct (opened-account_of H merchant macct paid.2.1))
+
+-- what is in an account and a price fit 8 bytes
+pub price_fits : (H : List Entry) (balances : List ℕ) (a : AcctId) (at : ℕ) (price : Price) (more : ℕ) → Legal H → KeepsBalances H balances → first_place (opens a) H ≡ Some at
+    → PriceIsLegal price → more ≤ price.0 → get_or balances at 0 + more < 2 ^ 64
+price_fits H balances a at price more legal kept place is low = omega (arith, kept.each a at place, balance_le_total H legal a, total_fits H legal, is.1, low)
 
 -- the place of an account among entries, of which the last opens none
 pub place_front : (H : List Entry) (e : Entry) (a : AcctId) → opens a e ≡ false → first_place (opens a) (H ++ e ∷ []) ≡ first_place (opens a) H
@@ -215,6 +256,14 @@ pub place_before : (front : List Entry) (e : Entry) (H : List Entry) (a : AcctId
     → first_place (opens a) H ≡ Some p → first_place (opens a) front ≡ Some p
 place_before front e H a p behind none place =
     sym (place_front front e a none) ∙ ap (λ (xs : List Entry). first_place (opens a) xs) (sym behind.whole) ∙ place
+
+-- what the last entry brought is there
+pub was_brought : (front : List Entry) (e : Entry) (H : List Entry) (balances : List ℕ) (a : AcctId) (at : ℕ) → Behind front e H → KeepsBalances H balances → opens a e ≡ false
+    → first_place (opens a) H ≡ Some at → brought a e ≤ get_or balances at 0
+was_brought front e H balances a at behind kept none place =
+    let party : (a.0 == 0) ≡ false = placed_party front behind.legal a at (place_before front e H a at behind none place) in
+    let same : balance H a ≡ balance (front ++ e ∷ []) a = ap (λ (xs : List Entry). balance xs a) behind.whole in
+    omega (arith, kept.each a at place, same, party_after front e behind.legal behind.next a party, taken_within front e behind.next a)
 
 -- an amount for an account itself
 pub own_amount : (a : AcctId) (amount : ℕ) → cond (a.0 == a.0) amount 0 ≡ amount

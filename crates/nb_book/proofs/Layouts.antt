@@ -17,17 +17,17 @@ use Rattle.std.specs.Prelude.{IfErr}
 use Rattle.nb_units.specs.Reads.{Reads}
 use Rattle.nb_units.specs.declared.malformed.Malformed.{Malformed}
 use Rattle.nb_book.specs.declared.entry.Entry.{Entry}
-use Rattle.nb_book.specs.declared.entry.Entry.TheVariants.{Enrol, Fund, Paid, Refused}
+use Rattle.nb_book.specs.declared.entry.Entry.TheVariants.{Enrol, Fund, Paid, Charged, Refused}
 use Rattle.nb_units.specs.declared.reason.TheConstants.{FIRST_REASON, LAST_REASON}
 use Rattle.nb_units.specs.Reasons.{IsReason, is_reason}
 use Rattle.nb_book.specs.declared.spelling.OrderTerms.{OrderTerms}
-use Rattle.nb_book.specs.declared.spelling.TheConstants.{ENROL_ENTRY, FUND_ENTRY, PAID_ENTRY, REFUSED_ENTRY, MAX_ENTRY}
+use Rattle.nb_book.specs.declared.spelling.TheConstants.{ENROL_ENTRY, FUND_ENTRY, PAID_ENTRY, REFUSED_ENTRY, CHARGED_ENTRY, MAX_ENTRY}
 use Rattle.nb_units.specs.declared.ids.PartyId.{PartyId}
 use Rattle.nb_units.specs.declared.ids.Price.{Price}
 use Rattle.nb_book.specs.Legal.{ReasonIsTrue}
 use Rattle.nb_book.specs.Spelling.{IsRole, IsEntry, entry_bytes, entries_bytes, bytes_of_kind}
 use Rattle.nb_book.specs.declared.spelling.EntryFault.{EntryFault}
-use Rattle.nb_book.specs.Reading.{ReadsEntry, is_role, enrol_of, fund_of, terms_of, paid_of, refused_of, entry_of_kind, entry_of, counted_from}
+use Rattle.nb_book.specs.Reading.{ReadsEntry, is_role, enrol_of, fund_of, terms_of, paid_of, charged_of, refused_of, entry_of_kind, entry_of, counted_from}
 use Rattle.nb_book.specs.Laws.{EntryReadsBack, EntrySpellsBack, OneSpelling, EntryLayout, LegalKeepsRules}
 
 -- ---- the kind of an entry
@@ -182,7 +182,7 @@ code_is code e = grind (arith, leb-true)
 code_tested : (code : ℕ) → IsReason code → (code < 2 ^ 8) × (is_reason code ≡ true)
 code_tested code is = (omega (arith, is.1), rw (le-leb FIRST_REASON code is.0, le-leb code LAST_REASON is.1) refl)
 
--- ---- the four kinds
+-- ---- the five kinds
 
 abbrev enrol : Kind ENROL_ENTRY enrol_of
 unfolding entry_bytes enrol_of
@@ -268,6 +268,25 @@ paid = record {
       (o.0.0.0.0.0.1, o.0.0.0.0.1, o.0.0.0.1, o.0.0.1, o.0.1, o.1, f.0.0.0.1, f.0.0.1, f.0.1, f.1);
 }
 
+abbrev charged : Kind CHARGED_ENTRY charged_of
+unfolding entry_bytes charged_of
+charged = record {
+  Parts = ((((Order × ℕ) × ℕ) × ℕ) × ℕ) × List ℕ;
+  row = order_row CHARGED_ENTRY & number8 & number4 & number4 & number8 & raw 32;
+  is_row = and_row (and_row (and_row (and_row (and_row (is_order_row CHARGED_ENTRY (omega arith)) number8_row) number4_row) number4_row) number8_row) (raw_row 32);
+  within = and_within (and_within (and_within (and_within (and_within (order_within CHARGED_ENTRY) number8_within) number4_within) number4_within) number8_within) (raw_within 32);
+  made = λ p.
+      let o = p.0.0.0.0.0 in
+      Charged o.0.0.0.0.0.1 o.0.0.0.0.1 (record { 0 = o.0.0.0.1 }) (record { 0 = o.0.0.1 }) o.0.1 (record { 0 = o.1 }) p.0.0.0.0.1 (record { 0 = p.0.0.0.1 }) (record { 0 = p.0.0.1 }) p.0.1 p.1;
+  read_so = λ bytes. under (or_place (u8_at bytes 0)) _ _ (λ k. under (allowed (k == CHARGED_ENTRY) 0) _ _ (λ is. sym (terms_then bytes _)));
+  spelled_so = λ p. refl;
+  picked = λ bytes. refl;
+  wide = λ p. refl;
+  fits_so = λ p f.
+      let o = f.0.0.0.0.0 in
+      (o.0.0.0.0.0.1, o.0.0.0.0.1, o.0.0.0.1, o.0.0.1, o.0.1, o.1, f.0.0.0.0.1, f.0.0.0.1, f.0.0.1, f.0.1, f.1);
+}
+
 abbrev refused : Kind REFUSED_ENTRY refused_of
 unfolding entry_bytes refused_of
 refused = record {
@@ -294,7 +313,7 @@ either : {P : Type 0} (test : Bool) (a b y : Result Entry ℕ) → cond test a b
 either true a b y e first second = first refl e
 either false a b y e first second = second e
 
--- what is read behind a kind is read as that of one of the four, or tells the place of the kind
+-- what is read behind a kind is read as that of one of the five, or tells the place of the kind
 by_kind : {P : Type 0} (k : ℕ) (bytes : List ℕ) (y : Result Entry ℕ) → entry_of_kind k bytes ≡ y
     → ((kind : ℕ) (fields_of : List ℕ → Result Entry ℕ) → Kind kind fields_of → k ≡ kind → fields_of bytes ≡ y → P)
     → ((let none : Result Entry ℕ = Err 0 in none ≡ y) → P) → P
@@ -302,12 +321,13 @@ by_kind k bytes y e one none =
     either (k == ENROL_ENTRY) _ _ y e (λ is. one ENROL_ENTRY enrol_of enrol (eqb-true k ENROL_ENTRY is))
     (λ a. either (k == FUND_ENTRY) _ _ y a (λ is. one FUND_ENTRY fund_of fund (eqb-true k FUND_ENTRY is))
     (λ b. either (k == PAID_ENTRY) _ _ y b (λ is. one PAID_ENTRY paid_of paid (eqb-true k PAID_ENTRY is))
-    (λ c. either (k == REFUSED_ENTRY) _ _ y c (λ is. one REFUSED_ENTRY refused_of refused (eqb-true k REFUSED_ENTRY is)) none)))
+    (λ c. either (k == REFUSED_ENTRY) _ _ y c (λ is. one REFUSED_ENTRY refused_of refused (eqb-true k REFUSED_ENTRY is))
+    (λ d. either (k == CHARGED_ENTRY) _ _ y d (λ is. one CHARGED_ENTRY charged_of charged (eqb-true k CHARGED_ENTRY is)) none))))
 
--- an entry within its limits is made of a row of one of the four
+-- an entry within its limits is made of a row of one of the five
 by_entry : (P : Entry → Type 0) → ((kind : ℕ) (fields_of : List ℕ → Result Entry ℕ) (K : Kind kind fields_of) (p : K.Parts) → K.row.fits p → P (K.made p))
     → (e : Entry) → IsEntry e → P e
-unfolding enrol fund paid refused
+unfolding enrol fund paid charged refused
 by_entry P one (Enrol id role acct nonce key) is =
     one ENROL_ENTRY enrol_of enrol (((((tt, id.0), role), acct.0), nonce), key) (((((tt, is.0), role_tested role is.1), is.2), is.3), is.4)
 by_entry P one (Fund acct amount reference) is = one FUND_ENTRY fund_of fund (((tt, acct.0), amount), reference) (((tt, is.0), is.1), is.2)
@@ -315,6 +335,10 @@ by_entry P one (Paid digest order consumer merchant product price cacct macct mo
     one PAID_ENTRY paid_of paid
     ((((((((((tt, digest), order), consumer.0), merchant.0), product), price.0), cacct.0), macct.0), moment), key)
     ((((((((((tt, is.0), is.1), is.2), is.3), is.4), is.5), is.6), is.7), is.8), is.9)
+by_entry P one (Charged digest order consumer merchant product price fee cacct macct moment key) is =
+    one CHARGED_ENTRY charged_of charged
+    (((((((((((tt, digest), order), consumer.0), merchant.0), product), price.0), fee), cacct.0), macct.0), moment), key)
+    (((((((((((tt, is.0), is.1), is.2), is.3), is.4), is.5), is.6), is.7), is.8), is.9), is.10)
 by_entry P one (Refused digest order consumer merchant product price code a b moment) is =
     one REFUSED_ENTRY refused_of refused
     ((((((((((tt, digest), order), consumer.0), merchant.0), product), price.0), code), a), b), moment)
@@ -373,6 +397,7 @@ some_bytes : (e : Entry) → (1 ≤ bytes_of_kind e) × (bytes_of_kind e ≤ MAX
 some_bytes (Enrol id role acct nonce key) = (omega arith, omega arith)
 some_bytes (Fund acct amount reference) = (omega arith, omega arith)
 some_bytes (Paid digest order consumer merchant product price cacct macct moment key) = (omega arith, omega arith)
+some_bytes (Charged digest order consumer merchant product price fee cacct macct moment key) = (omega arith, omega arith)
 some_bytes (Refused digest order consumer merchant product price code a b moment) = (omega arith, omega arith)
 
 one_front : (d e : Entry) (rest more : List ℕ) → IsEntry d → IsEntry e → entry_bytes d ++ rest ≡ entry_bytes e ++ more → (d ≡ e) × (rest ≡ more)
@@ -412,6 +437,7 @@ pub legal_keeps_rules : LegalKeepsRules
 legal_keeps_rules H (Enrol id role acct nonce key) next = next.2
 legal_keeps_rules H (Fund acct amount reference) next = tt
 legal_keeps_rules H (Paid digest order consumer merchant product price cacct macct moment key) next = tt
+legal_keeps_rules H (Charged digest order consumer merchant product price fee cacct macct moment key) next = tt
 legal_keeps_rules H (Refused digest order consumer merchant product price code a b moment) next = reason_code H order consumer merchant price code a b moment next.2
 
 -- ---- what a reader of an entry gave

@@ -1,7 +1,9 @@
 pub mod Growing
 pub mod Counting
+pub mod Fees
 pub mod Summing
 pub mod Balances
+pub mod Rates
 pub mod Steps
 pub mod Layouts
 pub mod Indexing

@@ -11,7 +11,7 @@ use Rattle.nb_units.specs.declared.ids.AcctId.{AcctId}
 use Rattle.nb_units.specs.declared.epoid.Epoid.{Epoid}
 use Rattle.nb_units.specs.Epoid.{IsEpoid, epoid_bytes, epoid_of}
 use Rattle.nb_units.proofs.EpoidLaws.{reads_back}
-use Rattle.nb_book.specs.declared.entry.Entry.TheVariants.{Enrol, Fund, Paid, Refused}
+use Rattle.nb_book.specs.declared.entry.Entry.TheVariants.{Enrol, Fund, Paid, Charged, Refused}
 use Rattle.nb_book.specs.Searches.{same_epoid, settles}
 use Rattle.nb_book.specs.Laws.{enrols, opens, cites}
 use Rattle.nb_book.specs.Indexes.{name_key, party_key, account_key, reference_key, order_key}
@@ -65,5 +65,6 @@ reference_stands r other fit = refl
 
 pub order_stands : (p : Epoid) → IsEpoid p → StandsFor order_key (epoid_bytes p) (settles p)
 order_stands p fits (Paid digest epoid consumer merchant product price cacct macct moment key) fit = tests_epoid epoid p fit fits
+order_stands p fits (Charged digest epoid consumer merchant product price fee cacct macct moment key) fit = tests_epoid epoid p fit fits
 order_stands p fits (Refused digest epoid consumer merchant product price code a b moment) fit = tests_epoid epoid p fit fits
 order_stands p fits other fit = refl

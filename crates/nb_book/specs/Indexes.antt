@@ -8,11 +8,11 @@ use Rattle.nb_units.specs.declared.limits.TheConstants.{MAX_CAP}
 use Rattle.nb_index.specs.declared.put.Put.{Put}
 use Rattle.nb_index.specs.Puts.{Indexed, IsShaped, Shape}
 use Rattle.nb_book.specs.declared.entry.Entry.{Entry}
-use Rattle.nb_book.specs.declared.entry.Entry.TheVariants.{Enrol, Fund, Paid, Refused}
+use Rattle.nb_book.specs.declared.entry.Entry.TheVariants.{Enrol, Fund, Paid, Charged, Refused}
 use Rattle.nb_book.specs.declared.list.EntryList.{EntryList}
 use Rattle.nb_book.specs.declared.list.EmptyIndexes.{EmptyIndexes}
 use Rattle.nb_book.specs.Searches.{first_from}
-use Rattle.nb_book.specs.Money.{balance, total}
+use Rattle.nb_book.specs.Money.{balance, fees, total}
 use Rattle.nb_book.specs.Laws.{opens}
 
 -- the key of a number of 4 bytes: the number, big-endian, and twelve zeros
@@ -37,6 +37,7 @@ reference_key other = None
 -- in the index of orders
 abbrev pub order_key : Entry → Option (List ℕ)
 order_key (Paid digest epoid consumer merchant product price cacct macct moment key) = Some (epoid_bytes epoid)
+order_key (Charged digest epoid consumer merchant product price fee cacct macct moment key) = Some (epoid_bytes epoid)
 order_key (Refused digest epoid consumer merchant product price code a b moment) = Some (epoid_bytes epoid)
 order_key other = None
 
@@ -45,6 +46,7 @@ abbrev pub KeysFit : Entry → Type 0
 KeysFit (Enrol id role acct nonce key) = (id.0 < 2 ^ 32) × (acct.0 < 2 ^ 32)
 KeysFit (Fund acct amount reference) = Unit {0}
 KeysFit (Paid digest epoid consumer merchant product price cacct macct moment key) = IsEpoid epoid
+KeysFit (Charged digest epoid consumer merchant product price fee cacct macct moment key) = IsEpoid epoid
 KeysFit (Refused digest epoid consumer merchant product price code a b moment) = IsEpoid epoid
 
 -- one put of a place, or none
@@ -101,6 +103,7 @@ pub record Tied (list : EntryList) (H : List Entry) : Type 0 where
   pub balances : KeepsBalances H list.balances.items
   pub room : list.cap ≤ vec_capacity list.balances
   pub sum : list.total ≡ total H
+  pub fees : list.fees ≡ fees H
 
 -- for how many entries, and for how many balances, it has memory
 abbrev pub list_places : EntryList → List ℕ

@@ -1,6 +1,6 @@
 -- What holds of every Legal list, and of the bytes of entries.
-use Rattle.std.specs.Prelude.{◌≡◌, ℕ, ◌==◌, ◌+◌, ◌≤◌, Bool, false, List, [], ◌∷◌, ◌++◌, length, IsNone, Ok, if◌then◌else◌}
-use Rattle.std.specs.List.{sum_by, count_by}
+use Rattle.std.specs.Prelude.{◌≡◌, ◌≢◌, ◌↔◌, ℕ, ◌==◌, ◌+◌, ◌-◌, ◌≤◌, Bool, false, List, [], ◌∷◌, ◌++◌, length, take, EachIndex, IsNone, Ok, if◌then◌else◌}
+use Rattle.std.specs.List.{HoldsAt, sum_by, count_by}
 use Rattle.std.specs.Str.{bytes_eq}
 use Rattle.nb_units.specs.declared.ids.PartyId.{PartyId}
 use Rattle.nb_units.specs.declared.ids.AcctId.{AcctId}
@@ -9,23 +9,24 @@ use Rattle.nb_units.specs.declared.epoid.Epoid.{Epoid}
 use Rattle.nb_units.specs.Frames.{AreBytes}
 use Rattle.nb_units.specs.Laws.{StandsAt}
 use Rattle.nb_book.specs.declared.entry.Entry.{Entry}
-use Rattle.nb_book.specs.declared.entry.Entry.TheVariants.{Enrol, Fund, Paid}
+use Rattle.nb_book.specs.declared.entry.Entry.TheVariants.{Enrol, Fund, Paid, Charged}
 use Rattle.nb_book.specs.declared.entry.TheConstants.{CONSUMER, MERCHANT}
-use Rattle.nb_units.specs.declared.limits.TheConstants.{MAX_CAP}
+use Rattle.nb_units.specs.Charter.{MayRule}
+use Rattle.nb_units.specs.declared.limits.TheConstants.{MAX_CAP, MAX_RATE, FIRST_VERSION, FEE_VERSION}
 use Rattle.nb_book.specs.declared.limits.TheConstants.{MAX_TOTAL, MAX_PRICE, MAX_AGE, MAX_AHEAD}
 use Rattle.nb_book.specs.declared.reason.TheConstants.{CONSUMER_ACCOUNT, MERCHANT_ACCOUNT, PRICE_RANGE, TOO_OLD, TOO_EARLY, BALANCE_LOW, CONSUMER_NONCE}
 use Rattle.nb_units.specs.declared.reason.TheConstants.{FIRST_REASON, LAST_REASON}
 use Rattle.nb_book.specs.Searches.{holder_in, settles}
-use Rattle.nb_book.specs.Money.{credit, debit, credits, debits, balance, total, accounts}
-use Rattle.nb_book.specs.declared.spelling.TheConstants.{ENROL_ENTRY, FUND_ENTRY, PAID_ENTRY, REFUSED_ENTRY, MAX_ENTRY, MAX_ITEM_ENTRIES}
-use Rattle.nb_book.specs.Legal.{LegalAfter, Legal}
+use Rattle.nb_book.specs.Money.{fee_at, house_account, credit, debit, credits, debits, balance, total, fees, accounts}
+use Rattle.nb_book.specs.declared.spelling.TheConstants.{ENROL_ENTRY, FUND_ENTRY, PAID_ENTRY, REFUSED_ENTRY, CHARGED_ENTRY, MAX_ENTRY, MAX_ITEM_ENTRIES}
+use Rattle.nb_book.specs.Legal.{LegalAfter, Legal, NextUnder, LegalUnder}
 use Rattle.nb_book.specs.Spelling.{IsEntry, EntryKeepsRules, Spells, entry_bytes, bytes_of_kind}
 use Rattle.nb_book.specs.Reading.{entry_at}
 
 -- the limits and roles in numbers
 abbrev pub BookLimitsAre : Type 0
 BookLimitsAre =
-    (MAX_CAP ≡ 1000000) × (MAX_TOTAL ≡ 1000000000000000000) × (MAX_PRICE ≡ 1000000000) × (MAX_AGE ≡ 900) × (MAX_AHEAD ≡ 300)
+    (MAX_CAP ≡ 1000000) × (MAX_TOTAL ≡ 1000000000000000000) × (MAX_PRICE ≡ 1000000000) × (MAX_RATE ≡ 1000) × (MAX_AGE ≡ 900) × (MAX_AHEAD ≡ 300)
     × (CONSUMER ≡ 1) × (MERCHANT ≡ 2)
 
 -- the codes of refused orders in numbers, and which are the first and the last of them
@@ -38,9 +39,9 @@ ReasonCodesAre =
 abbrev pub NoneOverdrawn : Type 0
 NoneOverdrawn = (H : List Entry) → Legal H → (a : AcctId) → debits H a ≤ credits H a
 
--- the balances of all accounts that were opened sum to the total
+-- the balances of all accounts that were opened, and the fees, sum to the total
 abbrev pub BalancesMakeTotal : Type 0
-BalancesMakeTotal = (H : List Entry) → Legal H → sum_by (balance H) (accounts H) ≡ total H
+BalancesMakeTotal = (H : List Entry) → Legal H → sum_by (balance H) (accounts H) + fees H ≡ total H
 
 -- no account has more than the house took in
 abbrev pub BalancesFit : Type 0
@@ -50,9 +51,17 @@ BalancesFit = (H : List Entry) → Legal H → (a : AcctId) → balance H a ≤ 
 abbrev pub TotalFits : Type 0
 TotalFits = (H : List Entry) → Legal H → total H ≤ MAX_TOTAL
 
--- an account that nobody holds has nothing
+-- an account that nobody holds has nothing, unless it is the house's
 abbrev pub UnheldIsEmpty : Type 0
-UnheldIsEmpty = (H : List Entry) → Legal H → (a : AcctId) → IsNone (holder_in H a) → balance H a ≡ 0
+UnheldIsEmpty = (H : List Entry) → Legal H → (a : AcctId) → a.0 ≢ 0 → IsNone (holder_in H a) → balance H a ≡ 0
+
+-- in the house's account are the fees
+abbrev pub HouseHasFees : Type 0
+HouseHasFees = (H : List Entry) → balance H house_account ≡ fees H
+
+-- a fee is at most its price
+abbrev pub FeeWithinPrice : Type 0
+FeeWithinPrice = (rate : ℕ) (price : Price) → rate ≤ MAX_RATE → fee_at rate price ≤ price.0
 
 -- one more entry adds to each account what it brings, and takes what it takes
 abbrev pub BalanceAfter : Type 0
@@ -66,9 +75,33 @@ PaymentMoves = (H : List Entry) (digest : List ℕ) (epoid : Epoid) (consumer me
     → balance (H ++ Paid digest epoid consumer merchant product price cacct macct moment key ∷ []) a + (if cacct.0 == a.0 then price.0 else 0)
     ≡ balance H a + (if macct.0 == a.0 then price.0 else 0)
 
+-- with a fee it takes its price from the consumer's account, brings the price less the fee into the merchant's and the fee into the house's,
+-- and leaves all others
+abbrev pub ChargeMoves : Type 0
+ChargeMoves = (H : List Entry) (digest : List ℕ) (epoid : Epoid) (consumer merchant : PartyId) (product : ℕ) (price : Price) (fee : ℕ) (cacct macct : AcctId) (moment : ℕ) (key : List ℕ)
+    → Legal H → LegalAfter H (Charged digest epoid consumer merchant product price fee cacct macct moment key) → (a : AcctId)
+    → balance (H ++ Charged digest epoid consumer merchant product price fee cacct macct moment key ∷ []) a + (if cacct.0 == a.0 then price.0 else 0)
+    ≡ balance H a + (if macct.0 == a.0 then price.0 - fee else 0) + (if a.0 == 0 then fee else 0)
+
 -- an entry that is legal next makes a Legal list
 abbrev pub StaysLegal : Type 0
 StaysLegal = (H : List Entry) (e : Entry) → Legal H → LegalAfter H e → Legal (H ++ e ∷ [])
+
+-- an entry that may come next may do so in a journal of some version and rate, and one that may do so there may come next
+abbrev pub LegalUnderSome : Type 0
+LegalUnderSome = (H : List Entry) (e : Entry) → LegalAfter H e ↔ ((version : ℕ) × (rate : ℕ) × MayRule version rate × NextUnder version rate H e)
+
+-- a list is Legal under a version and a rate exactly where each entry may come after those before it in a journal of this version and rate
+abbrev pub LegalUnderIsNext : Type 0
+LegalUnderIsNext = (version rate : ℕ) (H : List Entry) → LegalUnder version rate H ↔ EachIndex H (λ k. HoldsAt (NextUnder version rate (take k H)) H k)
+
+-- and with one entry more that may come next there, it still is
+abbrev pub StaysLegalUnder : Type 0
+StaysLegalUnder = (version rate : ℕ) (H : List Entry) (e : Entry) → LegalUnder version rate H → NextUnder version rate H e → LegalUnder version rate (H ++ e ∷ [])
+
+-- a list that is Legal in the first version is so in the second one, at any rate
+abbrev pub FirstStaysLegal : Type 0
+FirstStaysLegal = (rate new_rate : ℕ) (H : List Entry) → LegalUnder FIRST_VERSION rate H → LegalUnder FEE_VERSION new_rate H
 
 -- the entry enrols this party
 abbrev pub enrols : PartyId → Entry → Bool
@@ -118,11 +151,11 @@ OneSpelling =
     ((d e : Entry) (rest more : List ℕ) → IsEntry d → IsEntry e → entry_bytes d ++ rest ≡ entry_bytes e ++ more → (d ≡ e) × (rest ≡ more))
     × ((item : List ℕ) (ds es : List Entry) → Spells item ds → Spells item es → ds ≡ es)
 
--- an entry has as many bytes as its kind says, at most 117; the kinds are 1 to 4, and an item has at most 32 entries
+-- an entry has as many bytes as its kind says, at most 125; the kinds are 1 to 5, and an item has at most 32 entries
 abbrev pub EntryLayout : Type 0
 EntryLayout =
     ((e : Entry) → IsEntry e → (length (entry_bytes e) ≡ bytes_of_kind e) × (length (entry_bytes e) ≤ MAX_ENTRY))
-    × (ENROL_ENTRY ∷ FUND_ENTRY ∷ PAID_ENTRY ∷ REFUSED_ENTRY ∷ [] ≡ 1 ∷ 2 ∷ 3 ∷ 4 ∷ []) × (MAX_ENTRY ≡ 117) × (MAX_ITEM_ENTRIES ≡ 32)
+    × (ENROL_ENTRY ∷ FUND_ENTRY ∷ PAID_ENTRY ∷ REFUSED_ENTRY ∷ CHARGED_ENTRY ∷ [] ≡ 1 ∷ 2 ∷ 3 ∷ 4 ∷ 5 ∷ []) × (MAX_ENTRY ≡ 125) × (MAX_ITEM_ENTRIES ≡ 32)
 
 -- an entry that may come next keeps the rules of entries, so that it can be written
 abbrev pub LegalKeepsRules : Type 0

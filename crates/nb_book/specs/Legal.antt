@@ -1,17 +1,18 @@
 -- Which entry may come next, and which lists are made of such entries alone.
 use Rattle.std.specs.Prelude.{◌≡◌, ◌≢◌, ℕ, ◌+◌, ◌<◌, ◌≤◌, ◌⊎◌, List, Some, take, EachIndex, IsNone, IsSome}
-use Rattle.std.specs.List.{HoldsAt}
+use Rattle.std.specs.List.{AllByRecursion, HoldsAt}
 use Rattle.nb_units.specs.declared.ids.PartyId.{PartyId}
 use Rattle.nb_units.specs.declared.ids.AcctId.{AcctId}
 use Rattle.nb_units.specs.declared.ids.Price.{Price}
 use Rattle.nb_units.specs.declared.epoid.Epoid.{Epoid}
+use Rattle.nb_units.specs.declared.limits.TheConstants.{FEE_VERSION, MAX_RATE}
 use Rattle.nb_book.specs.declared.entry.Entry.{Entry}
-use Rattle.nb_book.specs.declared.entry.Entry.TheVariants.{Enrol, Fund, Paid, Refused}
+use Rattle.nb_book.specs.declared.entry.Entry.TheVariants.{Enrol, Fund, Paid, Charged, Refused}
 use Rattle.nb_book.specs.declared.entry.TheConstants.{CONSUMER, MERCHANT}
 use Rattle.nb_book.specs.declared.limits.TheConstants.{MAX_TOTAL, MAX_PRICE, MAX_AGE, MAX_AHEAD}
 use Rattle.nb_book.specs.declared.reason.TheConstants.{CONSUMER_ACCOUNT, MERCHANT_ACCOUNT, PRICE_RANGE, TOO_OLD, TOO_EARLY, BALANCE_LOW, CONSUMER_NONCE}
 use Rattle.nb_book.specs.Searches.{party_in, holder_in, funded_in, order_in, role_of, account_of, nonce_of}
-use Rattle.nb_book.specs.Money.{balance, balance_of, total}
+use Rattle.nb_book.specs.Money.{balance, balance_of, total, fee_at}
 
 -- neither number is 0, the role is one of the two, and no enrolment names the party or the account
 abbrev pub EnrolIsLegal : List Entry → PartyId → ℕ → AcctId → Type 0
@@ -53,6 +54,10 @@ PaidIsLegal H epoid consumer merchant price cacct macct moment =
     × PriceIsLegal price
     × (price.0 ≤ balance H cacct)
     × IsInTime epoid moment
+
+-- the fee is that of the price at some rate
+abbrev pub IsSomeFee : Price → ℕ → Type 0
+IsSomeFee price fee = (rate : ℕ) × (rate ≤ MAX_RATE) × (fee ≡ fee_at rate price)
 
 -- b is the account of the party, and a differs
 abbrev pub AccountDiffers : List Entry → PartyId → ℕ → ℕ → Type 0
@@ -99,8 +104,26 @@ abbrev pub LegalAfter : List Entry → Entry → Type 0
 LegalAfter H (Enrol id role acct nonce key) = EnrolIsLegal H id role acct
 LegalAfter H (Fund acct amount reference) = FundIsLegal H acct amount reference
 LegalAfter H (Paid digest epoid consumer merchant product price cacct macct moment key) = PaidIsLegal H epoid consumer merchant price cacct macct moment
+LegalAfter H (Charged digest epoid consumer merchant product price fee cacct macct moment key) =
+    PaidIsLegal H epoid consumer merchant price cacct macct moment × IsSomeFee price fee
 LegalAfter H (Refused digest epoid consumer merchant product price code a b moment) = RefusedIsLegal H epoid consumer merchant price code a b moment
 
 -- each entry is legal after those before it
 pub record Legal (H : List Entry) : Type 0 where
   pub each : EachIndex H (λ k. HoldsAt (LegalAfter (take k H)) H k)
+
+-- ---- a journal of a version, with a rate
+
+-- a journal of this version and this rate may have the entry: a payment with a fee in the second version alone, and with the fee of the rate
+abbrev pub IsOfRate : ℕ → ℕ → Entry → Type 0
+IsOfRate version rate (Charged digest epoid consumer merchant product price fee cacct macct moment key) = (version ≡ FEE_VERSION) × (fee ≡ fee_at rate price)
+IsOfRate version rate other = Unit {0}
+
+-- the entry may come after these in such a journal
+abbrev pub NextUnder : ℕ → ℕ → List Entry → Entry → Type 0
+NextUnder version rate H e = LegalAfter H e × IsOfRate version rate e
+
+-- the list is Legal, and such a journal may have each of its entries
+pub record LegalUnder (version rate : ℕ) (H : List Entry) : Type 0 where
+  pub legal : Legal H
+  pub each : AllByRecursion (IsOfRate version rate) H

@@ -1,24 +1,48 @@
 -- Sums over a list of entries, in the house's smallest unit of money.
-use Rattle.std.specs.Prelude.{ℕ, ◌-◌, ◌==◌, List, Option, Some, None, if◌then◌else◌}
+use Rattle.std.specs.Prelude.{ℕ, ◌-◌, ◌*◌, ◌/◌, ◌==◌, List, Option, Some, None, if◌then◌else◌}
 use Rattle.std.specs.List.{sum_by, filter_map}
 use Rattle.std.specs.Option.{option_map}
 use Rattle.nb_units.specs.declared.ids.PartyId.{PartyId}
 use Rattle.nb_units.specs.declared.ids.AcctId.{AcctId}
+use Rattle.nb_units.specs.declared.ids.Price.{Price}
 use Rattle.nb_book.specs.declared.entry.Entry.{Entry}
-use Rattle.nb_book.specs.declared.entry.Entry.TheVariants.{Enrol, Fund, Paid}
+use Rattle.nb_book.specs.declared.entry.Entry.TheVariants.{Enrol, Fund, Paid, Charged}
 use Rattle.nb_book.specs.declared.account.Account.{Account}
 use Rattle.nb_book.specs.Searches.{holder_in, account_of}
 
--- what an entry brings into this account: a fund its amount, a payment its price to the merchant's account
-abbrev pub credit : AcctId → Entry → ℕ
-credit a (Fund acct amount reference) = if acct.0 == a.0 then amount else 0
-credit a (Paid digest epoid consumer merchant product price cacct macct moment key) = if macct.0 == a.0 then price.0 else 0
-credit a other = 0
+-- the fee of a price at a rate in thousandths of the price, rounded down
+abbrev pub fee_at : ℕ → Price → ℕ
+fee_at rate price = price.0 * rate / 1000
 
--- what an entry takes from this account: a payment its price from the consumer's account
+-- what an entry leaves with the house: a payment with a fee its fee, any other nothing
+abbrev pub fee_in : Entry → ℕ
+fee_in (Charged digest epoid consumer merchant product price fee cacct macct moment key) = fee
+fee_in other = 0
+
+-- what an entry brings to a party that holds this account: a fund its amount, a payment its price less its fee to the merchant's account
+abbrev pub brought : AcctId → Entry → ℕ
+brought a (Fund acct amount reference) = if acct.0 == a.0 then amount else 0
+brought a (Paid digest epoid consumer merchant product price cacct macct moment key) = if macct.0 == a.0 then price.0 else 0
+brought a (Charged digest epoid consumer merchant product price fee cacct macct moment key) = if macct.0 == a.0 then price.0 - fee else 0
+brought a other = 0
+
+-- what an entry takes from a party that holds this account: a payment its price from the consumer's account
+abbrev pub taken : AcctId → Entry → ℕ
+taken a (Paid digest epoid consumer merchant product price cacct macct moment key) = if cacct.0 == a.0 then price.0 else 0
+taken a (Charged digest epoid consumer merchant product price fee cacct macct moment key) = if cacct.0 == a.0 then price.0 else 0
+taken a other = 0
+
+-- the house's own account, which is number 0: fees alone come into it, and nothing is taken from it
+abbrev pub house_account : AcctId
+house_account = record { 0 = 0 }
+
+-- what an entry brings into this account
+abbrev pub credit : AcctId → Entry → ℕ
+credit a e = if a.0 == 0 then fee_in e else brought a e
+
+-- what an entry takes from this account
 abbrev pub debit : AcctId → Entry → ℕ
-debit a (Paid digest epoid consumer merchant product price cacct macct moment key) = if cacct.0 == a.0 then price.0 else 0
-debit a other = 0
+debit a e = if a.0 == 0 then 0 else taken a e
 
 -- what an entry brings into the house: a fund alone brings something
 abbrev pub fund : Entry → ℕ
@@ -44,6 +68,10 @@ balance_of H id = option_map (balance H) (account_of H id)
 -- all that came into the house
 abbrev pub total : List Entry → ℕ
 total H = sum_by fund H
+
+-- all that the house kept of payments
+abbrev pub fees : List Entry → ℕ
+fees H = sum_by fee_in H
 
 -- this account with its balance, if a party holds it
 abbrev pub account_in : List Entry → AcctId → Option Account

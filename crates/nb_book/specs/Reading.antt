@@ -5,11 +5,11 @@ use Rattle.nb_units.specs.Reading.{Reading}
 use Rattle.nb_units.specs.Fields.{◌>>=◌, u8_at, u32_at, u64_at, raw_at, or_place, allowed, moved}
 use Rattle.nb_units.specs.Epoid.{epoid_of}
 use Rattle.nb_book.specs.declared.entry.Entry.{Entry}
-use Rattle.nb_book.specs.declared.entry.Entry.TheVariants.{Enrol, Fund, Paid, Refused}
+use Rattle.nb_book.specs.declared.entry.Entry.TheVariants.{Enrol, Fund, Paid, Charged, Refused}
 use Rattle.nb_book.specs.declared.entry.TheConstants.{CONSUMER, MERCHANT}
 use Rattle.nb_units.specs.Reasons.{is_reason}
 use Rattle.nb_book.specs.declared.spelling.OrderTerms.{OrderTerms}
-use Rattle.nb_book.specs.declared.spelling.TheConstants.{ENROL_ENTRY, FUND_ENTRY, PAID_ENTRY, REFUSED_ENTRY}
+use Rattle.nb_book.specs.declared.spelling.TheConstants.{ENROL_ENTRY, FUND_ENTRY, PAID_ENTRY, REFUSED_ENTRY, CHARGED_ENTRY}
 use Rattle.nb_book.specs.declared.spelling.EntryFault.{EntryFault}
 use Rattle.nb_book.specs.Spelling.{entry_bytes}
 
@@ -64,6 +64,17 @@ paid_of bytes = do
   key ← or_place (raw_at 32 bytes 85)
   Ok (Paid terms.digest terms.epoid terms.consumer terms.merchant terms.product terms.price (record { 0 = cacct }) (record { 0 = macct }) moment key)
 
+-- behind the kind of a payment with a fee
+unfoldable pub charged_of : List ℕ → Result Entry ℕ
+charged_of bytes = do
+  terms ← terms_of bytes
+  fee ← or_place (u64_at bytes 69)
+  cacct ← or_place (u32_at bytes 77)
+  macct ← or_place (u32_at bytes 81)
+  moment ← or_place (u64_at bytes 85)
+  key ← or_place (raw_at 32 bytes 93)
+  Ok (Charged terms.digest terms.epoid terms.consumer terms.merchant terms.product terms.price fee (record { 0 = cacct }) (record { 0 = macct }) moment key)
+
 -- behind the kind of a refusal
 unfoldable pub refused_of : List ℕ → Result Entry ℕ
 refused_of bytes = do
@@ -82,6 +93,7 @@ entry_of_kind kind bytes =
     else if kind == FUND_ENTRY then fund_of bytes
     else if kind == PAID_ENTRY then paid_of bytes
     else if kind == REFUSED_ENTRY then refused_of bytes
+    else if kind == CHARGED_ENTRY then charged_of bytes
     else Err 0
 
 -- the entry at the front of the bytes, or the bad place

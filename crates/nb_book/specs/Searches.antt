@@ -7,7 +7,7 @@ use Rattle.nb_units.specs.declared.ids.PartyId.{PartyId}
 use Rattle.nb_units.specs.declared.ids.AcctId.{AcctId}
 use Rattle.nb_units.specs.declared.epoid.Epoid.{Epoid}
 use Rattle.nb_book.specs.declared.entry.Entry.{Entry}
-use Rattle.nb_book.specs.declared.entry.Entry.TheVariants.{Enrol, Fund, Paid, Refused}
+use Rattle.nb_book.specs.declared.entry.Entry.TheVariants.{Enrol, Fund, Paid, Charged, Refused}
 use Rattle.nb_book.specs.declared.party.Party.{Party}
 use Rattle.nb_book.specs.declared.funded.Funded.{Funded}
 use Rattle.nb_book.specs.declared.kept.Kept.{Kept}
@@ -41,6 +41,7 @@ same_epoid p q = (p.merchant.0 == q.merchant.0) && (p.moment == q.moment) && (p.
 -- the entry settles the order of this identifier: it pays it, or refuses it
 abbrev pub settles : Epoid → Entry → Bool
 settles p (Paid digest epoid consumer merchant product price cacct macct moment key) = same_epoid epoid p
+settles p (Charged digest epoid consumer merchant product price fee cacct macct moment key) = same_epoid epoid p
 settles p (Refused digest epoid consumer merchant product price code a b moment) = same_epoid epoid p
 settles p other = false
 

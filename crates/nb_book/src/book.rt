@@ -1,11 +1,12 @@
 ghost use Rattle.std.specs.Prelude.{◌≡◌, ◌≤◌, ◌<◌, ◌-◌, ◌↔◌, [], ◌∷◌, ◌++◌, length, slice_get, take, Some, IsTrue, IfOk, IfSome};
 ghost use Rattle.std.specs.List.{AllByRecursion};
 ghost use Rattle.nb_units.specs.declared.limits.TheConstants.{MAX_CAP};
+ghost use Rattle.nb_units.specs.Charter.{MayRule};
 ghost use Rattle.nb_index.specs.Puts.{IsShaped};
 ghost use Rattle.nb_book.specs.declared.limits.TheConstants.{MAX_TOTAL};
 ghost use Rattle.nb_book.specs.Searches.{party_in, holder_in, funded_in, order_in};
-ghost use Rattle.nb_book.specs.Money.{account_in, balance, total};
-ghost use Rattle.nb_book.specs.Legal.{LegalAfter, Legal};
+ghost use Rattle.nb_book.specs.Money.{account_in, balance, fees, total, house_account};
+ghost use Rattle.nb_book.specs.Legal.{LegalAfter, Legal, NextUnder};
 ghost use Rattle.nb_book.specs.Indexes.{slots_for};
 
 use crate::account::Account;
@@ -148,14 +149,28 @@ impl Book {
         self.list.total()
     }
 
-    /// Whether the entry may come next, by what the entries say: whether the cap is reached is not tested.
-    pub fn legal(&self, e: &Entry) -> bool
-        ensures { IsTrue result ↔ LegalAfter self.now.entries e.now }
+    /// What is in account 0, which is the house's own: all fees, in the house's smallest unit of money.
+    #[tactic(auto, using(crate::proofs::Balances::fees_le_total, crate::proofs::Balances::house_has_fees))]
+    pub fn fees(&self) -> u64
+        ensures fees { result ≡ fees self.now.entries }
+        ensures balance { result ≡ balance self.now.entries house_account }
+        ensures within { result ≤ total self.now.entries }
+        ensures legal { Legal self.now.entries }
     {
-        e.is_legal_after(self)
+        self.list.fees()
     }
 
-    /// Appends the entry. This takes no memory.
+    /// Whether the entry may come next in a journal of this version and this rate, by what the entries say: whether the cap is reached is
+    /// not tested. The version is [`FIRST_VERSION`](nb_units::FIRST_VERSION) or [`FEE_VERSION`](nb_units::FEE_VERSION), the rate is in
+    /// thousandths of a price and at most [`MAX_RATE`](crate::MAX_RATE).
+    pub fn legal(&self, e: &Entry, version: u8, rate: u16) -> bool
+        requires { MayRule version rate }
+        ensures { IsTrue result ↔ NextUnder version rate self.now.entries e.now }
+    {
+        e.is_next_under(self, version, rate)
+    }
+
+    /// Appends the entry, which may come next under some version and rate. This takes no memory.
     pub fn apply(&mut self, e: &Entry)
         requires legal { LegalAfter self.old.entries e.now }
         requires room { length self.old.entries < self.old.cap }

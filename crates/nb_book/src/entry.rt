@@ -46,6 +46,22 @@ pub enum Entry {
         moment: u64,
         key: Secret,
     },
+    /// An order is paid, as by [`Entry::Paid`], and the house keeps a fee of the price, in its smallest unit of money: the whole
+    /// price leaves the consumer's account, what is left of it without the fee comes into the merchant's. Only journals of the
+    /// version [`FEE_VERSION`](nb_units::FEE_VERSION) have such an entry, and its fee is [`fee_of`](crate::fee_of) the price at their rate.
+    Charged {
+        digest: Digest,
+        epoid: Epoid,
+        consumer: PartyId,
+        merchant: PartyId,
+        product: u32,
+        price: Price,
+        fee: u64,
+        cacct: AcctId,
+        macct: AcctId,
+        moment: u64,
+        key: Secret,
+    },
     /// An order is refused, and its identifier used up. Digest, price and moment are as those of a payment. The code is one
     /// of [`reason`](crate::reason), which says what `a` and `b` are, each 8 bytes wide.
     Refused {
@@ -132,7 +148,9 @@ impl Entry {
         ensures { result ≡ settles order.now self.now }
     {
         match *self {
-            Entry::Paid { epoid, .. } | Entry::Refused { epoid, .. } => epoid == *order,
+            Entry::Paid { epoid, .. }
+            | Entry::Charged { epoid, .. }
+            | Entry::Refused { epoid, .. } => epoid == *order,
             _ => false,
         }
     }

@@ -2,7 +2,7 @@
 
 ghost use Rattle.nb_book.specs.Laws as law;
 
-/// The limits and the roles in numbers.
+/// The limits, the highest rate of a fee and the roles in numbers.
 pub fn limits()
     ensures { law.BookLimitsAre }
 {}
@@ -17,7 +17,7 @@ pub fn none_overdrawn()
     ensures { law.NoneOverdrawn }
 {}
 
-/// No money is made or lost: the balances of all enrolled accounts sum to the total of the funds.
+/// No money is made or lost: the balances of all enrolled accounts and the fees sum to the total of the funds.
 pub fn balances_make_total()
     ensures { law.BalancesMakeTotal }
 {}
@@ -32,9 +32,19 @@ pub fn total_fits()
     ensures { law.TotalFits }
 {}
 
-/// An account that nobody holds has nothing in it.
+/// An account that nobody holds has nothing in it, unless it is the house's.
 pub fn unheld_is_empty()
     ensures { law.UnheldIsEmpty }
+{}
+
+/// In account 0, which is the house's, are the fees.
+pub fn house_has_fees()
+    ensures { law.HouseHasFees }
+{}
+
+/// A fee is at most its price.
+pub fn fee_within_price()
+    ensures { law.FeeWithinPrice }
 {}
 
 /// An entry changes each balance by what it brings to the account and what it takes from it.
@@ -42,15 +52,32 @@ pub fn balance_after()
     ensures { law.BalanceAfter }
 {}
 
-/// A payment takes its price from the consumer's account, brings it into the merchant's, and leaves all others.
+/// A payment takes its price from the consumer's account, brings it into the merchant's, and leaves all others. With a fee the merchant
+/// gets so much less, the house's account has it, and all others are left.
 pub fn payment_moves()
-    ensures { law.PaymentMoves }
+    ensures paid { law.PaymentMoves }
+    ensures charged { law.ChargeMoves }
 {}
 
 /// A list stays Legal when an entry that is legal next comes after it.
 pub fn stays_legal()
     ensures { law.StaysLegal }
 {}
+
+/// What may come next is what may come next in a journal of some version and some rate.
+pub fn legal_under_some()
+    ensures { law.LegalUnderSome }
+{}
+
+/// A list is Legal under a version and a rate exactly where each of its entries may come after those before it in a journal of these. It stays
+/// so when one more such entry comes, and a list of the first version stays so in the second one at any rate.
+pub fn legal_under()
+    ensures next { law.LegalUnderIsNext }
+    ensures stays { law.StaysLegalUnder }
+    ensures first { law.FirstStaysLegal }
+{
+    stays_legal();
+}
 
 /// A party is enrolled at most once.
 pub fn enrolled_once()

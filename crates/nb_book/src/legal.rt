@@ -1,23 +1,26 @@
 ghost use Rattle.std.specs.Prelude.{◌≡◌, ◌≤◌, ◌↔◌, IsTrue, Some};
+ghost use Rattle.nb_units.specs.declared.limits.TheConstants.{MAX_RATE};
 ghost use Rattle.nb_book.specs.Money.{balance};
 ghost use Rattle.nb_book.specs.Searches.{party_in, role_of, account_of, nonce_of};
 ghost use Rattle.nb_book.specs.Legal as legal;
 
 use crate::book::Book;
 use crate::entry::{CONSUMER, Entry, MERCHANT};
+use crate::fee::fee_of;
 use crate::limits::{MAX_AGE, MAX_AHEAD, MAX_PRICE, MAX_TOTAL};
 use crate::party::Party;
 use crate::reason::{
     BALANCE_LOW, CONSUMER_ACCOUNT, CONSUMER_NONCE, MERCHANT_ACCOUNT, PRICE_RANGE, TOO_EARLY,
     TOO_OLD,
 };
-use nb_units::{AcctId, Epoid, PartyId, Price};
+use nb_units::{AcctId, Epoid, FEE_VERSION, PartyId, Price};
 
 impl Entry {
-    // Whether this entry may come after these.
+    // Whether this entry may come after these in a journal of this version and this rate.
     #[tactic(auto, using(crate::proofs::Summing::total_fits))]
-    pub(crate) fn is_legal_after(&self, book: &Book) -> bool
-        ensures { IsTrue result ↔ legal.LegalAfter book.now.entries self.now }
+    pub(crate) fn is_next_under(&self, book: &Book, version: u8, rate: u16) -> bool
+        requires { rate ≤ MAX_RATE }
+        ensures { IsTrue result ↔ legal.NextUnder version rate book.now.entries self.now }
     {
         match *self {
             Entry::Enrol { id, role, acct, .. } => {
@@ -48,6 +51,21 @@ impl Entry {
                 moment,
                 ..
             } => paid_is_legal(book, epoid, consumer, merchant, price, cacct, macct, moment),
+            Entry::Charged {
+                ref epoid,
+                consumer,
+                merchant,
+                price,
+                fee,
+                cacct,
+                macct,
+                moment,
+                ..
+            } => {
+                paid_is_legal(book, epoid, consumer, merchant, price, cacct, macct, moment)
+                    && version == FEE_VERSION
+                    && fee == fee_of(price, rate)
+            }
             Entry::Refused {
                 ref epoid,
                 consumer,

@@ -4,6 +4,9 @@
 //! A look-up gives the first entry that names its key, a balance is a sum over the whole list, and [`Book::legal`] says whether an entry may come next. The list
 //! of a book is Legal at all times: each entry was legal after those before it.
 //!
+//! Of a payment the house may keep a fee, by the version and the rate of its journal. Account 0 is the house's own: the fees are in it,
+//! and nobody holds it.
+//!
 //! An entry has one spelling in bytes, which [`write_entry`] appends and [`read_entry`] reads at the place of a cut; an item
 //! of a journal is from 1 to [`MAX_ITEM_ENTRIES`] of them, one behind the other.
 //!
@@ -18,6 +21,7 @@
 mod account;
 mod book;
 mod entry;
+mod fee;
 mod funded;
 mod kept;
 mod keys;
@@ -32,8 +36,9 @@ mod spelling;
 pub use account::Account;
 pub use book::Book;
 pub use entry::{CONSUMER, Entry, MERCHANT};
+pub use fee::fee_of;
 pub use funded::Funded;
 pub use kept::Kept;
-pub use limits::{MAX_AGE, MAX_AHEAD, MAX_CAP, MAX_PRICE, MAX_TOTAL};
+pub use limits::{MAX_AGE, MAX_AHEAD, MAX_CAP, MAX_PRICE, MAX_RATE, MAX_TOTAL};
 pub use party::Party;
 pub use spelling::{EntryFault, MAX_ENTRY, MAX_ITEM_ENTRIES, read_entry, write_entry};

@@ -1,4 +1,4 @@
-pub use nb_units::MAX_CAP;
+pub use nb_units::{MAX_CAP, MAX_RATE};
 
 /// The most money that a house can take in, over all its funds, in its smallest unit of money: 10^18.
 pub const MAX_TOTAL: u64 = 1_000_000_000_000_000_000;

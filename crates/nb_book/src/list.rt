@@ -1,8 +1,8 @@
-ghost use Rattle.std.specs.Prelude.{◌≡◌, ◌≤◌, ◌<◌, ◌+◌, ◌*◌, ◌-◌, ◌++◌, ◌∷◌, [], Some, IfOk, IfSome, length, slice_get, take, vec_capacity, IsSome};
+ghost use Rattle.std.specs.Prelude.{◌≡◌, ◌≤◌, ◌<◌, ◌==◌, ◌+◌, ◌*◌, ◌-◌, ◌^◌, ◌++◌, ◌∷◌, [], ℕ, Some, IfOk, IfSome, length, slice_get, slice_index, take, vec_len, vec_capacity, IsSome, if◌then◌else◌};
 ghost use Rattle.std.specs.List.{HoldsAt, AllByRecursion};
 ghost use Rattle.nb_units.specs.declared.limits.TheConstants.{MAX_CAP};
 ghost use Rattle.nb_book.specs.Searches.{party_in, holder_in, funded_in, order_in};
-ghost use Rattle.nb_book.specs.Money.{account_in, balance, total};
+ghost use Rattle.nb_book.specs.Money.{account_in, balance, fees, total};
 ghost use Rattle.nb_book.specs.Legal.{Legal, LegalAfter};
 ghost use Rattle.nb_book.specs.Laws.{opens};
 ghost use Rattle.nb_index.specs.Puts.{IsShaped};
@@ -35,6 +35,8 @@ pub(crate) struct EntryList {
     balances: Vec<u64>,
     // All that the entries brought into the house.
     total: u64,
+    // All that the house kept of payments.
+    fees: u64,
 }
 
 // The indexes of a list with no entries.
@@ -70,6 +72,21 @@ fn index_for(alloc: Global, cap: u32, key: &[u8; 16]) -> Result<FixedIndex, NoMe
     }
 }
 
+// Takes an amount from the one number, and then adds an amount to the other.
+fn transfer(balances: &mut Vec<u64>, payer: usize, price: u64, payee: usize, rest: u64)
+    requires payer { payer < vec_len balances.old }
+    requires payee { payee < vec_len balances.old }
+    requires held { price ≤ slice_index balances.old.items payer }
+    requires fits { slice_index balances.old.items payee + rest < 2 ^ 64 }
+    ensures each { (at : ℕ) → slice_index balances.new.items at + (if payer == at then price else 0)
+        ≡ slice_index balances.old.items at + (if payee == at then rest else 0) }
+    ensures long { length balances.new.items ≡ length balances.old.items }
+    ensures capacity { vec_capacity balances.new ≡ vec_capacity balances.old }
+{
+    balances[payer] -= price;
+    balances[payee] += rest;
+}
+
 impl EntryList {
     // A list with no entries and memory for so many.
     pub(crate) fn new(alloc: Global, cap: u32, key: &[u8; 16]) -> Result<EntryList, NoMemory>
@@ -95,6 +112,7 @@ impl EntryList {
             orders,
             balances: Vec::with_capacity(alloc, cap as usize)?,
             total: 0,
+            fees: 0,
         })
     }
 
@@ -172,8 +190,22 @@ impl EntryList {
             } => {
                 let payer = self.seat(cacct);
                 let payee = self.seat(macct);
-                self.balances[payer] -= price.0;
-                self.balances[payee] += price.0;
+                transfer(&mut self.balances, payer, price.0, payee, price.0);
+                self.orders.put(&epoid.write(), at);
+                self.balances.push_reserved(0);
+            }
+            Entry::Charged {
+                ref epoid,
+                price,
+                fee,
+                cacct,
+                macct,
+                ..
+            } => {
+                let payer = self.seat(cacct);
+                let payee = self.seat(macct);
+                transfer(&mut self.balances, payer, price.0, payee, price.0 - fee);
+                self.fees += fee;
                 self.orders.put(&epoid.write(), at);
                 self.balances.push_reserved(0);
             }
@@ -238,8 +270,22 @@ impl EntryList {
             } => {
                 let payer = self.seat(cacct);
                 let payee = self.seat(macct);
-                self.balances[payer] += price.0;
-                self.balances[payee] -= price.0;
+                transfer(&mut self.balances, payee, price.0, payer, price.0);
+                self.orders.take_off(&epoid.write());
+                let _ = self.balances.pop();
+            }
+            Entry::Charged {
+                ref epoid,
+                price,
+                fee,
+                cacct,
+                macct,
+                ..
+            } => {
+                let payer = self.seat(cacct);
+                let payee = self.seat(macct);
+                transfer(&mut self.balances, payee, price.0 - fee, payer, price.0);
+                self.fees -= fee;
                 self.orders.take_off(&epoid.write());
                 let _ = self.balances.pop();
             }
@@ -350,5 +396,13 @@ impl EntryList {
         ensures { result ≡ total self.now.entries.items }
     {
         self.total
+    }
+
+    // All that the house kept of payments.
+    pub(crate) fn fees(&self) -> u64
+        requires { Tied self.now self.now.entries.items }
+        ensures { result ≡ fees self.now.entries.items }
+    {
+        self.fees
     }
 }

@@ -5,7 +5,7 @@ ghost use Rattle.nb_units.specs.Laws.{StandsAt};
 ghost use Rattle.nb_units.specs.Reads.{Reads};
 ghost use Rattle.nb_units.specs.Reasons.{IsReason};
 ghost use Rattle.nb_units.specs.Room.{spare_of};
-ghost use Rattle.nb_book.specs.declared.entry.Entry.TheVariants.{Enrol, Fund, Paid, Refused};
+ghost use Rattle.nb_book.specs.declared.entry.Entry.TheVariants.{Enrol, Fund, Paid, Charged, Refused};
 ghost use Rattle.nb_book.specs.declared.spelling.TheConstants.{MAX_ENTRY};
 ghost use Rattle.nb_book.specs.Spelling as spelling;
 ghost use Rattle.nb_book.specs.Reading as reading;
@@ -16,7 +16,7 @@ use nb_units::{
 };
 
 /// The most bytes of an entry.
-pub const MAX_ENTRY: usize = 117;
+pub const MAX_ENTRY: usize = 125;
 
 /// The most entries of an item of a journal.
 pub const MAX_ITEM_ENTRIES: usize = 32;
@@ -29,6 +29,8 @@ const FUND_ENTRY: u8 = 2;
 const PAID_ENTRY: u8 = 3;
 
 const REFUSED_ENTRY: u8 = 4;
+
+const CHARGED_ENTRY: u8 = 5;
 
 /// No entry stands at the front of a cut. The place is that of the first field that fails, in bytes from the front of the
 /// cut's slice.
@@ -114,6 +116,22 @@ impl Entry {
                 let terms = OrderTerms::of(digest, *epoid, *consumer, *merchant, *product, *price);
                 paid_spelled(&terms, *cacct, *macct, *moment, key)
             }
+            Entry::Charged {
+                digest,
+                epoid,
+                consumer,
+                merchant,
+                product,
+                price,
+                fee,
+                cacct,
+                macct,
+                moment,
+                key,
+            } => {
+                let terms = OrderTerms::of(digest, *epoid, *consumer, *merchant, *product, *price);
+                charged_spelled(&terms, *fee, *cacct, *macct, *moment, key)
+            }
             Entry::Refused {
                 digest,
                 epoid,
@@ -189,6 +207,30 @@ fn paid_spelled(
 }
 
 #[tactic(auto, unfolding(crate::specs::Spelling::entry_bytes))]
+fn charged_spelled(
+    terms: &OrderTerms,
+    fee: u64,
+    cacct: AcctId,
+    macct: AcctId,
+    moment: u64,
+    key: &[u8; 32],
+) -> Buffer
+    ensures bytes { result ≡ spelling.entry_bytes (Charged terms.now.digest terms.now.epoid terms.now.consumer terms.now.merchant terms.now.product terms.now.price fee cacct macct moment key.now) }
+    ensures fits { spelling.IsEntry (Charged terms.now.digest terms.now.epoid terms.now.consumer terms.now.merchant terms.now.product terms.now.price fee cacct macct moment key.now) }
+    ensures long { length result ≤ MAX_ENTRY }
+{
+    let mut bytes = Buffer::new();
+    bytes.u8(CHARGED_ENTRY);
+    terms.write(&mut bytes);
+    bytes.u64(fee);
+    bytes.u32(cacct.0);
+    bytes.u32(macct.0);
+    bytes.u64(moment);
+    bytes.raw(key);
+    bytes
+}
+
+#[tactic(auto, unfolding(crate::specs::Spelling::entry_bytes))]
 fn refused_spelled(terms: &OrderTerms, code: u8, a: u64, b: u64, moment: u64) -> Buffer
     requires { IsReason code }
     ensures bytes { result ≡ spelling.entry_bytes (Refused terms.now.digest terms.now.epoid terms.now.consumer terms.now.merchant terms.now.product terms.now.price code a b moment) }
@@ -224,6 +266,7 @@ fn read_fields(bytes: &[u8]) -> Result<Entry, Malformed>
         FUND_ENTRY => read_fund(cut),
         PAID_ENTRY => read_paid(cut),
         REFUSED_ENTRY => read_refused(cut),
+        CHARGED_ENTRY => read_charged(cut),
         _ => Err(Malformed { place: 0 }),
     }
 }
@@ -361,6 +404,33 @@ fn read_paid(mut cut: Cut) -> Result<Entry, Malformed>
     })
 }
 
+#[tactic(auto, unfolding(crate::specs::Reading::charged_of))]
+fn read_charged(mut cut: Cut) -> Result<Entry, Malformed>
+    requires { cut.place ≡ 1 }
+    ensures { Reads result (reading.charged_of cut.entry.bytes) }
+{
+    let terms = OrderTerms::read(&mut cut)?;
+    let digest = terms.digest;
+    let fee = cut.u64()?;
+    let cacct = cut.u32()?;
+    let macct = cut.u32()?;
+    let moment = cut.u64()?;
+    let key = cut.fixed32()?;
+    Ok(Entry::Charged {
+        digest,
+        epoid: terms.epoid,
+        consumer: terms.consumer,
+        merchant: terms.merchant,
+        product: terms.product,
+        price: terms.price,
+        fee,
+        cacct: AcctId(cacct),
+        macct: AcctId(macct),
+        moment,
+        key,
+    })
+}
+
 #[tactic(auto, unfolding(crate::specs::Reading::refused_of))]
 fn read_refused(mut cut: Cut) -> Result<Entry, Malformed>
     requires { cut.place ≡ 1 }
@@ -403,6 +473,7 @@ fn spelled_len(e: &Entry) -> usize
         Entry::Enrol { .. } => 50,
         Entry::Fund { .. } => 29,
         Entry::Paid { .. } => 117,
+        Entry::Charged { .. } => 125,
         Entry::Refused { .. } => 94,
     }
 }

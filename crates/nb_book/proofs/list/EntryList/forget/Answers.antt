@@ -1,18 +1,16 @@
-use Rattle.std.proofs.Common.{◌≡◌, ℕ, ◌+◌, ◌-◌, ◌<◌, ◌≤◌, [], ◌∷◌, ◌++◌, List, Some, length, take, set, get_or, arith, refl, sym, ap, subst, ◌∙◌}
+use Rattle.std.proofs.Common.{◌≡◌, ℕ, ◌+◌, ◌-◌, ◌<◌, ◌≤◌, List, Some, length, take, set, get_or, arith, refl, sym, ap, subst, ◌∙◌}
 use Rattle.std.proofs.lemmas.List.{get_or_read, length-set, length_push}
 use Rattle.std.proofs.lemmas.List.Sums.{sum_by_push}
 use Rattle.std.specs.Option.{IsSome}
 use Rattle.nb_book.specs.declared.entry.Entry.{Entry}
-use Rattle.nb_book.specs.declared.entry.Entry.TheVariants.{Enrol, Fund, Paid, Refused}
+use Rattle.nb_book.specs.declared.entry.Entry.TheVariants.{Enrol, Fund, Paid, Charged, Refused}
 use Rattle.nb_book.specs.Searches.{holder_in}
-use Rattle.nb_book.specs.Money.{fund, balance}
+use Rattle.nb_book.specs.Money.{fee_in, fund}
 use Rattle.nb_book.specs.Laws.{opens}
 use Rattle.nb_book.specs.Indexes.{first_place, party_key, account_key, reference_key, order_key}
-use Rattle.nb_book.proofs.Counting.{opened-account_of}
-use Rattle.nb_book.proofs.Summing.{total_fits, balance_after}
-use Rattle.nb_book.proofs.Balances.{balance_le_total}
+use Rattle.nb_book.proofs.Fees.{fee_within}
 use Rattle.nb_book.proofs.Indexing.{is_last, index_off, index_less, fit_pop}
-use Rattle.nb_book.proofs.Keeping.{BeforeLast, before_last, held_opened, held_behind, place_before, own_amount, kept_pop, gave, took}
+use Rattle.nb_book.proofs.Keeping.{BeforeLast, before_last, both_held, held_behind, place_before, price_fits, was_brought, own_amount, kept_pop, took, transferred}
 use Rattle.nb_book.proofs.list.EntryList.forget.Goals as goal
 
 pub take_off-requires-clause-some : goal.take_off-requires-clause-some
@@ -60,10 +58,13 @@ overflow_sub-index_mut c =
     let acct = c.in-Fund.acct in
     let within : c.seat-payee.result < length before = omega (arith, c.seat-payee.ensures.within, c.requires.tied.balances.long) in
     let value : c.index_mut.result.now ≡ get_or before c.seat-payee.result 0 = get_or_read _ _ _ within c.index_mut.ensures.value 0 in
-    let is_balance : get_or before c.seat-payee.result 0 ≡ balance c.args.self.now.entries.items acct = c.requires.tied.balances.each acct c.seat-payee.result c.seat-payee.ensures.place in
-    let same : balance c.args.self.now.entries.items acct ≡ balance (front ++ e ∷ []) acct = ap (λ (xs : List Entry). balance xs acct) b.behind.whole in
     let low : amount ≤ c.index_mut.result.now =
-    omega (arith, value, is_balance, same, balance_after front e b.behind.legal b.behind.next acct, own_amount acct amount) in
+    omega (
+      arith,
+      value,
+      was_brought front e c.args.self.now.entries.items before acct c.seat-payee.result b.behind c.requires.tied.balances refl c.seat-payee.ensures.place,
+      own_amount acct amount,
+    ) in
     low
 
 pub overflow_sub-self : goal.overflow_sub-self
@@ -92,66 +93,38 @@ seat-payer-requires-clause-held c =
     let front : List Entry = take (length c.args.self.now.entries.items - 1) c.args.self.now.entries.items in
     let e : Entry = Paid c.in-Paid.digest c.in-Paid.epoid c.in-Paid.consumer c.in-Paid.merchant c.in-Paid.product c.in-Paid.price c.in-Paid.cacct c.in-Paid.macct c.in-Paid.moment c.in-Paid.key in
     let b : BeforeLast c.args.self.now front e = before_last c.args.self.now e c.requires.tied c.requires.legal c.requires.some (λ d. c.requires.last d ∙ c.in-Paid.is) in
-    subst (λ (xs : List Entry). IsSome (holder_in xs c.in-Paid.cacct)) (sym b.behind.whole)
-    (held_behind front e c.in-Paid.cacct (held_opened front c.in-Paid.cacct (opened-account_of front c.in-Paid.consumer c.in-Paid.cacct b.behind.next.2.0)))
+    subst (λ (xs : List Entry). IsSome (holder_in xs c.in-Paid.cacct)) (sym b.behind.whole) (held_behind front e c.in-Paid.cacct (both_held front c.in-Paid.epoid c.in-Paid.consumer c.in-Paid.merchant c.in-Paid.price c.in-Paid.cacct c.in-Paid.macct c.in-Paid.moment b.behind.next).0)
 
 pub seat-payee-requires-in-Paid-clause-held : goal.seat-payee-requires-in-Paid-clause-held
 seat-payee-requires-in-Paid-clause-held c =
     let front : List Entry = take (length c.args.self.now.entries.items - 1) c.args.self.now.entries.items in
     let e : Entry = Paid c.in-Paid.digest c.in-Paid.epoid c.in-Paid.consumer c.in-Paid.merchant c.in-Paid.product c.in-Paid.price c.in-Paid.cacct c.in-Paid.macct c.in-Paid.moment c.in-Paid.key in
     let b : BeforeLast c.args.self.now front e = before_last c.args.self.now e c.requires.tied c.requires.legal c.requires.some (λ d. c.requires.last d ∙ c.in-Paid.is) in
-    subst (λ (xs : List Entry). IsSome (holder_in xs c.in-Paid.macct)) (sym b.behind.whole)
-    (held_behind front e c.in-Paid.macct (held_opened front c.in-Paid.macct (opened-account_of front c.in-Paid.merchant c.in-Paid.macct b.behind.next.2.1)))
+    subst (λ (xs : List Entry). IsSome (holder_in xs c.in-Paid.macct)) (sym b.behind.whole) (held_behind front e c.in-Paid.macct (both_held front c.in-Paid.epoid c.in-Paid.consumer c.in-Paid.merchant c.in-Paid.price c.in-Paid.cacct c.in-Paid.macct c.in-Paid.moment b.behind.next).1)
 
-pub overflow_add-index_mut : goal.overflow_add-index_mut
-overflow_add-index_mut c =
+pub transfer-requires-clause-payer : goal.transfer-requires-clause-payer
+transfer-requires-clause-payer c = omega (arith, c.seat-payee-in-Paid.ensures.within, c.requires.tied.balances.long)
+
+pub transfer-requires-clause-payee : goal.transfer-requires-clause-payee
+transfer-requires-clause-payee c = omega (arith, c.seat-payer.ensures.within, c.requires.tied.balances.long)
+
+pub transfer-requires-clause-held : goal.transfer-requires-clause-held
+transfer-requires-clause-held c =
     let front : List Entry = take (length c.args.self.now.entries.items - 1) c.args.self.now.entries.items in
     let e : Entry = Paid c.in-Paid.digest c.in-Paid.epoid c.in-Paid.consumer c.in-Paid.merchant c.in-Paid.product c.in-Paid.price c.in-Paid.cacct c.in-Paid.macct c.in-Paid.moment c.in-Paid.key in
     let b : BeforeLast c.args.self.now front e = before_last c.args.self.now e c.requires.tied c.requires.legal c.requires.some (λ d. c.requires.last d ∙ c.in-Paid.is) in
-    let before : List ℕ = c.args.self.now.balances.items in
-    let price : ℕ = c.in-Paid.price.0 in
-    let payer = c.in-Paid.cacct in
-    let payee = c.in-Paid.macct in
-    let within : c.seat-payer.result < length before = omega (arith, c.seat-payer.ensures.within, c.requires.tied.balances.long) in
-    let value : c.index_mut-in-Paid.result.now ≡ get_or before c.seat-payer.result 0 = get_or_read _ _ _ within c.index_mut-in-Paid.ensures.value 0 in
     omega (
       arith,
-      value,
-      c.requires.tied.balances.each payer c.seat-payer.result c.seat-payer.ensures.place,
-      balance_le_total c.args.self.now.entries.items c.requires.legal payer,
-      total_fits c.args.self.now.entries.items c.requires.legal,
-      b.behind.next.3.1,
+      was_brought front e c.args.self.now.entries.items c.args.self.now.balances.items c.in-Paid.macct c.seat-payee-in-Paid.result b.behind c.requires.tied.balances refl c.seat-payee-in-Paid.ensures.place,
+      own_amount c.in-Paid.macct c.in-Paid.price.0,
     )
 
-pub overflow_sub-index_mut-in-Paid : goal.overflow_sub-index_mut-in-Paid
-overflow_sub-index_mut-in-Paid c =
+pub transfer-requires-clause-fits : goal.transfer-requires-clause-fits
+transfer-requires-clause-fits c =
     let front : List Entry = take (length c.args.self.now.entries.items - 1) c.args.self.now.entries.items in
     let e : Entry = Paid c.in-Paid.digest c.in-Paid.epoid c.in-Paid.consumer c.in-Paid.merchant c.in-Paid.product c.in-Paid.price c.in-Paid.cacct c.in-Paid.macct c.in-Paid.moment c.in-Paid.key in
     let b : BeforeLast c.args.self.now front e = before_last c.args.self.now e c.requires.tied c.requires.legal c.requires.some (λ d. c.requires.last d ∙ c.in-Paid.is) in
-    let before : List ℕ = c.args.self.now.balances.items in
-    let price : ℕ = c.in-Paid.price.0 in
-    let payer = c.in-Paid.cacct in
-    let payee = c.in-Paid.macct in
-    let within : c.seat-payer.result < length before = omega (arith, c.seat-payer.ensures.within, c.requires.tied.balances.long) in
-    let value : c.index_mut-in-Paid.result.now ≡ get_or before c.seat-payer.result 0 = get_or_read _ _ _ within c.index_mut-in-Paid.ensures.value 0 in
-    let more : ℕ = c.index_mut-in-Paid.result.now + price in
-    let given : more ≡ get_or before c.seat-payer.result 0 + price = ap (λ (n : ℕ). n + price) value in
-    let between : List ℕ = set before c.seat-payer.result more in
-    let within_too : c.seat-payee-in-Paid.result < length between =
-    omega (arith, c.seat-payee-in-Paid.ensures.within, c.requires.tied.balances.long, length-set before c.seat-payer.result more) in
-    let value_too : c.index_mut-in-Paid-2.result.now ≡ get_or between c.seat-payee-in-Paid.result 0 = get_or_read _ _ _ within_too c.index_mut-in-Paid-2.ensures.value 0 in
-    let same : balance c.args.self.now.entries.items payee ≡ balance (front ++ e ∷ []) payee = ap (λ (xs : List Entry). balance xs payee) b.behind.whole in
-    let low : price ≤ c.index_mut-in-Paid-2.result.now =
-    omega (
-      arith,
-      value_too,
-      gave c.args.self.now.entries.items payer payee c.seat-payer.result c.seat-payee-in-Paid.result before price more c.seat-payer.ensures.place c.seat-payee-in-Paid.ensures.place within given,
-      c.requires.tied.balances.each payee c.seat-payee-in-Paid.result c.seat-payee-in-Paid.ensures.place,
-      same,
-      balance_after front e b.behind.legal b.behind.next payee,
-      own_amount payee price,
-    ) in
-    low
+    price_fits c.args.self.now.entries.items c.args.self.now.balances.items c.in-Paid.cacct c.seat-payer.result c.in-Paid.price c.in-Paid.price.0 c.requires.legal c.requires.tied.balances c.seat-payer.ensures.place b.behind.next.3 (omega arith)
 
 pub take_off-requires-in-Paid-clause-some : goal.take_off-requires-in-Paid-clause-some
 take_off-requires-in-Paid-clause-some c =
@@ -166,6 +139,72 @@ take_off-requires-in-Paid-clause-last c =
     let e : Entry = Paid c.in-Paid.digest c.in-Paid.epoid c.in-Paid.consumer c.in-Paid.merchant c.in-Paid.product c.in-Paid.price c.in-Paid.cacct c.in-Paid.macct c.in-Paid.moment c.in-Paid.key in
     let b : BeforeLast c.args.self.now front e = before_last c.args.self.now e c.requires.tied c.requires.legal c.requires.some (λ d. c.requires.last d ∙ c.in-Paid.is) in
     (is_last order_key c.args.self.now.cap c.args.self.now.orders front e c.write.result b.tied.orders (ap (λ (k : List ℕ). Some k) (sym c.write.ensures.spelling))).1
+
+pub seat-payer-requires-in-Charged-clause-held : goal.seat-payer-requires-in-Charged-clause-held
+seat-payer-requires-in-Charged-clause-held c =
+    let front : List Entry = take (length c.args.self.now.entries.items - 1) c.args.self.now.entries.items in
+    let e : Entry = Charged c.in-Charged.digest c.in-Charged.epoid c.in-Charged.consumer c.in-Charged.merchant c.in-Charged.product c.in-Charged.price c.in-Charged.fee c.in-Charged.cacct c.in-Charged.macct c.in-Charged.moment c.in-Charged.key in
+    let b : BeforeLast c.args.self.now front e = before_last c.args.self.now e c.requires.tied c.requires.legal c.requires.some (λ d. c.requires.last d ∙ c.in-Charged.is) in
+    subst (λ (xs : List Entry). IsSome (holder_in xs c.in-Charged.cacct)) (sym b.behind.whole) (held_behind front e c.in-Charged.cacct (both_held front c.in-Charged.epoid c.in-Charged.consumer c.in-Charged.merchant c.in-Charged.price c.in-Charged.cacct c.in-Charged.macct c.in-Charged.moment b.behind.next.0).0)
+
+pub seat-payee-requires-in-Charged-clause-held : goal.seat-payee-requires-in-Charged-clause-held
+seat-payee-requires-in-Charged-clause-held c =
+    let front : List Entry = take (length c.args.self.now.entries.items - 1) c.args.self.now.entries.items in
+    let e : Entry = Charged c.in-Charged.digest c.in-Charged.epoid c.in-Charged.consumer c.in-Charged.merchant c.in-Charged.product c.in-Charged.price c.in-Charged.fee c.in-Charged.cacct c.in-Charged.macct c.in-Charged.moment c.in-Charged.key in
+    let b : BeforeLast c.args.self.now front e = before_last c.args.self.now e c.requires.tied c.requires.legal c.requires.some (λ d. c.requires.last d ∙ c.in-Charged.is) in
+    subst (λ (xs : List Entry). IsSome (holder_in xs c.in-Charged.macct)) (sym b.behind.whole) (held_behind front e c.in-Charged.macct (both_held front c.in-Charged.epoid c.in-Charged.consumer c.in-Charged.merchant c.in-Charged.price c.in-Charged.cacct c.in-Charged.macct c.in-Charged.moment b.behind.next.0).1)
+
+pub overflow_sub-price : goal.overflow_sub-price
+overflow_sub-price c =
+    let front : List Entry = take (length c.args.self.now.entries.items - 1) c.args.self.now.entries.items in
+    let e : Entry = Charged c.in-Charged.digest c.in-Charged.epoid c.in-Charged.consumer c.in-Charged.merchant c.in-Charged.product c.in-Charged.price c.in-Charged.fee c.in-Charged.cacct c.in-Charged.macct c.in-Charged.moment c.in-Charged.key in
+    let b : BeforeLast c.args.self.now front e = before_last c.args.self.now e c.requires.tied c.requires.legal c.requires.some (λ d. c.requires.last d ∙ c.in-Charged.is) in
+    fee_within c.in-Charged.price c.in-Charged.fee b.behind.next.1
+
+pub transfer-requires-in-Charged-clause-payer : goal.transfer-requires-in-Charged-clause-payer
+transfer-requires-in-Charged-clause-payer c = omega (arith, c.seat-payee-in-Charged.ensures.within, c.requires.tied.balances.long)
+
+pub transfer-requires-in-Charged-clause-payee : goal.transfer-requires-in-Charged-clause-payee
+transfer-requires-in-Charged-clause-payee c = omega (arith, c.seat-payer-in-Charged.ensures.within, c.requires.tied.balances.long)
+
+pub transfer-requires-in-Charged-clause-held : goal.transfer-requires-in-Charged-clause-held
+transfer-requires-in-Charged-clause-held c =
+    let front : List Entry = take (length c.args.self.now.entries.items - 1) c.args.self.now.entries.items in
+    let e : Entry = Charged c.in-Charged.digest c.in-Charged.epoid c.in-Charged.consumer c.in-Charged.merchant c.in-Charged.product c.in-Charged.price c.in-Charged.fee c.in-Charged.cacct c.in-Charged.macct c.in-Charged.moment c.in-Charged.key in
+    let b : BeforeLast c.args.self.now front e = before_last c.args.self.now e c.requires.tied c.requires.legal c.requires.some (λ d. c.requires.last d ∙ c.in-Charged.is) in
+    omega (
+      arith,
+      was_brought front e c.args.self.now.entries.items c.args.self.now.balances.items c.in-Charged.macct c.seat-payee-in-Charged.result b.behind c.requires.tied.balances refl c.seat-payee-in-Charged.ensures.place,
+      own_amount c.in-Charged.macct (c.in-Charged.price.0 - c.in-Charged.fee),
+    )
+
+pub transfer-requires-in-Charged-clause-fits : goal.transfer-requires-in-Charged-clause-fits
+transfer-requires-in-Charged-clause-fits c =
+    let front : List Entry = take (length c.args.self.now.entries.items - 1) c.args.self.now.entries.items in
+    let e : Entry = Charged c.in-Charged.digest c.in-Charged.epoid c.in-Charged.consumer c.in-Charged.merchant c.in-Charged.product c.in-Charged.price c.in-Charged.fee c.in-Charged.cacct c.in-Charged.macct c.in-Charged.moment c.in-Charged.key in
+    let b : BeforeLast c.args.self.now front e = before_last c.args.self.now e c.requires.tied c.requires.legal c.requires.some (λ d. c.requires.last d ∙ c.in-Charged.is) in
+    price_fits c.args.self.now.entries.items c.args.self.now.balances.items c.in-Charged.cacct c.seat-payer-in-Charged.result c.in-Charged.price c.in-Charged.price.0 c.requires.legal c.requires.tied.balances c.seat-payer-in-Charged.ensures.place b.behind.next.0.3 (omega arith)
+
+pub overflow_sub-self-in-Charged : goal.overflow_sub-self-in-Charged
+overflow_sub-self-in-Charged c =
+    let front : List Entry = take (length c.args.self.now.entries.items - 1) c.args.self.now.entries.items in
+    let e : Entry = Charged c.in-Charged.digest c.in-Charged.epoid c.in-Charged.consumer c.in-Charged.merchant c.in-Charged.product c.in-Charged.price c.in-Charged.fee c.in-Charged.cacct c.in-Charged.macct c.in-Charged.moment c.in-Charged.key in
+    let b : BeforeLast c.args.self.now front e = before_last c.args.self.now e c.requires.tied c.requires.legal c.requires.some (λ d. c.requires.last d ∙ c.in-Charged.is) in
+    omega (arith, b.tied.fees, sum_by_push fee_in front e)
+
+pub take_off-requires-in-Charged-clause-some : goal.take_off-requires-in-Charged-clause-some
+take_off-requires-in-Charged-clause-some c =
+    let front : List Entry = take (length c.args.self.now.entries.items - 1) c.args.self.now.entries.items in
+    let e : Entry = Charged c.in-Charged.digest c.in-Charged.epoid c.in-Charged.consumer c.in-Charged.merchant c.in-Charged.product c.in-Charged.price c.in-Charged.fee c.in-Charged.cacct c.in-Charged.macct c.in-Charged.moment c.in-Charged.key in
+    let b : BeforeLast c.args.self.now front e = before_last c.args.self.now e c.requires.tied c.requires.legal c.requires.some (λ d. c.requires.last d ∙ c.in-Charged.is) in
+    (is_last order_key c.args.self.now.cap c.args.self.now.orders front e c.write-in-Charged.result b.tied.orders (ap (λ (k : List ℕ). Some k) (sym c.write-in-Charged.ensures.spelling))).0
+
+pub take_off-requires-in-Charged-clause-last : goal.take_off-requires-in-Charged-clause-last
+take_off-requires-in-Charged-clause-last c =
+    let front : List Entry = take (length c.args.self.now.entries.items - 1) c.args.self.now.entries.items in
+    let e : Entry = Charged c.in-Charged.digest c.in-Charged.epoid c.in-Charged.consumer c.in-Charged.merchant c.in-Charged.product c.in-Charged.price c.in-Charged.fee c.in-Charged.cacct c.in-Charged.macct c.in-Charged.moment c.in-Charged.key in
+    let b : BeforeLast c.args.self.now front e = before_last c.args.self.now e c.requires.tied c.requires.legal c.requires.some (λ d. c.requires.last d ∙ c.in-Charged.is) in
+    (is_last order_key c.args.self.now.cap c.args.self.now.orders front e c.write-in-Charged.result b.tied.orders (ap (λ (k : List ℕ). Some k) (sym c.write-in-Charged.ensures.spelling))).1
 
 pub take_off-requires-in-Refused-clause-some : goal.take_off-requires-in-Refused-clause-some
 take_off-requires-in-Refused-clause-some c =
@@ -198,6 +237,7 @@ returns-in-Enrol-clause-tied c =
           (kept_pop front e c.args.self.now.balances.items c.args.self.now.balances.items b.behind.legal b.behind.next b.tied.balances refl (λ a place placed. refl));
       room = omega (arith, c.requires.tied.room, c.pop.ensures.capacity);
       sum = omega (arith, b.tied.sum, sum_by_push fund front e);
+      fees = omega (arith, b.tied.fees, sum_by_push fee_in front e);
     }
 
 pub returns-in-Fund-clause-tied : goal.returns-in-Fund-clause-tied
@@ -210,10 +250,13 @@ returns-in-Fund-clause-tied c =
     let acct = c.in-Fund.acct in
     let within : c.seat-payee.result < length before = omega (arith, c.seat-payee.ensures.within, c.requires.tied.balances.long) in
     let value : c.index_mut.result.now ≡ get_or before c.seat-payee.result 0 = get_or_read _ _ _ within c.index_mut.ensures.value 0 in
-    let is_balance : get_or before c.seat-payee.result 0 ≡ balance c.args.self.now.entries.items acct = c.requires.tied.balances.each acct c.seat-payee.result c.seat-payee.ensures.place in
-    let same : balance c.args.self.now.entries.items acct ≡ balance (front ++ e ∷ []) acct = ap (λ (xs : List Entry). balance xs acct) b.behind.whole in
     let low : amount ≤ c.index_mut.result.now =
-    omega (arith, value, is_balance, same, balance_after front e b.behind.legal b.behind.next acct, own_amount acct amount) in
+    omega (
+      arith,
+      value,
+      was_brought front e c.args.self.now.entries.items before acct c.seat-payee.result b.behind c.requires.tied.balances refl c.seat-payee.ensures.place,
+      own_amount acct amount,
+    ) in
     let left : ℕ = c.index_mut.result.now - amount in
     let taken : left + amount ≡ get_or before c.seat-payee.result 0 = omega (arith, value, low) in
     let seat : first_place (opens acct) front ≡ Some c.seat-payee.result = place_before front e c.args.self.now.entries.items acct c.seat-payee.result b.behind refl c.seat-payee.ensures.place in
@@ -230,6 +273,7 @@ returns-in-Fund-clause-tied c =
           (λ a place placed. omega (arith, took front acct a c.seat-payee.result place before amount left seat placed within taken)));
       room = omega (arith, c.requires.tied.room, c.pop-in-Fund.ensures.capacity);
       sum = omega (arith, b.tied.sum, sum_by_push fund front e);
+      fees = omega (arith, b.tied.fees, sum_by_push fee_in front e);
     }
 
 pub returns-in-Paid-clause-tied : goal.returns-in-Paid-clause-tied
@@ -237,35 +281,9 @@ returns-in-Paid-clause-tied c =
     let front : List Entry = take (length c.args.self.now.entries.items - 1) c.args.self.now.entries.items in
     let e : Entry = Paid c.in-Paid.digest c.in-Paid.epoid c.in-Paid.consumer c.in-Paid.merchant c.in-Paid.product c.in-Paid.price c.in-Paid.cacct c.in-Paid.macct c.in-Paid.moment c.in-Paid.key in
     let b : BeforeLast c.args.self.now front e = before_last c.args.self.now e c.requires.tied c.requires.legal c.requires.some (λ d. c.requires.last d ∙ c.in-Paid.is) in
-    let before : List ℕ = c.args.self.now.balances.items in
-    let price : ℕ = c.in-Paid.price.0 in
-    let payer = c.in-Paid.cacct in
-    let payee = c.in-Paid.macct in
-    let within : c.seat-payer.result < length before = omega (arith, c.seat-payer.ensures.within, c.requires.tied.balances.long) in
-    let value : c.index_mut-in-Paid.result.now ≡ get_or before c.seat-payer.result 0 = get_or_read _ _ _ within c.index_mut-in-Paid.ensures.value 0 in
-    let more : ℕ = c.index_mut-in-Paid.result.now + price in
-    let given : more ≡ get_or before c.seat-payer.result 0 + price = ap (λ (n : ℕ). n + price) value in
-    let between : List ℕ = set before c.seat-payer.result more in
-    let within_too : c.seat-payee-in-Paid.result < length between =
-    omega (arith, c.seat-payee-in-Paid.ensures.within, c.requires.tied.balances.long, length-set before c.seat-payer.result more) in
-    let value_too : c.index_mut-in-Paid-2.result.now ≡ get_or between c.seat-payee-in-Paid.result 0 = get_or_read _ _ _ within_too c.index_mut-in-Paid-2.ensures.value 0 in
-    let same : balance c.args.self.now.entries.items payee ≡ balance (front ++ e ∷ []) payee = ap (λ (xs : List Entry). balance xs payee) b.behind.whole in
-    let low : price ≤ c.index_mut-in-Paid-2.result.now =
-    omega (
-      arith,
-      value_too,
-      gave c.args.self.now.entries.items payer payee c.seat-payer.result c.seat-payee-in-Paid.result before price more c.seat-payer.ensures.place c.seat-payee-in-Paid.ensures.place within given,
-      c.requires.tied.balances.each payee c.seat-payee-in-Paid.result c.seat-payee-in-Paid.ensures.place,
-      same,
-      balance_after front e b.behind.legal b.behind.next payee,
-      own_amount payee price,
-    ) in
-    let left : ℕ = c.index_mut-in-Paid-2.result.now - price in
-    let taken : left + price ≡ get_or between c.seat-payee-in-Paid.result 0 = omega (arith, value_too, low) in
-    let seat : first_place (opens payer) front ≡ Some c.seat-payer.result = place_before front e c.args.self.now.entries.items payer c.seat-payer.result b.behind refl c.seat-payer.ensures.place in
-    let seat_too : first_place (opens payee) front ≡ Some c.seat-payee-in-Paid.result =
-    place_before front e c.args.self.now.entries.items payee c.seat-payee-in-Paid.result b.behind refl c.seat-payee-in-Paid.ensures.place in
-    let count : c.args.self.now.balances.len - 1 ≡ length front = omega (arith, c.args.self.now.balances.ok.0, b.tied.balances.long, length_push front e) in
+    let seat : first_place (opens c.in-Paid.cacct) front ≡ Some c.seat-payer.result = place_before front e c.args.self.now.entries.items c.in-Paid.cacct c.seat-payer.result b.behind refl c.seat-payer.ensures.place in
+    let seat_too : first_place (opens c.in-Paid.macct) front ≡ Some c.seat-payee-in-Paid.result = place_before front e c.args.self.now.entries.items c.in-Paid.macct c.seat-payee-in-Paid.result b.behind refl c.seat-payee-in-Paid.ensures.place in
+    let count : c.transfer.new.balances.len - 1 ≡ length front = omega (arith, c.transfer.new.balances.ok.0, c.transfer.ensures.long, b.tied.balances.long, length_push front e) in
     record {
       most = c.requires.tied.most;
       fit = (fit_pop front e b.tied.fit).0;
@@ -274,16 +292,38 @@ returns-in-Paid-clause-tied c =
       references = index_less reference_key c.args.self.now.cap c.args.self.now.references front e b.tied.references refl;
       orders = index_off order_key c.args.self.now.cap c.args.self.now.orders c.take_off-in-Paid.new.self front e c.write.result b.tied.orders (ap (λ (k : List ℕ). Some k) (sym c.write.ensures.spelling)) c.take_off-in-Paid.ensures.puts c.take_off-in-Paid.ensures.shape;
       balances = rw (c.pop-in-Paid.ensures.rest, count)
-          (kept_pop front e before (set between c.seat-payee-in-Paid.result left) b.behind.legal b.behind.next b.tied.balances
-          (length-set between c.seat-payee-in-Paid.result left ∙ length-set before c.seat-payer.result more)
+          (kept_pop front e c.args.self.now.balances.items c.transfer.new.balances.items b.behind.legal b.behind.next b.tied.balances c.transfer.ensures.long
           (λ a place placed.
-          omega (
-            arith,
-            took front payee a c.seat-payee-in-Paid.result place between price left seat_too placed within_too taken,
-            gave front payer a c.seat-payer.result place before price more seat placed within given,
-          )));
-      room = omega (arith, c.requires.tied.room, c.pop-in-Paid.ensures.capacity);
+          transferred front c.in-Paid.macct c.in-Paid.cacct a c.seat-payee-in-Paid.result c.seat-payer.result place c.args.self.now.balances.items c.transfer.new.balances.items c.in-Paid.price.0 c.in-Paid.price.0
+          seat_too seat placed (c.transfer.ensures.each place)));
+      room = omega (arith, c.requires.tied.room, c.transfer.ensures.capacity, c.pop-in-Paid.ensures.capacity);
       sum = omega (arith, b.tied.sum, sum_by_push fund front e);
+      fees = omega (arith, b.tied.fees, sum_by_push fee_in front e);
+    }
+
+pub returns-in-Charged-clause-tied : goal.returns-in-Charged-clause-tied
+returns-in-Charged-clause-tied c =
+    let front : List Entry = take (length c.args.self.now.entries.items - 1) c.args.self.now.entries.items in
+    let e : Entry = Charged c.in-Charged.digest c.in-Charged.epoid c.in-Charged.consumer c.in-Charged.merchant c.in-Charged.product c.in-Charged.price c.in-Charged.fee c.in-Charged.cacct c.in-Charged.macct c.in-Charged.moment c.in-Charged.key in
+    let b : BeforeLast c.args.self.now front e = before_last c.args.self.now e c.requires.tied c.requires.legal c.requires.some (λ d. c.requires.last d ∙ c.in-Charged.is) in
+    let seat : first_place (opens c.in-Charged.cacct) front ≡ Some c.seat-payer-in-Charged.result = place_before front e c.args.self.now.entries.items c.in-Charged.cacct c.seat-payer-in-Charged.result b.behind refl c.seat-payer-in-Charged.ensures.place in
+    let seat_too : first_place (opens c.in-Charged.macct) front ≡ Some c.seat-payee-in-Charged.result = place_before front e c.args.self.now.entries.items c.in-Charged.macct c.seat-payee-in-Charged.result b.behind refl c.seat-payee-in-Charged.ensures.place in
+    let count : c.transfer-in-Charged.new.balances.len - 1 ≡ length front = omega (arith, c.transfer-in-Charged.new.balances.ok.0, c.transfer-in-Charged.ensures.long, b.tied.balances.long, length_push front e) in
+    record {
+      most = c.requires.tied.most;
+      fit = (fit_pop front e b.tied.fit).0;
+      parties = index_less party_key c.args.self.now.cap c.args.self.now.parties front e b.tied.parties refl;
+      accounts = index_less account_key c.args.self.now.cap c.args.self.now.accounts front e b.tied.accounts refl;
+      references = index_less reference_key c.args.self.now.cap c.args.self.now.references front e b.tied.references refl;
+      orders = index_off order_key c.args.self.now.cap c.args.self.now.orders c.take_off-in-Charged.new.self front e c.write-in-Charged.result b.tied.orders (ap (λ (k : List ℕ). Some k) (sym c.write-in-Charged.ensures.spelling)) c.take_off-in-Charged.ensures.puts c.take_off-in-Charged.ensures.shape;
+      balances = rw (c.pop-in-Charged.ensures.rest, count)
+          (kept_pop front e c.args.self.now.balances.items c.transfer-in-Charged.new.balances.items b.behind.legal b.behind.next b.tied.balances c.transfer-in-Charged.ensures.long
+          (λ a place placed.
+          transferred front c.in-Charged.macct c.in-Charged.cacct a c.seat-payee-in-Charged.result c.seat-payer-in-Charged.result place c.args.self.now.balances.items c.transfer-in-Charged.new.balances.items (c.in-Charged.price.0 - c.in-Charged.fee) c.in-Charged.price.0
+          seat_too seat placed (c.transfer-in-Charged.ensures.each place)));
+      room = omega (arith, c.requires.tied.room, c.transfer-in-Charged.ensures.capacity, c.pop-in-Charged.ensures.capacity);
+      sum = omega (arith, b.tied.sum, sum_by_push fund front e);
+      fees = omega (arith, b.tied.fees, sum_by_push fee_in front e);
     }
 
 pub returns-in-Refused-clause-tied : goal.returns-in-Refused-clause-tied
@@ -303,4 +343,5 @@ returns-in-Refused-clause-tied c =
           (kept_pop front e c.args.self.now.balances.items c.args.self.now.balances.items b.behind.legal b.behind.next b.tied.balances refl (λ a place placed. refl));
       room = omega (arith, c.requires.tied.room, c.pop-in-Refused.ensures.capacity);
       sum = omega (arith, b.tied.sum, sum_by_push fund front e);
+      fees = omega (arith, b.tied.fees, sum_by_push fee_in front e);
     }
