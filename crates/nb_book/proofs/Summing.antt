@@ -29,11 +29,11 @@ where_so : (b : Bool) (x y : ℕ) → b ≡ true → cond b x y ≡ x
 where_so b x y passes = rw passes refl
 
 -- into an account that is not the house's comes what is brought to its party
-credit_brought : (a : AcctId) (e : Entry) → (a.0 == 0) ≡ false → credit a e ≡ brought a e
+pub credit_brought : (a : AcctId) (e : Entry) → (a.0 == 0) ≡ false → credit a e ≡ brought a e
 credit_brought a e party = unless (a.0 == 0) (fee_in e) (brought a e) party
 
 -- and from it goes what is taken from its party
-debit_taken : (a : AcctId) (e : Entry) → (a.0 == 0) ≡ false → debit a e ≡ taken a e
+pub debit_taken : (a : AcctId) (e : Entry) → (a.0 == 0) ≡ false → debit a e ≡ taken a e
 debit_taken a e party = unless (a.0 == 0) 0 (taken a e) party
 
 -- an amount for one account, which was opened, is for no other that was not

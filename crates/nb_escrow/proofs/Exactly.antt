@@ -10,7 +10,7 @@ use Rattle.nb_units.specs.declared.ids.AcctId.{AcctId}
 use Rattle.nb_units.specs.declared.ids.PartyId.{PartyId}
 use Rattle.nb_seal.specs.Hmac.{hmac_of}
 use Rattle.nb_book.specs.declared.entry.Entry.{Entry}
-use Rattle.nb_book.specs.declared.entry.Entry.TheVariants.{Enrol, Fund, Paid, Refused}
+use Rattle.nb_book.specs.declared.entry.Entry.TheVariants.{Enrol, Fund, Paid, Charged, Refused}
 use Rattle.nb_book.specs.declared.entry.TheConstants.{CONSUMER, MERCHANT}
 use Rattle.nb_book.specs.declared.funded.Funded.{Funded}
 use Rattle.nb_book.specs.declared.kept.Kept.{Kept}
@@ -44,10 +44,11 @@ use Rattle.nb_escrow.specs.Checks.{signed_part, unless, well_formed, enrolled_as
 use Rattle.nb_escrow.specs.Claims.{IsTrueRefusal}
 use Rattle.nb_escrow.specs.Enrolments.{enrol_entry, party_place, numbers_free, again_or_enrol, enrol_steps}
 use Rattle.nb_escrow.specs.Fundings.{fund_entry, funded_place, reference_new, account_held, total_within, again_or_fund, fund_steps}
+use Rattle.nb_escrow.specs.Head.{charge}
 use Rattle.nb_escrow.specs.Held.{place_in, done}
 use Rattle.nb_escrow.specs.Laws.{IsAuthentic, IsEnrolment, IsFund, IsPayment, IsRefusedOrder, AreReceipts, IsStatusReply, PaidExactlyWhere, PayableIsTold, SettledExactlyWhere, RefusedForTrueReason, ToldExactlyWhere, EnrolledExactlyWhere, FundedExactlyWhere, AnsweredExactlyWhere, RefusalsAreTrue}
 use Rattle.nb_escrow.specs.Orders.{endorsement_in, hidden_in, same_merchant, same_digest, settled, result, again_or_settle, order_steps}
-use Rattle.nb_escrow.specs.Payable.{IsAuthenticOrder, MaySettle, IsPayable, payment_of, TellsPayment, IsTrueReason, refusal_of, TellsReason, digest_held}
+use Rattle.nb_escrow.specs.Payable.{IsAuthenticOrder, MaySettle, IsPayable, payment_with, payment_of, TellsPayment, IsTrueReason, refusal_of, TellsReason, digest_held}
 use Rattle.nb_escrow.specs.Payments.{payment_steps, outcome_of}
 use Rattle.nb_body.specs.Reading.{enrolment_of, funding_of, endorsed_of}
 use Rattle.nb_escrow.specs.Settlements.{settlement_at, settlement_in, entry_with, settlement_entry, receipt_in_role, may_see}
@@ -84,7 +85,7 @@ same_told a b is = cc
 module _ (H : List Entry) (head : Head) (cap kind : ℕ) (body : List ℕ) (moment : ℕ) where
   -- an order is settled now
   abbrev Settles : Decision → Entry → Type 0
-  Settles d e = (p : Presented) × MaySettle H cap body p × (d ≡ result head p (settled H p moment) (Some (settlement_entry (settled H p moment)))) × (settlement_entry (settled H p moment) ≡ e)
+  Settles d e = (p : Presented) × MaySettle H cap body p × (d ≡ result head p (settled H head p moment) (Some (settlement_entry (settled H head p moment)))) × (settlement_entry (settled H head p moment) ≡ e)
 
   abbrev Enrols : Entry → Type 0
   Enrols e = (asked : Enrolment) × (enrolment_of body ≡ Ok asked) × (asked.tag ≡ hmac_of head.operator (codes "enro" ++ signed_part body))
@@ -135,14 +136,19 @@ module _ (H : List Entry) (head : Head) (cap kind : ℕ) (body : List ℕ) (mome
   -- ---- how an order is settled
 
   abbrev SettledAs : Presented → Entry → Type 0
-  SettledAs p e = (Pays H p moment × (e ≡ payment_of p moment)) ⊎ ((why : RefusalReason) × IsTrueReason H p moment why × (payment_steps H p moment ≡ Err why) × (e ≡ refusal_of p moment why))
+  SettledAs p e = (Pays H p moment × (e ≡ payment_of head p moment)) ⊎ ((why : RefusalReason) × IsTrueReason H p moment why × (payment_steps H p moment ≡ Err why) × (e ≡ refusal_of p moment why))
 
-  settled_as : (p : Presented) → SettledAs p (settlement_entry (settled H p moment))
+  -- the entry of a payment is the payment, whatever the house keeps
+  paid_entry : (p : Presented) (fee : Option ℕ) → entry_with (settled H head p moment) (outcome.Paid p.consumer.acct p.merchant.acct p.endorsement.key fee) ≡ payment_with fee p moment
+  paid_entry p None = refl
+  paid_entry p (Some fee) = refl
+
+  settled_as : (p : Presented) → SettledAs p (settlement_entry (settled H head p moment))
   settled_as p = part (payment_steps H p moment) refl (payment_comes H p moment)
     where
-      part : (t : Result (Unit {0}) RefusalReason) → payment_steps H p moment ≡ t → PaymentComes H p moment t → SettledAs p (settlement_entry (settled H p moment))
-      part (Ok u) is pays = inl (pays, ap (λ (t : Result (Unit {0}) RefusalReason). entry_with (settled H p moment) (outcome_of p t)) is)
-      part (Err why) is true_so = inr (why, true_so, is, ap (λ (t : Result (Unit {0}) RefusalReason). entry_with (settled H p moment) (outcome_of p t)) is)
+      part : (t : Result (Unit {0}) RefusalReason) → payment_steps H p moment ≡ t → PaymentComes H p moment t → SettledAs p (settlement_entry (settled H head p moment))
+      part (Ok u) is pays = inl (pays, ap (λ (t : Result (Unit {0}) RefusalReason). entry_with (settled H head p moment) (outcome_of head p t)) is ∙ paid_entry p (charge head p.order.price))
+      part (Err why) is true_so = inr (why, true_so, is, ap (λ (t : Result (Unit {0}) RefusalReason). entry_with (settled H head p moment) (outcome_of head p t)) is)
 
   pays_so : (p : Presented) → Pays H p moment → payment_steps H p moment ≡ Ok tt
   unfolding payment_steps
@@ -190,7 +196,7 @@ module _ (H : List Entry) (head : Head) (cap kind : ℕ) (body : List ℕ) (mome
   no_settlement epoid none = rw (none_is (order_in H epoid) none) refl
 
   settles_now : kind ≡ ORDER_REQUEST → (p : Presented) → MaySettle H cap body p
-      → verdict H head cap kind body moment ≡ result head p (settled H p moment) (Some (settlement_entry (settled H p moment)))
+      → verdict H head cap kind body moment ≡ result head p (settled H head p moment) (Some (settlement_entry (settled H head p moment)))
   settles_now kind_is p is =
       ap told (of_order kind_is ∙ presented p is.authentic ∙ ap (again_or_settle H head cap p moment) (no_settlement p.order.epoid is.new)
       ∙ step (room_left H cap) _ tt (room_for H cap is.room))
@@ -198,27 +204,31 @@ module _ (H : List Entry) (head : Head) (cap kind : ℕ) (body : List ℕ) (mome
   -- ---- the laws on orders
 
   abbrev IsPaidSo : Entry → Type 0
-  IsPaidSo e = (kind ≡ ORDER_REQUEST) × ((p : Presented) × IsPayable H cap body moment p × (e ≡ payment_of p moment))
+  IsPaidSo e = (kind ≡ ORDER_REQUEST) × ((p : Presented) × IsPayable H cap body moment p × (e ≡ payment_of head p moment))
 
   paid_so : (e : Entry) (d : Decision) → IsPayment e → RecordedFor d e → IsPaidSo e
   paid_so e d pays (inl (is, (p, settles, d_is, same))) = part (settled_as p)
     where
-      part : SettledAs p (settlement_entry (settled H p moment)) → IsPaidSo e
+      part : SettledAs p (settlement_entry (settled H head p moment)) → IsPaidSo e
       part (inl (it, paid)) =
           (is, (p, record { settles = settles; pays = it.pays; knows = it.knows; credited = it.credited; priced = it.priced; in_time = it.in_time; covered = it.covered }, sym same ∙ paid))
       part (inr (why, true_so, is, refused)) = absurd (subst IsPayment (sym same ∙ refused) pays)
   paid_so e d pays (inr (inl (is, (asked, spelled, right, same, legal, room)))) = absurd (subst IsPayment same pays)
   paid_so e d pays (inr (inr (is, (asked, spelled, right, same, legal, room)))) = absurd (subst IsPayment same pays)
 
-  payable_pays : (p : Presented) → IsPayable H cap body moment p → settlement_entry (settled H p moment) ≡ payment_of p moment
+  payable_pays : (p : Presented) → IsPayable H cap body moment p → settlement_entry (settled H head p moment) ≡ payment_of head p moment
   payable_pays p is =
       let all : Pays H p moment = record { pays = is.pays; knows = is.knows; credited = is.credited; priced = is.priced; in_time = is.in_time; covered = is.covered } in
-      ap (λ (t : Result (Unit {0}) RefusalReason). entry_with (settled H p moment) (outcome_of p t)) (pays_so p all)
+      ap (λ (t : Result (Unit {0}) RefusalReason). entry_with (settled H head p moment) (outcome_of head p t)) (pays_so p all) ∙ paid_entry p (charge head p.order.price)
+
+  is_payment : (p : Presented) (fee : Option ℕ) → IsPayment (payment_with fee p moment)
+  is_payment p None = tt
+  is_payment p (Some fee) = tt
 
   is_paid : (e : Entry) → IsPaidSo e → ((verdict H head cap kind body moment).entry ≡ Some e) × IsPayment e
   is_paid e (is, (p, payable, same)) =
-      let paid : settlement_entry (settled H p moment) ≡ e = payable_pays p payable ∙ sym same in
-      (ap (λ (d : Decision). d.entry) (settles_now is p payable.settles) ∙ ap (λ (x : Entry). let o : Option Entry = Some x in o) paid, subst IsPayment (sym same) tt)
+      let paid : settlement_entry (settled H head p moment) ≡ e = payable_pays p payable ∙ sym same in
+      (ap (λ (d : Decision). d.entry) (settles_now is p payable.settles) ∙ ap (λ (x : Entry). let o : Option Entry = Some x in o) paid, subst IsPayment (sym same) (is_payment p (charge head p.order.price)))
 
   settles_so : (e : Entry) (d : Decision) → IsPayment e ⊎ IsRefusedOrder e → RecordedFor d e → (kind ≡ ORDER_REQUEST) × ((p : Presented) × MaySettle H cap body p)
   settles_so e d either (inl (is, (p, settles, d_is, same))) = (is, (p, settles))
@@ -227,30 +237,30 @@ module _ (H : List Entry) (head : Head) (cap kind : ℕ) (body : List ℕ) (mome
   settles_so e d (inl pays) (inr (inr (is, (asked, spelled, right, same, legal, room)))) = absurd (subst IsPayment same pays)
   settles_so e d (inr refuses) (inr (inr (is, (asked, spelled, right, same, legal, room)))) = absurd (subst IsRefusedOrder same refuses)
 
-  is_settled : (p : Presented) → SettledAs p (settlement_entry (settled H p moment)) → IsPayment (settlement_entry (settled H p moment)) ⊎ IsRefusedOrder (settlement_entry (settled H p moment))
-  is_settled p (inl (it, paid)) = inl (subst IsPayment (sym paid) tt)
+  is_settled : (p : Presented) → SettledAs p (settlement_entry (settled H head p moment)) → IsPayment (settlement_entry (settled H head p moment)) ⊎ IsRefusedOrder (settlement_entry (settled H head p moment))
+  is_settled p (inl (it, paid)) = inl (subst IsPayment (sym paid) (is_payment p (charge head p.order.price)))
   is_settled p (inr (why, true_so, is, refused)) = inr (subst IsRefusedOrder (sym refused) tt)
 
 pub paid_exactly_where : PaidExactlyWhere
 paid_exactly_where H head cap kind body moment e =
     (λ both. let r = recorded H head cap kind body moment e both.0 in paid_so H head cap kind body moment e r.0 both.1 r.2, is_paid H head cap kind body moment e)
 
-tells_payment : (p : Presented) (s : Settlement) (cacct macct : AcctId) → s.outcome ≡ outcome.Paid cacct macct p.endorsement.key
+tells_payment : (p : Presented) (s : Settlement) (cacct macct : AcctId) (fee : Option ℕ) → s.outcome ≡ outcome.Paid cacct macct p.endorsement.key fee
     → TellsPayment p (Receipts (receipt_in_role MERCHANT s) (receipt_in_role CONSUMER s))
 unfolding receipt_in_role
-tells_payment p s cacct macct is = rw is (refl, refl, refl, refl)
+tells_payment p s cacct macct fee is = rw is (refl, refl, refl, refl)
 
 pub payable_is_told : PayableIsTold
 payable_is_told H head cap body moment p is =
     let all : Pays H p moment = record { pays = is.pays; knows = is.knows; credited = is.credited; priced = is.priced; in_time = is.in_time; covered = is.covered } in
-    let paid = ap (outcome_of p) (pays_so H head cap ORDER_REQUEST body moment p all) in
+    let paid = ap (outcome_of head p) (pays_so H head cap ORDER_REQUEST body moment p all) in
     subst (TellsPayment p) (sym (ap (λ (d : Decision). d.reply) (settles_now H head cap ORDER_REQUEST body moment refl p is.settles)))
-    (tells_payment p (settled H p moment) p.consumer.acct p.merchant.acct paid)
+    (tells_payment p (settled H head p moment) p.consumer.acct p.merchant.acct (charge head p.order.price) paid)
 
 pub settled_exactly_where : SettledExactlyWhere
 settled_exactly_where H head cap kind body moment = (
   λ all. let r = recorded H head cap kind body moment all.0 all.1 in settles_so H head cap kind body moment all.0 r.0 all.2 r.2,
-  λ is. (settlement_entry (settled H is.1.0 moment), ap (λ (d : Decision). d.entry) (settles_now H head cap kind body moment is.0 is.1.0 is.1.1), is_settled H head cap kind body moment is.1.0 (settled_as H head cap kind body moment is.1.0)),
+  λ is. (settlement_entry (settled H head is.1.0 moment), ap (λ (d : Decision). d.entry) (settles_now H head cap kind body moment is.0 is.1.0 is.1.1), is_settled H head cap kind body moment is.1.0 (settled_as H head cap kind body moment is.1.0)),
 )
 
 pub refusals_are_true : RefusalsAreTrue
@@ -304,17 +314,21 @@ tells_reason s why is = rw is (
 pub refused_for_true_reason : RefusedForTrueReason
 refused_for_true_reason H head cap kind body moment e is refused = part (recorded H head cap kind body moment e is)
   where
-    of_order_so : (p : Presented) → MaySettle H cap body p → verdict H head cap kind body moment ≡ result head p (settled H p moment) (Some (settlement_entry (settled H p moment))) → settlement_entry (settled H p moment) ≡ e
-        → SettledAs H head cap kind body moment p (settlement_entry (settled H p moment))
+    not_refused : (p : Presented) (fee : Option ℕ) → IsRefusedOrder (payment_with fee p moment) → ⊥
+    not_refused p None is = is
+    not_refused p (Some fee) is = is
+
+    of_order_so : (p : Presented) → MaySettle H cap body p → verdict H head cap kind body moment ≡ result head p (settled H head p moment) (Some (settlement_entry (settled H head p moment))) → settlement_entry (settled H head p moment) ≡ e
+        → SettledAs H head cap kind body moment p (settlement_entry (settled H head p moment))
         → (p : Presented) × (why : RefusalReason) × MaySettle H cap body p × IsTrueReason H p moment why × (e ≡ refusal_of p moment why) × TellsReason why (verdict H head cap kind body moment).reply
-    of_order_so p settles v_is same (inl (pays, paid)) = absurd (subst IsRefusedOrder (sym same ∙ paid) refused)
+    of_order_so p settles v_is same (inl (pays, paid)) = absurd (not_refused p (charge head p.order.price) (subst IsRefusedOrder (sym same ∙ paid) refused))
     of_order_so p settles v_is same (inr (why, true_so, steps_is, entry_so)) = (
       p,
       why,
       settles,
       true_so,
       sym same ∙ entry_so,
-      subst (TellsReason why) (sym (ap (λ (d : Decision). d.reply) v_is)) (tells_reason (settled H p moment) why (ap (outcome_of p) steps_is)),
+      subst (TellsReason why) (sym (ap (λ (d : Decision). d.reply) v_is)) (tells_reason (settled H head p moment) why (ap (outcome_of head p) steps_is)),
     )
 
     part : (r : (d : Decision) × (verdict H head cap kind body moment ≡ d) × RecordedFor H head cap kind body moment d e)
@@ -329,6 +343,7 @@ settlement_at_some : (at : ℕ) (e : Entry) (digest : List ℕ) → digest_held 
 settlement_at_some at (Enrol id role acct nonce key) digest is = absurd (none-some digest is)
 settlement_at_some at (Fund acct amount reference) digest is = absurd (none-some digest is)
 settlement_at_some at (Paid held epoid consumer merchant product price cacct macct moment key) digest is = (_, refl, same_Some held digest is)
+settlement_at_some at (Charged held epoid consumer merchant product price fee cacct macct moment key) digest is = (_, refl, same_Some held digest is)
 settlement_at_some at (Refused held epoid consumer merchant product price code a b moment) digest is = (_, refl, same_Some held digest is)
 
 settlement_kept : (H : List Entry) (p : Epoid) (kept : Kept) (digest : List ℕ) → order_in H p ≡ Some kept → digest_held kept.entry ≡ Some digest
@@ -422,8 +437,8 @@ module _ (H : List Entry) (legal : Legal H) (head : Head) (cap kind : ℕ) (body
       neither_so (Enrol id role acct nonce key) (inr no_pay) is = absurd no_pay
       neither_so x any is = absurd is
 
-      neither : IsPayment (settlement_entry (settled H p moment)) ⊎ IsRefusedOrder (settlement_entry (settled H p moment)) → IsEnrolment (settlement_entry (settled H p moment)) → ⊥
-      neither = neither_so (settlement_entry (settled H p moment))
+      neither : IsPayment (settlement_entry (settled H head p moment)) ⊎ IsRefusedOrder (settlement_entry (settled H head p moment)) → IsEnrolment (settlement_entry (settled H head p moment)) → ⊥
+      neither = neither_so (settlement_entry (settled H head p moment))
   enrolled_so e d enrols (inr (inl both)) = both
   enrolled_so e d enrols (inr (inr (is, (asked, spelled, right, same, next, room)))) = absurd (subst IsEnrolment same enrols)
 
@@ -453,8 +468,8 @@ module _ (H : List Entry) (legal : Legal H) (head : Head) (cap kind : ℕ) (body
       neither_so (Fund acct amount reference) (inr no_pay) is = absurd no_pay
       neither_so x any is = absurd is
 
-      neither : IsPayment (settlement_entry (settled H p moment)) ⊎ IsRefusedOrder (settlement_entry (settled H p moment)) → IsFund (settlement_entry (settled H p moment)) → ⊥
-      neither = neither_so (settlement_entry (settled H p moment))
+      neither : IsPayment (settlement_entry (settled H head p moment)) ⊎ IsRefusedOrder (settlement_entry (settled H head p moment)) → IsFund (settlement_entry (settled H head p moment)) → ⊥
+      neither = neither_so (settlement_entry (settled H head p moment))
   funded_so e d funds (inr (inl (is, (asked, spelled, right, same, next, room)))) = absurd (subst IsFund same funds)
   funded_so e d funds (inr (inr both)) = both
 

@@ -4,7 +4,7 @@ use Rattle.std.proofs.lemmas.List.Sums.{sum_by-cons, sum_by_push}
 use Rattle.std.proofs.lemmas.Option.{same_Some}
 use Rattle.std.specs.Prelude.{◌==◌}
 use Rattle.std.specs.List.{count_by}
-use Rattle.std.specs.Option.{option_or, option_map, option_and_then, IsNone}
+use Rattle.std.specs.Option.{option_or, option_map, option_and_then, IsSome, IsNone}
 use Rattle.std.proofs.Math.Bool.{and-false, and-true}
 use Rattle.nb_units.specs.declared.ids.AcctId.{AcctId}
 use Rattle.nb_units.specs.declared.ids.PartyId.{PartyId}
@@ -14,11 +14,11 @@ use Rattle.nb_book.specs.declared.party.Party.{Party}
 use Rattle.nb_book.specs.declared.funded.Funded.{Funded}
 use Rattle.nb_book.specs.declared.account.Account.{Account}
 use Rattle.nb_book.specs.Money.{credit, debit, balance, account_in}
-use Rattle.nb_book.specs.Searches.{first_from, party_at, party_in, holder_in, funded_at, funded_in}
+use Rattle.nb_book.specs.Searches.{first_from, party_at, party_in, holder_at, holder_in, funded_at, funded_in}
 use Rattle.nb_book.specs.Legal.{Legal}
-use Rattle.nb_book.specs.Laws.{enrols, cites}
-use Rattle.nb_book.proofs.Summing.{none_overdrawn}
-use Rattle.nb_book.proofs.Counting.{enrolled_once, funded_once}
+use Rattle.nb_book.specs.Laws.{enrols, opens, cites}
+use Rattle.nb_book.proofs.Summing.{none_overdrawn, credit_brought, debit_taken}
+use Rattle.nb_book.proofs.Counting.{enrolled_once, funded_once, opened_party, count_by-some, tests_holder}
 use Rattle.nb_body.specs.declared.enrolment.Enrolment.{Enrolment}
 use Rattle.nb_body.specs.declared.funding.Funding.{Funding}
 use Rattle.nb_escrow.specs.Held.{same_entry, place_at, place_in}
@@ -118,8 +118,15 @@ fund_place H legal asked = found_by_key (fund_entry asked) (cites asked.referenc
 same_number : {A : Type 0} (n : ℕ) (x y : A) → cond (eqb n n) x y ≡ x
 same_number n x y = rw (eq-eqb n n refl) refl
 
--- a fund adds its amount to its account
-pub fund_adds : (H : List Entry) → Legal H → (asked : Funding) → balance (H ++ fund_entry asked ∷ []) asked.acct ≡ balance H asked.acct + asked.amount
-fund_adds H legal asked =
+-- a fund adds its amount to its account, which a party holds
+pub fund_adds : (H : List Entry) → Legal H → (asked : Funding) → IsSome (holder_in H asked.acct) → balance (H ++ fund_entry asked ∷ []) asked.acct ≡ balance H asked.acct + asked.amount
+fund_adds H legal asked held =
+    let party : (asked.acct.0 == 0) ≡ false = opened_party H legal asked.acct (count_by-some (opens asked.acct) (holder_at asked.acct) (tests_holder asked.acct) H held) in
     rw (sum_by_push (credit asked.acct) H (fund_entry asked), sum_by_push (debit asked.acct) H (fund_entry asked))
-    (omega (arith, none_overdrawn H legal asked.acct, same_number asked.acct.0 asked.amount 0))
+    (omega (
+      arith,
+      none_overdrawn H legal asked.acct,
+      same_number asked.acct.0 asked.amount 0,
+      credit_brought asked.acct (fund_entry asked) party,
+      debit_taken asked.acct (fund_entry asked) party,
+    ))

@@ -11,7 +11,7 @@ use Rattle.nb_units.specs.declared.ids.AcctId.{AcctId}
 use Rattle.nb_units.specs.declared.ids.PartyId.{PartyId}
 use Rattle.nb_seal.specs.Hmac.{hmac_of}
 use Rattle.nb_book.specs.declared.entry.Entry.{Entry}
-use Rattle.nb_book.specs.declared.entry.Entry.TheVariants.{Enrol, Fund, Paid, Refused}
+use Rattle.nb_book.specs.declared.entry.Entry.TheVariants.{Enrol, Fund, Paid, Charged, Refused}
 use Rattle.nb_book.specs.declared.entry.TheConstants.{CONSUMER, MERCHANT}
 use Rattle.nb_book.specs.declared.funded.Funded.{Funded}
 use Rattle.nb_book.specs.declared.kept.Kept.{Kept}
@@ -113,7 +113,7 @@ payment_comes H p moment =
 abbrev pub SettledSo : List Entry → Head → ℕ → ℕ → Presented → Decision → Type 0
 SettledSo H head cap moment p d =
     ((kept : Settlement) × (settlement_in H p.order.epoid ≡ Some kept) × (kept.digest ≡ p.digest) × (d ≡ result head p kept None))
-    ⊎ (IsNone (order_in H p.order.epoid) × (length H < cap) × (d ≡ result head p (settled H p moment) (Some (settlement_entry (settled H p moment)))))
+    ⊎ (IsNone (order_in H p.order.epoid) × (length H < cap) × (d ≡ result head p (settled H head p moment) (Some (settlement_entry (settled H head p moment)))))
 
 abbrev pub OrderComes : List Entry → Head → ℕ → List ℕ → ℕ → Answer → Type 0
 OrderComes H head cap body moment (Ok d) = (p : Presented) × IsAuthenticOrder H body p × SettledSo H head cap moment p d
@@ -123,6 +123,7 @@ pub digest_at : (at : ℕ) (e : Entry) (s : Settlement) → settlement_at at e �
 digest_at at (Enrol id role acct nonce key) s is = absurd (none-some s is)
 digest_at at (Fund acct amount reference) s is = absurd (none-some s is)
 digest_at at (Paid digest epoid consumer merchant product price cacct macct moment key) s is = ap (λ (x : Settlement). let o : Option (List ℕ) = Some x.digest in o) (same_Some _ s is)
+digest_at at (Charged digest epoid consumer merchant product price fee cacct macct moment key) s is = ap (λ (x : Settlement). let o : Option (List ℕ) = Some x.digest in o) (same_Some _ s is)
 digest_at at (Refused digest epoid consumer merchant product price code a b moment) s is = ap (λ (x : Settlement). let o : Option (List ℕ) = Some x.digest in o) (same_Some _ s is)
 
 pub kept_for : (H : List Entry) (p : Epoid) (s : Settlement) → settlement_in H p ≡ Some s → (kept : Kept) × (order_in H p ≡ Some kept) × (digest_held kept.entry ≡ Some s.digest)

@@ -13,7 +13,7 @@ use Rattle.nb_units.specs.declared.ids.PartyId.{PartyId}
 use Rattle.nb_units.specs.declared.ids.Price.{Price}
 use Rattle.nb_units.specs.declared.epoid.Epoid.{Epoid}
 use Rattle.nb_book.specs.declared.entry.Entry.{Entry}
-use Rattle.nb_book.specs.declared.entry.Entry.TheVariants.{Enrol, Fund, Paid, Refused}
+use Rattle.nb_book.specs.declared.entry.Entry.TheVariants.{Enrol, Fund, Paid, Charged, Refused}
 use Rattle.nb_book.specs.declared.entry.TheConstants.{CONSUMER, MERCHANT}
 use Rattle.nb_book.specs.declared.kept.Kept.{Kept}
 use Rattle.nb_book.specs.Legal.{Legal}
@@ -51,9 +51,9 @@ apart : false ≡ true → ⊥
 apart e = cc
 
 -- how a payment and a refusal settled their orders
-abbrev paid_at : ℕ → List ℕ → Epoid → PartyId → PartyId → ℕ → Price → AcctId → AcctId → ℕ → List ℕ → Settlement
-paid_at at digest epoid consumer merchant product price cacct macct moment key =
-    settlement at digest epoid consumer merchant product price moment (outcome.Paid cacct macct key)
+abbrev paid_at : ℕ → List ℕ → Epoid → PartyId → PartyId → ℕ → Price → AcctId → AcctId → ℕ → List ℕ → Option ℕ → Settlement
+paid_at at digest epoid consumer merchant product price cacct macct moment key fee =
+    settlement at digest epoid consumer merchant product price moment (outcome.Paid cacct macct key fee)
 
 abbrev refused_at : ℕ → List ℕ → Epoid → PartyId → PartyId → ℕ → Price → ℕ → ℕ → ℕ → ℕ → Settlement
 refused_at at digest epoid consumer merchant product price code a b moment =
@@ -73,6 +73,7 @@ module _ (p : Epoid) (id : PartyId) (key : List ℕ) where
   pays-settles (Enrol who role acct nonce k) is = absurd is
   pays-settles (Fund acct amount reference) is = absurd is
   pays-settles (Paid digest epoid consumer merchant product price cacct macct moment k) is = rw is.0 (same_identifier p)
+  pays-settles (Charged digest epoid consumer merchant product price fee cacct macct moment k) is = rw is.0 (same_identifier p)
   pays-settles (Refused digest epoid consumer merchant product price code a b moment) is = absurd is
 
   counted : (es : List Entry) → Any Pays es → 1 ≤ count_by (settles p) es
@@ -121,37 +122,57 @@ module _ (p : Epoid) (id : PartyId) (key : List ℕ) where
   Gives (Some receipt) = receipt.key ≡ Some key
   Gives None = ⊥
 
+  -- an order of this identifier was paid with this key, and names who asks
+  abbrev Named : Epoid → List ℕ → PartyId → PartyId → Type 0
+  Named epoid k consumer merchant = (epoid ≡ p) × (k ≡ key) × ((consumer ≡ id) ⊎ (merchant ≡ id))
+
   -- the receipt of a payment has its key
-  gives_paid : (at : ℕ) (e : Entry) → Pays e → Gives (receipt_of_party id (settlement_at at e))
+  receipt_gives : (at : ℕ) (digest : List ℕ) (epoid : Epoid) (consumer merchant : PartyId) (product : ℕ) (price : Price) (cacct macct : AcctId) (moment : ℕ) (k : List ℕ) (fee : Option ℕ)
+      → Named epoid k consumer merchant → Gives (receipt_of_party id (Some (paid_at at digest epoid consumer merchant product price cacct macct moment k fee)))
   unfolding receipt_in_role
-  gives_paid at (Enrol who role acct nonce k) pays = absurd pays
-  gives_paid at (Fund acct amount reference) pays = absurd pays
-  gives_paid at (Paid digest epoid consumer merchant product price cacct macct moment k) pays = part (consumer.0 == id.0) (merchant.0 == id.0) refl refl pays.2
+  receipt_gives at digest epoid consumer merchant product price cacct macct moment k fee pays = part (consumer.0 == id.0) (merchant.0 == id.0) refl refl pays.2
     where
       has_key : (let o : Option (List ℕ) = Some k in o) ≡ Some key
       has_key = ap (λ (x : List ℕ). let o : Option (List ℕ) = Some x in o) pays.1
 
       part : (b c : Bool) → (consumer.0 == id.0) ≡ b → (merchant.0 == id.0) ≡ c → (consumer ≡ id) ⊎ (merchant ≡ id)
-          → Gives (cond b (Some (receipt_in_role CONSUMER (paid_at at digest epoid consumer merchant product price cacct macct moment k))) (cond c (Some (receipt_in_role MERCHANT (paid_at at digest epoid consumer merchant product price cacct macct moment k))) None))
+          → Gives (cond b (Some (receipt_in_role CONSUMER (paid_at at digest epoid consumer merchant product price cacct macct moment k fee))) (cond c (Some (receipt_in_role MERCHANT (paid_at at digest epoid consumer merchant product price cacct macct moment k fee))) None))
       part true c buys sells named = has_key
       part false true buys sells named = has_key
       part false false buys sells (inl same) = absurd (apart (sym buys ∙ eq-eqb consumer.0 id.0 (ap (λ (x : PartyId). x.0) same)))
       part false false buys sells (inr same) = absurd (apart (sym sells ∙ eq-eqb merchant.0 id.0 (ap (λ (x : PartyId). x.0) same)))
+
+  gives_paid : (at : ℕ) (e : Entry) → Pays e → Gives (receipt_of_party id (settlement_at at e))
+  gives_paid at (Enrol who role acct nonce k) pays = absurd pays
+  gives_paid at (Fund acct amount reference) pays = absurd pays
+  gives_paid at (Paid digest epoid consumer merchant product price cacct macct moment k) pays =
+      receipt_gives at digest epoid consumer merchant product price cacct macct moment k None pays
+  gives_paid at (Charged digest epoid consumer merchant product price fee cacct macct moment k) pays =
+      receipt_gives at digest epoid consumer merchant product price cacct macct moment k (Some fee) pays
   gives_paid at (Refused digest epoid consumer merchant product price code a b moment) pays = absurd pays
+
+  -- and one that has this key names who asks
+  receipt_given : (at : ℕ) (digest : List ℕ) (epoid : Epoid) (consumer merchant : PartyId) (product : ℕ) (price : Price) (cacct macct : AcctId) (moment : ℕ) (k : List ℕ) (fee : Option ℕ)
+      → same_epoid epoid p ≡ true → Gives (receipt_of_party id (Some (paid_at at digest epoid consumer merchant product price cacct macct moment k fee))) → Named epoid k consumer merchant
+  unfolding receipt_in_role
+  receipt_given at digest epoid consumer merchant product price cacct macct moment k fee settled gives = part (consumer.0 == id.0) (merchant.0 == id.0) refl refl gives
+    where
+      part : (b c : Bool) → (consumer.0 == id.0) ≡ b → (merchant.0 == id.0) ≡ c
+          → Gives (cond b (Some (receipt_in_role CONSUMER (paid_at at digest epoid consumer merchant product price cacct macct moment k fee))) (cond c (Some (receipt_in_role MERCHANT (paid_at at digest epoid consumer merchant product price cacct macct moment k fee))) None))
+          → Named epoid k consumer merchant
+      part true c buys sells gives = (same_epoid-true epoid p settled, same_Some k key gives, inl (ap (λ (n : ℕ). let x : PartyId = record { 0 = n } in x) (eqb-true consumer.0 id.0 buys)))
+      part false true buys sells gives = (same_epoid-true epoid p settled, same_Some k key gives, inr (ap (λ (n : ℕ). let x : PartyId = record { 0 = n } in x) (eqb-true merchant.0 id.0 sells)))
+      part false false buys sells gives = absurd gives
 
   -- a receipt with a key is that of a payment
   paid_gives : (at : ℕ) (e : Entry) → settles p e ≡ true → Gives (receipt_of_party id (settlement_at at e)) → Pays e
   unfolding receipt_in_role
   paid_gives at (Enrol who role acct nonce k) settled gives = absurd gives
   paid_gives at (Fund acct amount reference) settled gives = absurd gives
-  paid_gives at (Paid digest epoid consumer merchant product price cacct macct moment k) settled gives = part (consumer.0 == id.0) (merchant.0 == id.0) refl refl gives
-    where
-      part : (b c : Bool) → (consumer.0 == id.0) ≡ b → (merchant.0 == id.0) ≡ c
-          → Gives (cond b (Some (receipt_in_role CONSUMER (paid_at at digest epoid consumer merchant product price cacct macct moment k))) (cond c (Some (receipt_in_role MERCHANT (paid_at at digest epoid consumer merchant product price cacct macct moment k))) None))
-          → (epoid ≡ p) × (k ≡ key) × ((consumer ≡ id) ⊎ (merchant ≡ id))
-      part true c buys sells gives = (same_epoid-true epoid p settled, same_Some k key gives, inl (ap (λ (n : ℕ). let x : PartyId = record { 0 = n } in x) (eqb-true consumer.0 id.0 buys)))
-      part false true buys sells gives = (same_epoid-true epoid p settled, same_Some k key gives, inr (ap (λ (n : ℕ). let x : PartyId = record { 0 = n } in x) (eqb-true merchant.0 id.0 sells)))
-      part false false buys sells gives = absurd gives
+  paid_gives at (Paid digest epoid consumer merchant product price cacct macct moment k) settled gives =
+      receipt_given at digest epoid consumer merchant product price cacct macct moment k None settled gives
+  paid_gives at (Charged digest epoid consumer merchant product price fee cacct macct moment k) settled gives =
+      receipt_given at digest epoid consumer merchant product price cacct macct moment k (Some fee) settled gives
   paid_gives at (Refused digest epoid consumer merchant product price code a b moment) settled gives = part (consumer.0 == id.0) (merchant.0 == id.0) gives
     where
       part : (c d : Bool) → Gives (cond c (Some (receipt_in_role CONSUMER (refused_at at digest epoid consumer merchant product price code a b moment))) (cond d (Some (receipt_in_role MERCHANT (refused_at at digest epoid consumer merchant product price code a b moment))) None)) → ⊥

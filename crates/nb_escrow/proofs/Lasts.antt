@@ -48,7 +48,7 @@ settlement_stays H more order s is =
 -- ---- what a receipt says
 
 says : (outcome : PaymentOutcome) (role : ℕ) (s : Settlement) → IsPaymentOutcome outcome → CodeSays outcome (receipt_saying s (code_of outcome) (key_of outcome) (shown_in_role role outcome))
-says (Paid cacct macct key) role s fits = (refl, refl)
+says (Paid cacct macct key fee) role s fits = (refl, refl)
 says (Refused reason) role s fits = (refl, (λ same. let paid : reason.code ≡ PAID_CODE = same in omega (arith, fits.0)), refl)
 
 lawful : (o : Option Settlement) (s : Settlement) → o ≡ Some s → IfSome o (λ (x : Settlement). IsPaymentOutcome x.outcome) → IsPaymentOutcome s.outcome

@@ -1,7 +1,7 @@
 -- How an order that is new is settled: its entry is legal next, and its reason is one that a receipt may have.
-use Rattle.std.proofs.Common.{◌≡◌, ◌⊎◌, ℕ, ◌+◌, ◌<◌, ◌≤◌, ◌&&◌, Bool, true, false, nat_le, List, Some, Result, Ok, Err, IsNone, arith, refl, sym, ap, subst, inl, inr}
-use Rattle.std.proofs.lemmas.Bool.{eqb-false, leb-true, leb-false}
-use Rattle.std.specs.Prelude.{◌==◌}
+use Rattle.std.proofs.Common.{◌≡◌, ◌⊎◌, ℕ, ◌+◌, ◌<◌, ◌≤◌, ◌&&◌, Bool, true, false, nat_le, List, Some, None, Result, Ok, Err, IsNone, arith, refl, sym, ap, subst, inl, inr}
+use Rattle.std.proofs.lemmas.Bool.{eqb-true, eqb-false, leb-true, leb-false}
+use Rattle.std.specs.Prelude.{◌==◌, if◌then◌else◌}
 use Rattle.std.specs.Option.{option_map}
 use Rattle.std.proofs.lemmas.Bool.Decides.{leb_tells}
 use Rattle.nb_units.specs.Fields.{◌>>=◌}
@@ -12,14 +12,18 @@ use Rattle.nb_book.specs.declared.entry.Entry.{Entry}
 use Rattle.nb_book.specs.declared.limits.TheConstants.{MAX_PRICE, MAX_AGE, MAX_AHEAD}
 use Rattle.nb_book.specs.declared.party.Party.{Party}
 use Rattle.nb_book.specs.Searches.{party_in, order_in}
-use Rattle.nb_book.specs.Money.{balance}
-use Rattle.nb_book.specs.Legal.{LegalAfter, PriceIsLegal, IsInTime, ReasonIsTrue}
+use Rattle.nb_book.specs.Money.{balance, fee_at}
+use Rattle.nb_book.specs.Legal.{PriceIsLegal, IsInTime, PaidIsLegal, ReasonIsTrue, NextUnder}
+use Rattle.nb_units.specs.declared.limits.TheConstants.{FEE_VERSION}
+use Rattle.nb_escrow.specs.declared.head.Head.{Head}
 use Rattle.nb_escrow.specs.declared.order.Presented.{Presented}
 use Rattle.nb_units.specs.Reasons.{IsReason}
 use Rattle.nb_escrow.specs.declared.settlement.RefusalReason.{RefusalReason}
 use Rattle.nb_escrow.specs.declared.settlement.PaymentOutcome.{PaymentOutcome}
+use Rattle.nb_escrow.specs.declared.settlement.PaymentOutcome.TheVariants.{Paid}
 use Rattle.nb_escrow.specs.declared.settlement.Settlement.{Settlement}
 use Rattle.nb_escrow.specs.Checks.{unless}
+use Rattle.nb_escrow.specs.Head.{IsRuling, charge}
 use Rattle.nb_escrow.specs.Orders.{IsPresented}
 use Rattle.nb_escrow.specs.Payments.{payment_steps, outcome_of}
 use Rattle.nb_escrow.specs.Settlements.{IsPaymentOutcome, settlement_entry}
@@ -82,25 +86,40 @@ module _ (H : List Entry) (p : Presented) (moment : ℕ) where
       last Comes (nat_le p.order.price.0 (balance H p.consumer.acct)) _ (λ fails. inr (inr (inr (inr (inr (inl (refl, (rw is.consumer refl, refl, leb-false _ _ fails)))))))) (λ covered.
       record { priced = in_range p.order.price.0 priced; begun = (leb-true _ _ alive, leb-true _ _ begun); covered = leb-true _ _ covered })))))))
 
-  -- ---- the entry
+-- ---- the entry
 
+module _ (H : List Entry) (head : Head) (p : Presented) (moment : ℕ) where
   -- the settlement, whatever its place and its outcome are
   abbrev shape : ℕ → PaymentOutcome → Settlement
   shape at outcome =
       record { at = at; digest = p.digest; epoid = p.order.epoid; consumer = p.order.consumer; merchant = p.order.merchant; product = p.order.product; price = p.order.price; moment = moment; outcome = outcome }
 
-  legal_with : IsPresented H p → IsNone (order_in H p.order.epoid) → (at : ℕ) (tested : Tested) → Comes tested → LegalAfter H (settlement_entry (shape at (outcome_of p tested)))
-  legal_with is new at (Ok u) comes =
-      ((new, is.named), (rw is.consumer (ap Some is.buys), rw is.merchant (ap Some is.sells)), (rw is.consumer refl, rw is.merchant refl), comes.priced, comes.covered, comes.begun)
-  legal_with is new at (Err why) comes = ((new, is.named), (rw is.consumer (ap Some is.buys), rw is.merchant (ap Some is.sells)), comes)
+  abbrev Next : Entry → Type 0
+  Next e = NextUnder head.version head.rate H e
 
-  pub settled_legal : IsPresented H p → IsNone (order_in H p.order.epoid) → (at : ℕ) (outcome : PaymentOutcome) → outcome ≡ outcome_of p (payment_steps H p moment)
-      → LegalAfter H (settlement_entry (shape at outcome))
-  settled_legal is new at outcome same = subst (λ (o : PaymentOutcome). LegalAfter H (settlement_entry (shape at o))) (sym same) (legal_with is new at (payment_steps H p moment) (comes is))
+  -- a payment of which the house keeps what its head says
+  paid_next : IsRuling head → PaidIsLegal H p.order.epoid p.order.consumer p.order.merchant p.order.price p.consumer.acct p.merchant.acct moment → (at : ℕ)
+      → Next (settlement_entry (shape at (Paid p.consumer.acct p.merchant.acct p.endorsement.key (charge head p.order.price))))
+  paid_next ruling paid at = part (head.version == FEE_VERSION) refl
+    where
+      part : (b : Bool) → (head.version == FEE_VERSION) ≡ b
+          → Next (settlement_entry (shape at (Paid p.consumer.acct p.merchant.acct p.endorsement.key (if b then Some (fee_at head.rate p.order.price) else None))))
+      part true is = ((paid, (head.rate, ruling.1, refl)), (eqb-true head.version FEE_VERSION is, refl))
+      part false other = (paid, tt)
 
-  outcome_with : (tested : Tested) → Comes tested → IsPaymentOutcome (outcome_of p tested)
+  legal_with : IsRuling head → IsPresented H p → IsNone (order_in H p.order.epoid) → (at : ℕ) (tested : Tested) → Comes H p moment tested → Next (settlement_entry (shape at (outcome_of head p tested)))
+  legal_with ruling is new at (Ok u) comes =
+      paid_next ruling ((new, is.named), (rw is.consumer (ap Some is.buys), rw is.merchant (ap Some is.sells)), (rw is.consumer refl, rw is.merchant refl), comes.priced, comes.covered, comes.begun) at
+  legal_with ruling is new at (Err why) comes = (((new, is.named), (rw is.consumer (ap Some is.buys), rw is.merchant (ap Some is.sells)), comes), tt)
+
+  pub settled_legal : IsRuling head → IsPresented H p → IsNone (order_in H p.order.epoid) → (at : ℕ) (outcome : PaymentOutcome) → outcome ≡ outcome_of head p (payment_steps H p moment)
+      → Next (settlement_entry (shape at outcome))
+  settled_legal ruling is new at outcome same =
+      subst (λ (o : PaymentOutcome). Next (settlement_entry (shape at o))) (sym same) (legal_with ruling is new at (payment_steps H p moment) (comes H p moment is))
+
+  outcome_with : (tested : Tested) → Comes H p moment tested → IsPaymentOutcome (outcome_of head p tested)
   outcome_with (Ok u) comes = tt
   outcome_with (Err why) comes = reason_code H p.order.epoid p.order.consumer p.order.merchant p.order.price why.code why.a why.b moment comes
 
-  pub outcome_lawful : IsPresented H p → IsPaymentOutcome (outcome_of p (payment_steps H p moment))
-  outcome_lawful is = outcome_with (payment_steps H p moment) (comes is)
+  pub outcome_lawful : IsPresented H p → IsPaymentOutcome (outcome_of head p (payment_steps H p moment))
+  outcome_lawful is = outcome_with (payment_steps H p moment) (comes H p moment is)

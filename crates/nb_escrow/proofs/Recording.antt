@@ -16,7 +16,7 @@ use Rattle.nb_book.specs.declared.limits.TheConstants.{MAX_TOTAL}
 use Rattle.nb_book.specs.declared.party.Party.{Party}
 use Rattle.nb_book.specs.Searches.{party_in, holder_in, funded_in, order_in}
 use Rattle.nb_book.specs.Money.{total}
-use Rattle.nb_book.specs.Legal.{LegalAfter}
+use Rattle.nb_book.specs.Legal.{NextUnder}
 use Rattle.nb_epo.specs.declared.order.Order.{Order}
 use Rattle.nb_epo.specs.Reading.{order_of}
 use Rattle.nb_epo.specs.Tags.{order_tag}
@@ -30,6 +30,7 @@ use Rattle.nb_escrow.specs.declared.head.Head.{Head}
 use Rattle.nb_escrow.specs.declared.order.Presented.{Presented}
 use Rattle.nb_escrow.specs.declared.settlement.Settlement.{Settlement}
 use Rattle.nb_escrow.specs.Checks.{signed_part, unless, well_formed, if_found, enrolled, enrolled_as, right_tag, room_left}
+use Rattle.nb_escrow.specs.Head.{IsRuling}
 use Rattle.nb_escrow.specs.Held.{place_in}
 use Rattle.nb_body.specs.Reading.{enrolment_of, funding_of, endorsed_of}
 use Rattle.nb_escrow.specs.Enrolments.{enrol_entry, if_unheld, numbers_free, again_or_enrol, enrol_steps}
@@ -64,16 +65,16 @@ held_so false why u is = absurd cc
 
 -- ---- what is recorded, as what a decision that passed all tests records
 
-abbrev Fits : List Entry → ℕ → Entry → Type 0
-Fits H cap e = LegalAfter H e × (length H < cap)
+abbrev Fits : List Entry → Head → ℕ → Entry → Type 0
+Fits H head cap e = NextUnder head.version head.rate H e × (length H < cap)
 
 -- the entry of a decision fits, if there is one
-abbrev Recorded : List Entry → ℕ → Option Entry → Type 0
-Recorded H cap None = Unit {0}
-Recorded H cap (Some e) = Fits H cap e
+abbrev Recorded : List Entry → Head → ℕ → Option Entry → Type 0
+Recorded H head cap None = Unit {0}
+Recorded H head cap (Some e) = Fits H head cap e
 
-abbrev RecordedIn : List Entry → ℕ → Result Decision Refusal → Type 0
-RecordedIn H cap r = (d : Decision) → r ≡ Ok d → Recorded H cap d.entry
+abbrev RecordedIn : List Entry → Head → ℕ → Result Decision Refusal → Type 0
+RecordedIn H head cap r = (d : Decision) → r ≡ Ok d → Recorded H head cap d.entry
 
 pub same_decision : (d d' : Decision) → (let r : Result Decision Refusal = Ok d in r) ≡ Ok d' → d ≡ d'
 same_decision d d' is = cc
@@ -127,20 +128,20 @@ free_so H id acct u is = part (party_in H id) (holder_in H acct) is
         let apart = neither_zero (held_so (not (id.0 == 0) && not (acct.0 == 0)) _ u is) in
         (apart.0, apart.1, refl, refl)
 
-enrol_recorded : (H : List Entry) (cap : ℕ) (asked : Enrolment) → (asked.role ≡ CONSUMER) ⊎ (asked.role ≡ MERCHANT) → (o : Option ℕ) → RecordedIn H cap (again_or_enrol H cap asked o)
-enrol_recorded H cap asked role (Some at) d is = rw (sym (ap (λ (x : Decision). x.entry) (same_decision _ d is))) tt
-enrol_recorded H cap asked role None d is =
+enrol_recorded : (H : List Entry) (head : Head) (cap : ℕ) (asked : Enrolment) → (asked.role ≡ CONSUMER) ⊎ (asked.role ≡ MERCHANT) → (o : Option ℕ) → RecordedIn H head cap (again_or_enrol H cap asked o)
+enrol_recorded H head cap asked role (Some at) d is = rw (sym (ap (λ (x : Decision). x.entry) (same_decision _ d is))) tt
+enrol_recorded H head cap asked role None d is =
     let free = inside (numbers_free H asked.id asked.acct) _ d is in
     let room = inside (room_left H cap) _ d free.2 in
     let numbers = free_so H asked.id asked.acct free.0 free.1 in
-    rw (sym (ap (λ (x : Decision). x.entry) (same_decision _ d room.2))) ((numbers.0, numbers.1, role, numbers.2, numbers.3), room_so H cap room.0 room.1)
+    rw (sym (ap (λ (x : Decision). x.entry) (same_decision _ d room.2))) (((numbers.0, numbers.1, role, numbers.2, numbers.3), tt), room_so H cap room.0 room.1)
 
-enrol_steps_recorded : (H : List Entry) (head : Head) (cap : ℕ) (body : List ℕ) → RecordedIn H cap (enrol_steps H head cap body)
+enrol_steps_recorded : (H : List Entry) (head : Head) (cap : ℕ) (body : List ℕ) → RecordedIn H head cap (enrol_steps H head cap body)
 unfolding enrol_steps
 enrol_steps_recorded H head cap body d is =
     let asked = inside (well_formed IN_BODY (enrolment_of body)) _ d is in
     let signed = inside (right_tag asked.0.tag (hmac_of head.operator (codes "enro" ++ signed_part body))) _ d asked.2 in
-    enrol_recorded H cap asked.0 (role_so body asked.0 (formed IN_BODY (enrolment_of body) asked.0 asked.1)) (place_in H (enrol_entry asked.0)) d signed.2
+    enrol_recorded H head cap asked.0 (role_so body asked.0 (formed IN_BODY (enrolment_of body) asked.0 asked.1)) (place_in H (enrol_entry asked.0)) d signed.2
 
 -- ---- funds
 
@@ -181,22 +182,22 @@ pub total_so : (H : List Entry) (amount : ℕ) (u : Unit {0}) → total_within H
 unfolding total_within
 total_so H amount u is = leb-true (total H + amount) MAX_TOTAL (held_so (nat_le (total H + amount) MAX_TOTAL) _ u is)
 
-fund_recorded : (H : List Entry) (cap : ℕ) (asked : Funding) → (1 ≤ asked.amount) × (asked.amount ≤ MAX_TOTAL) → (o : Option ℕ) → RecordedIn H cap (again_or_fund H cap asked o)
-fund_recorded H cap asked amount (Some at) d is = rw (sym (ap (λ (x : Decision). x.entry) (same_decision _ d is))) tt
-fund_recorded H cap asked amount None d is =
+fund_recorded : (H : List Entry) (head : Head) (cap : ℕ) (asked : Funding) → (1 ≤ asked.amount) × (asked.amount ≤ MAX_TOTAL) → (o : Option ℕ) → RecordedIn H head cap (again_or_fund H cap asked o)
+fund_recorded H head cap asked amount (Some at) d is = rw (sym (ap (λ (x : Decision). x.entry) (same_decision _ d is))) tt
+fund_recorded H head cap asked amount None d is =
     let fresh = inside (reference_new H asked.reference) _ d is in
     let held = inside (account_held H asked.acct) _ d fresh.2 in
     let within = inside (total_within H asked.amount) _ d held.2 in
     let room = inside (room_left H cap) _ d within.2 in
     rw (sym (ap (λ (x : Decision). x.entry) (same_decision _ d room.2)))
-    ((account_so H asked.acct held.0 held.1, amount.0, amount.1, new_so H asked.reference fresh.0 fresh.1, total_so H asked.amount within.0 within.1), room_so H cap room.0 room.1)
+    (((account_so H asked.acct held.0 held.1, amount.0, amount.1, new_so H asked.reference fresh.0 fresh.1, total_so H asked.amount within.0 within.1), tt), room_so H cap room.0 room.1)
 
-fund_steps_recorded : (H : List Entry) (head : Head) (cap : ℕ) (body : List ℕ) → RecordedIn H cap (fund_steps H head cap body)
+fund_steps_recorded : (H : List Entry) (head : Head) (cap : ℕ) (body : List ℕ) → RecordedIn H head cap (fund_steps H head cap body)
 unfolding fund_steps
 fund_steps_recorded H head cap body d is =
     let asked = inside (well_formed IN_BODY (funding_of body)) _ d is in
     let signed = inside (right_tag asked.0.tag (hmac_of head.operator (codes "fund" ++ signed_part body))) _ d asked.2 in
-    fund_recorded H cap asked.0 (amount_so body asked.0 (formed IN_BODY (funding_of body) asked.0 asked.1)) (place_in H (fund_entry asked.0)) d signed.2
+    fund_recorded H head cap asked.0 (amount_so body asked.0 (formed IN_BODY (funding_of body) asked.0 asked.1)) (place_in H (fund_entry asked.0)) d signed.2
 
 -- ---- orders
 
@@ -227,19 +228,19 @@ merchant_so endorser order u is =
 pub none_so : (H : List Entry) (p : Epoid) → settlement_in H p ≡ None → IsNone (order_in H p)
 none_so H p none = rw (none_settled H p none) refl
 
-order_recorded : (H : List Entry) (head : Head) (cap : ℕ) (p : Presented) (moment : ℕ) → IsPresented H p → (o : Option Settlement) → settlement_in H p.order.epoid ≡ o
-    → RecordedIn H cap (again_or_settle H head cap p moment o)
-order_recorded H head cap p moment presented (Some kept) held d is =
+order_recorded : (H : List Entry) (head : Head) (cap : ℕ) (p : Presented) (moment : ℕ) → IsRuling head → IsPresented H p → (o : Option Settlement) → settlement_in H p.order.epoid ≡ o
+    → RecordedIn H head cap (again_or_settle H head cap p moment o)
+order_recorded H head cap p moment ruling presented (Some kept) held d is =
     let same = inside (same_digest kept.digest p.digest) _ d is in
     rw (sym (ap (λ (x : Decision). x.entry) (same_decision _ d same.2))) tt
-order_recorded H head cap p moment presented None none d is =
+order_recorded H head cap p moment ruling presented None none d is =
     let room = inside (room_left H cap) _ d is in
     rw (sym (ap (λ (x : Decision). x.entry) (same_decision _ d room.2)))
-    (settled_legal H p moment presented (none_so H p.order.epoid none) (length H) (outcome_of p (payment_steps H p moment)) refl, room_so H cap room.0 room.1)
+    (settled_legal H head p moment ruling presented (none_so H p.order.epoid none) (length H) (outcome_of head p (payment_steps H p moment)) refl, room_so H cap room.0 room.1)
 
-order_steps_recorded : (H : List Entry) (head : Head) (cap : ℕ) (body : List ℕ) (moment : ℕ) → RecordedIn H cap (order_steps H head cap body moment)
+order_steps_recorded : (H : List Entry) (head : Head) (cap : ℕ) (body : List ℕ) (moment : ℕ) → IsRuling head → RecordedIn H head cap (order_steps H head cap body moment)
 unfolding order_steps
-order_steps_recorded H head cap body moment d is =
+order_steps_recorded H head cap body moment ruling d is =
     let asked = inside (well_formed IN_BODY (endorsed_of body)) _ d is in
     let merchant = inside (enrolled_as H MERCHANT asked.0.merchant) _ d asked.2 in
     let endorsement = inside (endorsement_in merchant.0.key asked.0.sealed) _ d merchant.2 in
@@ -260,25 +261,25 @@ order_steps_recorded H head cap body moment d is =
       named = names.1 ∙ sym names.0;
       digested = refl;
     } in
-    order_recorded H head cap p moment presented (settlement_in H order.0.epoid) refl d hidden.2
+    order_recorded H head cap p moment ruling presented (settlement_in H order.0.epoid) refl d hidden.2
 
 -- ---- the kinds
 
-chosen : (H : List Entry) (cap : ℕ) (b : Bool) (f g : Result Decision Refusal) → RecordedIn H cap f → RecordedIn H cap g → RecordedIn H cap (if b then f else g)
-chosen H cap true f g one other = one
-chosen H cap false f g one other = other
+chosen : (H : List Entry) (head : Head) (cap : ℕ) (b : Bool) (f g : Result Decision Refusal) → RecordedIn H head cap f → RecordedIn H head cap g → RecordedIn H head cap (if b then f else g)
+chosen H head cap true f g one other = one
+chosen H head cap false f g one other = other
 
-steps_recorded : (H : List Entry) (head : Head) (cap kind : ℕ) (body : List ℕ) (moment : ℕ) → RecordedIn H cap (steps H head cap kind body moment)
-steps_recorded H head cap kind body moment =
-    chosen H cap (kind == ORDER_REQUEST) _ _ (order_steps_recorded H head cap body moment)
-    (chosen H cap (kind == STATUS_REQUEST) _ _ (λ d is. rw (status_records_none H head body d is) tt)
-    (chosen H cap (kind == TICKET_REQUEST) _ _ (λ d is. rw (ticket_records_none H head body moment d is) tt)
-    (chosen H cap (kind == ENROL_REQUEST) _ _ (enrol_steps_recorded H head cap body)
-    (chosen H cap (kind == FUND_REQUEST) _ _ (fund_steps_recorded H head cap body) (λ d is. absurd cc)))))
+steps_recorded : (H : List Entry) (head : Head) (cap kind : ℕ) (body : List ℕ) (moment : ℕ) → IsRuling head → RecordedIn H head cap (steps H head cap kind body moment)
+steps_recorded H head cap kind body moment ruling =
+    chosen H head cap (kind == ORDER_REQUEST) _ _ (order_steps_recorded H head cap body moment ruling)
+    (chosen H head cap (kind == STATUS_REQUEST) _ _ (λ d is. rw (status_records_none H head body d is) tt)
+    (chosen H head cap (kind == TICKET_REQUEST) _ _ (λ d is. rw (ticket_records_none H head body moment d is) tt)
+    (chosen H head cap (kind == ENROL_REQUEST) _ _ (enrol_steps_recorded H head cap body)
+    (chosen H head cap (kind == FUND_REQUEST) _ _ (fund_steps_recorded H head cap body) (λ d is. absurd cc)))))
 
 pub records_legal : RecordsLegal
-records_legal H head cap kind body moment entry is = part (steps H head cap kind body moment) (steps_recorded H head cap kind body moment) is
+records_legal H head cap kind body moment entry ruling is = part (steps H head cap kind body moment) (steps_recorded H head cap kind body moment ruling) is
   where
-    part : (r : Result Decision Refusal) → RecordedIn H cap r → (told r).entry ≡ Some entry → Fits H cap entry
-    part (Ok d) recorded is = subst (Recorded H cap) is (recorded d refl)
+    part : (r : Result Decision Refusal) → RecordedIn H head cap r → (told r).entry ≡ Some entry → Fits H head cap entry
+    part (Ok d) recorded is = subst (Recorded H head cap) is (recorded d refl)
     part (Err why) recorded is = absurd (none-some entry is)

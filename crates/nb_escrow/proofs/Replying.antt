@@ -12,7 +12,7 @@ use Rattle.nb_units.specs.declared.ids.AcctId.{AcctId}
 use Rattle.nb_units.specs.declared.ids.PartyId.{PartyId}
 use Rattle.nb_book.specs.Money.{balance}
 use Rattle.nb_book.specs.declared.entry.Entry.{Entry}
-use Rattle.nb_book.specs.declared.entry.Entry.TheVariants.{Enrol, Fund, Paid, Refused}
+use Rattle.nb_book.specs.declared.entry.Entry.TheVariants.{Enrol, Fund, Paid, Charged, Refused}
 use Rattle.nb_book.specs.declared.entry.TheConstants.{CONSUMER, MERCHANT}
 use Rattle.nb_book.specs.declared.kept.Kept.{Kept}
 use Rattle.nb_book.specs.Searches.{first_from, order_at, order_in}
@@ -20,6 +20,7 @@ use Rattle.nb_endorse.specs.declared.receipt.Receipt.{Receipt}
 use Rattle.nb_escrow.specs.declared.decision.Decision.{Decision}
 use Rattle.nb_body.specs.declared.enrolment.Enrolment.{Enrolment}
 use Rattle.nb_body.specs.declared.funding.Funding.{Funding}
+use Rattle.nb_escrow.specs.declared.head.Head.{Head}
 use Rattle.nb_escrow.specs.declared.order.Presented.{Presented}
 use Rattle.nb_escrow.specs.declared.settlement.PaymentOutcome.TheVariants as outcome
 use Rattle.nb_escrow.specs.declared.settlement.RefusalReason.{RefusalReason}
@@ -70,7 +71,10 @@ unfolding receipt_in_role
 receipts_so at (Enrol id role acct nonce key) s is = absurd (none-some s is)
 receipts_so at (Fund acct amount reference) s is = absurd (none-some s is)
 receipts_so at (Paid digest epoid consumer merchant product price cacct macct moment key) s is =
-    let mine = settlement at digest epoid consumer merchant product price moment (outcome.Paid cacct macct key) in
+    let mine = settlement at digest epoid consumer merchant product price moment (outcome.Paid cacct macct key None) in
+    (ap (λ (x : Settlement). some_receipt (receipt_in_role MERCHANT x)) (same_Some mine s is), ap (λ (x : Settlement). some_receipt (receipt_in_role CONSUMER x)) (same_Some mine s is))
+receipts_so at (Charged digest epoid consumer merchant product price fee cacct macct moment key) s is =
+    let mine = settlement at digest epoid consumer merchant product price moment (outcome.Paid cacct macct key (Some fee)) in
     (ap (λ (x : Settlement). some_receipt (receipt_in_role MERCHANT x)) (same_Some mine s is), ap (λ (x : Settlement). some_receipt (receipt_in_role CONSUMER x)) (same_Some mine s is))
 receipts_so at (Refused digest epoid consumer merchant product price code a b moment) s is =
     let why : RefusalReason = record { code = code; a = a; b = b } in
@@ -99,9 +103,9 @@ order_next H s at none =
     found_next (order_at s.epoid) (settlement_entry s) [] kept 0 H (none_is (order_in H s.epoid) none) next
 
 -- a receipt of a settlement names its order
-named : (role : ℕ) (H : List Entry) (p : Presented) (moment : ℕ) → NamesOrder p.order (length H) moment (receipt_in_role role (settled H p moment))
+named : (role : ℕ) (H : List Entry) (head : Head) (p : Presented) (moment : ℕ) → NamesOrder p.order (length H) moment (receipt_in_role role (settled H head p moment))
 unfolding receipt_in_role
-named role H p moment = (refl, refl, refl, refl, refl, refl, refl)
+named role H head p moment = (refl, refl, refl, refl, refl, refl, refl)
 
 pub receipts_name_the_order : ReceiptsNameTheOrder
 receipts_name_the_order H head cap kind body moment = part (steps H head cap kind body moment) (comes H head cap kind body moment)
@@ -116,13 +120,13 @@ receipts_name_the_order H head cap kind body moment = part (steps H head cap kin
         let found : order_in (H ++ []) p.order.epoid ≡ Some kept.0 = ap (λ (xs : List Entry). order_in xs p.order.epoid) (append-nil H) ∙ kept.1 in
         (p, kept.0, authentic, found, digest_at kept.0.at kept.0.entry s kept.2 ∙ ap (λ (x : List ℕ). let o : Option (List ℕ) = Some x in o) same, receipts.0, receipts.1, λ some. absurd cc)
 
-    now : (p : Presented) → IsAuthenticOrder H body p → IsNone (order_in H p.order.epoid) → Tells (result head p (settled H p moment) (Some (settlement_entry (settled H p moment))))
+    now : (p : Presented) → IsAuthenticOrder H body p → IsNone (order_in H p.order.epoid) → Tells (result head p (settled H head p moment) (Some (settlement_entry (settled H head p moment))))
     now p authentic new =
-        let s = settled H p moment in
+        let s = settled H head p moment in
         let kept : Kept = record { at = length H; entry = settlement_entry s } in
         let back : settlement_at (length H) (settlement_entry s) ≡ Some s = settlement_back s s.outcome in
         let receipts = receipts_so (length H) (settlement_entry s) s back in
-        (p, kept, authentic, order_next H s refl new, digest_at (length H) (settlement_entry s) s back, receipts.0, receipts.1, λ some. (named MERCHANT H p moment, named CONSUMER H p moment))
+        (p, kept, authentic, order_next H s refl new, digest_at (length H) (settlement_entry s) s back, receipts.0, receipts.1, λ some. (named MERCHANT H head p moment, named CONSUMER H head p moment))
 
     tells : (d : Decision) → Comes H head cap kind body moment (Ok d) → Tells d
     tells d (inl (is, (p, authentic, inl (s, held, same, d_is)))) = subst Tells (sym d_is) (before p s authentic held same)
@@ -160,6 +164,7 @@ same_enrol (Enrol id role acct nonce key) asked is =
     ∙ ap (λ (x : List ℕ). let e : Entry = Enrol asked.id asked.role asked.acct asked.nonce x in e) ((bytes_eq-Decides key asked.key).0 last.1)
 same_enrol (Fund acct amount reference) asked is = absurd cc
 same_enrol (Paid digest epoid consumer merchant product price cacct macct moment key) asked is = absurd cc
+same_enrol (Charged digest epoid consumer merchant product price fee cacct macct moment key) asked is = absurd cc
 same_enrol (Refused digest epoid consumer merchant product price code a b moment) asked is = absurd cc
 
 same_fund : (x : Entry) (asked : Funding) → same_entry x (fund_entry asked) ≡ true → x ≡ fund_entry asked
@@ -171,6 +176,7 @@ same_fund (Fund acct amount reference) asked is =
     ∙ ap (λ (x : ℕ). let e : Entry = Fund asked.acct x reference in e) (eqb-true amount asked.amount first.1)
     ∙ ap (λ (x : List ℕ). let e : Entry = Fund asked.acct asked.amount x in e) ((bytes_eq-Decides reference asked.reference).0 last.1)
 same_fund (Paid digest epoid consumer merchant product price cacct macct moment key) asked is = absurd cc
+same_fund (Charged digest epoid consumer merchant product price fee cacct macct moment key) asked is = absurd cc
 same_fund (Refused digest epoid consumer merchant product price code a b moment) asked is = absurd cc
 
 -- an entry that is found stands where it is found
@@ -291,6 +297,7 @@ receipt_of_entry id at (Fund acct amount reference) r = (λ is. absurd (none-som
     none_of (inl (found, named)) = none-some r found
     none_of (inr (found, other, named)) = none-some r found
 receipt_of_entry id at (Paid digest epoid consumer merchant product price cacct macct moment key) r = receipt_for id at (Paid digest epoid consumer merchant product price cacct macct moment key) _ r refl
+receipt_of_entry id at (Charged digest epoid consumer merchant product price fee cacct macct moment key) r = receipt_for id at (Charged digest epoid consumer merchant product price fee cacct macct moment key) _ r refl
 receipt_of_entry id at (Refused digest epoid consumer merchant product price code a b moment) r = receipt_for id at (Refused digest epoid consumer merchant product price code a b moment) _ r refl
 
 -- and of the entry that settles an identifier

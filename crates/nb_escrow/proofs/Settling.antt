@@ -5,7 +5,7 @@ use Rattle.std.specs.List.{AllByRecursion}
 use Rattle.std.specs.Option.{option_or}
 use Rattle.nb_units.specs.declared.epoid.Epoid.{Epoid}
 use Rattle.nb_book.specs.declared.entry.Entry.{Entry}
-use Rattle.nb_book.specs.declared.entry.Entry.TheVariants.{Enrol, Fund, Paid, Refused}
+use Rattle.nb_book.specs.declared.entry.Entry.TheVariants.{Enrol, Fund, Paid, Charged, Refused}
 use Rattle.nb_book.specs.declared.kept.Kept.{Kept}
 use Rattle.nb_book.specs.Searches.{first_from, settles, order_at, order_in}
 use Rattle.nb_book.specs.Legal.{LegalAfter, Legal}
@@ -21,6 +21,7 @@ legal_outcome : (H : List Entry) (e : Entry) → LegalAfter H e → HasLawfulOut
 legal_outcome H (Enrol id role acct nonce key) legal = tt
 legal_outcome H (Fund acct amount reference) legal = tt
 legal_outcome H (Paid digest epoid consumer merchant product price cacct macct moment key) legal = tt
+legal_outcome H (Charged digest epoid consumer merchant product price fee cacct macct moment key) legal = tt
 legal_outcome H (Refused digest epoid consumer merchant product price code a b moment) legal = reason_code H epoid consumer merchant price code a b moment legal.2
 
 one_more : (H : List Entry) (e : Entry) → AllByRecursion HasLawfulOutcome H → HasLawfulOutcome e → AllByRecursion HasLawfulOutcome (H ++ e ∷ [])
@@ -57,12 +58,14 @@ pub settlement_some : (p : Epoid) (at : ℕ) (e : Entry) → settles p e ≡ tru
 settlement_some p at (Enrol id role acct nonce key) is none = cc
 settlement_some p at (Fund acct amount reference) is none = cc
 settlement_some p at (Paid digest epoid consumer merchant product price cacct macct moment key) is none = cc
+settlement_some p at (Charged digest epoid consumer merchant product price fee cacct macct moment key) is none = cc
 settlement_some p at (Refused digest epoid consumer merchant product price code a b moment) is none = cc
 
 outcome_at : (at : ℕ) (e : Entry) → HasLawfulOutcome e → IfSome (settlement_at at e) (λ s. IsPaymentOutcome s.outcome)
 outcome_at at (Enrol id role acct nonce key) is = tt
 outcome_at at (Fund acct amount reference) is = tt
 outcome_at at (Paid digest epoid consumer merchant product price cacct macct moment key) is = tt
+outcome_at at (Charged digest epoid consumer merchant product price fee cacct macct moment key) is = tt
 outcome_at at (Refused digest epoid consumer merchant product price code a b moment) is = is
 
 -- an order whose settlement is none was not found

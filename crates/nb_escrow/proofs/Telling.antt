@@ -12,7 +12,7 @@ use Rattle.nb_units.specs.declared.ids.PartyId.{PartyId}
 use Rattle.nb_units.specs.declared.epoid.Epoid.{Epoid}
 use Rattle.nb_units.specs.Fields.{◌>>=◌}
 use Rattle.nb_book.specs.declared.entry.Entry.{Entry}
-use Rattle.nb_book.specs.declared.entry.Entry.TheVariants.{Enrol, Fund, Paid, Refused}
+use Rattle.nb_book.specs.declared.entry.Entry.TheVariants.{Enrol, Fund, Paid, Charged, Refused}
 use Rattle.nb_book.specs.Money.{balance}
 use Rattle.nb_book.specs.declared.entry.TheConstants.{CONSUMER, MERCHANT}
 use Rattle.nb_book.specs.declared.kept.Kept.{Kept}
@@ -20,6 +20,7 @@ use Rattle.nb_book.specs.declared.party.Party.{Party}
 use Rattle.nb_book.specs.Searches.{first_from, same_epoid, settles, party_at, party_in, order_at, order_in}
 use Rattle.nb_epo.specs.Reading.{order_of}
 use Rattle.nb_epo.specs.Tags.{order_tag}
+use Rattle.nb_endorse.specs.declared.receipt.Receipt.{Receipt}
 use Rattle.nb_endorse.specs.declared.refusal.Refusal.{Refusal}
 use Rattle.nb_endorse.specs.declared.refusal.TheConstants.{IN_BODY, IN_ORDER, NOT_ENROLLED, NOT_SERVED}
 use Rattle.nb_endorse.specs.declared.reply.Reply.{Reply}
@@ -46,7 +47,7 @@ use Rattle.nb_escrow.specs.Statuses.{enough_entries, status_told, status_steps}
 use Rattle.nb_ticket.specs.Keys.{ask_tag}
 use Rattle.nb_ticket.specs.Reading.{ask_of}
 use Rattle.nb_escrow.specs.Tickets.{ticket_granted, ticket_steps}
-use Rattle.nb_escrow.specs.Laws.{given_again, ToldAgain, ResultStays}
+use Rattle.nb_escrow.specs.Laws.{given_again, ToldAgain, ResultStays, RepeatIsSame}
 use Rattle.nb_endorse.specs.declared.reply.Reply.TheVariants.{Result as Receipts, Refused as Refusal_told}
 use Rattle.nb_escrow.specs.Verdict.{steps, told, verdict}
 use Rattle.nb_escrow.proofs.Settling.{settlement_some, settles_found}
@@ -70,6 +71,9 @@ same_self (Fund acct amount reference) = rw (same_number acct.0, same_number amo
 same_self (Paid digest epoid consumer merchant product price cacct macct moment key) =
     rw (same_bytes digest, same_identifier epoid, same_number consumer.0, same_number merchant.0, same_number product)
     (rw (same_number price.0, same_number cacct.0, same_number macct.0, same_number moment) (same_bytes key))
+same_self (Charged digest epoid consumer merchant product price fee cacct macct moment key) =
+    rw (same_bytes digest, same_identifier epoid, same_number consumer.0, same_number merchant.0, same_number product)
+    (rw (same_number price.0, same_number fee, same_number cacct.0, same_number macct.0, same_number moment) (same_bytes key))
 same_self (Refused digest epoid consumer merchant product price code a b moment) =
     rw (same_bytes digest, same_identifier epoid, same_number consumer.0, same_number merchant.0, same_number product)
     (rw (same_number price.0, same_number code, same_number a, same_number b) (same_number moment))
@@ -195,11 +199,13 @@ stays_enrolled H more role id party is = part (party_in H id) refl is
 
 -- the entry of a settlement settles its order, and is read as that settlement
 pub settles_entry : (s : Settlement) (o : PaymentOutcome) → settles s.epoid (entry_with s o) ≡ true
-settles_entry s (outcome.Paid cacct macct key) = same_identifier s.epoid
+settles_entry s (outcome.Paid cacct macct key None) = same_identifier s.epoid
+settles_entry s (outcome.Paid cacct macct key (Some fee)) = same_identifier s.epoid
 settles_entry s (outcome.Refused reason) = same_identifier s.epoid
 
 pub settlement_back : (s : Settlement) (o : PaymentOutcome) → settlement_at s.at (entry_with s o) ≡ Some (record s { outcome = o })
-settlement_back s (outcome.Paid cacct macct key) = refl
+settlement_back s (outcome.Paid cacct macct key None) = refl
+settlement_back s (outcome.Paid cacct macct key (Some fee)) = refl
 settlement_back s (outcome.Refused reason) = refl
 
 -- where no settlement was found, no order was
@@ -232,7 +238,7 @@ order_again H more head cap p moment later e reply keys is = part (settlement_in
         → again_or_settle (H ++ e ∷ more) head cap p later (settlement_in (H ++ e ∷ more) p.order.epoid) ≡ Ok (decided (given_again (H ++ e ∷ more) reply) keys None)
     part (Some kept) held is = absurd (none_recorded (result head p kept None) e reply keys refl (passed (same_digest kept.digest p.digest) _ _ is))
     part None none is =
-        let s : Settlement = settled H p moment in
+        let s : Settlement = settled H head p moment in
         let same = same_decision (result head p s (Some (settlement_entry s))) (decided reply keys (Some e)) (passed (room_left H cap) _ _ is) in
         let entry_is : settlement_entry s ≡ e = same_Some (settlement_entry s) e (ap (λ (d : Decision). d.entry) same) in
         rw (sym entry_is, sym (ap (λ (d : Decision). d.reply) same), sym (ap (λ (d : Decision). d.keys) same), settled_next H more s refl none) (rw (same_digests p.digest) refl)
@@ -337,7 +343,7 @@ order_stays H more head cap p moment later d none is = part (settlement_in H p.o
         → again_or_settle (H ++ more) head cap p later (settlement_in (H ++ more) p.order.epoid) ≡ Ok d
     part (Some kept) held is = rw (settlement_stays H more p.order.epoid kept held) is
     part None new is =
-        let s : Settlement = settled H p moment in
+        let s : Settlement = settled H head p moment in
         let same = same_decision (result head p s (Some (settlement_entry s))) d (passed (room_left H cap) _ _ is) in
         absurd (none-some (settlement_entry s) (sym (ap (λ (x : Decision). x.entry) same ∙ none)))
 
@@ -354,21 +360,54 @@ order_steps_stay H more head cap body moment later =
     stays_behind (hidden_in consumer.key order.hidden) _ _ _ (λ x is. is) (λ hidden.
     order_stays H more head cap (record { merchant = merchant; consumer = consumer; endorsement = endorsement; digest = endorsement_digest endorsement; order = order; hidden = hidden }) moment later))))))))
 
-pub result_stays : ResultStays
-result_stays H more head cap body moment later merchant consumer keys None is = ap told (order_steps_stay (H ++ []) more head cap body moment later d refl now)
+-- receipts are told by a decision that passed all tests
+receipts_passed : (merchant consumer : Receipt) (keys : ReplyKeys) (r : Answer) → told r ≡ decided (Receipts merchant consumer) keys None → r ≡ Ok (decided (Receipts merchant consumer) keys None)
+receipts_passed merchant consumer keys (Ok x) is = ap (λ (y : Decision). let o : Answer = Ok y in o) is
+receipts_passed merchant consumer keys (Err why) is = absurd (refused_not why (ap (λ (x : Decision). x.reply) is))
   where
-    d : Decision
-    d = decided (Receipts merchant consumer) keys None
+    refused_not : (why : Refusal) → (let reply : Reply = Refusal_told why in reply) ≡ Receipts merchant consumer → ⊥
+    refused_not why is = cc
 
-    step_of : (r : Answer) → told r ≡ d → r ≡ Ok d
-    step_of (Ok x) is = ap (λ (y : Decision). let o : Answer = Ok y in o) is
-    step_of (Err why) is = absurd (refused_not why (ap (λ (x : Decision). x.reply) is))
-      where
-        refused_not : (why : Refusal) → (let reply : Reply = Refusal_told why in reply) ≡ Receipts merchant consumer → ⊥
-        refused_not why is = cc
-
-    now : order_steps (H ++ []) head cap body moment ≡ Ok d
-    now = subst (λ (xs : List Entry). order_steps xs head cap body moment ≡ Ok d) (sym (append-nil H)) (step_of (order_steps H head cap body moment) is)
+pub result_stays : ResultStays
+result_stays H more head cap body moment later merchant consumer keys None is =
+    ap told (order_steps_stay (H ++ []) more head cap body moment later (decided (Receipts merchant consumer) keys None) refl now)
+  where
+    now : order_steps (H ++ []) head cap body moment ≡ Ok (decided (Receipts merchant consumer) keys None)
+    now =
+        subst (λ (xs : List Entry). order_steps xs head cap body moment ≡ Ok (decided (Receipts merchant consumer) keys None)) (sym (append-nil H))
+        (receipts_passed merchant consumer keys (order_steps H head cap body moment) is)
 result_stays H more head cap body moment later merchant consumer keys (Some entry) is =
     subst (λ (xs : List Entry). verdict xs head cap ORDER_REQUEST body later ≡ decided (Receipts merchant consumer) keys None) (sym (append_assoc H (entry ∷ []) more))
     (told_again H more head cap ORDER_REQUEST body moment later entry (Receipts merchant consumer) keys is)
+
+-- ---- the result of an order, under another head
+
+-- what is told again has the house's key of the head, and nothing else of it
+order_repeats : (H : List Entry) (head other : Head) (cap : ℕ) (p : Presented) (moment later : ℕ) → head.house ≡ other.house
+    → Stays (again_or_settle H head cap p moment (settlement_in H p.order.epoid)) (again_or_settle H other cap p later (settlement_in H p.order.epoid))
+order_repeats H head other cap p moment later house d none is = part (settlement_in H p.order.epoid) is
+  where
+    part : (o : Option Settlement) → again_or_settle H head cap p moment o ≡ Ok d → again_or_settle H other cap p later o ≡ Ok d
+    part (Some kept) is = rw (sym house) is
+    part None is =
+        let s : Settlement = settled H head p moment in
+        let same = same_decision (result head p s (Some (settlement_entry s))) d (passed (room_left H cap) _ _ is) in
+        absurd (none-some (settlement_entry s) (sym (ap (λ (x : Decision). x.entry) same ∙ none)))
+
+order_steps_repeat : (H : List Entry) (head other : Head) (cap : ℕ) (body : List ℕ) (moment later : ℕ) → head.house ≡ other.house
+    → Stays (order_steps H head cap body moment) (order_steps H other cap body later)
+unfolding order_steps
+order_steps_repeat H head other cap body moment later house =
+    stays_behind (well_formed IN_BODY (endorsed_of body)) _ _ _ (λ x is. is) (λ asked.
+    stays_behind (enrolled_as H MERCHANT asked.merchant) _ _ _ (λ x is. is) (λ merchant.
+    stays_behind (endorsement_in merchant.key asked.sealed) _ _ _ (λ x is. is) (λ endorsement.
+    stays_behind (well_formed IN_ORDER (order_of endorsement.order)) _ _ _ (λ x is. is) (λ order.
+    stays_behind (enrolled_as H CONSUMER order.consumer) _ _ _ (λ x is. is) (λ consumer.
+    stays_behind (same_merchant asked.merchant order) _ _ _ (λ x is. is) (λ u.
+    stays_behind (right_tag order.tag (order_tag consumer.key order)) _ _ _ (λ x is. is) (λ u.
+    stays_behind (hidden_in consumer.key order.hidden) _ _ _ (λ x is. is) (λ hidden.
+    order_repeats H head other cap (record { merchant = merchant; consumer = consumer; endorsement = endorsement; digest = endorsement_digest endorsement; order = order; hidden = hidden }) moment later house))))))))
+
+pub repeat_is_same : RepeatIsSame
+repeat_is_same H head other cap body moment later merchant consumer keys house is =
+    ap told (order_steps_repeat H head other cap body moment later house (decided (Receipts merchant consumer) keys None) refl (receipts_passed merchant consumer keys (order_steps H head cap body moment) is))

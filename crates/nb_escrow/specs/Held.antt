@@ -3,7 +3,7 @@ use Rattle.std.specs.Prelude.{ℕ, ◌==◌, ◌&&◌, Bool, false, List, Option
 use Rattle.std.specs.Str.{bytes_eq}
 use Rattle.nb_units.specs.declared.ids.AcctId.{AcctId}
 use Rattle.nb_book.specs.declared.entry.Entry.{Entry}
-use Rattle.nb_book.specs.declared.entry.Entry.TheVariants.{Enrol, Fund, Paid, Refused}
+use Rattle.nb_book.specs.declared.entry.Entry.TheVariants.{Enrol, Fund, Paid, Charged, Refused}
 use Rattle.nb_book.specs.Searches.{first_from, same_epoid}
 use Rattle.nb_escrow.specs.declared.decision.Decision.{Decision}
 use Rattle.nb_endorse.specs.declared.reply.Reply.TheVariants.{Done}
@@ -15,6 +15,8 @@ same_entry (Enrol a b c d e) (Enrol a' b' c' d' e') = (a.0 == a'.0) && (b == b')
 same_entry (Fund a b c) (Fund a' b' c') = (a.0 == a'.0) && (b == b') && bytes_eq c c'
 same_entry (Paid a b c d e f g h i j) (Paid a' b' c' d' e' f' g' h' i' j') =
     bytes_eq a a' && same_epoid b b' && (c.0 == c'.0) && (d.0 == d'.0) && (e == e') && (f.0 == f'.0) && (g.0 == g'.0) && (h.0 == h'.0) && (i == i') && bytes_eq j j'
+same_entry (Charged a b c d e f g h i j k) (Charged a' b' c' d' e' f' g' h' i' j' k') =
+    bytes_eq a a' && same_epoid b b' && (c.0 == c'.0) && (d.0 == d'.0) && (e == e') && (f.0 == f'.0) && (g == g') && (h.0 == h'.0) && (i.0 == i'.0) && (j == j') && bytes_eq k k'
 same_entry (Refused a b c d e f g h i j) (Refused a' b' c' d' e' f' g' h' i' j') =
     bytes_eq a a' && same_epoid b b' && (c.0 == c'.0) && (d.0 == d'.0) && (e == e') && (f.0 == f'.0) && (g == g') && (h == h') && (i == i') && (j == j')
 same_entry e other = false

@@ -36,7 +36,7 @@ SettlementStays = (H more : List Entry) (order : Epoid) (s : Settlement) → set
 
 -- the code of a receipt is that of a payment, and it has the payment's key; or it is the reason's, which is no payment's, and it has no key
 abbrev pub CodeSays : PaymentOutcome → Receipt → Type 0
-CodeSays (Paid cacct macct key) r = (r.code ≡ PAID_CODE) × (r.key ≡ Some key)
+CodeSays (Paid cacct macct key fee) r = (r.code ≡ PAID_CODE) × (r.key ≡ Some key)
 CodeSays (Refused reason) r = (r.code ≡ reason.code) × (r.code ≢ PAID_CODE) × (r.key ≡ None)
 
 -- over every Legal list the receipts of a settlement say what it is

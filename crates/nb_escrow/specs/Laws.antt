@@ -11,10 +11,10 @@ use Rattle.nb_book.specs.declared.entry.TheConstants.{CONSUMER, MERCHANT}
 use Rattle.nb_book.specs.declared.limits.TheConstants.{MAX_TOTAL}
 use Rattle.nb_endorse.specs.declared.endorsement.TheConstants.{MAX_SEALED}
 use Rattle.nb_book.specs.declared.entry.Entry.{Entry}
-use Rattle.nb_book.specs.declared.entry.Entry.TheVariants.{Enrol, Fund, Paid, Refused}
+use Rattle.nb_book.specs.declared.entry.Entry.TheVariants.{Enrol, Fund, Paid, Charged, Refused}
 use Rattle.nb_book.specs.declared.kept.Kept.{Kept}
 use Rattle.nb_book.specs.declared.party.Party.{Party}
-use Rattle.nb_book.specs.Legal.{LegalAfter, Legal}
+use Rattle.nb_book.specs.Legal.{LegalAfter, Legal, NextUnder}
 use Rattle.nb_book.specs.Money.{balance}
 use Rattle.nb_book.specs.Searches.{party_in, order_in}
 use Rattle.nb_endorse.specs.declared.receipt.Receipt.{Receipt}
@@ -32,16 +32,18 @@ use Rattle.nb_body.specs.declared.query.StatusQuery.{StatusQuery}
 use Rattle.nb_body.specs.Reading.{query_of, enrolment_of, funding_of}
 use Rattle.nb_escrow.specs.Checks.{signed_part}
 use Rattle.nb_escrow.specs.Enrolments.{enrol_entry}
+use Rattle.nb_escrow.specs.Head.{IsRuling}
 use Rattle.nb_escrow.specs.Fundings.{fund_entry}
 use Rattle.nb_escrow.specs.Payable.{IsAuthenticOrder, MaySettle, IsPayable, payment_of, TellsPayment, IsTrueReason, refusal_of, TellsReason, digest_held}
 use Rattle.nb_escrow.specs.Grants.{MayGrant}
 use Rattle.nb_escrow.specs.Claims.{IsTrueRefusal}
 use Rattle.nb_escrow.specs.Verdict.{verdict}
 
--- What a verdict records is legal after the entries that it was taken over, and there is room for it.
+-- What a verdict records may come after the entries that it was taken over in a journal of the head's version and rate, and there is room for
+-- it.
 abbrev pub RecordsLegal : Type 0
-RecordsLegal = (H : List Entry) (head : Head) (cap kind : ℕ) (body : List ℕ) (moment : ℕ) (entry : Entry)
-    → (verdict H head cap kind body moment).entry ≡ Some entry → LegalAfter H entry × (length H < cap)
+RecordsLegal = (H : List Entry) (head : Head) (cap kind : ℕ) (body : List ℕ) (moment : ℕ) (entry : Entry) → IsRuling head
+    → (verdict H head cap kind body moment).entry ≡ Some entry → NextUnder head.version head.rate H entry × (length H < cap)
 
 -- a reply that is given again over these entries: the same, with what is in the account by then
 abbrev pub given_again : List Entry → Reply → Reply
@@ -62,9 +64,17 @@ ResultStays = (H more : List Entry) (head : Head) (cap : ℕ) (body : List ℕ) 
     → verdict H head cap ORDER_REQUEST body moment ≡ record { reply = Receipts merchant consumer; keys = keys; entry = entry }
     → verdict (H ++ option_to_list entry ++ more) head cap ORDER_REQUEST body later ≡ record { reply = Receipts merchant consumer; keys = keys; entry = None }
 
+-- And it is the same under another head of the same house, whatever the versions and the rates: the result of an order that was settled
+-- before.
+abbrev pub RepeatIsSame : Type 0
+RepeatIsSame = (H : List Entry) (head other : Head) (cap : ℕ) (body : List ℕ) (moment later : ℕ) (merchant consumer : Receipt) (keys : ReplyKeys) → head.house ≡ other.house
+    → verdict H head cap ORDER_REQUEST body moment ≡ record { reply = Receipts merchant consumer; keys = keys; entry = None }
+    → verdict H other cap ORDER_REQUEST body later ≡ record { reply = Receipts merchant consumer; keys = keys; entry = None }
+
 -- the entry pays the order of this identifier, names this party as its consumer or as its merchant, and has this key
 abbrev pub PaysWith : Epoid → PartyId → List ℕ → Entry → Type 0
 PaysWith p id key (Paid digest epoid consumer merchant product price cacct macct moment k) = (epoid ≡ p) × (k ≡ key) × ((consumer ≡ id) ⊎ (merchant ≡ id))
+PaysWith p id key (Charged digest epoid consumer merchant product price fee cacct macct moment k) = (epoid ≡ p) × (k ≡ key) × ((consumer ≡ id) ⊎ (merchant ≡ id))
 PaysWith p id key other = ⊥
 
 -- the reply gives who asks a receipt with this key
@@ -104,6 +114,7 @@ IsFund other = ⊥
 
 abbrev pub IsPayment : Entry → Type 0
 IsPayment (Paid digest epoid consumer merchant product price cacct macct moment key) = Unit {0}
+IsPayment (Charged digest epoid consumer merchant product price fee cacct macct moment key) = Unit {0}
 IsPayment other = ⊥
 
 abbrev pub IsRefusedOrder : Entry → Type 0
@@ -124,16 +135,16 @@ IsGrant (Grant consumer merchant nonce until session) = Unit {0}
 IsGrant other = ⊥
 
 -- an entry that is recorded for a request, if any, is a payment exactly where the request is an endorsed order that is payable, and it is
--- the payment of that order
-abbrev pub PaidWherePayable : List Entry → ℕ → ℕ → List ℕ → ℕ → Option Entry → Type 0
-PaidWherePayable H cap kind body moment recorded = (entry : Entry)
+-- the payment of that order under the head
+abbrev pub PaidWherePayable : List Entry → Head → ℕ → ℕ → List ℕ → ℕ → Option Entry → Type 0
+PaidWherePayable H head cap kind body moment recorded = (entry : Entry)
     → ((recorded ≡ Some entry) × IsPayment entry)
-    ↔ ((kind ≡ ORDER_REQUEST) × ((p : Presented) × IsPayable H cap body moment p × (entry ≡ payment_of p moment)))
+    ↔ ((kind ≡ ORDER_REQUEST) × ((p : Presented) × IsPayable H cap body moment p × (entry ≡ payment_of head p moment)))
 
 -- What a verdict records is so.
 abbrev pub PaidExactlyWhere : Type 0
 PaidExactlyWhere = (H : List Entry) (head : Head) (cap kind : ℕ) (body : List ℕ) (moment : ℕ)
-    → PaidWherePayable H cap kind body moment (verdict H head cap kind body moment).entry
+    → PaidWherePayable H head cap kind body moment (verdict H head cap kind body moment).entry
 
 -- A payable order is told that it is paid.
 abbrev pub PayableIsTold : Type 0

@@ -87,8 +87,8 @@ presented_of merchant consumer endorsement order hidden = record {
 }
 
 -- how an order that is new is settled
-abbrev pub settled : List Entry → Presented → ℕ → Settlement
-settled H p moment = record {
+abbrev pub settled : List Entry → Head → Presented → ℕ → Settlement
+settled H head p moment = record {
   at = length H;
   digest = p.digest;
   epoid = p.order.epoid;
@@ -97,7 +97,7 @@ settled H p moment = record {
   product = p.order.product;
   price = p.order.price;
   moment = moment;
-  outcome = outcome_of p (payment_steps H p moment);
+  outcome = outcome_of head p (payment_steps H p moment);
 }
 
 -- each party is given its receipt, signed by the house and sealed under the party's key. The keys are those of the parties of
@@ -116,7 +116,7 @@ again_or_settle H head cap p moment (Some kept) = do
   Ok (result head p kept None)
 again_or_settle H head cap p moment None = do
   room ← room_left H cap
-  Ok (result head p (settled H p moment) (Some (settlement_entry (settled H p moment))))
+  Ok (result head p (settled H head p moment) (Some (settlement_entry (settled H head p moment))))
 
 -- the tests of an endorsed order, and what its parties are told and what is recorded. The refusals of its lines, in order: 10;
 -- 11; 12, 10; 10; 11; 13; 14; 12, 10; and then 15 where it was settled before, 20 where it was not

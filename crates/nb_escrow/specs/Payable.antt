@@ -20,9 +20,11 @@ use Rattle.nb_endorse.specs.Reading.{endorsement_of}
 use Rattle.nb_seal.specs.Seal.{OpensAs}
 use Rattle.nb_endorse.specs.Tags.{endorsement_digest}
 use Rattle.nb_body.specs.declared.endorsed.EndorsedOrder.{EndorsedOrder}
+use Rattle.nb_escrow.specs.declared.head.Head.{Head}
 use Rattle.nb_escrow.specs.declared.order.Presented.{Presented}
 use Rattle.nb_escrow.specs.declared.settlement.RefusalReason.{RefusalReason}
 use Rattle.nb_body.specs.Reading.{endorsed_of}
+use Rattle.nb_escrow.specs.Head.{charge}
 
 -- a party that is enrolled as a merchant asks for the payment of an order
 pub record IsAsked (H : List Entry) (body : List ℕ) (request : EndorsedOrder) (merchant : Party) : Type 0 where
@@ -72,9 +74,15 @@ pub record IsPayable (H : List Entry) (cap : ℕ) (body : List ℕ) (moment : �
   pub in_time : IsInTime p.order.epoid moment
   pub covered : p.order.price.0 ≤ balance H p.consumer.acct
 
--- the payment of it
-abbrev pub payment_of : Presented → ℕ → Entry
-payment_of p moment = entries.Paid p.digest p.order.epoid p.order.consumer p.order.merchant p.order.product p.order.price p.consumer.acct p.merchant.acct moment p.endorsement.key
+-- the payment of it, without a fee or with this one
+abbrev pub payment_with : Option ℕ → Presented → ℕ → Entry
+payment_with None p moment = entries.Paid p.digest p.order.epoid p.order.consumer p.order.merchant p.order.product p.order.price p.consumer.acct p.merchant.acct moment p.endorsement.key
+payment_with (Some fee) p moment =
+    entries.Charged p.digest p.order.epoid p.order.consumer p.order.merchant p.order.product p.order.price fee p.consumer.acct p.merchant.acct moment p.endorsement.key
+
+-- the payment of it under a head: with what the house keeps
+abbrev pub payment_of : Head → Presented → ℕ → Entry
+payment_of head p moment = payment_with (charge head p.order.price) p moment
 
 -- both receipts say paid, and have the key of the endorsement
 abbrev pub TellsPayment : Presented → Reply → Type 0
@@ -117,5 +125,6 @@ TellsReason why other = ⊥
 -- the digest that a payment or a refusal holds
 abbrev pub digest_held : Entry → Option (List ℕ)
 digest_held (entries.Paid digest epoid consumer merchant product price cacct macct moment key) = Some digest
+digest_held (entries.Charged digest epoid consumer merchant product price fee cacct macct moment key) = Some digest
 digest_held (entries.Refused digest epoid consumer merchant product price code a b moment) = Some digest
 digest_held other = None

@@ -6,11 +6,13 @@ use Rattle.nb_book.specs.declared.entry.Entry.{Entry}
 use Rattle.nb_book.specs.declared.limits.TheConstants.{MAX_PRICE, MAX_AGE, MAX_AHEAD}
 use Rattle.nb_book.specs.declared.reason.TheConstants.{CONSUMER_ACCOUNT, MERCHANT_ACCOUNT, PRICE_RANGE, TOO_OLD, TOO_EARLY, BALANCE_LOW, CONSUMER_NONCE}
 use Rattle.nb_book.specs.Money.{balance}
+use Rattle.nb_escrow.specs.declared.head.Head.{Head}
 use Rattle.nb_escrow.specs.declared.order.Presented.{Presented}
 use Rattle.nb_escrow.specs.declared.settlement.RefusalReason.{RefusalReason}
 use Rattle.nb_escrow.specs.declared.settlement.PaymentOutcome.{PaymentOutcome}
 use Rattle.nb_escrow.specs.declared.settlement.PaymentOutcome.TheVariants.{Paid, Refused}
 use Rattle.nb_escrow.specs.Checks.{unless}
+use Rattle.nb_escrow.specs.Head.{charge}
 
 -- a code and the two numbers that it shows
 abbrev pub because : ℕ → ℕ → ℕ → RefusalReason
@@ -28,7 +30,7 @@ payment_steps H p moment = do
   begun ← unless (nat_le p.order.epoid.moment (moment + MAX_AHEAD)) (because TOO_EARLY p.order.epoid.moment moment)
   unless (nat_le p.order.price.0 (balance H p.consumer.acct)) (because BALANCE_LOW (balance H p.consumer.acct) p.order.price.0)
 
--- where all hold the price moves from the consumer's account to the merchant's
-abbrev pub outcome_of : Presented → Result (Unit {0}) RefusalReason → PaymentOutcome
-outcome_of p (Ok u) = Paid p.consumer.acct p.merchant.acct p.endorsement.key
-outcome_of p (Err reason) = Refused reason
+-- where all hold the price moves from the consumer's account to the merchant's, and what the house keeps of it to the house's
+abbrev pub outcome_of : Head → Presented → Result (Unit {0}) RefusalReason → PaymentOutcome
+outcome_of head p (Ok u) = Paid p.consumer.acct p.merchant.acct p.endorsement.key (charge head p.order.price)
+outcome_of head p (Err reason) = Refused reason

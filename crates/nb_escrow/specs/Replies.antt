@@ -75,6 +75,18 @@ receipt_at shown at (entries.Paid digest epoid consumer merchant product price c
   key = Some key;
   shown = None;
 })
+receipt_at shown at (entries.Charged digest epoid consumer merchant product price fee cacct macct moment key) = Some (record {
+  code = PAID_CODE;
+  consumer = consumer;
+  merchant = merchant;
+  product = product;
+  price = price;
+  epoid = epoid;
+  at = at;
+  moment = moment;
+  key = Some key;
+  shown = None;
+})
 receipt_at shown at (entries.Refused digest epoid consumer merchant product price code a b moment) = Some (record {
   code = code;
   consumer = consumer;

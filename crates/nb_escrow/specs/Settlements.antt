@@ -19,7 +19,7 @@ use Rattle.nb_escrow.specs.declared.settlement.Settlement.{Settlement}
 
 -- a reason's code is one that a receipt may have
 abbrev pub IsPaymentOutcome : PaymentOutcome → Type 0
-IsPaymentOutcome (Paid cacct macct key) = Unit {0}
+IsPaymentOutcome (Paid cacct macct key fee) = Unit {0}
 IsPaymentOutcome (Refused reason) = IsReason reason.code
 
 -- a settlement of these parts
@@ -39,7 +39,9 @@ settlement at digest epoid consumer merchant product price moment outcome = reco
 -- how an entry at this place settled its order: a payment or a refusal did
 abbrev pub settlement_at : ℕ → Entry → Option Settlement
 settlement_at at (entries.Paid digest epoid consumer merchant product price cacct macct moment key) =
-    Some (settlement at digest epoid consumer merchant product price moment (Paid cacct macct key))
+    Some (settlement at digest epoid consumer merchant product price moment (Paid cacct macct key None))
+settlement_at at (entries.Charged digest epoid consumer merchant product price fee cacct macct moment key) =
+    Some (settlement at digest epoid consumer merchant product price moment (Paid cacct macct key (Some fee)))
 settlement_at at (entries.Refused digest epoid consumer merchant product price code a b moment) =
     Some (settlement at digest epoid consumer merchant product price moment (Refused (record { code = code; a = a; b = b })))
 settlement_at at other = None
@@ -54,7 +56,8 @@ settlement_in H epoid = option_and_then settlement_of (order_in H epoid)
 
 -- the entry that records a settlement with this outcome
 abbrev pub entry_with : Settlement → PaymentOutcome → Entry
-entry_with s (Paid cacct macct key) = entries.Paid s.digest s.epoid s.consumer s.merchant s.product s.price cacct macct s.moment key
+entry_with s (Paid cacct macct key None) = entries.Paid s.digest s.epoid s.consumer s.merchant s.product s.price cacct macct s.moment key
+entry_with s (Paid cacct macct key (Some fee)) = entries.Charged s.digest s.epoid s.consumer s.merchant s.product s.price fee cacct macct s.moment key
 entry_with s (Refused reason) = entries.Refused s.digest s.epoid s.consumer s.merchant s.product s.price reason.code reason.a reason.b s.moment
 
 -- the entry that records a settlement
@@ -63,12 +66,12 @@ settlement_entry s = entry_with s s.outcome
 
 -- the code of a receipt: paid, or the reason's
 abbrev pub code_of : PaymentOutcome → ℕ
-code_of (Paid cacct macct key) = PAID_CODE
+code_of (Paid cacct macct key fee) = PAID_CODE
 code_of (Refused reason) = reason.code
 
 -- the key of the goods goes with a payment alone
 abbrev pub key_of : PaymentOutcome → Option (List ℕ)
-key_of (Paid cacct macct key) = Some key
+key_of (Paid cacct macct key fee) = Some key
 key_of (Refused reason) = None
 
 -- whom a reason's numbers are shown to: what is the consumer's own to the consumer alone, what is the merchant's own to
@@ -81,7 +84,7 @@ may_see role code =
 
 -- what the party in this role is shown
 abbrev pub shown_in_role : ℕ → PaymentOutcome → Option (ℕ × ℕ)
-shown_in_role role (Paid cacct macct key) = None
+shown_in_role role (Paid cacct macct key fee) = None
 shown_in_role role (Refused reason) = if may_see role reason.code then Some (reason.a, reason.b) else None
 
 -- a receipt of the order with this code, and key or numbers

@@ -81,7 +81,7 @@ pub(crate) fn check_room(book: &Book) -> Result<(), Refusal>
     }
 }
 
-// What is in the account, 0 where nobody holds it.
+// What is in the account: in the house's the fees, in another that nobody holds nothing.
 pub(crate) fn balance_now(book: &Book, acct: AcctId) -> u64
     ensures balance { result ≡ balance book.now.entries acct }
     ensures most { result ≤ total book.now.entries }
@@ -89,6 +89,7 @@ pub(crate) fn balance_now(book: &Book, acct: AcctId) -> u64
 {
     match book.account(acct) {
         Some(account) => account.balance,
+        None if acct.0 == 0 => book.fees(),
         None => 0,
     }
 }

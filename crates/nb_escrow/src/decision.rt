@@ -1,8 +1,9 @@
 ghost use Rattle.std.specs.Prelude.{◌≡◌, ◌<◌, length, IfOk, IfSome, IsOk, IsSome};
 ghost use Rattle.nb_units.specs.declared.frames.TheConstants.{STATUS_REQUEST};
-ghost use Rattle.nb_book.specs.Legal.{Legal, LegalAfter};
+ghost use Rattle.nb_book.specs.Legal.{Legal, NextUnder};
 ghost use Rattle.nb_endorse.specs.Keys.{no_keys};
 ghost use Rattle.nb_endorse.specs.Replies.{HasLawfulReceipts};
+ghost use Rattle.nb_escrow.specs.Head.{IsRuling};
 ghost use Rattle.nb_escrow.specs.Held.{done as done_at};
 ghost use Rattle.nb_escrow.specs.Laws.{KeyWherePaid, PaidWherePayable};
 ghost use Rattle.nb_escrow.specs.Verdict.{steps, verdict};
@@ -31,16 +32,17 @@ pub struct Decision {
 }
 
 /// Decides on one request, a frame's kind and body, over the entries that are held, at a moment in seconds since 1970-01-01
-/// 00:00 UTC. It has no condition, and takes no memory. Five kinds are served: [`ORDER_REQUEST`], [`STATUS_REQUEST`],
+/// 00:00 UTC. The head has one of the two versions, and a rate of at most [`MAX_RATE`](nb_units::MAX_RATE). It takes no memory. Five kinds are served: [`ORDER_REQUEST`], [`STATUS_REQUEST`],
 /// [`TICKET_REQUEST`], [`ENROL_REQUEST`] and [`FUND_REQUEST`].
 pub fn decide(book: &Book, head: &Head, kind: u8, body: &[u8], moment: u64) -> Decision
+    requires terms { IsRuling head.now }
     ensures verdict { result ≡ verdict book.now.entries head.now book.now.cap kind body.now moment }
-    ensures legal { IfSome result.entry (LegalAfter book.now.entries) }
+    ensures legal { IfSome result.entry (NextUnder head.now.version head.now.rate book.now.entries) }
     ensures room { IsSome result.entry → length book.now.entries < book.now.cap }
     ensures receipts { HasLawfulReceipts result.reply }
 
     // A payment is recorded exactly where the request is an endorsed order that is payable over these entries.
-    ensures paid { PaidWherePayable book.now.entries book.now.cap kind body.now moment result.entry }
+    ensures paid { PaidWherePayable book.now.entries head.now book.now.cap kind body.now moment result.entry }
 
     // To an authentic status query, over at least as many entries as it asks for, a key is given exactly where an entry pays the
     // order with it and names who asks.
@@ -59,13 +61,14 @@ pub fn decide_with(
     moment: u64,
     states: &mut ReplyStates,
 ) -> Decision
+    requires terms { IsRuling head.now }
     ensures verdict { result ≡ verdict book.now.entries head.now book.now.cap kind body.now moment }
-    ensures legal { IfSome result.entry (LegalAfter book.now.entries) }
+    ensures legal { IfSome result.entry (NextUnder head.now.version head.now.rate book.now.entries) }
     ensures room { IsSome result.entry → length book.now.entries < book.now.cap }
     ensures receipts { HasLawfulReceipts result.reply }
 
     // A payment is recorded exactly where the request is an endorsed order that is payable over these entries.
-    ensures paid { PaidWherePayable book.now.entries book.now.cap kind body.now moment result.entry }
+    ensures paid { PaidWherePayable book.now.entries head.now book.now.cap kind body.now moment result.entry }
 
     // To an authentic status query, over at least as many entries as it asks for, a key is given exactly where an entry pays the
     // order with it and names who asks.
@@ -95,9 +98,10 @@ fn test(
     moment: u64,
     states: &mut ReplyStates,
 ) -> Result<Decision, Refusal>
+    requires terms { IsRuling head.now }
     requires fresh { states.old ≡ no_keys }
     ensures steps { result ≡ steps book.now.entries head.now book.now.cap kind body.now moment }
-    ensures legal { IfOk result (λ decision. IfSome decision.entry (LegalAfter book.now.entries)) }
+    ensures legal { IfOk result (λ decision. IfSome decision.entry (NextUnder head.now.version head.now.rate book.now.entries)) }
     ensures room { IfOk result (λ decision. IsSome decision.entry → length book.now.entries < book.now.cap) }
     ensures receipts { IfOk result (λ decision. HasLawfulReceipts decision.reply) }
     ensures list { kind ≡ STATUS_REQUEST → IsOk result → Legal book.now.entries }

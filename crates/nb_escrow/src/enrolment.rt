@@ -1,6 +1,6 @@
 ghost use Rattle.std.specs.Prelude.{◌≡◌, ◌≢◌, ◌<◌, length, OnOk, IfOk, IfSome, IsSome, IsNone};
 ghost use Rattle.nb_book.specs.Searches.{party_in, holder_in};
-ghost use Rattle.nb_book.specs.Legal.{LegalAfter};
+ghost use Rattle.nb_book.specs.Legal.{NextUnder};
 ghost use Rattle.nb_endorse.specs.Keys.{no_keys};
 ghost use Rattle.nb_endorse.specs.Replies.{HasLawfulReceipts};
 ghost use Rattle.nb_escrow.specs.Held.{place_in};
@@ -47,7 +47,7 @@ fn place_of(asked: &Enrolment, party: &Party) -> Option<u64>
 #[tactic(auto, unfolding(crate::specs::Enrolments::enrol_steps))]
 pub(crate) fn decide_enrolment(book: &Book, head: &Head, body: &[u8]) -> Result<Decision, Refusal>
     ensures steps { result ≡ enrol_steps book.now.entries head.now book.now.cap body.now }
-    ensures legal { IfOk result (λ decision. IfSome decision.entry (LegalAfter book.now.entries)) }
+    ensures legal { IfOk result (λ decision. IfSome decision.entry (NextUnder head.now.version head.now.rate book.now.entries)) }
     ensures room { IfOk result (λ decision. IsSome decision.entry → length book.now.entries < book.now.cap) }
     ensures receipts { IfOk result (λ decision. HasLawfulReceipts decision.reply) }
     ensures keys { IfOk result (λ decision. decision.keys ≡ no_keys) }

@@ -1,7 +1,7 @@
 ghost use Rattle.std.specs.Prelude.{◌≡◌, ◌≤◌, ◌<◌, ◌+◌, ◌++◌, ◌∷◌, [], length, OnOk, IfOk, IfSome, IsSome, IsNone};
 ghost use Rattle.nb_book.specs.declared.limits.TheConstants.{MAX_TOTAL};
 ghost use Rattle.nb_book.specs.Searches.{holder_in, funded_in};
-ghost use Rattle.nb_book.specs.Legal.{LegalAfter};
+ghost use Rattle.nb_book.specs.Legal.{NextUnder};
 ghost use Rattle.nb_book.specs.Money.{balance, total};
 ghost use Rattle.nb_endorse.specs.Keys.{no_keys};
 ghost use Rattle.nb_endorse.specs.Replies.{HasLawfulReceipts};
@@ -44,7 +44,7 @@ fn place_of(asked: &Funding, funded: &Funded) -> Option<u64>
 #[tactic(auto, unfolding(crate::specs::Fundings::fund_steps))]
 pub(crate) fn decide_funding(book: &Book, head: &Head, body: &[u8]) -> Result<Decision, Refusal>
     ensures steps { result ≡ fundings.fund_steps book.now.entries head.now book.now.cap body.now }
-    ensures legal { IfOk result (λ decision. IfSome decision.entry (LegalAfter book.now.entries)) }
+    ensures legal { IfOk result (λ decision. IfSome decision.entry (NextUnder head.now.version head.now.rate book.now.entries)) }
     ensures room { IfOk result (λ decision. IsSome decision.entry → length book.now.entries < book.now.cap) }
     ensures receipts { IfOk result (λ decision. HasLawfulReceipts decision.reply) }
     ensures keys { IfOk result (λ decision. decision.keys ≡ no_keys) }
@@ -65,7 +65,8 @@ pub(crate) fn decide_funding(book: &Book, head: &Head, body: &[u8]) -> Result<De
 
 // What is in the account once the fund is recorded.
 fn balance_after(book: &Book, asked: &Funding) -> u64
-    requires { total book.now.entries + asked.now.amount ≤ MAX_TOTAL }
+    requires held { IsSome (holder_in book.now.entries asked.now.acct) }
+    requires fits { total book.now.entries + asked.now.amount ≤ MAX_TOTAL }
     ensures { result ≡ balance (book.now.entries ++ fundings.fund_entry asked.now ∷ []) asked.now.acct }
 {
     balance_now(book, asked.acct) + asked.amount

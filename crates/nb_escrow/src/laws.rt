@@ -16,13 +16,18 @@ pub fn result_stays()
     ensures { law.ResultStays }
 {}
 
+/// The result of an order that was settled before is told alike under each head of a house, whatever their versions and rates.
+pub fn repeat_is_same()
+    ensures { law.RepeatIsSame }
+{}
+
 /// To an authentic status query, over a Legal list of at least as many entries as it asks for, the reply gives a key exactly
 /// where an entry pays the order with that key and names who asks.
 pub fn status_tells_key()
     ensures { law.StatusTellsKey }
 {}
 
-/// What a verdict records is legal after the entries that it was taken over, and there is room for it.
+/// What a verdict records may come after the entries that it was taken over in a journal of the head's version and rate, and there is room for it.
 pub fn records_legal()
     ensures { law.RecordsLegal }
 {}

@@ -1,5 +1,5 @@
 ghost use Rattle.std.specs.Prelude.{◌≡◌, ◌≤◌, ◌<◌, length, IfOk, IfErr, IfSome, IsSome, IsNone, OnOk, None, Ok, Err};
-ghost use Rattle.nb_book.specs.Legal.{LegalAfter};
+ghost use Rattle.nb_book.specs.Legal.{NextUnder};
 ghost use Rattle.nb_book.specs.Searches.{order_in};
 ghost use Rattle.nb_units.specs.declared.limits.TheConstants.{MAX_HIDDEN};
 ghost use Rattle.nb_epo.specs.Reading.{order_of};
@@ -10,6 +10,7 @@ ghost use Rattle.nb_endorse.specs.declared.endorsement.TheConstants.{MAX_SEALED}
 ghost use Rattle.nb_endorse.specs.declared.refusal.TheConstants.{IN_ORDER};
 ghost use Rattle.nb_endorse.specs.Replies.{HasLawfulReceipts};
 ghost use Rattle.nb_escrow.specs.Checks.{well_formed, right_tag};
+ghost use Rattle.nb_escrow.specs.Head.{IsRuling};
 ghost use Rattle.nb_escrow.specs.Orders as orders;
 ghost use Rattle.nb_escrow.specs.Settlements.{settlement_entry, settlement_in, IsPaymentOutcome};
 
@@ -57,8 +58,9 @@ pub(crate) fn decide_order(
     moment: u64,
     states: &mut ReplyStates,
 ) -> Result<Decision, Refusal>
+    requires { IsRuling head.now }
     ensures steps { result ≡ orders.order_steps book.now.entries head.now book.now.cap body.now moment }
-    ensures legal { IfOk result (λ decision. IfSome decision.entry (LegalAfter book.now.entries)) }
+    ensures legal { IfOk result (λ decision. IfSome decision.entry (NextUnder head.now.version head.now.rate book.now.entries)) }
     ensures room { IfOk result (λ decision. IsSome decision.entry → length book.now.entries < book.now.cap) }
     ensures receipts { IfOk result (λ decision. HasLawfulReceipts decision.reply) }
     ensures states { IfOk result (λ decision. decision.keys ≡ states.new) }
@@ -94,9 +96,10 @@ pub(crate) fn decide_order(
 impl Presented {
     // An order that is settled already is told again; a new one is settled and recorded.
     fn again_or_settle(&self, book: &Book, head: &Head, moment: u64) -> Result<Decision, Refusal>
+        requires terms { IsRuling head.now }
         requires presented { orders.IsPresented book.now.entries self.now }
         ensures steps { result ≡ orders.again_or_settle book.now.entries head.now book.now.cap (orders.presented_of self.now.merchant self.now.consumer self.now.endorsement self.now.order self.now.hidden) moment (settlement_in book.now.entries self.now.order.epoid) }
-        ensures legal { IfOk result (λ decision. IfSome decision.entry (LegalAfter book.now.entries)) }
+        ensures legal { IfOk result (λ decision. IfSome decision.entry (NextUnder head.now.version head.now.rate book.now.entries)) }
         ensures room { IfOk result (λ decision. IsSome decision.entry → length book.now.entries < book.now.cap) }
         ensures receipts { IfOk result (λ decision. HasLawfulReceipts decision.reply) }
         ensures keys { IfOk result (λ decision. decision.keys ≡ record { house = head.now.house; first = self.now.merchant.key; second = self.now.consumer.key }) }
@@ -106,16 +109,17 @@ impl Presented {
             return Ok(self.result(head, &kept, None));
         }
         check_room(book)?;
-        let settlement = self.settle(book, moment);
+        let settlement = self.settle(book, head, moment);
         Ok(self.result(head, &settlement, Some(settlement.entry())))
     }
 
     // How the order is settled, which is new.
-    fn settle(&self, book: &Book, moment: u64) -> Settlement
+    fn settle(&self, book: &Book, head: &Head, moment: u64) -> Settlement
+        requires terms { IsRuling head.now }
         requires presented { orders.IsPresented book.now.entries self.now }
         requires new { IsNone (order_in book.now.entries self.now.order.epoid) }
-        ensures settled { result ≡ orders.settled book.now.entries self.now moment }
-        ensures legal { LegalAfter book.now.entries (settlement_entry result) }
+        ensures settled { result ≡ orders.settled book.now.entries head.now self.now moment }
+        ensures legal { NextUnder head.now.version head.now.rate book.now.entries (settlement_entry result) }
         ensures outcome { IsPaymentOutcome result.outcome }
     {
         Settlement {
@@ -127,7 +131,7 @@ impl Presented {
             product: self.order.product,
             price: self.order.price,
             moment,
-            outcome: outcome(book, self, moment),
+            outcome: outcome(book, head, self, moment),
         }
     }
 

@@ -25,11 +25,13 @@ pub struct RefusalReason {
 #[derive(Clone, Copy)]
 pub enum PaymentOutcome {
     /// The price moved from the consumer's account, `cacct`, to the merchant's, `macct`. The key, 32 bytes, is the one that
-    /// the merchant gave for the goods.
+    /// the merchant gave for the goods. The fee, in the house's smallest unit of money, is what the house kept of the price, where its journal
+    /// has the version with fees.
     Paid {
         cacct: AcctId,
         macct: AcctId,
         key: Secret,
+        fee: Option<u64>,
     },
     /// Nothing moved.
     Refused(RefusalReason),
@@ -85,7 +87,40 @@ impl Settlement {
                 product,
                 price,
                 moment,
-                outcome: PaymentOutcome::Paid { cacct, macct, key },
+                outcome: PaymentOutcome::Paid {
+                    cacct,
+                    macct,
+                    key,
+                    fee: None,
+                },
+            }),
+            Entry::Charged {
+                digest,
+                epoid,
+                consumer,
+                merchant,
+                product,
+                price,
+                fee,
+                cacct,
+                macct,
+                moment,
+                key,
+            } => Some(Settlement {
+                at,
+                digest,
+                epoid,
+                consumer,
+                merchant,
+                product,
+                price,
+                moment,
+                outcome: PaymentOutcome::Paid {
+                    cacct,
+                    macct,
+                    key,
+                    fee: Some(fee),
+                },
             }),
             Entry::Refused {
                 digest,
@@ -128,13 +163,36 @@ impl Settlement {
             ..
         } = *self;
         match self.outcome {
-            PaymentOutcome::Paid { cacct, macct, key } => Entry::Paid {
+            PaymentOutcome::Paid {
+                cacct,
+                macct,
+                key,
+                fee: None,
+            } => Entry::Paid {
                 digest,
                 epoid,
                 consumer,
                 merchant,
                 product,
                 price,
+                cacct,
+                macct,
+                moment,
+                key,
+            },
+            PaymentOutcome::Paid {
+                cacct,
+                macct,
+                key,
+                fee: Some(fee),
+            } => Entry::Charged {
+                digest,
+                epoid,
+                consumer,
+                merchant,
+                product,
+                price,
+                fee,
                 cacct,
                 macct,
                 moment,

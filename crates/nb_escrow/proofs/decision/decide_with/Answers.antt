@@ -16,10 +16,10 @@ returns-in-Err-clause-key c =
 
 pub returns-in-Ok-clause-paid : goal.returns-in-Ok-clause-paid
 returns-in-Ok-clause-paid c =
-    subst (λ (r : Answer). PaidWherePayable c.args.book.now.entries c.args.book.now.cap c.args.kind c.args.body.now c.args.moment (told r).entry) (sym c.in-Ok.ensures.steps)
+    subst (λ (r : Answer). PaidWherePayable c.args.book.now.entries c.args.head.now c.args.book.now.cap c.args.kind c.args.body.now c.args.moment (told r).entry) (sym c.in-Ok.ensures.steps)
     (paid_exactly_where c.args.book.now.entries c.args.head.now c.args.book.now.cap c.args.kind c.args.body.now c.args.moment)
 
 pub returns-in-Err-clause-paid : goal.returns-in-Err-clause-paid
 returns-in-Err-clause-paid c =
-    subst (λ (r : Answer). PaidWherePayable c.args.book.now.entries c.args.book.now.cap c.args.kind c.args.body.now c.args.moment (told r).entry) (sym c.in-Err.ensures.steps)
+    subst (λ (r : Answer). PaidWherePayable c.args.book.now.entries c.args.head.now c.args.book.now.cap c.args.kind c.args.body.now c.args.moment (told r).entry) (sym c.in-Err.ensures.steps)
     (paid_exactly_where c.args.book.now.entries c.args.head.now c.args.book.now.cap c.args.kind c.args.body.now c.args.moment)
