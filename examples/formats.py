@@ -8,8 +8,10 @@ import typing
 
 ENDORSED, RESULT, STATUS, TOLD, TICKET, GRANT, ENROL, FUND, DONE, REFUSAL = 0x06, 0x07, 0x09, 0x0A, 0x0B, 0x0C, 0x0D, 0x0E, 0x0F, 0x10
 CONSUMER, MERCHANT = 1, 2
-ENROLLED, FUNDED, PAID, REFUSED = 1, 2, 3, 4
-ENTRY_BYTES = {ENROLLED: 50, FUNDED: 29, PAID: 117, REFUSED: 94}
+ENROLLED, FUNDED, PAID, REFUSED, CHARGED = 1, 2, 3, 4, 5
+ENTRY_BYTES = {ENROLLED: 50, FUNDED: 29, PAID: 117, REFUSED: 94, CHARGED: 125}
+# The account of a house itself, as its four bytes.
+HOUSE_ACCOUNT = bytes(4)
 
 # The kinds of frames, by their names.
 KINDS = {
@@ -228,6 +230,11 @@ class Order(typing.NamedTuple):
         accounts = struct.pack(">IIQ", self.consumer.account, self.merchant.account, moment)
         return self.front(PAID) + accounts + self.key
 
+    def charged(self, rate, moment):
+        """The entry that pays it where the house keeps so many thousandths of the price."""
+        accounts = struct.pack(">QIIQ", self.price * rate // 1000, self.consumer.account, self.merchant.account, moment)
+        return self.front(CHARGED) + accounts + self.key
+
     def refused(self, why, a, b, moment):
         """The entry that refuses it."""
         return self.front(REFUSED) + struct.pack(">BQQQ", why, a, b, moment)
@@ -286,26 +293,32 @@ def unsealed(key, label, sealed):
     return text if code(key, label + text) == sealed[:32] else None
 
 
+def moves(entry):
+    """What an entry brings into accounts and takes from them: an account's four bytes, and how much more is in it."""
+    if entry[0] == FUNDED:
+        return [(entry[1:5], number(entry[5:13]))]
+    price = number(entry[61:69])
+    if entry[0] == PAID:
+        return [(entry[69:73], -price), (entry[73:77], price)]
+    if entry[0] == CHARGED:
+        fee = number(entry[69:77])
+        return [(entry[77:81], -price), (entry[81:85], price - fee), (HOUSE_ACCOUNT, fee)]
+    return []
+
+
 def balance(entries, account):
     """What is in an account, which is given as its four bytes."""
-    total = 0
-    for entry in entries:
-        if entry[0] == FUNDED and entry[1:5] == account:
-            total += number(entry[5:13])
-        if entry[0] == PAID:
-            total += number(entry[61:69]) * ((entry[73:77] == account) - (entry[69:73] == account))
-    return total
+    return sum(amount for entry in entries for moved, amount in moves(entry) if moved == account)
 
 
 def balances(entries, accounts):
-    """What is in each of these accounts, in one walk over the entries."""
+    """What is in each of these accounts, and in the house's where it kept fees, in one walk over the entries."""
     held = dict.fromkeys(accounts, 0)
     for entry in entries:
-        if entry[0] == FUNDED:
-            held[entry[1:5]] += number(entry[5:13])
-        if entry[0] == PAID:
-            held[entry[69:73]] -= number(entry[61:69])
-            held[entry[73:77]] += number(entry[61:69])
+        if entry[0] == CHARGED:
+            held.setdefault(HOUSE_ACCOUNT, 0)
+        for account, amount in moves(entry):
+            held[account] += amount
     return held.items()
 
 
@@ -319,6 +332,8 @@ def receipt(house, entry, place, role):
     key, shown = bytes(33), bytes(17)
     if entry[0] == PAID:
         why, moment, key = 0, entry[77:85], b"\x01" + entry[85:117]
+    elif entry[0] == CHARGED:
+        why, moment, key = 0, entry[85:93], b"\x01" + entry[93:125]
     else:
         why, moment = entry[69], entry[86:94]
         if role in SHOWN[why]:
@@ -342,7 +357,7 @@ def told(house, entries, asker, epoid):
     """The reply of a house with these entries to a status query. The one who asks is given as the four bytes of its id."""
     found = b"\x00"
     for place, entry in enumerate(entries):
-        if entry[0] in (PAID, REFUSED) and entry[33:49] == epoid and asker in (entry[49:53], entry[53:57]):
+        if entry[0] in (PAID, CHARGED, REFUSED) and entry[33:49] == epoid and asker in (entry[49:53], entry[53:57]):
             role = CONSUMER if asker == entry[49:53] else MERCHANT
             found = b"\x01" + receipt(house, entry, place, role)
             break
