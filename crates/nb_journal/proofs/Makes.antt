@@ -1,14 +1,12 @@
 -- A journal without items: all of it but the magic is put, and then the magic.
-use Rattle.std.proofs.Common.{◌≡◌, refl, ℕ, ◌+◌, List, [], ◌∷◌, ◌++◌, length, drop, Option, Some, None, IfSome, sym, ap, subst, ◌∙◌}
+use Rattle.std.proofs.Common.{◌≡◌, refl, ℕ, ◌+◌, List, [], ◌∷◌, ◌++◌, length, drop, Option, Some, None, IfSome, sym, ap, ◌∙◌}
 use Rattle.std.specs.Prelude.{replicate, ⊤}
 use Rattle.std.proofs.lemmas.List.{append_assoc, append-nil}
 use Rattle.nb_port.specs.Disk.{put_at, wrote_at}
-use Rattle.nb_journal.specs.Layout.{IsMagic, magic, terms, front_bytes}
-use Rattle.nb_journal.specs.Making.{NoJournal}
+use Rattle.nb_journal.specs.Layout.{magic, terms, front_bytes}
 use Rattle.nb_units.specs.declared.charter.Charter.{Charter}
-use Rattle.nb_journal.specs.Reading.{found_in}
 use Rattle.nb_journal.specs.Stands.{Stands}
-use Rattle.nb_journal.proofs.Telling.{any_content, some_each, some_wrote}
+use Rattle.nb_journal.proofs.Telling.{any_content, some_wrote}
 
 -- all but the magic
 abbrev unborn_bytes : ℕ → Charter → List ℕ
@@ -51,11 +49,6 @@ both_put old cap charter = refl
 both_at : (told : Option (List ℕ)) (cap : ℕ) (charter : Charter) → wrote_at (wrote_at told 0 (unborn_bytes cap charter)) 0 (magic charter.version) ≡ wrote_at told 0 (front_bytes cap charter ++ 0 ∷ [])
 both_at None cap charter = refl
 both_at (Some old) cap charter = ap Some (both_put old cap charter)
-
--- what the content begins with is no magic
-pub begins_other : (told : Option (List ℕ)) (found : List ℕ) → (IsMagic found → ⊥) → IfSome told (λ image. found ≡ found_in image) → NoJournal told
-begins_other told found other is =
-    some_each told (λ image. found ≡ found_in image) (λ image. IsMagic (found_in image) → ⊥) (λ image same e. other (subst IsMagic (sym same) e)) is
 
 -- both writes, one behind the other
 pub made : (old mid new : Option (List ℕ)) (cap : ℕ) (charter : Charter) → mid ≡ wrote_at old 0 (unborn_bytes cap charter) → new ≡ wrote_at mid 0 (magic charter.version) → IfSome new (Stands (front_bytes cap charter) [])

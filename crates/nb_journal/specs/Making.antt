@@ -56,7 +56,8 @@ InitGives tells old new cap charter (Ok done) =
     MayMake cap charter × NoJournal (tells.content old) × IfSome (tells.content new) (Stands (front_bytes cap charter) []) × Only (tells.content new) (tells.allowed new)
 InitGives tells old new cap charter (Err fault) = InitFails tells old new cap charter fault
 
--- for the contract of a private function alone: what the content begins with
+-- the content begins with this magic, or with none
 abbrev pub MagicGives : ℕ → ℕ → Option (List ℕ) → MagicRead → Type 0
-MagicGives before after content (magics.Got found) = IfSome content (λ image. found ≡ found_in image)
+MagicGives before after content (magics.Is found) = IsMagic found × IfSome content (λ image. found ≡ found_in image)
+MagicGives before after content magics.Other = NoJournal content
 MagicGives before after content magics.Failed = Rose before after

@@ -34,6 +34,6 @@ mod versions;
 
 pub use journal::{AppendFault, Journal, Settled, StillStale};
 pub use limits::{HEAD, MAGIC_BYTES, MAX_CAP, MAX_IMAGE, MAX_ITEM};
-pub use making::{InitFault, init, init2};
+pub use making::{InitFault, MagicRead, init, init2, magic_of};
 pub use migrating::{CopyFault, crown, lay};
 pub use opening::{OpenFault, Opened};

@@ -27,10 +27,14 @@ pub enum InitFault {
     DiskFault { before: u64, after: u64 },
 }
 
-// What the content begins with.
-#[derive(Drop)]
-enum MagicRead {
-    Got([u8; MAGIC_BYTES]),
+/// What the content of a disk begins with.
+#[derive(Clone, Copy)]
+pub enum MagicRead {
+    /// The magic of a version.
+    Is([u8; MAGIC_BYTES]),
+    /// No magic.
+    Other,
+    /// The disk failed.
     Failed,
 }
 
@@ -94,11 +98,8 @@ fn make<D: Disk>(disk: &mut D, charter: &Charter, cap: u32) -> Result<(), InitFa
             let after = disk.fault_count();
             return Err(InitFault::LookFailed { before, after });
         }
-        MagicRead::Got(found) => {
-            if is_magic(&found) {
-                return Err(InitFault::Exists { magic: found });
-            }
-        }
+        MagicRead::Is(found) => return Err(InitFault::Exists { magic: found }),
+        MagicRead::Other => {}
     }
     match put_synced(disk, 0, &unborn(charter, cap)) {
         DiskOut::Failed => {
@@ -116,8 +117,8 @@ fn make<D: Disk>(disk: &mut D, charter: &Charter, cap: u32) -> Result<(), InitFa
     }
 }
 
-// The first eight bytes of the content, where missing ones are zeros.
-fn magic_of<D: Disk>(disk: &mut D) -> MagicRead
+/// Reads whether the content of a disk begins with the magic of a version. Nothing is written.
+pub fn magic_of<D: Disk>(disk: &mut D) -> MagicRead
     ensures gives { MagicGives (D.tells.faults disk.old) (D.tells.faults disk.new) (D.tells.content disk.old) result }
     ensures nothing { Untouched D.tells disk.old disk.new }
     ensures count { D.tells.faults disk.old ≤ D.tells.faults disk.new }
@@ -125,7 +126,14 @@ fn magic_of<D: Disk>(disk: &mut D) -> MagicRead
     let mut bytes = [0u8; MAGIC_BYTES];
     match disk.read(0, &mut bytes) {
         DiskRead::Failed => MagicRead::Failed,
-        DiskRead::Got(n) => MagicRead::Got(first_eight(bytes.as_slice().split_at(n).0)),
+        DiskRead::Got(n) => {
+            let found = first_eight(bytes.as_slice().split_at(n).0);
+            if is_magic(&found) {
+                MagicRead::Is(found)
+            } else {
+                MagicRead::Other
+            }
+        }
     }
 }
 
