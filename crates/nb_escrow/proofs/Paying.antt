@@ -24,7 +24,7 @@ use Rattle.nb_escrow.specs.declared.settlement.PaymentOutcome.TheVariants.{Paid}
 use Rattle.nb_escrow.specs.declared.settlement.Settlement.{Settlement}
 use Rattle.nb_escrow.specs.Checks.{unless}
 use Rattle.nb_escrow.specs.Head.{IsRuling, charge}
-use Rattle.nb_escrow.specs.Orders.{IsPresented}
+use Rattle.nb_escrow.specs.Orders.{IsPresented, presented_of}
 use Rattle.nb_escrow.specs.Payments.{payment_steps, outcome_of}
 use Rattle.nb_escrow.specs.Settlements.{IsPaymentOutcome, settlement_entry}
 
@@ -123,3 +123,8 @@ module _ (H : List Entry) (head : Head) (p : Presented) (moment : ℕ) where
 
   pub outcome_lawful : IsPresented H p → IsPaymentOutcome (outcome_of head p (payment_steps H p moment))
   outcome_lawful is = outcome_with (payment_steps H p moment) (comes H p moment is)
+
+-- an order that is presented has the digest of its endorsement
+pub as_presented : (H : List Entry) (p : Presented) → IsPresented H p → p ≡ presented_of p.merchant p.consumer p.endorsement p.order p.hidden
+as_presented H p is =
+    ap (λ (digest : List ℕ). let q : Presented = record { merchant = p.merchant; consumer = p.consumer; endorsement = p.endorsement; digest = digest; order = p.order; hidden = p.hidden } in q) is.digested

@@ -95,6 +95,7 @@ pub(crate) fn decide_order(
 
 impl Presented {
     // An order that is settled already is told again; a new one is settled and recorded.
+    #[tactic(auto, using(crate::proofs::Paying::as_presented))]
     fn again_or_settle(&self, book: &Book, head: &Head, moment: u64) -> Result<Decision, Refusal>
         requires terms { IsRuling head.now }
         requires presented { orders.IsPresented book.now.entries self.now }
