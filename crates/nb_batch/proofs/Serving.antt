@@ -8,6 +8,7 @@ use Rattle.std.proofs.KnownBytes.{Consumes-trans, Appends-trans, Appends-nil}
 use Rattle.std.proofs.lemmas.List.{map-append, length-append, length-map}
 use Rattle.std.proofs.lemmas.List.Elements.{Contains-append_left, Contains-append_right, Contains-push}
 use Rattle.std.proofs.lemmas.Grind.{flat_map-append}
+use Rattle.nb_units.specs.declared.charter.Charter.{Charter}
 use Rattle.nb_port.proofs.Backing.{backed_append}
 use Rattle.nb_port.specs.Tells.{DiskTells}
 use Rattle.nb_port.specs.Faults.{Failure, Backed}
@@ -43,8 +44,8 @@ pub record Went {D : Type 0} (tells : DiskTells D) (held : Collected) (old new :
   pub last : state_of new ≡ last_state (state_of old) states
   pub origin : new.origin ≡ old.origin
   pub backed : Backed (tells.faults old.disk) (failures_told answered) (tells.faults new.disk)
-  pub stops : LeavesOnly tells old.disk new.disk (StandsInRun old.origin.head old.origin.cap (state_of old) states)
-  pub through : GoesThrough tells old.origin.head old.origin.cap (state_of old) old.disk states disks
+  pub stops : LeavesOnly tells old.disk new.disk (StandsInRun old.origin.charter old.origin.cap (state_of old) states)
+  pub through : GoesThrough tells old.origin.charter old.origin.cap (state_of old) old.disk states disks
   pub last_is : new.disk ≡ last_disk old.disk disks
   pub quiet : AllByRecursion (λ (state : State). state ≡ state_of old) states → tells.content new.disk ≡ tells.content old.disk
   pub lawful : AllByRecursion IsFrame (map frame_of answered)
@@ -155,34 +156,34 @@ end_not_whole FrameLimit before rest left end ends whole = end
 -- ---- what a stop leaves
 
 -- as in the run so far
-stands_before : (head : List ℕ) (cap : ℕ) (first next : State) (states : List State) (image : List ℕ) → StandsInRun head cap first states image → StandsInRun head cap first (states ++ next ∷ []) image
-stands_before head cap first next states image is =
+stands_before : (charter : Charter) (cap : ℕ) (first next : State) (states : List State) (image : List ℕ) → StandsInRun charter cap first states image → StandsInRun charter cap first (states ++ next ∷ []) image
+stands_before charter cap first next states image is =
     record { state = is.state; is = Contains-append_left (first ∷ states) (next ∷ []) is.state is.is; stands = is.stands }
 
 -- as before the step or after it
 stands_now : {D : Type 0} (old mid new : Chronicled D) (states : List State) (image : List ℕ) → mid.origin ≡ old.origin → new.origin ≡ mid.origin → state_of mid ≡ last_state (state_of old) states
-    → StandsForVault mid image ⊎ StandsForVault new image → StandsInRun old.origin.head old.origin.cap (state_of old) (states ++ state_of new ∷ []) image
+    → StandsForVault mid image ⊎ StandsForVault new image → StandsInRun old.origin.charter old.origin.cap (state_of old) (states ++ state_of new ∷ []) image
 stands_now old mid new states image same_mid same_new last is = ⊎_elim
     (λ before. record {
       state = state_of mid;
       is = Contains-append_left (state_of old ∷ states) (state_of new ∷ []) (state_of mid) (subst (IsStateOf (state_of old) states) (sym last) (last_is_one (state_of old) states));
-      stands = subst (λ (o : Origin). StandsForEither o.head o.cap (entries_in mid) (doubt_in mid) image) same_mid before;
+      stands = subst (λ (o : Origin). StandsForEither o.charter o.cap (entries_in mid) (doubt_in mid) image) same_mid before;
     })
     (λ after. record {
       state = state_of new;
       is = Contains-push (state_of old ∷ states) (state_of new);
-      stands = subst (λ (o : Origin). StandsForEither o.head o.cap (entries_in new) (doubt_in new) image) (same_new ∙ same_mid) after;
+      stands = subst (λ (o : Origin). StandsForEither o.charter o.cap (entries_in new) (doubt_in new) image) (same_new ∙ same_mid) after;
     })
     is
 
 -- one disk more
-through_more : {D : Type 0} (tells : DiskTells D) (head : List ℕ) (cap : ℕ) (first next : State) (disk behind : D) (states : List State) (disks : List D) → GoesThrough tells head cap first disk states disks
-    → LeavesOnly tells (last_disk disk disks) behind (λ image. StandsForEither head cap (last_state first states).entries (last_state first states).doubt image ⊎ StandsForEither head cap next.entries next.doubt image)
-    → HoldsState tells head cap next behind → GoesThrough tells head cap first disk (states ++ next ∷ []) (disks ++ behind ∷ [])
-through_more tells head cap first next disk behind [] [] is leaves holds = (is, leaves, holds)
-through_more tells head cap first next disk behind (s ∷ states) (d ∷ disks) is leaves holds = (is.0, is.1, through_more tells head cap s next d behind states disks is.2 leaves holds)
-through_more tells head cap first next disk behind [] (d ∷ disks) is leaves holds = absurd is
-through_more tells head cap first next disk behind (s ∷ states) [] is leaves holds = absurd is
+through_more : {D : Type 0} (tells : DiskTells D) (charter : Charter) (cap : ℕ) (first next : State) (disk behind : D) (states : List State) (disks : List D) → GoesThrough tells charter cap first disk states disks
+    → LeavesOnly tells (last_disk disk disks) behind (λ image. StandsForEither charter cap (last_state first states).entries (last_state first states).doubt image ⊎ StandsForEither charter cap next.entries next.doubt image)
+    → HoldsState tells charter cap next behind → GoesThrough tells charter cap first disk (states ++ next ∷ []) (disks ++ behind ∷ [])
+through_more tells charter cap first next disk behind [] [] is leaves holds = (is, leaves, holds)
+through_more tells charter cap first next disk behind (s ∷ states) (d ∷ disks) is leaves holds = (is.0, is.1, through_more tells charter cap s next d behind states disks is.2 leaves holds)
+through_more tells charter cap first next disk behind [] (d ∷ disks) is leaves holds = absurd is
+through_more tells charter cap first next disk behind (s ∷ states) [] is leaves holds = absurd is
 
 last_of_more : {D : Type 0} (first next : D) (disks : List D) → next ≡ last_disk first (disks ++ next ∷ [])
 last_of_more first next [] = refl
@@ -197,7 +198,7 @@ module _ {D : Type 0} (tells : DiskTells D) where
     last = refl;
     origin = refl;
     backed = omega arith;
-    stops = leaves_more tells house.disk house.disk (StandsForVault house) (StandsInRun house.origin.head house.origin.cap (state_of house) [])
+    stops = leaves_more tells house.disk house.disk (StandsForVault house) (StandsInRun house.origin.charter house.origin.cap (state_of house) [])
         (λ c is. record { state = state_of house; is = (0, omega arith, refl); stands = is }) images;
     through = keeps.images;
     last_is = refl;
@@ -216,23 +217,23 @@ module _ {D : Type 0} (tells : DiskTells D) where
       let T : House → Type 0 = λ house. TurnOfOne house (state_of mid) more.one.request more.one.mark more.one.reply (state_of new) in
       let S : State → Type 0 = λ state. TurnOfOne (house_in old) state more.one.request more.one.mark more.one.reply (state_of new) in
       let same : new.origin ≡ old.origin = origin ∙ went.origin in
-      let Either : State → List ℕ → Type 0 = λ state image. StandsForEither old.origin.head old.origin.cap state.entries state.doubt image ⊎ StandsForEither old.origin.head old.origin.cap (entries_in new) (doubt_in new) image in
-      let same_house : house_in mid ≡ house_in old = ap (λ (o : Origin). house_of (head_of o.head) o.cap) went.origin in
+      let Either : State → List ℕ → Type 0 = λ state image. StandsForEither old.origin.charter old.origin.cap state.entries state.doubt image ⊎ StandsForEither old.origin.charter old.origin.cap (entries_in new) (doubt_in new) image in
+      let same_house : house_in mid ≡ house_in old = ap (λ (o : Origin). house_of (head_of o.charter) o.cap) went.origin in
       record {
         turns = run_more (house_in old) (state_of old) (state_of new) answered states more.one went.turns (subst S went.last (subst T same_house more.turn));
         last = last_more (state_of old) (state_of new) states;
         origin = same;
         backed = backed_more answered more.one (tells.faults old.disk) (tells.faults mid.disk) (tells.faults new.disk) went.backed more.backed;
-        stops = leaves_then tells old.disk mid.disk new.disk (StandsInRun old.origin.head old.origin.cap (state_of old) states) (λ (image : List ℕ). StandsForVault mid image ⊎ StandsForVault new image)
-            (StandsInRun old.origin.head old.origin.cap (state_of old) (states ++ state_of new ∷ [])) went.stops leaves
-            (λ c is. stands_before old.origin.head old.origin.cap (state_of old) (state_of new) states c is)
+        stops = leaves_then tells old.disk mid.disk new.disk (StandsInRun old.origin.charter old.origin.cap (state_of old) states) (λ (image : List ℕ). StandsForVault mid image ⊎ StandsForVault new image)
+            (StandsInRun old.origin.charter old.origin.cap (state_of old) (states ++ state_of new ∷ [])) went.stops leaves
+            (λ c is. stands_before old.origin.charter old.origin.cap (state_of old) (state_of new) states c is)
             (λ c is. stands_now old mid new states c went.origin origin went.last is);
-        through = through_more tells old.origin.head old.origin.cap (state_of old) (state_of new) old.disk new.disk states disks went.through
+        through = through_more tells old.origin.charter old.origin.cap (state_of old) (state_of new) old.disk new.disk states disks went.through
             (subst (λ (disk : D). LeavesOnly tells disk new.disk (Either (last_state (state_of old) states))) went.last_is
             (subst (λ (state : State). LeavesOnly tells mid.disk new.disk (Either state)) went.last
-            (subst (λ (o : Origin). LeavesOnly tells mid.disk new.disk (λ (image : List ℕ). StandsForEither o.head o.cap (entries_in mid) (doubt_in mid) image ⊎ StandsForEither old.origin.head old.origin.cap (entries_in new) (doubt_in new) image)) went.origin
-            (subst (λ (o : Origin). LeavesOnly tells mid.disk new.disk (λ (image : List ℕ). StandsForEither mid.origin.head mid.origin.cap (entries_in mid) (doubt_in mid) image ⊎ StandsForEither o.head o.cap (entries_in new) (doubt_in new) image)) same leaves))))
-            (subst (λ (o : Origin). (image : List ℕ) → tells.allowed new.disk image → StandsForEither o.head o.cap (entries_in new) (doubt_in new) image) same keeps.images);
+            (subst (λ (o : Origin). LeavesOnly tells mid.disk new.disk (λ (image : List ℕ). StandsForEither o.charter o.cap (entries_in mid) (doubt_in mid) image ⊎ StandsForEither old.origin.charter old.origin.cap (entries_in new) (doubt_in new) image)) went.origin
+            (subst (λ (o : Origin). LeavesOnly tells mid.disk new.disk (λ (image : List ℕ). StandsForEither mid.origin.charter mid.origin.cap (entries_in mid) (doubt_in mid) image ⊎ StandsForEither o.charter o.cap (entries_in new) (doubt_in new) image)) same leaves))))
+            (subst (λ (o : Origin). (image : List ℕ) → tells.allowed new.disk image → StandsForEither o.charter o.cap (entries_in new) (doubt_in new) image) same keeps.images);
         last_is = last_of_more old.disk new.disk disks;
         quiet = λ all.
             let each = all_less (λ (state : State). state ≡ state_of old) states (state_of new) all in

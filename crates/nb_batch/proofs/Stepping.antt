@@ -90,7 +90,7 @@ module _ {D : Type 0} (tells : DiskTells D) (old new : Chronicled D) (by : ℕ) 
   -- what was decided may be sent, and so may each of the two refusals
   pub may_send : (out sent : List ℕ) (place : ℕ) → out ≡ [] → new.origin ≡ old.origin → IsDurable tells new → TurnOf tells old new by (request ∷ []) (place ∷ []) out sent answers.Answered → MaySend tells new sent
   may_send out sent place none same durable is =
-      let house : house_in old ≡ house_in new = ap (λ (o : Origin). house_of (head_of o.head) o.cap) (sym same) in
+      let house : house_in old ≡ house_in new = ap (λ (o : Origin). house_of (head_of o.charter) o.cap) (sym same) in
       record {
         requests = request ∷ [];
         outcome = Decides is.0;

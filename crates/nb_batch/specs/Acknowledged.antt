@@ -2,6 +2,7 @@
 use Rattle.std.specs.Prelude.{◌≡◌, ℕ, List, ◌++◌, Some, take}
 use Rattle.std.specs.List.{slice_get}
 use Rattle.std.specs.Option.{option_to_list}
+use Rattle.nb_units.specs.declared.charter.Charter.{Charter}
 use Rattle.nb_port.specs.Tells.{DiskTells}
 use Rattle.nb_book.specs.declared.entry.Entry.{Entry}
 use Rattle.nb_escrow.specs.Head.{head_of}
@@ -13,31 +14,31 @@ use Rattle.nb_vault.specs.Rules.{house_of, house_rules}
 use Rattle.nb_batch.specs.Batch.{GoesThrough, last_disk}
 
 -- the image stands for a list that begins with these entries
-pub record StandsForMore (head : List ℕ) (cap : ℕ) (entries : List Entry) (image : List ℕ) : Type 0 where
+pub record StandsForMore (charter : Charter) (cap : ℕ) (entries : List Entry) (image : List ℕ) : Type 0 where
   pub later : List Entry
-  pub stands : StandsFor head cap (entries ++ later) image
+  pub stands : StandsFor charter cap (entries ++ later) image
 
 -- a request was answered over so many entries: its reply is the verdict's over these, and its entry, where the verdict records one,
 -- stands behind them. Each image that a stop at a moment since leaves of the last disk stands for a list that begins with all of them
-pub record Stays {D : Type 0} (tells : DiskTells D) (head : List ℕ) (cap : ℕ) (request : Request) (place : ℕ) (reply : List ℕ) (state : State) (disk last : D) : Type 0 where
-  pub told : reply ≡ (house_rules (head_of head) cap (take place state.entries) request).reply
-  pub recorded : state.entries ≡ take place state.entries ++ option_to_list (house_rules (head_of head) cap (take place state.entries) request).entry
-  pub images : (image : List ℕ) → tells.left last (tells.moment disk) image → StandsForMore head cap state.entries image
+pub record Stays {D : Type 0} (tells : DiskTells D) (charter : Charter) (cap : ℕ) (request : Request) (place : ℕ) (reply : List ℕ) (state : State) (disk last : D) : Type 0 where
+  pub told : reply ≡ (house_rules (head_of charter) cap (take place state.entries) request).reply
+  pub recorded : state.entries ≡ take place state.entries ++ option_to_list (house_rules (head_of charter) cap (take place state.entries) request).entry
+  pub images : (image : List ℕ) → tells.left last (tells.moment disk) image → StandsForMore charter cap state.entries image
 
 -- each image that a stop since opening leaves of the last disk stands for a list that begins with the entries at the start: what earlier
 -- batches recorded stays
 abbrev pub OpeningStays : {D : Type 0} → DiskTells D → Type 0
 OpeningStays {D} tells =
-    (head : List ℕ) (cap : ℕ) (first : State) (opened : D) (answered : List Answered) (states : List State) (disks : List D)
-    → RunOfOnes (house_of (head_of head) cap) first answered states → GoesThrough tells head cap first opened states disks
-    → (image : List ℕ) → tells.left (last_disk opened disks) (tells.moment opened) image → StandsForMore head cap first.entries image
+    (charter : Charter) (cap : ℕ) (first : State) (opened : D) (answered : List Answered) (states : List State) (disks : List D)
+    → RunOfOnes (house_of (head_of charter) cap) first answered states → GoesThrough tells charter cap first opened states disks
+    → (image : List ℕ) → tells.left (last_disk opened disks) (tells.moment opened) image → StandsForMore charter cap first.entries image
 
 -- so it is of each turn of a batch that decided
 abbrev pub AcknowledgedStays : {D : Type 0} → DiskTells D → Type 0
 AcknowledgedStays {D} tells =
-    (head : List ℕ) (cap : ℕ) (first : State) (opened : D) (answered : List Answered) (states : List State) (disks : List D)
-    → RunOfOnes (house_of (head_of head) cap) first answered states → GoesThrough tells head cap first opened states disks
+    (charter : Charter) (cap : ℕ) (first : State) (opened : D) (answered : List Answered) (states : List State) (disks : List D)
+    → RunOfOnes (house_of (head_of charter) cap) first answered states → GoesThrough tells charter cap first opened states disks
     → (turn place : ℕ) (request : Request) (reply : List ℕ) (state : State) (disk : D)
     → slice_get answered turn ≡ Some (record { request = request; mark = At place; reply = reply })
     → slice_get states turn ≡ Some state → slice_get disks turn ≡ Some disk
-    → Stays tells head cap request place reply state disk (last_disk opened disks)
+    → Stays tells charter cap request place reply state disk (last_disk opened disks)

@@ -3,6 +3,7 @@ use Rattle.std.specs.Prelude.{◌≡◌, ℕ, ◌<◌, ◌≤◌, ◌⊎◌, Lis
 use Rattle.std.specs.List.{flat_map, AllByRecursion}
 use Rattle.std.specs.Option.{option_to_list}
 use Rattle.std.specs.Io.KnownBytes.{Consumes, Appends}
+use Rattle.nb_units.specs.declared.charter.Charter.{Charter}
 use Rattle.nb_port.specs.Tells.{DiskTells}
 use Rattle.nb_port.specs.Faults.{Rose, Failure, Backed}
 use Rattle.nb_port.specs.Clock.{Gives}
@@ -68,25 +69,25 @@ Gave None (Some given) moments = ⊥
 Gave (Some before) (Some given) moments = given ≡ before ++ moments
 
 -- the image stands for the entries of one of the states of a run, without those in doubt in it or with them
-pub record StandsInRun (head : List ℕ) (cap : ℕ) (first : State) (states : List State) (image : List ℕ) : Type 0 where
+pub record StandsInRun (charter : Charter) (cap : ℕ) (first : State) (states : List State) (image : List ℕ) : Type 0 where
   pub state : State
   pub is : IsStateOf first states state
-  pub stands : StandsForEither head cap state.entries state.doubt image
+  pub stands : StandsForEither charter cap state.entries state.doubt image
 
 -- what a stop may leave of the disk stands for the entries of the state, without those in doubt in it or with them
-abbrev pub HoldsState : {D : Type 0} → DiskTells D → List ℕ → ℕ → State → D → Type 0
-HoldsState tells head cap state disk = (image : List ℕ) → tells.allowed disk image → StandsForEither head cap state.entries state.doubt image
+abbrev pub HoldsState : {D : Type 0} → DiskTells D → Charter → ℕ → State → D → Type 0
+HoldsState tells charter cap state disk = (image : List ℕ) → tells.allowed disk image → StandsForEither charter cap state.entries state.doubt image
 
 -- from a disk that holds the first state a batch came to these disks, one for each state of its run and each holding its own. A stop
 -- since one of them and up to the next leaves what stands for the state of the one or of the other
-abbrev pub GoesThrough : {D : Type 0} → DiskTells D → List ℕ → ℕ → State → D → List State → List D → Type 0
-GoesThrough tells head cap first disk [] [] = HoldsState tells head cap first disk
-GoesThrough tells head cap first disk (next ∷ states) (behind ∷ disks) =
-    HoldsState tells head cap first disk
-    × LeavesOnly tells disk behind (λ image. StandsForEither head cap first.entries first.doubt image ⊎ StandsForEither head cap next.entries next.doubt image)
-    × GoesThrough tells head cap next behind states disks
-GoesThrough tells head cap first disk [] (behind ∷ disks) = ⊥
-GoesThrough tells head cap first disk (next ∷ states) [] = ⊥
+abbrev pub GoesThrough : {D : Type 0} → DiskTells D → Charter → ℕ → State → D → List State → List D → Type 0
+GoesThrough tells charter cap first disk [] [] = HoldsState tells charter cap first disk
+GoesThrough tells charter cap first disk (next ∷ states) (behind ∷ disks) =
+    HoldsState tells charter cap first disk
+    × LeavesOnly tells disk behind (λ image. StandsForEither charter cap first.entries first.doubt image ⊎ StandsForEither charter cap next.entries next.doubt image)
+    × GoesThrough tells charter cap next behind states disks
+GoesThrough tells charter cap first disk [] (behind ∷ disks) = ⊥
+GoesThrough tells charter cap first disk (next ∷ states) [] = ⊥
 
 -- the disk behind the last turn
 abbrev pub last_disk : {D : Type 0} → D → List D → D
@@ -177,8 +178,8 @@ pub record Served {D : Type 0} (tells : DiskTells D) (old new : Chronicled D) (b
   pub turns : RunOfOnes (house_in old) (state_of old) answered states
   pub last : state_of new ≡ last_state (state_of old) states
   pub backed : Backed (tells.faults old.disk) (failures_told answered) (tells.faults new.disk)
-  pub stops : LeavesOnly tells old.disk new.disk (StandsInRun old.origin.head old.origin.cap (state_of old) states)
-  pub through : GoesThrough tells old.origin.head old.origin.cap (state_of old) old.disk states disks
+  pub stops : LeavesOnly tells old.disk new.disk (StandsInRun old.origin.charter old.origin.cap (state_of old) states)
+  pub through : GoesThrough tells old.origin.charter old.origin.cap (state_of old) old.disk states disks
   pub last_is : new.disk ≡ last_disk old.disk disks
   pub quiet : AllByRecursion (λ state. state ≡ state_of old) states → tells.content new.disk ≡ tells.content old.disk
   pub wrote : Wrote end before after answered

@@ -117,10 +117,10 @@ keys_stay tells by by' v w u z body body' moment moment' found found' out out' m
     let made = recorded (house_in a.1.old) a.0 (request_of STATUS_REQUEST body moment ∷ []) in
     let all = starts-trans b.0 (a.0 ++ made) a.0 o.1 (made, refl) in
     let here : Any (PaysWith asked.epoid asked.asker key) a.0 =
-    (status_tells_key a.0 (over_legal tells a.1.old a.0 a.1.kept a.1.went.turn.1) (head_of a.1.old.origin.head) a.1.old.origin.cap body moment asked key is least).0 gives in
+    (status_tells_key a.0 (over_legal tells a.1.old a.0 a.1.kept a.1.went.turn.1) (head_of a.1.old.origin.charter) a.1.old.origin.cap body moment asked key is least).0 gives in
     let there : Any (PaysWith asked.epoid asked.asker key) b.0 = subst (Any (PaysWith asked.epoid asked.asker key)) (sym all.1) (any_front _ a.0 all.0 here) in
     let named : Any (PaysWith asked'.epoid asked'.asker key) b.0 = subst (λ e. Any (PaysWith e asked'.asker key) b.0) (sym same_order) (subst (λ p. Any (PaysWith asked.epoid p key) b.0) (sym same_party) there) in
-    (status_tells_key b.0 (over_legal tells b.1.old b.0 b.1.kept b.1.went.turn.1) (head_of b.1.old.origin.head) b.1.old.origin.cap body' moment' asked' key is' least').1 named
+    (status_tells_key b.0 (over_legal tells b.1.old b.0 b.1.kept b.1.went.turn.1) (head_of b.1.old.origin.charter) b.1.old.origin.cap body' moment' asked' key is' least').1 named
 
 pub results_stay : {D : Type 0} (tells : DiskTells D) → ResultsStay tells
 results_stay tells by by' v w u z body moment moment' found found' out out' more more' a b later merchant consumer keys entry verdict_is =
@@ -128,5 +128,5 @@ results_stay tells by by' v w u z body moment moment' found found' out out' more
     let told : Decision = record { reply = Receipts merchant consumer; keys = keys; entry = None } in
     let made : recorded (house_in a.1.old) a.0 (request_of ORDER_REQUEST body moment ∷ []) ≡ option_to_list entry = append-nil _ ∙ ap (λ (d : Decision). option_to_list d.entry) verdict_is in
     let over : b.0 ≡ a.0 ++ option_to_list entry ++ o.1.0 = o.1.1 ∙ ap (λ (es : List Entry). (a.0 ++ es) ++ o.1.0) made in
-    subst (λ (x : Origin × List Entry). verdict x.1 (head_of x.0.head) x.0.cap ORDER_REQUEST body moment' ≡ told) (λ i. (sym o.0 i, sym over i))
-    (result_stays a.0 o.1.0 (head_of a.1.old.origin.head) a.1.old.origin.cap body moment moment' merchant consumer keys entry verdict_is)
+    subst (λ (x : Origin × List Entry). verdict x.1 (head_of x.0.charter) x.0.cap ORDER_REQUEST body moment' ≡ told) (λ i. (sym o.0 i, sym over i))
+    (result_stays a.0 o.1.0 (head_of a.1.old.origin.charter) a.1.old.origin.cap body moment moment' merchant consumer keys entry verdict_is)

@@ -40,7 +40,7 @@ PlaceIsCount {D} tells = (by : ℕ) (v w : View Origin Line) (request : Request)
 
 -- the verdict of a vault on one request over these entries
 abbrev pub verdict_in : {D : Type 0} → Chronicled D → List Entry → ℕ → List ℕ → ℕ → Decision
-verdict_in v over kind body moment = verdict over (head_of v.origin.head) v.origin.cap kind body moment
+verdict_in v over kind body moment = verdict over (head_of v.origin.charter) v.origin.cap kind body moment
 
 -- two passes of one desk asked one request each, and what the second had seen begins with what the first has seen
 abbrev pub Later : View Origin Line → View Origin Line → View Origin Line → Type 0

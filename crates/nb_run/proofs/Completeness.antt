@@ -118,9 +118,9 @@ unopened_whole Starved = inr (inl refl)
 -- a content that stands for entries is opened, unless the disk failed or memory was wanting
 pub unopened_end : {D : Type 0} (tells : DiskTells D) (disk : D) (fault : VaultFault) (new : D) → WholeOpens (tells.content disk) (Err (fault, new)) → VaultOpenFails tells disk new fault → IsJournal (tells.content disk)
     → (Rose (tells.faults disk) (tells.faults new) → ⊥) → ((unopened fault).status ≢ NO_JOURNAL) × ((unopened fault).status ≢ DISK_FAILED)
-unopened_end tells disk (Unborn found) new whole why j no_disk = absurd (whole j.image j.head j.cap j.entries j.is j.stands)
-unopened_end tells disk (Damaged item place) new whole why j no_disk = absurd (whole j.image j.head j.cap j.entries j.is j.stands)
-unopened_end tells disk (BadEntry item) new whole why j no_disk = absurd (whole j.image j.head j.cap j.entries j.is j.stands)
+unopened_end tells disk (Unborn found) new whole why j no_disk = absurd (whole j.image j.charter j.cap j.entries j.is j.stands)
+unopened_end tells disk (Damaged item place) new whole why j no_disk = absurd (whole j.image j.charter j.cap j.entries j.is j.stands)
+unopened_end tells disk (BadEntry item) new whole why j no_disk = absurd (whole j.image j.charter j.cap j.entries j.is j.stands)
 unopened_end tells disk (DiskFault before after) new whole why j no_disk =
     let P : ℕ → ℕ → Type 0 = λ a b. Rose a b in
     absurd (no_disk (subst (λ (b : ℕ). P (tells.faults disk) b) why.1 (subst (λ (a : ℕ). P a after) why.0 why.2)))

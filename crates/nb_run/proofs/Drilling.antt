@@ -91,10 +91,10 @@ module _ {D : Type 0} (tells : DiskTells D) (made new : D) (seed orders : ℕ) (
       let given : replicate n 1000000 ≡ map moment_of b.answered = subst (λ (moments : Option (List ℕ)). Rattle.nb_batch.specs.Batch.Gave (Some []) moments (map moment_of b.answered)) told b.asked in
       requests_are b.answered (at_moment b.answered n given) ∙ ap (map asked) (all_frames b clean)
 
-  begins_so : (b : Batch tells made new (fed seed orders) after end) → IsFresh (tells.content made) seed orders → (b.head ≡ head_of seed) × (b.cap ≡ cap_of orders) × (b.opening ≡ [])
+  begins_so : (b : Batch tells made new (fed seed orders) after end) → IsFresh (tells.content made) seed orders → (b.charter ≡ without_fee (head_of seed)) × (b.cap ≡ cap_of orders) × (b.opening ≡ [])
   begins_so b fresh =
-      let stands : StandsFor b.head b.cap b.opening fresh.0 = subst (λ (content : Option (List ℕ)). IfSome content (StandsFor b.head b.cap b.opening)) fresh.1 b.stands in
-      let one = one_list fresh.0 b.head (head_of seed) b.cap (cap_of orders) b.opening [] stands fresh.2 in
+      let stands : StandsFor b.charter b.cap b.opening fresh.0 = subst (λ (content : Option (List ℕ)). IfSome content (StandsFor b.charter b.cap b.opening)) fresh.1 b.stands in
+      let one = one_list fresh.0 b.charter (without_fee (head_of seed)) b.cap (cap_of orders) b.opening [] stands fresh.2 in
       (one.1, one.0, one.2)
 
   -- the line of the entries that the lines record is that of the last list

@@ -5,13 +5,15 @@ use Rattle.std.proofs.lemmas.List.{length-append}
 use Rattle.std.proofs.lemmas.Option.{same_Some}
 use Rattle.nb_port.specs.Tells.{DiskTells}
 use Rattle.nb_port.specs.Faults.{Rose}
+use Rattle.nb_units.specs.Charter.{AreVersionAndRate}
+use Rattle.nb_units.specs.declared.charter.Charter.{Charter}
 use Rattle.nb_units.specs.declared.limits.TheConstants.{HEAD}
 use Rattle.nb_port.specs.Disk.{Only, wrote_at}
 use Rattle.nb_book.specs.Legal.{Legal}
-use Rattle.nb_journal.specs.Layout.{AreTerms, front_bytes, magic}
+use Rattle.nb_journal.specs.Layout.{AreTerms, IsMagic, front_bytes}
 use Rattle.nb_journal.specs.Stands.{Stands}
 use Rattle.nb_vault.specs.Holdings.{StandsFor}
-use Rattle.nb_journal.specs.Making.{IsCap}
+use Rattle.nb_journal.specs.Making.{IsCap, NoJournal}
 use Rattle.nb_journal.specs.Reading.{found_in}
 use Rattle.nb_run.specs.declared.ending.TheConstants.{CLEAN}
 use Rattle.nb_run.specs.declared.init.InitEnd.{InitEnd}
@@ -34,46 +36,46 @@ not_other (Some bytes) (Some behind) count input took =
     ends is = ap length is
 
 -- a disk without a journal is not spared
-not_born : (content : Option (List ℕ)) → HasNoJournal content → IfSome content (λ image. found_in image ≡ magic) → ⊥
+not_born : (content : Option (List ℕ)) → HasNoJournal content → IfSome content (λ image. IsMagic (found_in image)) → ⊥
 not_born None none born = absurd cc
-not_born (Some image) none born = none.1 (ap found_in (sym (same_Some image none.0 none.2)) ∙ born)
+not_born (Some image) none born = none.1 (subst (λ (i : List ℕ). IsMagic (found_in i)) (same_Some image none.0 none.2) born)
 
-pub makes_clean : {D : Type 0} (tells : DiskTells D) (rest rest' : Option (List ℕ)) (source source' : ℕ) (old new : D) (cap : ℕ) (end : InitEnd) → MakesAs tells rest rest' source source' old new cap end
+pub makes_clean : {D : Type 0} (tells : DiskTells D) (rest rest' : Option (List ℕ)) (source source' : ℕ) (old new : D) (cap : ℕ) (rate : Option ℕ) (end : InitEnd) → MakesAs tells rest rest' source source' old new cap rate end
     → IsCap cap → IsHeadInput rest → HasNoJournal (tells.content old) → (Rose source source' → ⊥) → (Rose (tells.faults old) (tells.faults new) → ⊥) → (ending_of end).status ≡ CLEAN
-makes_clean tells rest rest' source source' old new cap Made is range input none no_source no_disk = refl
-makes_clean tells rest rest' source source' old new cap BadCap is range input none no_source no_disk = absurd (is.0 range)
-makes_clean tells rest rest' source source' old new cap ReadFault is range input none no_source no_disk = absurd (no_source is.1)
-makes_clean tells rest rest' source source' old new cap (BadInput bytes) is range input none no_source no_disk = absurd (not_other rest rest' bytes input is.1)
-makes_clean tells rest rest' source source' old new cap Exists is range input none no_source no_disk = absurd (not_born (tells.content old) none is.2.born)
-makes_clean tells rest rest' source source' old new cap LookFault is range input none no_source no_disk = absurd (no_disk is.2)
-makes_clean tells rest rest' source source' old new cap DiskFault is range input none no_source no_disk = absurd (no_disk is.2)
+makes_clean tells rest rest' source source' old new cap rate Made is range input none no_source no_disk = refl
+makes_clean tells rest rest' source source' old new cap rate BadCap is range input none no_source no_disk = absurd (is.0 range)
+makes_clean tells rest rest' source source' old new cap rate ReadFault is range input none no_source no_disk = absurd (no_source is.1)
+makes_clean tells rest rest' source source' old new cap rate (BadInput bytes) is range input none no_source no_disk = absurd (not_other rest rest' bytes input is.1)
+makes_clean tells rest rest' source source' old new cap rate Exists is range input none no_source no_disk = absurd (not_born (tells.content old) none is.2.born)
+makes_clean tells rest rest' source source' old new cap rate LookFault is range input none no_source no_disk = absurd (no_disk is.2)
+makes_clean tells rest rest' source source' old new cap rate DiskFault is range input none no_source no_disk = absurd (no_disk is.2)
 
 -- ---- a journal that was just made
 
 no_entries : Legal []
 no_entries = record { each = λ k h d. absurd (omega (arith, h)) }
 
-stands_for_none : (head : List ℕ) (cap : ℕ) (image : List ℕ) → AreTerms cap head → Stands (front_bytes cap head) [] image → StandsFor head cap [] image
-stands_for_none head cap image terms stands = record {
+stands_for_none : (charter : Charter) (cap : ℕ) (image : List ℕ) → AreTerms cap charter → Stands (front_bytes cap charter) [] image → StandsFor charter cap [] image
+stands_for_none charter cap image terms stands = record {
   items = [];
   terms = terms;
   stands = stands;
   joins = record { groups = []; spelled = refl; each = tt; joined = refl };
-  legal = no_entries;
+  legal = record { legal = no_entries; each = tt };
   within = omega arith;
 }
 
-pub made_of : {D : Type 0} (tells : DiskTells D) (old new : D) (head : List ℕ) (cap : ℕ) → length head ≡ HEAD → IsCap cap → IfSome (tells.content old) (λ image. found_in image ≢ magic)
-    → IfSome (tells.content new) (Stands (front_bytes cap head) []) → Only (tells.content new) (tells.allowed new) → tells.content new ≡ wrote_at (tells.content old) 0 (front_bytes cap head ++ 0 ∷ []) → IsMade tells old new head cap
-made_of tells old new head cap whole range unborn stands only bytes =
-    let terms : AreTerms cap head = record { some = range.0; most = range.1; whole = whole } in
+pub made_of : {D : Type 0} (tells : DiskTells D) (old new : D) (charter : Charter) (cap : ℕ) → length charter.head ≡ HEAD → AreVersionAndRate charter.version charter.rate → IsCap cap → NoJournal (tells.content old)
+    → IfSome (tells.content new) (Stands (front_bytes cap charter) []) → Only (tells.content new) (tells.allowed new) → tells.content new ≡ wrote_at (tells.content old) 0 (front_bytes cap charter ++ 0 ∷ []) → IsMade tells old new charter cap
+made_of tells old new charter cap whole ruled range unborn stands only bytes =
+    let terms : AreTerms cap charter = record { some = range.0; most = range.1; whole = whole; ruled = ruled } in
     record {
       unborn = unborn;
       bytes = bytes;
       stands = each (tells.content new) terms stands;
-      images = λ image allowed. stands_for_none head cap image terms (subst (λ (content : Option (List ℕ)). IfSome content (Stands (front_bytes cap head) [])) (only image allowed) stands);
+      images = λ image allowed. stands_for_none charter cap image terms (subst (λ (content : Option (List ℕ)). IfSome content (Stands (front_bytes cap charter) [])) (only image allowed) stands);
     }
   where
-    each : (content : Option (List ℕ)) → AreTerms cap head → IfSome content (Stands (front_bytes cap head) []) → IfSome content (StandsFor head cap [])
+    each : (content : Option (List ℕ)) → AreTerms cap charter → IfSome content (Stands (front_bytes cap charter) []) → IfSome content (StandsFor charter cap [])
     each None terms is = is
-    each (Some image) terms is = stands_for_none head cap image terms is
+    each (Some image) terms is = stands_for_none charter cap image terms is

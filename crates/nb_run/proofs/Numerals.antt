@@ -1,7 +1,8 @@
 -- Words have one number for a cap, and are one job.
-use Rattle.std.proofs.Common.{◌≡◌, ℕ, ◌<◌, ◌^◌, List, [], ◌∷◌, refl, sym, ap, ◌∙◌, arith, codes, slice_index_or}
+use Rattle.std.proofs.Common.{◌≡◌, ℕ, ◌<◌, ◌≤◌, ◌^◌, List, [], ◌∷◌, length, Option, None, Some, IfSome, refl, sym, ap, ◌∙◌, arith, codes, slice_index_or}
 use Rattle.std.specs.Fmt.{decimal}
 use Rattle.std.proofs.lemmas.Fmt.{decimal_injective}
+use Rattle.nb_units.specs.declared.limits.TheConstants.{MAX_RATE}
 use Rattle.nb_run.specs.declared.ending.Outcome.TheVariants.{Work}
 use Rattle.nb_run.specs.declared.ending.Job.TheVariants.{Serve}
 use Rattle.nb_words.specs.Words.{IsDrill, IsInit, IsServe}
@@ -13,9 +14,20 @@ same_number : (place : ℕ) (words other : List (List ℕ)) (m n : ℕ) → m < 
 same_number place words other m n few less same is are =
     decimal_injective m n few less (sym is ∙ ap (λ (ws : List (List ℕ)). slice_index_or ws place []) same ∙ are)
 
--- words have one cap
-pub one_cap : (words : List (List ℕ)) (m n : ℕ) → IsInit words m → IsInit words n → m ≡ n
-one_cap words m n is other = same_number 2 _ _ m n (omega (arith, is.3)) (omega (arith, other.3)) (sym is.1 ∙ other.1) refl refl
+-- words have one cap, and one rate or none
+pub one_init : (words : List (List ℕ)) (m n : ℕ) (r q : Option ℕ) → IsInit words m r → IsInit words n q → (m ≡ n) × (r ≡ q)
+one_init words m n None None is other = (same_number 2 _ _ m n (omega (arith, is.3)) (omega (arith, other.3)) (sym is.1 ∙ other.1) refl refl, refl)
+one_init words m n None (Some q) is other = absurd (omega (arith, ap length (sym is.1 ∙ other.1)))
+one_init words m n (Some r) None is other = absurd (omega (arith, ap length (sym is.1 ∙ other.1)))
+one_init words m n (Some r) (Some q) is other = (
+  same_number 2 _ _ m n (omega (arith, is.3)) (omega (arith, other.3)) (sym is.1 ∙ other.1) refl refl,
+  ap (λ (n : ℕ). Some n) (same_number 3 _ _ r q (omega (arith, is.4)) (omega (arith, other.4)) (sym is.1 ∙ other.1) refl refl),
+)
+
+-- a rate in words is one that a journal may have
+pub rate_small : (words : List (List ℕ)) (cap : ℕ) (rate : Option ℕ) → IsInit words cap rate → IfSome rate (λ r. r ≤ MAX_RATE)
+rate_small words cap None is = tt
+rate_small words cap (Some rate) is = is.4
 
 -- words have one seed and one number of orders
 pub one_drill : (words : List (List ℕ)) (s o t p : ℕ) → IsDrill words s o → IsDrill words t p → (s ≡ t) × (o ≡ p)

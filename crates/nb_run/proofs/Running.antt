@@ -264,11 +264,11 @@ module _ {D : Type 0} (tells : DiskTells D) where
       → Batch tells disk house.disk before after (ended end)
   batch_of only_now end disk opened house before after opens unwritten count s keeps same =
       let rest : state_of opened ≡ at_rest opened.origin.entries = opened_rests opened opens.lines opens.durable.fresh in
-      let R : State → Type 0 = λ state. RunOfOnes (house_of (head_of opened.origin.head) opened.origin.cap) state s.answered s.states in
+      let R : State → Type 0 = λ state. RunOfOnes (house_of (head_of opened.origin.charter) opened.origin.cap) state s.answered s.states in
       let turns = subst R rest s.turns in
       let backed = backed_earlier (failures_told s.answered) (tells.faults disk) (tells.faults opened.disk) (tells.faults house.disk) count s.backed in
       record {
-        head = opened.origin.head;
+        charter = opened.origin.charter;
         cap = opened.origin.cap;
         opening = opened.origin.entries;
         answered = s.answered;
@@ -291,18 +291,18 @@ module _ {D : Type 0} (tells : DiskTells D) where
         wrote = wrote_all end before after s.answered s.wrote;
         wrote_short = wrote_part end before after s.answered s.wrote;
         backed = backed;
-        steady = all_decided (house_of (head_of opened.origin.head) opened.origin.cap) (at_rest opened.origin.entries) s.answered s.states (tells.faults disk) (tells.faults house.disk) refl turns backed;
-        alone = replies-decided (house_of (head_of opened.origin.head) opened.origin.cap) opened.origin.entries s.answered s.states turns;
-        content_rests = subst (λ (o : Origin). IfSome (tells.content house.disk) (λ (image : List ℕ). StandsForEither o.head o.cap (entries_in house) (doubt_in house) image)) same keeps.bytes;
-        images_rest = λ image is. subst (λ (o : Origin). StandsForEither o.head o.cap (entries_in house) (doubt_in house) image) same (keeps.images image is);
+        steady = all_decided (house_of (head_of opened.origin.charter) opened.origin.cap) (at_rest opened.origin.entries) s.answered s.states (tells.faults disk) (tells.faults house.disk) refl turns backed;
+        alone = replies-decided (house_of (head_of opened.origin.charter) opened.origin.cap) opened.origin.entries s.answered s.states turns;
+        content_rests = subst (λ (o : Origin). IfSome (tells.content house.disk) (λ (image : List ℕ). StandsForEither o.charter o.cap (entries_in house) (doubt_in house) image)) same keeps.bytes;
+        images_rest = λ image is. subst (λ (o : Origin). StandsForEither o.charter o.cap (entries_in house) (doubt_in house) image) same (keeps.images image is);
         opened_so = unwritten;
-        through = subst (λ (state : State). GoesThrough tells opened.origin.head opened.origin.cap state opened.disk s.states s.disks) rest s.through;
+        through = subst (λ (state : State). GoesThrough tells opened.origin.charter opened.origin.cap state opened.disk s.states s.disks) rest s.through;
         handed_back = s.last_is;
         quiet = λ all. s.quiet (subst (λ (state : State). AllByRecursion (λ (other : State). other ≡ state) s.states) (sym rest) all) ∙ unwritten.same;
         later = omega (arith, unwritten.time.later, s.stops.later);
         stops = λ image is. ⊎_elim
             (λ earlier. inl (⊎_elim (only_now disk image) (λ now. now) (unwritten.time.each (tells.moment disk) image (omega arith) earlier)))
-            (λ here. inr (subst (λ (state : State). StandsInRun opened.origin.head opened.origin.cap state s.states image) rest here))
+            (λ here. inr (subst (λ (state : State). StandsInRun opened.origin.charter opened.origin.cap state s.states image) rest here))
             (s.stops.before (tells.moment disk) image unwritten.time.later is);
         legal = keeps.legal;
         within = subst (λ (o : Origin). length (entries_in house ++ doubt_in house) ≤ o.cap) same keeps.within;

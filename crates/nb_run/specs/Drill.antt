@@ -10,7 +10,7 @@ use Rattle.nb_book.specs.declared.entry.Entry.TheVariants.{Fund, Paid, Refused}
 use Rattle.nb_book.specs.Money.{accounts, balance, total}
 use Rattle.nb_journal.specs.declared.making.InitFault.{InitFault}
 use Rattle.nb_journal.specs.declared.making.InitFault.TheVariants as inits
-use Rattle.nb_journal.specs.Making.{InitFails}
+use Rattle.nb_journal.specs.Making.{InitFails, without_fee}
 use Rattle.nb_turns.specs.declared.line.Line.{Line}
 use Rattle.nb_turns.specs.Lines.{entry_of}
 use Rattle.nb_turns.specs.Turns.{Request, Answered}
@@ -69,11 +69,11 @@ unmade other = at_no_place NOT_MADE
 pub record NotMade {D : Type 0} (tells : DiskTells D) (old new : D) (seed orders : ℕ) (ending : Ending) : Type 0 where
   pub fault : InitFault
   pub ends : ending ≡ unmade fault
-  pub why : InitFails tells old new (cap_of orders) fault
+  pub why : InitFails tells old new (cap_of orders) (without_fee (head_of seed)) fault
 
 -- the content is the drill's journal, without entries
 abbrev pub IsFresh : Option (List ℕ) → ℕ → ℕ → Type 0
-IsFresh content seed orders = (image : List ℕ) × (content ≡ Some image) × StandsFor (head_of seed) (cap_of orders) [] image
+IsFresh content seed orders = (image : List ℕ) × (content ≡ Some image) × StandsFor (without_fee (head_of seed)) (cap_of orders) [] image
 
 -- the frames were answered over the disk on which the journal was made, for what the sink told before and tells after
 pub record Drilled {D : Type 0} (tells : DiskTells D) (made new : D) (sent sent' : Option (List ℕ)) (seed orders : ℕ) (ending : Ending) : Type 0 where
@@ -82,7 +82,7 @@ pub record Drilled {D : Type 0} (tells : DiskTells D) (made new : D) (sent sent'
   pub end : Ending
   pub batch : Batch tells made new (fed seed orders) after end
   -- where the disk tells that this is the drill's journal, the batch begins with its head, its cap and no entry
-  pub begins : IsFresh (tells.content made) seed orders → (batch.head ≡ head_of seed) × (batch.cap ≡ cap_of orders) × (batch.opening ≡ [])
+  pub begins : IsFresh (tells.content made) seed orders → (batch.charter ≡ without_fee (head_of seed)) × (batch.cap ≡ cap_of orders) × (batch.opening ≡ [])
   -- all frames were answered, each at the one moment; or else the status is that of want of memory
   pub all : ending.status ≢ OUT_OF_MEMORY → map (λ (a : Answered). a.request) batch.answered ≡ requests_of seed orders
   -- and then, where the disk told that journal, the line is that of the last list, or where the sink failed a part of it. Behind making it
@@ -100,7 +100,7 @@ Answers tells made new sent sent' seed orders ending =
 -- a journal was made, and the drill went on over it: no count of the disk's faults fell on the way
 pub record Made {D : Type 0} (tells : DiskTells D) (old new : D) (sent sent' : Option (List ℕ)) (seed orders : ℕ) (ending : Ending) : Type 0 where
   pub made : D
-  pub is_made : IsMade tells old made (head_of seed) (cap_of orders)
+  pub is_made : IsMade tells old made (without_fee (head_of seed)) (cap_of orders)
   pub counts : (tells.faults old ≤ tells.faults made) × (tells.faults made ≤ tells.faults new)
   pub answers : Answers tells made new sent sent' seed orders ending
 

@@ -1,12 +1,13 @@
 -- What making a journal comes to.
-use Rattle.std.specs.Prelude.{◌≡◌, ◌≢◌, ◌⊎◌, ℕ, ◌+◌, ◌<◌, ◌≤◌, List, [], ◌∷◌, ◌++◌, length, take, Option, Some, IfSome}
+use Rattle.std.specs.Prelude.{◌≡◌, ◌≢◌, ◌⊎◌, ℕ, ◌+◌, ◌<◌, ◌≤◌, List, [], ◌∷◌, ◌++◌, length, take, Option, None, Some, IfSome}
 use Rattle.std.specs.Io.KnownBytes.{Consumes, IsAtEnd}
 use Rattle.nb_port.specs.Tells.{DiskTells}
 use Rattle.nb_port.specs.Disk.{SameImages, wrote_at}
 use Rattle.nb_port.specs.Faults.{Rose}
+use Rattle.nb_units.specs.declared.charter.Charter.{Charter}
 use Rattle.nb_units.specs.declared.limits.TheConstants.{HEAD}
-use Rattle.nb_journal.specs.Layout.{magic, front_bytes}
-use Rattle.nb_journal.specs.Making.{IsCap}
+use Rattle.nb_journal.specs.Layout.{IsMagic, front_bytes}
+use Rattle.nb_journal.specs.Making.{IsCap, NoJournal, with_fee, without_fee}
 use Rattle.nb_journal.specs.Reading.{found_in}
 use Rattle.nb_journal.specs.Time.{Untouched}
 use Rattle.nb_vault.specs.Holdings.{StandsFor}
@@ -51,32 +52,37 @@ pub record TookPart (left left' : Option (List ℕ)) : Type 0 where
 
 -- ---- the disk, before and after
 
--- it had no journal, and has one without entries with this head and cap; a stop leaves that and nothing else
-pub record IsMade {D : Type 0} (tells : DiskTells D) (old new : D) (head : List ℕ) (cap : ℕ) : Type 0 where
-  pub unborn : IfSome (tells.content old) (λ image. found_in image ≢ magic)
-  pub bytes : tells.content new ≡ wrote_at (tells.content old) 0 (front_bytes cap head ++ 0 ∷ [])
-  pub stands : IfSome (tells.content new) (StandsFor head cap [])
-  pub images : (image : List ℕ) → tells.allowed new image → StandsFor head cap [] image
+-- what a journal with this head is made with: where a rate is asked for, it is of the version with fees
+abbrev pub charter_with : List ℕ → Option ℕ → Charter
+charter_with head None = without_fee head
+charter_with head (Some rate) = with_fee head rate
+
+-- it had no journal, and has one without entries with this charter and cap; a stop leaves that and nothing else
+pub record IsMade {D : Type 0} (tells : DiskTells D) (old new : D) (charter : Charter) (cap : ℕ) : Type 0 where
+  pub unborn : NoJournal (tells.content old)
+  pub bytes : tells.content new ≡ wrote_at (tells.content old) 0 (front_bytes cap charter ++ 0 ∷ [])
+  pub stands : IfSome (tells.content new) (StandsFor charter cap [])
+  pub images : (image : List ℕ) → tells.allowed new image → StandsFor charter cap [] image
 
 -- it has a journal, and nothing was written
 pub record IsSpared {D : Type 0} (tells : DiskTells D) (old new : D) : Type 0 where
-  pub born : IfSome (tells.content old) (λ image. found_in image ≡ magic)
+  pub born : IfSome (tells.content old) (λ image. IsMagic (found_in image))
   pub same : tells.content new ≡ tells.content old
   pub images : SameImages (tells.allowed old) (tells.allowed new)
 
 -- ---- all of it
 
 -- by cases on the end: the cap is tested before the input is read, and the input before the disk is touched
-abbrev pub MakesAs : {D : Type 0} → DiskTells D → Option (List ℕ) → Option (List ℕ) → ℕ → ℕ → D → D → ℕ → InitEnd → Type 0
-MakesAs tells rest rest' source source' old new cap BadCap = (IsCap cap → ⊥) × (rest' ≡ rest) × (new ≡ old)
-MakesAs tells rest rest' source source' old new cap ReadFault = IsCap cap × Rose source source' × TookPart rest rest' × (new ≡ old)
-MakesAs tells rest rest' source source' old new cap (BadInput bytes) = IsCap cap × TookOther rest rest' bytes × (new ≡ old)
-MakesAs tells rest rest' source source' old new cap Exists = IsCap cap × ((head : List ℕ) × TookHead rest rest' head) × IsSpared tells old new
-MakesAs tells rest rest' source source' old new cap LookFault =
+abbrev pub MakesAs : {D : Type 0} → DiskTells D → Option (List ℕ) → Option (List ℕ) → ℕ → ℕ → D → D → ℕ → Option ℕ → InitEnd → Type 0
+MakesAs tells rest rest' source source' old new cap rate BadCap = (IsCap cap → ⊥) × (rest' ≡ rest) × (new ≡ old)
+MakesAs tells rest rest' source source' old new cap rate ReadFault = IsCap cap × Rose source source' × TookPart rest rest' × (new ≡ old)
+MakesAs tells rest rest' source source' old new cap rate (BadInput bytes) = IsCap cap × TookOther rest rest' bytes × (new ≡ old)
+MakesAs tells rest rest' source source' old new cap rate Exists = IsCap cap × ((head : List ℕ) × TookHead rest rest' head) × IsSpared tells old new
+MakesAs tells rest rest' source source' old new cap rate LookFault =
     IsCap cap × ((head : List ℕ) × TookHead rest rest' head) × Rose (tells.faults old) (tells.faults new) × Untouched tells old new
-MakesAs tells rest rest' source source' old new cap DiskFault =
-    IsCap cap × ((head : List ℕ) × TookHead rest rest' head) × Rose (tells.faults old) (tells.faults new) × IfSome (tells.content old) (λ image. found_in image ≢ magic)
-MakesAs tells rest rest' source source' old new cap Made = (head : List ℕ) × IsCap cap × TookHead rest rest' head × IsMade tells old new head cap
+MakesAs tells rest rest' source source' old new cap rate DiskFault =
+    IsCap cap × ((head : List ℕ) × TookHead rest rest' head) × Rose (tells.faults old) (tells.faults new) × NoJournal (tells.content old)
+MakesAs tells rest rest' source source' old new cap rate Made = (head : List ℕ) × IsCap cap × TookHead rest rest' head × IsMade tells old new (charter_with head rate) cap
 
 -- the input is a head and nothing else
 abbrev pub IsHeadInput : Option (List ℕ) → Type 0
@@ -84,7 +90,7 @@ IsHeadInput left = (head : List ℕ) × (length head ≡ HEAD) × (left ≡ Some
 
 -- the disk has no journal
 abbrev pub HasNoJournal : Option (List ℕ) → Type 0
-HasNoJournal content = (image : List ℕ) × (found_in image ≢ magic) × (content ≡ Some image)
+HasNoJournal content = (image : List ℕ) × (IsMagic (found_in image) → ⊥) × (content ≡ Some image)
 
 -- ---- for the contracts of private functions alone
 

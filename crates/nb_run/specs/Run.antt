@@ -4,6 +4,7 @@ use Rattle.std.specs.List.{flat_map, AllByRecursion}
 use Rattle.std.specs.Io.KnownBytes.{Consumes, Appends, IsAtEnd}
 use Rattle.nb_port.specs.Tells.{DiskTells}
 use Rattle.nb_port.specs.Faults.{Rose, Backed}
+use Rattle.nb_units.specs.declared.charter.Charter.{Charter}
 use Rattle.nb_units.specs.Frames.{Frame, frame, IsFrame, HeaderFault, Partial, Bad, front_of, IsBad, Splits}
 use Rattle.nb_frame.specs.Faults.{placed, place_of}
 use Rattle.nb_frame.specs.Looks.{IsShort}
@@ -45,8 +46,8 @@ Unbegun outcome source source' sink sink' disk disk' clock clock' =
 -- ---- init
 
 -- making a journal came to one of its ends, which says how the run ends
-abbrev pub InitIs : {D : Type 0} → DiskTells D → Option (List ℕ) → Option (List ℕ) → ℕ → ℕ → D → D → ℕ → Ending → Type 0
-InitIs tells rest rest' source source' old new cap ending = (end : InitEnd) × (ending ≡ ending_of end) × MakesAs tells rest rest' source source' old new cap end
+abbrev pub InitIs : {D : Type 0} → DiskTells D → Option (List ℕ) → Option (List ℕ) → ℕ → ℕ → D → D → ℕ → Option ℕ → Ending → Type 0
+InitIs tells rest rest' source source' old new cap rate ending = (end : InitEnd) × (ending ≡ ending_of end) × MakesAs tells rest rest' source source' old new cap rate end
 
 -- ---- batch, over a journal that was not opened
 
@@ -78,10 +79,10 @@ EndsBadly read frames rest left place =
 
 -- What a batch did, by the status that it ended with.
 pub record Batch {D : Type 0} (tells : DiskTells D) (old new : D) (before after : Outside) (ending : Ending) : Type 0 where
-  -- the journal's head, its cap and its entries; the requests that were answered, and the states that the house came to; the disk
+  -- what the journal was made with, its cap and its entries; the requests that were answered, and the states that the house came to; the disk
   -- behind opening, and behind each turn; the bytes read from the source are the frames of these requests, further frames, and a rest
   -- that begins with none
-  pub head : List ℕ
+  pub charter : Charter
   pub cap : ℕ
   pub opening : List Entry
   pub answered : List Answered
@@ -93,7 +94,7 @@ pub record Batch {D : Type 0} (tells : DiskTells D) (old new : D) (before after 
   pub unanswered : List Frame
   pub rest : List ℕ
   -- the content at entry stands for these entries
-  pub stands : IfSome (tells.content old) (StandsFor head cap opening)
+  pub stands : IfSome (tells.content old) (StandsFor charter cap opening)
   -- the requests that were answered are the first frames of the bytes read
   pub took : Consumes before.left after.left read
   pub frames : Splits read (map frame_of answered ++ unanswered) rest
@@ -106,7 +107,7 @@ pub record Batch {D : Type 0} (tells : DiskTells D) (old new : D) (before after 
   -- one answer of the clock for each
   pub asked : Gave before.moments after.moments (map moment_of answered)
   -- there is a run of turns over them, from the entries with nothing in doubt
-  pub turns : RunOfOnes (house_of (head_of head) cap) (at_rest opening) answered states
+  pub turns : RunOfOnes (house_of (head_of charter) cap) (at_rest opening) answered states
   pub last_is : last ≡ last_state (at_rest opening) states
   -- their replies are what was written
   pub wrote : ending.status ≢ SINK_FAILED → Appends before.sent after.sent (replies answered)
@@ -116,21 +117,21 @@ pub record Batch {D : Type 0} (tells : DiskTells D) (old new : D) (before after 
   pub backed : Backed (tells.faults old) (failures_told answered) (tells.faults new)
   pub steady : (Rose (tells.faults old) (tells.faults new) → ⊥) → AllDecided answered
   -- where each turn decides, the replies are a function of the entries, the head, the cap and the requests alone
-  pub alone : AllDecided answered → replies answered ≡ replies (decided (house_of (head_of head) cap) opening (map (λ (a : Answered). a.request) answered))
+  pub alone : AllDecided answered → replies answered ≡ replies (decided (house_of (head_of charter) cap) opening (map (λ (a : Answered). a.request) answered))
   -- the disk is at rest in the last state: its content, and all that a stop now leaves, stands for its entries, without what is in
   -- doubt or with it
-  pub content_rests : IfSome (tells.content new) (StandsForEither head cap last.entries last.doubt)
-  pub images_rest : (image : List ℕ) → tells.allowed new image → StandsForEither head cap last.entries last.doubt image
+  pub content_rests : IfSome (tells.content new) (StandsForEither charter cap last.entries last.doubt)
+  pub images_rest : (image : List ℕ) → tells.allowed new image → StandsForEither charter cap last.entries last.doubt image
   -- opening wrote nothing. The disk holds the entries of the state behind opening and behind each turn, and a stop since one of these
   -- and up to the next leaves those of the one state or of the other; the last of these disks is the one that is handed back
   pub opened_so : Unwritten tells old opened
-  pub through : GoesThrough tells head cap (at_rest opening) opened states disks
+  pub through : GoesThrough tells charter cap (at_rest opening) opened states disks
   pub handed_back : new ≡ last_disk opened disks
   -- where the house never left the state that it was opened in, the content is as before
   pub quiet : AllByRecursion (λ state. state ≡ at_rest opening) states → tells.content new ≡ tells.content old
   -- a stop at any moment since the start left what might have been left at the start, or what stands so for one of the states
   pub later : tells.moment old ≤ tells.moment new
-  pub stops : (image : List ℕ) → tells.left new (tells.moment old) image → tells.allowed old image ⊎ StandsInRun head cap (at_rest opening) states image
+  pub stops : (image : List ℕ) → tells.left new (tells.moment old) image → tells.allowed old image ⊎ StandsInRun charter cap (at_rest opening) states image
   -- what is recorded is legal, with what is in doubt too; each order is settled at most once, and money is neither made nor lost
   pub legal : Legal (last.entries ++ last.doubt)
   pub within : length (last.entries ++ last.doubt) ≤ cap
@@ -182,8 +183,8 @@ pub record IsWholeInput (left : Option (List ℕ)) : Type 0 where
 -- the content stands for a list of entries
 pub record IsJournal (content : Option (List ℕ)) : Type 0 where
   pub image : List ℕ
-  pub head : List ℕ
+  pub charter : Charter
   pub cap : ℕ
   pub entries : List Entry
   pub is : content ≡ Some image
-  pub stands : StandsFor head cap entries image
+  pub stands : StandsFor charter cap entries image

@@ -1,6 +1,6 @@
 ghost use Rattle.std.specs.Prelude.{◌≡◌, ◌≢◌, ◌≤◌, ◌<◌, ◌^◌, ◌⊎◌, MatchResult};
 ghost use Rattle.nb_book.specs.Money.{total};
-ghost use Rattle.nb_journal.specs.Making.{InitFails, SparesJournal};
+ghost use Rattle.nb_journal.specs.Making.{InitFails, SparesJournal, without_fee};
 ghost use Rattle.nb_play.specs.Feed.{cap_of};
 ghost use Rattle.nb_play.specs.declared.frames.TheConstants.{MAX_ORDERS};
 ghost use Rattle.nb_port.specs.Faults.{Rose};
@@ -49,7 +49,7 @@ pub fn drill<K: Sink, D: Disk>(
 // Makes a journal for so many orders with this head, without entries.
 fn make<D: Disk>(disk: &mut D, head: &[u8; HEAD], orders: u32) -> Result<(), InitFault>
     requires { orders ≤ MAX_ORDERS }
-    ensures made { MatchResult result (λ done. IsMade D.tells disk.old disk.new head.now (cap_of orders)) (λ fault. InitFails D.tells disk.old disk.new (cap_of orders) fault) }
+    ensures made { MatchResult result (λ done. IsMade D.tells disk.old disk.new (without_fee head.now) (cap_of orders)) (λ fault. InitFails D.tells disk.old disk.new (cap_of orders) (without_fee head.now) fault) }
     ensures spares { SparesJournal D.tells disk.old disk.new }
     ensures count { D.tells.faults disk.old ≤ D.tells.faults disk.new }
 {
@@ -67,7 +67,9 @@ fn unmade(fault: InitFault) -> Ending
         InitFault::DiskFault { .. } | InitFault::LookFailed { .. } => Ending::at_no_place(
             DISK_FAILED,
         ),
-        InitFault::BadCap { .. } | InitFault::Exists { .. } => Ending::at_no_place(NOT_MADE),
+        InitFault::BadCap { .. } | InitFault::BadRate { .. } | InitFault::Exists { .. } => {
+            Ending::at_no_place(NOT_MADE)
+        }
     }
 }
 

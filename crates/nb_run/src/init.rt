@@ -1,9 +1,10 @@
-ghost use Rattle.std.specs.Prelude.{◌≡◌, ◌≤◌};
+ghost use Rattle.std.specs.Prelude.{◌≡◌, ◌≤◌, IfSome};
+ghost use Rattle.nb_units.specs.declared.limits.TheConstants.{MAX_RATE};
 ghost use Rattle.nb_journal.specs.Making.{SparesJournal};
 ghost use Rattle.nb_run.specs.Init.{MakesAs, HeadGives, CountedAs, ending_of};
 
 use crate::ending::{BAD_INPUT, CLEAN, DISK_FAILED, Ending, NOT_MADE, SOURCE_FAILED};
-use nb_journal::{HEAD, InitFault, MAX_CAP, init};
+use nb_journal::{HEAD, InitFault, MAX_CAP, init, init2};
 use nb_port::{Disk, ReadOut, Source};
 
 /// How making a journal ended.
@@ -53,9 +54,16 @@ enum HeadRead {
     Failed,
 }
 
-/// Makes a journal without entries on the disk. Its head is the whole input, and it holds at most `cap` entries.
-pub fn make_journal<S: Source, D: Disk>(source: &mut S, disk: &mut D, cap: u32) -> InitEnd
-    ensures made { MakesAs D.tells (S.left source.old) (S.left source.new) (S.faults source.old) (S.faults source.new) disk.old disk.new cap result }
+/// Makes a journal without entries on the disk. Its head is the whole input, and it holds at most `cap` entries. With a rate, of at most
+/// [`MAX_RATE`](nb_units::MAX_RATE) thousandths, its house keeps a fee of each payment.
+pub fn make_journal<S: Source, D: Disk>(
+    source: &mut S,
+    disk: &mut D,
+    cap: u32,
+    rate: Option<u16>,
+) -> InitEnd
+    requires rate { IfSome rate (λ r. r ≤ MAX_RATE) }
+    ensures made { MakesAs D.tells (S.left source.old) (S.left source.new) (S.faults source.old) (S.faults source.new) disk.old disk.new cap rate result }
     ensures spares { SparesJournal D.tells disk.old disk.new }
     ensures source { S.faults source.old ≤ S.faults source.new }
     ensures disk { D.tells.faults disk.old ≤ D.tells.faults disk.new }
@@ -68,12 +76,16 @@ pub fn make_journal<S: Source, D: Disk>(source: &mut S, disk: &mut D, cap: u32) 
         HeadRead::Other { bytes } => return InitEnd::BadInput { bytes },
         HeadRead::Failed => return InitEnd::ReadFault,
     };
-    match init(disk, &head, cap) {
+    let made = match rate {
+        None => init(disk, &head, cap),
+        Some(rate) => init2(disk, &head, cap, rate),
+    };
+    match made {
         Ok(()) => InitEnd::Made,
         Err(InitFault::Exists { .. }) => InitEnd::Exists,
         Err(InitFault::LookFailed { .. }) => InitEnd::LookFault,
         Err(InitFault::DiskFault { .. }) => InitEnd::DiskFault,
-        Err(InitFault::BadCap { .. }) => unreachable!(),
+        Err(InitFault::BadCap { .. } | InitFault::BadRate { .. }) => unreachable!(),
     }
 }
 

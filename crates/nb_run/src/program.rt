@@ -28,7 +28,8 @@ use nb_words::{Command, command_of};
 use std::alloc::Global;
 
 /// Runs the program on its words, over the input, the output, the journal's disk and the clock. The disk is handed
-/// back. `init JOURNAL CAP` makes a journal without entries, whose head is the input; `batch JOURNAL` answers the frames of the
+/// back. `init JOURNAL CAP` makes a journal without entries, whose head is the input, and `init JOURNAL CAP PERMILLE` one whose house keeps a fee
+/// of that rate; `batch JOURNAL` answers the frames of the
 /// input in order; `serve JOURNAL ADDRESS WORKERS SESSIONS` is work over links, which is left to do.
 pub fn run<S: Source, K: Sink, D: Disk, C: Clock>(
     alloc: Global,
@@ -62,15 +63,15 @@ pub fn run<S: Source, K: Sink, D: Disk, C: Clock>(
     ensures fault { EndsWith result.0 DISK_FAILED → Rose (D.tells.faults disk) (D.tells.faults result.1) }
 
     // What making a journal comes to. It sends nothing and asks for no moment, and nothing is written over a journal that is there.
-    ensures init { (cap : ℕ) → IsInit (map string_bytes words.now) cap
-        → Ends result.0 (runs.InitIs D.tells (S.left source.old) (S.left source.new) (S.faults source.old) (S.faults source.new) disk result.1 cap)
+    ensures init { (cap : ℕ) (rate : Option ℕ) → IsInit (map string_bytes words.now) cap rate
+        → Ends result.0 (runs.InitIs D.tells (S.left source.old) (S.left source.new) (S.faults source.old) (S.faults source.new) disk result.1 cap rate)
         ⊎ runs.Unbegun result.0 source.old source.new sink.old sink.new disk result.1 clock.old clock.new }
-    ensures silent { (cap : ℕ) → IsInit (map string_bytes words.now) cap
+    ensures silent { (cap : ℕ) (rate : Option ℕ) → IsInit (map string_bytes words.now) cap rate
         → (sink.new ≡ sink.old) × (clock.new ≡ clock.old) × SparesJournal D.tells disk result.1 }
 
     // A head alone, a cap in its range, a disk without a journal, and nothing that fails: a journal is made, unless there was no memory to
     // read the words.
-    ensures makes { (cap : ℕ) → IsInit (map string_bytes words.now) cap → IsCap cap → IsHeadInput (S.left source.old) → HasNoJournal (D.tells.content disk)
+    ensures makes { (cap : ℕ) (rate : Option ℕ) → IsInit (map string_bytes words.now) cap rate → IsCap cap → IsHeadInput (S.left source.old) → HasNoJournal (D.tells.content disk)
         → (Rose (S.faults source.old) (S.faults source.new) → ⊥) → (Rose (D.tells.faults disk) (D.tells.faults result.1) → ⊥)
         → EndsWith result.0 CLEAN ⊎ runs.Unbegun result.0 source.old source.new sink.old sink.new disk result.1 clock.old clock.new }
 
@@ -108,9 +109,9 @@ pub fn run<S: Source, K: Sink, D: Disk, C: Clock>(
         → EndsWith result.0 CLEAN ⊎ EndsWith result.0 OUT_OF_MEMORY }
 {
     match command_of(alloc, words) {
-        Ok(Some(Command::Init { cap })) => {
+        Ok(Some(Command::Init { cap, rate })) => {
             let mut disk = disk;
-            let end = make_journal(source, &mut disk, cap);
+            let end = make_journal(source, &mut disk, cap, rate);
             (Outcome::Done(end.ending()), disk)
         }
         Ok(Some(Command::Batch)) => {

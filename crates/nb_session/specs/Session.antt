@@ -32,7 +32,7 @@ use Rattle.nb_session.specs.declared.ended.Record.{Record}
 
 -- the house that was opened with this origin
 abbrev pub house_at : Origin → House
-house_at origin = house_of (head_of origin.head) origin.cap
+house_at origin = house_of (head_of origin.charter) origin.cap
 
 -- what a vault answers where a turn went so
 abbrev pub answer_of : Outcome → AnswerAll

@@ -6,6 +6,7 @@ use Rattle.nb_port.specs.Tells.{DiskTells}
 use Rattle.nb_port.specs.Faults.{Rose}
 use Rattle.nb_link.specs.Link.{LinkSeen}
 use Rattle.nb_units.specs.Frames.{frame, IsFrame, front_of}
+use Rattle.nb_units.specs.declared.limits.TheConstants.{FIRST_VERSION}
 use Rattle.nb_units.specs.declared.frames.TheConstants.{HEADER, MAX_BODY}
 use Rattle.nb_frame.specs.State.{Collected, waiting, fed, unfed}
 use Rattle.nb_frame.specs.Looks.{IsShort}
@@ -39,7 +40,7 @@ use Rattle.nb_session.specs.declared.sending.Sent.TheVariants as sends
 -- the house that a pass asks. A pass always has an origin
 abbrev pub house_seen : Option Origin → House
 house_seen (Some origin) = house_at origin
-house_seen None = house_of (head_of []) 0
+house_seen None = house_of (head_of (record { head = []; version = FIRST_VERSION; rate = 0 })) 0
 
 -- ---- gathering
 

@@ -2,6 +2,7 @@
 use Rattle.std.proofs.Common.{◌≡◌, ◌⊎◌, inl, inr, ⊎_elim, ℕ, zero, suc, List, [], ◌∷◌, Some, refl, sym, ap, subst, ◌∙◌}
 use Rattle.std.specs.List.{slice_get}
 use Rattle.std.proofs.lemmas.Option.{same_Some}
+use Rattle.nb_units.specs.declared.charter.Charter.{Charter}
 use Rattle.nb_port.specs.Tells.{DiskTells}
 use Rattle.nb_port.specs.Faults.{Rose}
 use Rattle.nb_book.specs.declared.entry.Entry.{Entry}
@@ -42,13 +43,13 @@ no_port_of (old ∷ olds) [] all k end is failed = absurd all
 no_port_of (old ∷ olds) (e ∷ ends) all zero end is failed = no_port old e all.0 (ap (λ (x : WorkerEnd). x.how) (same_Some e end is) ∙ failed)
 no_port_of (old ∷ olds) (e ∷ ends) all (suc k) end is failed = no_port_of olds ends all.1 k end is failed
 
-module _ {D : Type 0} (tells : DiskTells D) (old new : D) (image head : List ℕ) (cap : ℕ) (entries : List Entry) (content : tells.content old ≡ Some image) (stands : StandsFor head cap entries image)
+module _ {D : Type 0} (tells : DiskTells D) (old new : D) (image : List ℕ) (charter : Charter) (cap : ℕ) (entries : List Entry) (content : tells.content old ≡ Some image) (stands : StandsFor charter cap entries image)
     (still : Rose (tells.faults old) (tells.faults new) → ⊥) where
   -- what stands for a list is opened, or there was no memory
   not_opened : (fault : VaultFault) → VaultOpenFails tells old new fault → unopened fault ≡ at_no_place OUT_OF_MEMORY
-  not_opened (opens.Unborn found) fails = absurd (no_unborn head cap entries image found stands (told_of (tells.content old) (λ (image : List ℕ). IsUnborn image found) image content fails.1))
-  not_opened (opens.Damaged item place) fails = absurd (no_damage head cap entries image item place stands (told_of (tells.content old) (λ (image : List ℕ). IsDamaged image item place) image content fails))
-  not_opened (opens.BadEntry item) fails = absurd (no_bad head cap entries image item stands (told_of (tells.content old) (λ (image : List ℕ). IsBadEntry image item) image content fails))
+  not_opened (opens.Unborn found) fails = absurd (no_unborn charter cap entries image found stands (told_of (tells.content old) (λ (image : List ℕ). IsUnborn image found) image content fails.1))
+  not_opened (opens.Damaged item place) fails = absurd (no_damage charter cap entries image item place stands (told_of (tells.content old) (λ (image : List ℕ). IsDamaged image item place) image content fails))
+  not_opened (opens.BadEntry item) fails = absurd (no_bad charter cap entries image item stands (told_of (tells.content old) (λ (image : List ℕ). IsBadEntry image item) image content fails))
   not_opened (opens.DiskFault before after) fails = absurd (still (subst (λ (x : ℕ × ℕ). Rose x.0 x.1) (λ i. (fails.0 i, fails.1 i)) fails.2))
   not_opened opens.NoMemory fails = refl
 
@@ -66,8 +67,8 @@ module _ {D : Type 0} (tells : DiskTells D) (old new : D) (image head : List ℕ
   ]
 
 pub completes : {D W : Type 0} (tells : DiskTells D) (sees : W → List WorkerSeen) → Completes tells sees
-completes tells sees old new before after lines ends ending image head cap entries serves content stands still faultless = elim serves [
-  | inl failed ↦ inl (failed.1 ∙ not_opened tells old new image head cap entries content stands still failed.0 failed.2)
+completes tells sees old new before after lines ends ending image charter cap entries serves content stands still faultless = elim serves [
+  | inl failed ↦ inl (failed.1 ∙ not_opened tells old new image charter cap entries content stands still failed.0 failed.2)
   | inr (inl idle) ↦ inl idle.0
-  | inr (inr all) ↦ ends_so tells old new image head cap entries content stands still (sees before) ends ending (all_whole tells old new image head cap entries content stands still (sees before) (sees after) lines ends all.0 faultless) all.1
+  | inr (inr all) ↦ ends_so tells old new image charter cap entries content stands still (sees before) ends ending (all_whole tells old new image charter cap entries content stands still (sees before) (sees after) lines ends all.0 faultless) all.1
 ]

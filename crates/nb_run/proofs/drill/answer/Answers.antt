@@ -67,7 +67,7 @@ returns-clause-answered g c =
 pub returns-clause-complete : goal.returns-clause-complete
 returns-clause-complete g c = λ fresh no_sink no_disk.
     let r = c.answer_batch-disk.result in
-    let journal : IsJournal (g.D.Disk.tells.content c.args.disk) = record { image = fresh.0; head = head_of c.args.seed; cap = cap_of c.args.orders; entries = []; is = fresh.1; stands = fresh.2 } in
+    let journal : IsJournal (g.D.Disk.tells.content c.args.disk) = record { image = fresh.0; charter = without_fee (head_of c.args.seed); cap = cap_of c.args.orders; entries = []; is = fresh.1; stands = fresh.2 } in
     let opens = c.answer_batch-disk.ensures.opens journal no_disk in
     by r.ending (c.answer_batch-disk.ensures.whole (whole_so c.args.seed c.args.orders c.new-source.result c.requires c.new-source.ensures) (λ rose. omega (arith, rose)))
     c.if-ending-eq-SOURCE_FAILED.false opens.0 opens.1

@@ -1,33 +1,38 @@
-use Rattle.std.proofs.Common.{◌≡◌, ℕ, List, Some, ap, subst, ◌∙◌, inl, inr}
+use Rattle.std.proofs.Common.{◌≡◌, ◌×◌, ℕ, List, Option, Some, ap, subst, ◌∙◌, inl, inr}
 use Rattle.std.specs.Prelude.{map, string_bytes}
 use Rattle.nb_words.specs.Words.{CommandIs}
 use Rattle.nb_run.specs.Drill.{DrillIs}
 use Rattle.nb_run.specs.Run.{InitIs}
-use Rattle.nb_run.proofs.Numerals.{one_cap, one_drill, one_job}
+use Rattle.nb_run.proofs.Numerals.{one_init, one_drill, one_job, rate_small}
 use Rattle.nb_run.proofs.Making.{makes_clean}
 use Rattle.nb_run.specs.Init.{MakesAs}
 use Rattle.nb_run.proofs.program.run.Goals as goal
 
-pub returns-in-Ok-Some-Init-clause-init : goal.returns-in-Ok-Some-Init-clause-init
-returns-in-Ok-Some-Init-clause-init g c = λ cap is.
+pub make_journal-end-requires : goal.make_journal-end-requires
+make_journal-end-requires g c =
     let words : List (List ℕ) = map string_bytes c.args.words.now in
+    record { rate = rate_small words c.in-Ok-Some-Init.cap c.in-Ok-Some-Init.rate (subst (CommandIs words) (c.in-Ok-Some-Init.field-0-is ∙ ap Some c.in-Ok-Some-Init.field-0-0-is) c.in-Ok-Some-Init.ensures.command) }
+
+pub returns-in-Ok-Some-Init-clause-init : goal.returns-in-Ok-Some-Init-clause-init
+returns-in-Ok-Some-Init-clause-init g c = λ cap rate is.
+    let words : List (List ℕ) = map string_bytes c.args.words.now in
+    let same = one_init words c.in-Ok-Some-Init.cap cap c.in-Ok-Some-Init.rate rate (subst (CommandIs words) (c.in-Ok-Some-Init.field-0-is ∙ ap Some c.in-Ok-Some-Init.field-0-0-is) c.in-Ok-Some-Init.ensures.command) is in
     inl
-    (subst (λ (n : ℕ). InitIs g.D.Disk.tells (g.S.Source.left c.args.source.now) (g.S.Source.left c.make_journal-end.new.source) (g.S.Source.faults c.args.source.now)
-    (g.S.Source.faults c.make_journal-end.new.source) c.args.disk c.make_journal-end.new.disk n c.ending.result)
-    (one_cap words c.in-Ok-Some-Init.cap cap (subst (CommandIs words) (c.in-Ok-Some-Init.field-0-is ∙ ap Some c.in-Ok-Some-Init.field-0-0-is) c.in-Ok-Some-Init.ensures.command) is)
+    (subst (λ (x : ℕ × Option ℕ). InitIs g.D.Disk.tells (g.S.Source.left c.args.source.now) (g.S.Source.left c.make_journal-end.new.source) (g.S.Source.faults c.args.source.now)
+    (g.S.Source.faults c.make_journal-end.new.source) c.args.disk c.make_journal-end.new.disk x.0 x.1 c.ending.result)
+    (λ i. (same.0 i, same.1 i))
     (c.make_journal-end.result, c.ending.ensures, c.make_journal-end.ensures.made))
 
 pub returns-in-Ok-Some-Init-clause-makes : goal.returns-in-Ok-Some-Init-clause-makes
-returns-in-Ok-Some-Init-clause-makes g c = λ cap is range input none no_source no_disk.
+returns-in-Ok-Some-Init-clause-makes g c = λ cap rate is range input none no_source no_disk.
     let words : List (List ℕ) = map string_bytes c.args.words.now in
-    let same : c.in-Ok-Some-Init.cap ≡ cap =
-    one_cap words c.in-Ok-Some-Init.cap cap (subst (CommandIs words) (c.in-Ok-Some-Init.field-0-is ∙ ap Some c.in-Ok-Some-Init.field-0-0-is) c.in-Ok-Some-Init.ensures.command) is in
+    let same = one_init words c.in-Ok-Some-Init.cap cap c.in-Ok-Some-Init.rate rate (subst (CommandIs words) (c.in-Ok-Some-Init.field-0-is ∙ ap Some c.in-Ok-Some-Init.field-0-0-is) c.in-Ok-Some-Init.ensures.command) is in
     inl
     (ap (λ e. e.status) c.ending.ensures
     ∙ makes_clean g.D.Disk.tells (g.S.Source.left c.args.source.now) (g.S.Source.left c.make_journal-end.new.source) (g.S.Source.faults c.args.source.now)
-    (g.S.Source.faults c.make_journal-end.new.source) c.args.disk c.make_journal-end.new.disk cap c.make_journal-end.result
-    (subst (λ (n : ℕ). MakesAs g.D.Disk.tells (g.S.Source.left c.args.source.now) (g.S.Source.left c.make_journal-end.new.source) (g.S.Source.faults c.args.source.now)
-    (g.S.Source.faults c.make_journal-end.new.source) c.args.disk c.make_journal-end.new.disk n c.make_journal-end.result) same c.make_journal-end.ensures.made)
+    (g.S.Source.faults c.make_journal-end.new.source) c.args.disk c.make_journal-end.new.disk cap rate c.make_journal-end.result
+    (subst (λ (x : ℕ × Option ℕ). MakesAs g.D.Disk.tells (g.S.Source.left c.args.source.now) (g.S.Source.left c.make_journal-end.new.source) (g.S.Source.faults c.args.source.now)
+    (g.S.Source.faults c.make_journal-end.new.source) c.args.disk c.make_journal-end.new.disk x.0 x.1 c.make_journal-end.result) (λ i. (same.0 i, same.1 i)) c.make_journal-end.ensures.made)
     range input none no_source no_disk)
 
 pub returns-in-Ok-Some-Drill-clause-drill : goal.returns-in-Ok-Some-Drill-clause-drill
