@@ -7,7 +7,7 @@ use Rattle.std.proofs.Math.ListN.{take-append-drop}
 use Rattle.std.proofs.lemmas.List.Sums.{sum_by-append, sum_by-take-le, count_by-le-length}
 use Rattle.std.proofs.lemmas.List.Elements.{filter_map-append}
 use Rattle.nb_book.specs.declared.entry.Entry.{Entry}
-use Rattle.nb_book.specs.declared.entry.Entry.TheVariants.{Enrol, Fund, Paid, Refused}
+use Rattle.nb_book.specs.declared.entry.Entry.TheVariants.{Enrol, Fund, Paid, Charged, Refused}
 use Rattle.nb_book.specs.Money.{fund, total}
 use Rattle.nb_turns.specs.declared.line.Line.{Line}
 use Rattle.nb_turns.specs.declared.line.Line.TheVariants.{Commit, Adopted, Doubt, Fault}
@@ -37,6 +37,9 @@ one_more es (Fund acct amount reference) =
     same _ _ _ _ _ _ (omega (arith, counted is_paid es e)) (omega (arith, counted is_refused es e)) (summed es e)
 one_more es (Paid digest epoid consumer merchant product price cacct macct moment key) =
     let e = Paid digest epoid consumer merchant product price cacct macct moment key in
+    same _ _ _ _ _ _ (counted is_paid es e) (omega (arith, counted is_refused es e)) (omega (arith, summed es e))
+one_more es (Charged digest epoid consumer merchant product price fee cacct macct moment key) =
+    let e = Charged digest epoid consumer merchant product price fee cacct macct moment key in
     same _ _ _ _ _ _ (counted is_paid es e) (omega (arith, counted is_refused es e)) (omega (arith, summed es e))
 one_more es (Refused digest epoid consumer merchant product price code a b moment) =
     let e = Refused digest epoid consumer merchant product price code a b moment in

@@ -6,8 +6,8 @@ use Rattle.std.specs.Io.KnownBytes.{Appends}
 use Rattle.nb_port.specs.Tells.{DiskTells}
 use Rattle.nb_units.specs.Frames.{Frame}
 use Rattle.nb_book.specs.declared.entry.Entry.{Entry}
-use Rattle.nb_book.specs.declared.entry.Entry.TheVariants.{Fund, Paid, Refused}
-use Rattle.nb_book.specs.Money.{accounts, balance, total}
+use Rattle.nb_book.specs.declared.entry.Entry.TheVariants.{Fund, Paid, Charged, Refused}
+use Rattle.nb_book.specs.Money.{accounts, balance, total, fees}
 use Rattle.nb_journal.specs.declared.making.InitFault.{InitFault}
 use Rattle.nb_journal.specs.declared.making.InitFault.TheVariants as inits
 use Rattle.nb_journal.specs.Making.{InitFails, without_fee}
@@ -31,15 +31,16 @@ use Rattle.nb_run.specs.Run.{Batch, NotOpened}
 
 abbrev pub is_paid : Entry → Bool
 is_paid (Paid digest epoid consumer merchant product price cacct macct moment key) = true
+is_paid (Charged digest epoid consumer merchant product price fee cacct macct moment key) = true
 is_paid other = false
 
 abbrev pub is_refused : Entry → Bool
 is_refused (Refused digest epoid consumer merchant product price code a b moment) = true
 is_refused other = false
 
--- the sum of all balances
+-- the sum of all balances, with the fees that the house keeps
 abbrev pub held : List Entry → ℕ
-held entries = sum_by (balance entries) (accounts entries)
+held entries = sum_by (balance entries) (accounts entries) + fees entries
 
 -- how many orders there were, how many of them the entries pay and refuse, and what the entries leave in all accounts, with a line feed
 abbrev pub line_of : ℕ → List Entry → List ℕ
@@ -122,6 +123,7 @@ tally entries = record { paid = count_by is_paid entries; refused = count_by is_
 abbrev pub and_one : Tally → Entry → Tally
 and_one t (Fund acct amount reference) = record t { total = t.total + amount }
 and_one t (Paid digest epoid consumer merchant product price cacct macct moment key) = record t { paid = t.paid + 1 }
+and_one t (Charged digest epoid consumer merchant product price fee cacct macct moment key) = record t { paid = t.paid + 1 }
 and_one t (Refused digest epoid consumer merchant product price code a b moment) = record t { refused = t.refused + 1 }
 and_one t other = t
 

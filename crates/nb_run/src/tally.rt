@@ -50,7 +50,7 @@ fn and_one(tally: Tally, entry: &Entry) -> Tally
             total: tally.total + amount,
             ..tally
         },
-        Entry::Paid { .. } => Tally {
+        Entry::Paid { .. } | Entry::Charged { .. } => Tally {
             paid: tally.paid + 1,
             ..tally
         },
