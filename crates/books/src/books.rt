@@ -3,27 +3,30 @@
 use crate::entries::{entry_of, epoid_of, in_words};
 use crate::trial::Trial;
 use crate::words::Words;
-use nb_book::{Book, MAX_CAP};
-use nb_units::{AcctId, NoMemory, PartyId};
+use nb_book::{Book, Entry, MAX_CAP};
+use nb_units::{AcctId, FEE_VERSION, FIRST_VERSION, MAX_RATE, NoMemory, PartyId};
 use std::alloc::Global;
 
 // The key of every book's indexes.
 const KEY: [u8; 16] = [0; 16];
 
 impl Trial {
-    /// `book CAP`: a book without entries. `next ENTRY`: whether it may come next. `apply ENTRY`: it comes next. `undo`: the last one is
+    /// `book CAP [RATE]`: a book without entries, of a journal with this rate or of one without fees. `next ENTRY`: whether it may come next. `apply ENTRY`: it comes next. `undo`: the last one is
     /// taken off. `party ID`, `account ID`, `reference HEX`, `order MERCHANT MOMENT SERIAL`: what the book has of it. `counts`: its cap, its
-    /// money and its entries.
+    /// money and its entries. `fees`: what the house kept.
     pub fn of_book(&mut self, word: &str, words: &[&str]) -> Result<String, NoMemory> {
         let mut words = Words::new(words);
         let alloc = self.alloc;
         if word == "book" {
             self.book = made(alloc, words.number())?;
+            self.rate = words.rate();
             return Ok(String::new(alloc));
         }
+        let rate = self.rate;
         match &mut self.book {
             Some(book) => match word {
-                "apply" => apply(alloc, book, &mut words),
+                "apply" => apply(alloc, book, rate, &mut words),
+                "next" => next(alloc, book, rate, &mut words),
                 "undo" => undo(alloc, book),
                 _ => asked(alloc, book, word, &mut words),
             },
@@ -40,11 +43,24 @@ fn made(alloc: Global, cap: Option<u32>) -> Result<Option<Book>, NoMemory> {
     }
 }
 
-fn apply(alloc: Global, book: &mut Book, words: &mut Words) -> Result<String, NoMemory> {
+// Whether an entry may come next in a journal with this rate, or in one without fees.
+fn legal(book: &Book, entry: &Entry, rate: Option<u16>) -> bool {
+    match rate {
+        None => book.legal(entry, FIRST_VERSION, 0),
+        Some(rate) => book.legal(entry, FEE_VERSION, rate.min(MAX_RATE)),
+    }
+}
+
+fn apply(
+    alloc: Global,
+    book: &mut Book,
+    rate: Option<u16>,
+    words: &mut Words,
+) -> Result<String, NoMemory> {
     let Some(entry) = entry_of(words) else {
         return nb_lines::unclear(alloc);
     };
-    if !book.legal(&entry) {
+    if !legal(book, &entry, rate) {
         return Ok("not next".to_string(alloc)?);
     }
     if book.len() >= book.cap() {
@@ -65,11 +81,11 @@ fn undo(alloc: Global, book: &mut Book) -> Result<String, NoMemory> {
 // What a look-up gives.
 fn asked(alloc: Global, book: &Book, word: &str, words: &mut Words) -> Result<String, NoMemory> {
     let told = match word {
-        "next" => next(alloc, book, words)?,
         "party" => party(alloc, book, words)?,
         "account" => account(alloc, book, words)?,
         "reference" => reference(alloc, book, words)?,
         "order" => order(alloc, book, words)?,
+        "fees" => Some(format!(in alloc; "{}", book.fees())?),
         _ => Some(format!(in alloc;
             "cap {}, {} in all, {} entries",
             book.cap(),
@@ -83,12 +99,18 @@ fn asked(alloc: Global, book: &Book, word: &str, words: &mut Words) -> Result<St
     }
 }
 
-fn next(alloc: Global, book: &Book, words: &mut Words) -> Result<Option<String>, NoMemory> {
-    match entry_of(words) {
-        Some(entry) if book.legal(&entry) => Ok(Some("next".to_string(alloc)?)),
-        Some(_) => Ok(Some("not next".to_string(alloc)?)),
-        None => Ok(None),
-    }
+fn next(
+    alloc: Global,
+    book: &Book,
+    rate: Option<u16>,
+    words: &mut Words,
+) -> Result<String, NoMemory> {
+    let told = match entry_of(words) {
+        Some(entry) if legal(book, &entry, rate) => "next",
+        Some(_) => "not next",
+        None => "none",
+    };
+    Ok(told.to_string(alloc)?)
 }
 
 fn party(alloc: Global, book: &Book, words: &mut Words) -> Result<Option<String>, NoMemory> {

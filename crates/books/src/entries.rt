@@ -69,6 +69,7 @@ pub fn entry_of(words: &mut Words) -> Option<Entry> {
             reference: words.sixteen()?,
         }),
         "paid" => payment(words),
+        "charged" => charge(words),
         "refused" => refusal(words),
         _ => None,
     }
@@ -101,6 +102,22 @@ fn payment(words: &mut Words) -> Option<Entry> {
         merchant: PartyId(words.number()?),
         product: words.number()?,
         price: Price(words.wide()?),
+        cacct: AcctId(words.number()?),
+        macct: AcctId(words.number()?),
+        moment: words.wide()?,
+        key: words.key()?,
+    })
+}
+
+fn charge(words: &mut Words) -> Option<Entry> {
+    Some(Entry::Charged {
+        digest: words.key()?,
+        epoid: epoid_of(words)?,
+        consumer: PartyId(words.number()?),
+        merchant: PartyId(words.number()?),
+        product: words.number()?,
+        price: Price(words.wide()?),
+        fee: words.wide()?,
         cacct: AcctId(words.number()?),
         macct: AcctId(words.number()?),
         moment: words.wide()?,
@@ -155,6 +172,7 @@ pub fn in_words(alloc: Global, entry: &Entry) -> Result<String, NoMemory> {
             Ok(format!(in alloc; "fund {} {amount} {reference}", acct.0)?)
         }
         Entry::Paid { .. } => paid(alloc, entry),
+        Entry::Charged { .. } => charged(alloc, entry),
         Entry::Refused { .. } => refused(alloc, entry),
     }
 }
@@ -184,6 +202,37 @@ fn paid(alloc: Global, entry: &Entry) -> Result<String, NoMemory> {
     Ok(format!(in alloc;
         "paid {digest} {name} {parties} {product} {} {accounts} {moment} {key}",
         price.0
+    )?)
+}
+
+fn charged(alloc: Global, entry: &Entry) -> Result<String, NoMemory> {
+    let Entry::Charged {
+        digest,
+        epoid,
+        consumer,
+        merchant,
+        product,
+        price,
+        fee,
+        cacct,
+        macct,
+        moment,
+        key,
+    } = *entry
+    else {
+        return nb_lines::unclear(alloc);
+    };
+    let (digest, key) = (hex::encode(alloc, digest)?, hex::encode(alloc, key)?);
+    let (name, parties) = (
+        named(alloc, &epoid)?,
+        format!(in alloc; "{} {}", consumer.0, merchant.0)?,
+    );
+    let (money, accounts) = (
+        format!(in alloc; "{} {fee}", price.0)?,
+        format!(in alloc; "{} {}", cacct.0, macct.0)?,
+    );
+    Ok(format!(in alloc;
+        "charged {digest} {name} {parties} {product} {money} {accounts} {moment} {key}"
     )?)
 }
 

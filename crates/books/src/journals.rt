@@ -2,9 +2,9 @@
 
 use crate::trial::Trial;
 use crate::words::Words;
-use nb_journal::{HEAD, InitFault, Journal, OpenFault, Opened, init};
+use nb_journal::{HEAD, InitFault, Journal, OpenFault, Opened, init, init2};
 use nb_port::MemDisk;
-use nb_units::NoMemory;
+use nb_units::{FIRST_VERSION, NoMemory};
 use std::alloc::Global;
 
 // The most bytes that a line adds to the content.
@@ -12,8 +12,8 @@ const MOST: u32 = 1_000_000;
 
 impl Trial {
     /// `content`: what it is. `content HEX`: it is this now. `more COUNT HEX`: these bytes so many times, behind it. `turn PLACE BYTE`: a byte
-    /// of it is another. `fails CALL..`: the calls of the next disk that fail. `init CAP BYTE`: a journal is made whose head is 80 times this
-    /// byte. `open`: what it has. `cut COUNT`: what so many bytes of its front are. `steps`: see [`Trial::steps`].
+    /// of it is another. `fails CALL..`: the calls of the next disk that fail. `init CAP BYTE [RATE]`: a journal is made whose head is 80 times this
+    /// byte, with a rate one of the version with fees. `open`: what it has. `cut COUNT`: what so many bytes of its front are. `steps`: see [`Trial::steps`].
     pub fn of_journal(&mut self, word: &str, words: &[&str]) -> Result<String, NoMemory> {
         match word {
             "steps" => self.steps(words),
@@ -71,7 +71,10 @@ impl Trial {
     fn make(&mut self, words: &mut Words) -> Result<String, NoMemory> {
         let (cap, byte) = (words.number().unwrap_or(0), words.byte().unwrap_or(0));
         let mut disk = MemDisk::new(self.alloc, &self.content, &self.fails)?;
-        let said = init(&mut disk, &[byte; HEAD], cap);
+        let said = match words.rate() {
+            None => init(&mut disk, &[byte; HEAD], cap),
+            Some(rate) => init2(&mut disk, &[byte; HEAD], cap, rate),
+        };
         self.content = Vec::from_slice(self.alloc, disk.content())?;
         match said {
             Ok(()) => Ok("made".to_string(self.alloc)?),
@@ -83,6 +86,7 @@ impl Trial {
 fn unmade(alloc: Global, fault: InitFault) -> Result<String, NoMemory> {
     Ok(match fault {
         InitFault::BadCap { cap } => format!(in alloc; "bad cap {cap}")?,
+        InitFault::BadRate { rate } => format!(in alloc; "bad rate {rate}")?,
         InitFault::Exists { magic } => format!(in alloc; "exists {}", hex::encode(alloc, magic)?)?,
         InitFault::LookFailed { before, after } => {
             format!(in alloc; "look failed {before}-{after}")?
@@ -116,12 +120,17 @@ fn opened(alloc: Global, content: &[u8]) -> Result<String, NoMemory> {
         Ok(opened) => {
             let Opened {
                 head,
+                version,
+                rate,
                 cap,
                 items,
                 ..
             } = opened;
             let head = hex::encode(alloc, head)?;
             let mut told = format!(in alloc; "cap {cap}, head {head}, {} items", items.len())?;
+            if version != FIRST_VERSION {
+                told.push_str(format!(in alloc; ", rate {rate}:")?.as_str())?;
+            }
             for item in &items {
                 let one = nb_lines::shown(alloc, item.as_slice())?;
                 told.push_str(" ")?;

@@ -11,6 +11,8 @@ pub struct Trial {
     pub content: Vec<u8>,
     pub fails: Vec<u64>,
     pub book: Option<Book>,
+    // The rate of the book's journal, where it has fees.
+    pub rate: Option<u16>,
     pub index: Option<Slotted>,
     // The last disk that went through steps of its own.
     pub disk: Option<QuietDisk>,
@@ -24,6 +26,7 @@ impl Trial {
             content: Vec::new(alloc),
             fails: Vec::new(alloc),
             book: None,
+            rate: None,
             index: None,
             disk: None,
         }

@@ -40,6 +40,11 @@ impl<'a> Words<'a> {
         self.word()?.parse::<u8>().ok()
     }
 
+    /// The next word, which is a number of two bytes.
+    pub fn rate(&mut self) -> Option<u16> {
+        self.word()?.parse::<u16>().ok()
+    }
+
     /// The next word, which spells 16 bytes in hexadecimal.
     pub fn sixteen(&mut self) -> Option<[u8; 16]> {
         let mut bytes = [0; 16];
