@@ -255,10 +255,11 @@ def head(house, operator, index):
     return house + operator + index
 
 
-def journal(head, cap, entries):
-    """A journal of these entries, one in an item."""
+def journal(head, cap, entries, rate=None):
+    """A journal of these entries, one in an item. With a rate it is of the version with fees."""
     items = b"".join(OPEN + sized(entry) for entry in entries)
-    return b"NBJRNL01" + struct.pack(">I", cap) + head + bytes(4) + items + CLOSED
+    magic = b"NBJRNL01" if rate is None else b"NBJRNL02"
+    return magic + struct.pack(">I", cap) + head + struct.pack(">HH", rate or 0, 0) + items + CLOSED
 
 
 def number(field):
