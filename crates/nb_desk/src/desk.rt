@@ -1,6 +1,5 @@
 ghost use Rattle.std.specs.Prelude.{◌≡◌, ◌≢◌, ◌≤◌, ◌<◌, ◌+◌, ◌*◌, ◌++◌, ◌∷◌, [], ℕ, List, length, IfOk, IfErr, Some, vec_capacity, vec_len};
 ghost use Rattle.std.specs.List.{All};
-ghost use Rattle.std.specs.Int.{bit_at};
 ghost use Rattle.nb_turns.specs.declared.limits.TheConstants.{MAX_REQUESTS};
 ghost use Rattle.nb_turns.specs.Lines.{maker_of};
 ghost use Rattle.nb_msgs.specs.declared.reply.TheConstants.{REPLY_ROOM};
@@ -8,7 +7,7 @@ ghost use Rattle.nb_units.specs.Room.{spare_of};
 ghost use Rattle.nb_vault.specs.Asking.{IsWithin, request_of, requests_of};
 ghost use Rattle.nb_vault.specs.Vaults.{Keeps, all_of, place_in};
 ghost use Rattle.nb_turn.specs.Lines.{StartsWith, lines_by};
-ghost use Rattle.nb_turn.specs.Views.{fresh_view, newcomer, found_one, named, joined, reseen, gave};
+ghost use Rattle.nb_turn.specs.Views.{FindsTaken, SplitOff, fresh_view, joined, reseen, gave};
 ghost use Rattle.nb_turn.specs.Faults.{no_memory, taken_in};
 ghost use Rattle.nb_turn.specs.Told.{Meets};
 ghost use Rattle.nb_turn.specs.Passes.{sees, held_sees, IsOf, Belongs};
@@ -59,9 +58,9 @@ impl<D: Disk + Drop> Desk<D> {
         requires number { number < MAX_PASSES }
         ensures same { IsSameDesk self.new self.old }
         ensures first { IfOk result (λ r. IsAt r.0 self.new × (r.0.number ≡ pass.number) × (sees r.0 ≡ sees pass)) }
-        ensures second { IfOk result (λ r. IsAt r.1 self.new × (r.1.number ≡ number) × ((word : ℕ) × (bit_at word number ≡ 0) × (sees r.1 ≡ named number word (newcomer (sees pass))))) }
+        ensures second { IfOk result (λ r. IsAt r.1 self.new × (r.1.number ≡ number) × SplitOff number (sees pass) (sees r.1)) }
         ensures fresh { IfOk result (λ r. lines_by maker_of number (sees pass).seen ≡ []) }
-        ensures taken { IfErr result (λ e. (word : ℕ) × (e.0 ≡ taken_in word) × (bit_at word number ≡ 1) × IsAt e.1 self.new × (e.1.number ≡ pass.number) × (sees e.1 ≡ found_one 2 word (sees pass))) }
+        ensures taken { IfErr result (λ e. (word : ℕ) × (e.0 ≡ taken_in word) × IsAt e.1 self.new × (e.1.number ≡ pass.number) × FindsTaken word number (sees pass) (sees e.1)) }
         ensures memory { IfErr result (λ e. e.0 ≢ no_memory) }
     {
         self.turn.split(pass, number)

@@ -1,5 +1,6 @@
 -- What a pass knows, and how it changes.
 use Rattle.std.specs.Prelude.{◌≡◌, ℕ, max, List, [], ◌∷◌, ◌++◌, length, drop, Option, Some, None, true, false}
+use Rattle.std.specs.Int.{bit_at}
 use mathlib.Core.Option.{some}
 use lib.ListN.{get_elem?}
 use Rattle.nb_turn.specs.declared.chronicle.View.{View}
@@ -57,6 +58,14 @@ module _ {O L : Type 0} where
   -- it found the number's bit clear in the word of numbers, and has that number
   abbrev pub named : ℕ → ℕ → View O L → View O L
   named number value v = record { origin = v.origin; seen = v.seen; parts = (number, v.seen) ∷ []; found = v.found ++ (2, value) ∷ []; holds = v.holds }
+
+  -- what was split off knows what the other did, under a number whose bit was clear in the word that it found
+  abbrev pub SplitOff : ℕ → View O L → View O L → Type 0
+  SplitOff number v w = (word : ℕ) × (bit_at word number ≡ 0) × (w ≡ named number word (newcomer v))
+
+  -- the bit was set in the word that it found, which is this
+  abbrev pub FindsTaken : ℕ → ℕ → View O L → View O L → Type 0
+  FindsTaken word number v w = (bit_at word number ≡ 1) × (w ≡ found_one 2 word v)
 
   -- the first, with the second joined into it
   abbrev pub joined : View O L → View O L → View O L

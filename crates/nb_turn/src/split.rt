@@ -1,7 +1,7 @@
 ghost use Rattle.std.specs.Prelude.{◌≡◌, ◌≢◌, ℕ, ◌<◌, [], false, IfOk, IfErr};
 ghost use Rattle.std.specs.Int.{bit_at};
 ghost use Rattle.nb_turn.specs.Lines.{StartsWith, lines_by};
-ghost use Rattle.nb_turn.specs.Views.{newcomer, found_one, named, joined};
+ghost use Rattle.nb_turn.specs.Views.{FindsTaken, SplitOff, found_one, joined, named};
 ghost use Rattle.nb_turn.specs.Faults.{no_memory, taken_in};
 ghost use Rattle.nb_turn.specs.Passes.{sees, Belongs, IsSame};
 ghost use Rattle.nb_turn.specs.declared.words.TheConstants.{MAX_PASSES};
@@ -38,9 +38,9 @@ impl<T: Chronicle + Drop> Turn<T> {
         requires number { number < MAX_PASSES }
         ensures same { IsSame self.new self.old }
         ensures first { IfOk result (λ r. Belongs r.0 self.new × (r.0.number ≡ pass.number) × (sees r.0 ≡ sees pass)) }
-        ensures second { IfOk result (λ r. Belongs r.1 self.new × (r.1.number ≡ number) × ((word : ℕ) × (bit_at word number ≡ 0) × (sees r.1 ≡ named number word (newcomer (sees pass))))) }
+        ensures second { IfOk result (λ r. Belongs r.1 self.new × (r.1.number ≡ number) × SplitOff number (sees pass) (sees r.1)) }
         ensures fresh { IfOk result (λ r. lines_by T.maker number (sees pass).seen ≡ []) }
-        ensures taken { IfErr result (λ e. (word : ℕ) × (e.0 ≡ taken_in word) × (bit_at word number ≡ 1) × Belongs e.1 self.new × (e.1.number ≡ pass.number) × (sees e.1 ≡ found_one 2 word (sees pass))) }
+        ensures taken { IfErr result (λ e. (word : ℕ) × (e.0 ≡ taken_in word) × Belongs e.1 self.new × (e.1.number ≡ pass.number) × FindsTaken word number (sees pass) (sees e.1)) }
         ensures memory { IfErr result (λ e. e.0 ≢ no_memory) }
     {
         let Pass {
