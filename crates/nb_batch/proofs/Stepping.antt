@@ -94,6 +94,7 @@ module _ {D : Type 0} (tells : DiskTells D) (old new : Chronicled D) (by : ℕ) 
       record {
         requests = request ∷ [];
         outcome = Decides is.0;
+        fits = (omega arith, omega arith);
         sent_is = is.1.out_is ∙ ap (λ (xs : List ℕ). xs ++ replies (answered_by (house_in old) (request ∷ []) (Decides is.0))) none ∙ ap (λ (h : House). replies (answered_by h (request ∷ []) (Decides is.0))) house;
         told = (durable, ap (λ (s : State). s.entries) is.1.turn.2 ∙ ap (λ (h : House). is.0 ++ recorded h is.0 (request ∷ [])) house);
       }
@@ -103,6 +104,7 @@ module _ {D : Type 0} (tells : DiskTells D) (old new : Chronicled D) (by : ℕ) 
   may_refuse outcome out out' sent reply none went nothing put is told = record {
     requests = request ∷ [];
     outcome = outcome;
+    fits = (omega arith, omega arith);
     sent_is = put ∙ ap (λ (xs : List ℕ). xs ++ reply) (nothing ∙ append-nil out ∙ none) ∙ sym (append-nil reply) ∙ is;
     told = told;
   }

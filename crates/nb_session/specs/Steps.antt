@@ -23,7 +23,6 @@ use Rattle.nb_turn.specs.declared.chronicle.View.{View}
 use Rattle.nb_vault.specs.declared.origin.Origin.{Origin}
 use Rattle.nb_vault.specs.Rules.{house_of}
 use Rattle.nb_vault.specs.Sending.{MaySend}
-use Rattle.nb_vault.specs.Vaults.{Chronicled}
 use Rattle.nb_escrow.specs.Head.{head_of}
 use Rattle.nb_session.specs.Session.{house_at, TurnAt, TurnsAt, frames_of, moments_of, requests_in, frames_in, moments_in, marks_in, replies_in, Gave, joined, with_readings, WroteShort}
 use Rattle.nb_session.specs.declared.ended.TheConstants.{MOST_FRAMES}
@@ -70,12 +69,12 @@ pub record AnswersTurn {D : Type 0} (tells : DiskTells D) (by : ℕ) (v w : View
 
 -- ---- sending
 
--- what a pass knows ends with the lines of a house from which these replies may be sent
-pub record LeftToSend {D : Type 0} (tells : DiskTells D) (w : View Origin Line) (replies : List ℕ) : Type 0 where
-  pub house : Chronicled D
-  pub origin_is : w.origin ≡ Some house.origin
-  pub seen_is : w.seen ≡ house.lines
-  pub may_send : MaySend tells house replies
+-- these replies may be sent from the vault that the pass of this number gave back last, as it took a turn since which it knows w
+pub record LeftToSend {D : Type 0} (tells : DiskTells D) (by : ℕ) (w : View Origin Line) (replies : List ℕ) : Type 0 where
+  pub v : View Origin Line
+  pub turn : Turned
+  pub at_desk : TurnAt tells by v w turn
+  pub may_send : MaySend tells at_desk.asks.new replies
 
 -- a part of the replies was sent, from their front, and not all of them
 pub record SentPart (sent sent' : Option (List ℕ)) (bytes : List ℕ) : Type 0 where

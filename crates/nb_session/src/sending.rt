@@ -17,7 +17,7 @@ pub enum Sent {
 /// Sends the replies of the last turn of `pass`. What they tell of is recorded in the house that it left, and each image that a stop may leave
 /// stands for the entries of that house, unless the turn did not decide.
 pub fn send_replies<D: Disk, L: Link>(_pass: &Pass<D>, link: &mut L, replies: &[u8]) -> Sent
-    requires durable { LeftToSend D.tells (sees _pass.now) replies.now }
+    requires durable { LeftToSend D.tells _pass.now.number (sees _pass.now) replies.now }
     ensures sent { SentIs (L.seen link.old) (L.seen link.new) replies.now result }
     ensures only { OnlyWrites (L.seen link.old) (L.seen link.new) }
 {
