@@ -22,7 +22,7 @@ use Rattle.nb_turns.specs.declared.line.Line.{Line}
 use Rattle.nb_turns.specs.declared.mark.Mark.{Mark}
 use Rattle.nb_turns.specs.declared.mark.Mark.TheVariants.{At, Fault, Worn}
 use Rattle.nb_turns.specs.declared.limits.TheConstants.{MAX_FAULTS, MAX_REQUESTS}
-use Rattle.nb_turns.specs.Turns.{Request, FitTurn, House, State, Outcome, Answered, Decides, Fails, Refuses, alike, answered, decided, marks, places, recorded, replies, with_entry}
+use Rattle.nb_turns.specs.Turns.{Request, House, State, Outcome, Answered, Decides, Fails, Refuses, alike, answered, decided, marks, places, recorded, replies, with_entry}
 use Rattle.nb_turn.specs.declared.chronicle.View.{View}
 use Rattle.nb_vault.specs.declared.answer.AnswerAll.TheVariants as all
 use Rattle.nb_vault.specs.declared.answer.AskAt.{AskAt}
@@ -160,8 +160,8 @@ stands_told tells by v w requests (Decides over) found out given a =
 stands_told tells by v w requests (Fails before after) found out given a = tt
 stands_told tells by v w requests Refuses found out given a = tt
 
-pub left_to_send : {D : Type 0} (tells : DiskTells D) (by : ℕ) (v w : View Origin Line) (requests : List Request) (before behind : List Mark) (out : List ℕ) → AnswersTurn tells by v w requests before behind out → FitTurn requests → LeftToSend tells by w out
-left_to_send tells by v w requests before behind out t fits =
+pub left_to_send : {D : Type 0} (tells : DiskTells D) (by : ℕ) (v w : View Origin Line) (requests : List Request) (before behind : List Mark) (out : List ℕ) → AnswersTurn tells by v w requests before behind out → LeftToSend tells by w out
+left_to_send tells by v w requests before behind out t =
     let a = t.at_desk.asks in
     let origin : v.origin ≡ Some a.new.origin = a.meets.origin_is ∙ ap (λ (o : Origin). Some o) (sym a.same_origin) in
     record {
@@ -171,7 +171,7 @@ left_to_send tells by v w requests before behind out t fits =
       may_send = record {
         requests = t.turn.requests;
         outcome = t.turn.outcome;
-        fits = subst FitTurn (sym t.requests_are) fits;
+        fits = a.follows.fits;
         sent_is = t.out_is ∙ ap (λ (o : Option Origin). replies (answered (house_seen o) t.turn.requests t.turn.outcome)) origin;
         told = stands_told tells by v w t.turn.requests t.turn.outcome t.at_desk.found t.at_desk.out t.at_desk.given a;
       };

@@ -1,10 +1,9 @@
-use Rattle.std.proofs.Common.{eqb-true, eqb-false, ◌≡◌, ◌×◌, ◌-◌, ℕ, List, length, refl, sym, subst, arith}
+use Rattle.std.proofs.Common.{eqb-true, ◌≡◌, ◌×◌, ◌-◌, ℕ, List, length, refl, sym, subst, arith}
 use Rattle.std.specs.Prelude.{min, vec_len}
 use Rattle.std.proofs.lemmas.List.{length-map, nil_from_length}
 use Rattle.nb_turn.specs.Passes.{sees}
 use Rattle.nb_vault.specs.declared.answer.AskAt.{AskAt}
 use Rattle.nb_vault.specs.Asking.{request_at, requests_of}
-use Rattle.nb_turns.specs.Turns.{FitTurn}
 use Rattle.nb_turns.specs.declared.limits.TheConstants.{MAX_REQUESTS}
 use Rattle.nb_session.specs.declared.ended.TheConstants.{MOST_FRAMES}
 use Rattle.nb_session.specs.Steps.{AnswersTurn, GathersTo, LeftToSend, SentIs, point}
@@ -35,15 +34,7 @@ returns-clause-turn g c =
 
 pub send_replies-sent-requires : goal.send_replies-sent-requires
 send_replies-sent-requires g c =
-    let asks : List AskAt = c.gather-gathered.new.asks.items in
-    let count = length-map asks (λ (ask : AskAt). request_at c.gather-gathered.new.frames.held ask) in
-    let fits : FitTurn (requests_of c.gather-gathered.new.frames.held asks) = (
-      omega (arith, count, eqb-false (vec_len c.gather-gathered.new.asks) 0 (sym c.if-is_empty.ensures)),
-      omega (arith, count, c.gather-gathered.ensures.most, c.min-most.ensures),
-    ) in
-    let answers = subst (λ (x : List ℕ × List AskAt). AnswersTurn g.D.Disk.tells c.args.pass.number (sees c.args.pass) (sees c.answer-pass.result) (requests_of x.0 x.1) c.args.work.now.marks.items c.answer-pass.new.marks.items c.answer-pass.new.out.items)
-    (λ i. (c.bytes.ensures.held i, c.as_slice.ensures.value i)) c.answer-pass.ensures.answers in
-    let left = left_to_send g.D.Disk.tells c.args.pass.number (sees c.args.pass) (sees c.answer-pass.result) _ _ _ _ answers fits in
+    let left = left_to_send g.D.Disk.tells c.args.pass.number (sees c.args.pass) (sees c.answer-pass.result) _ _ _ _ c.answer-pass.ensures.answers in
     record {
       durable = subst (λ (x : ℕ × List ℕ). LeftToSend g.D.Disk.tells x.0 (sees c.answer-pass.result) x.1) (λ i. (sym c.answer-pass.ensures.number i, sym c.as_slice-2.ensures.value i)) left;
     }
