@@ -1,4 +1,4 @@
-ghost use Rattle.std.specs.Prelude.{◌≡◌, ◌<◌, ◌≤◌, ◌+◌, ◌^◌, length, IfOk};
+ghost use Rattle.std.specs.Prelude.{◌≡◌, ◌≢◌, ◌<◌, ◌≤◌, ◌+◌, ◌^◌, length, IfOk};
 ghost use Rattle.nb_frame.specs.declared.stream.TheConstants.{MAX_PIECE};
 ghost use Rattle.nb_turn.specs.Passes.{sees};
 ghost use Rattle.nb_desk.specs.Desks.{IsAt};
@@ -6,6 +6,7 @@ ghost use Rattle.nb_frame.specs.State.{waiting};
 ghost use Rattle.nb_session.specs.Session.{Session, IsTold, around};
 ghost use Rattle.nb_session.specs.Steps.{EndsAt, HasRoom, IsBegun, TurnIs, point};
 ghost use Rattle.nb_session.specs.declared.ended.TheConstants.{MOST_FRAMES};
+ghost use Rattle.nb_session.specs.declared.ended.SessionEnd.TheVariants.{NoMemory};
 
 use crate::answering::answer;
 use crate::ended::{MOST_FRAMES, Record, SessionEnd};
@@ -53,7 +54,8 @@ impl Work {
 /// All memory is taken at its start; where there is none nothing is done. Each frame that is answered asks the clock once. What was read
 /// is answered before more is read.
 ///
-/// No clause speaks of the gate, nor of how the replies are cut into writes, nor of when they are sent. Tests show that each turn passes
+/// No clause speaks of the gate, nor of how the replies are cut into writes. That the replies of a turn are sent only once what they tell stands in
+/// the vault that the pass gave back is the condition of the one call that sends them. Tests show that each turn passes
 /// [`Point::BeforeTurn`], is taken at the desk, has its replies sent, each by writes of its own, and passes [`Point::AfterReply`], also
 /// where a write failed, before more is read; and that no call of the link is tried again where it failed.
 pub fn session<R: Wait, D: Disk + Drop, L: Link, C: Clock, G: Gate>(
@@ -71,6 +73,8 @@ pub fn session<R: Wait, D: Disk + Drop, L: Link, C: Clock, G: Gate>(
     ensures desk { IsAt result.0 desk.now }
     ensures pass { result.0.number ≡ pass.number }
     ensures told { IsTold D.tells pass.number number (around (sees pass) (L.seen link.old) (C.moments clock.old)) (around (sees result.0) (L.seen link.new) (C.moments clock.new)) result.1 }
+    // Where there was no memory the link and the clock are as before, and so is what the pass knows.
+    ensures starved { result.1.end ≡ NoMemory → (link.new ≡ link.old) × (clock.new ≡ clock.old) × (sees result.0 ≡ sees pass) }
 {
     let seen_before = pass.seen();
     let Ok(mut work) = Work::new(alloc) else {
@@ -115,6 +119,7 @@ fn serve<R: Wait, D: Disk + Drop, L: Link, C: Clock, G: Gate>(
     ensures desk { IsAt result.0 desk.now }
     ensures pass { result.0.number ≡ pass.number }
     ensures session { Session D.tells pass.number (sees pass) (sees result.0) (L.seen link.old) (L.seen link.new) (C.moments clock.old) (C.moments clock.new) work.new.moments.items work.new.marks.items result.1 }
+    ensures begun { result.1 ≢ NoMemory }
 {
     let mut pass = pass;
     let mut piece = [0u8; MAX_PIECE];

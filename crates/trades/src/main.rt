@@ -1,7 +1,7 @@
 //! A program that does with a consumer and with a merchant what the lines of standard input say, and prints what they do: the trials of `nb_consumer`
 //! and of `nb_merchant`, as data, of the shelves of `nb_price`, and of whole purchases. Each line is a word and what it is about. [`Trade`] says what
 //! those of a consumer do, which are `kept`, `again`, `start`, `hear`, `quiet`, `phase`, `goods`, `seal` and `part`, and those of a merchant, which are
-//! `shelf`, `stall`, `consumer`, `house`, `silent`, `stage` and `asker`; `item` and `bytes` are of both. [`shelves`] has `catalogue` and `shortage`,
+//! `shelf`, `stall`, `anew`, `consumer`, `house`, `silent`, `stage` and `asker`; `item` and `bytes` are of both. [`shelves`] has `catalogue`, `puts` and `shortage`,
 //! and [`whole`] the line of that name. A line that begins with `#` is printed as it is.
 //!
 //! It claims nothing: what it prints is compared with what another program wrote.
@@ -44,6 +44,7 @@ fn done_by_word(trade: &mut Trade, word: &str, rest: &[&str]) -> Result<String, 
         "item" => trade.item(rest),
         "bytes" => trade.bytes(),
         "catalogue" => shelves::catalogue(trade.alloc(), rest),
+        "puts" => shelves::puts(trade.alloc(), rest),
         "shortage" => shelves::shortage(trade.alloc()),
         "whole" => whole::purchase(trade.alloc(), rest),
         _ => done_by_consumer(trade, word, rest),
@@ -71,6 +72,7 @@ fn done_by_merchant(trade: &mut Trade, word: &str, rest: &[&str]) -> Result<Stri
     match word {
         "shelf" => trade.shelf(rest),
         "stall" => trade.stall(rest),
+        "anew" => trade.anew(rest),
         "consumer" => trade.consumer_says(rest),
         "house" => trade.house_says(rest),
         "silent" => trade.silent(rest),

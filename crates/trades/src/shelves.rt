@@ -1,6 +1,6 @@
 //! What shelves tell.
 
-use nb_price::{Catalogue, MAX_SHELF, ShelfFault};
+use nb_price::{Catalogue, MAX_SHELF, PutFault, ShelfFault};
 use nb_units::{NoMemory, Price};
 use std::alloc::Global;
 
@@ -13,6 +13,35 @@ pub(crate) fn catalogue(alloc: Global, words: &[&str]) -> Result<String, NoMemor
     match read(alloc, &nb_lines::spelled(alloc, *shelf)) {
         Ok(catalogue) => both(alloc, &catalogue, numbers),
         Err(why) => fault(alloc, why),
+    }
+}
+
+/// `puts NUMBER PRICE GOODS..`: products are put into a catalogue one after the other, their goods in hexadecimal. It tells what came of each, and
+/// what the catalogue then has of its number.
+pub(crate) fn puts(alloc: Global, words: &[&str]) -> Result<String, NoMemory> {
+    let mut catalogue = Catalogue::new(alloc);
+    let (mut told, mut rest) = (String::new(alloc), words);
+    while let [number, price, goods, more @ ..] = rest {
+        let put = catalogue.put(
+            number.parse::<u32>().unwrap_or(0),
+            Price(nb_lines::number(*price)),
+            nb_lines::spelled(alloc, *goods),
+        );
+        let has = products(alloc, &catalogue, &[*number])?;
+        told.push_str(format!(in alloc; "{}:{has} ", came_of(put))?.as_str())?;
+        rest = more;
+    }
+    Ok(told)
+}
+
+// What came of a product that was put into a catalogue, in words.
+fn came_of(put: Result<(), PutFault>) -> &'static str {
+    match put {
+        Ok(()) => "put",
+        Err(PutFault::BadPrice { .. }) => "bad price",
+        Err(PutFault::TooLong { .. }) => "too long",
+        Err(PutFault::Taken { .. }) => "taken",
+        Err(PutFault::NoMemory) => "no memory",
     }
 }
 

@@ -39,15 +39,32 @@ impl Trade {
 
     /// `stall ITEM..`: a merchant starts with these items, each a number or spelled, and sells what is on the shelf.
     pub fn stall(&mut self, words: &[&str]) -> Result<String, NoMemory> {
+        let items = self.items_of(words)?;
+        match shelves::read(self.alloc, &self.shelf) {
+            Ok(catalogue) => self.open(catalogue, &items),
+            Err(fault) => shelves::fault(self.alloc, fault),
+        }
+    }
+
+    /// `anew ITEM..`: the merchant that is there starts again with these items, and sells what it sold.
+    pub fn anew(&mut self, words: &[&str]) -> Result<String, NoMemory> {
+        let items = self.items_of(words)?;
+        if items.len() > 100 {
+            return nb_lines::unclear(self.alloc);
+        }
+        match self.merchant.start_again(&items) {
+            Ok(()) => self.nothing(),
+            Err(fault) => telling::fault(self.alloc, fault),
+        }
+    }
+
+    fn items_of(&self, words: &[&str]) -> Result<Vec<Blob>, NoMemory> {
         let mut items = Vec::new(self.alloc);
         for word in words {
             let item = self.named(*word)?;
             items.push(item)?;
         }
-        match shelves::read(self.alloc, &self.shelf) {
-            Ok(catalogue) => self.open(catalogue, &items),
-            Err(fault) => shelves::fault(self.alloc, fault),
-        }
+        Ok(items)
     }
 
     fn open(&mut self, catalogue: Catalogue, items: &[Blob]) -> Result<String, NoMemory> {
