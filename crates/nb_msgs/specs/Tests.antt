@@ -1,5 +1,5 @@
 -- The tests that the rows of nodes share. Each goes on, or gives the reason for which a message or a word of the holder is ignored.
-use Rattle.std.specs.Prelude.{ℕ, Bool, true, false, List, codes, Option, Some, None, Result, Ok, Err}
+use Rattle.std.specs.Prelude.{◌≡◌, ℕ, Bool, true, false, List, codes, take, Option, Some, None, Result, Ok, Err}
 use Rattle.nb_units.specs.Fields.{◌>>=◌}
 use Rattle.nb_seal.specs.Seal.{text_in}
 use Rattle.nb_msgs.specs.declared.node.Reason.{Reason}
@@ -29,3 +29,8 @@ unfoldable pub opened : {A E : Type 0} → (List ℕ → Result A E) → List �
 opened reading key label bytes = do
   plain ← found reason.Seal (text_in key label bytes)
   or_seal (reading plain)
+
+-- a text that was unsealed stands at the front of a buffer, or there is none
+abbrev pub Unseals : Option (List ℕ) → List ℕ → Result ℕ Reason → Type 0
+Unseals text buffer (Ok n) = text ≡ Some (take n buffer)
+Unseals text buffer (Err why) = (text ≡ None) × (why ≡ reason.Seal)

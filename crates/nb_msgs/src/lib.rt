@@ -37,7 +37,7 @@ pub use lengths::{
 };
 pub use message::Message;
 pub use node::{End, Reason, RestartFault, Step, To};
-pub use opening::open_receipt;
+pub use opening::{open_receipt, sealed, unsealed};
 pub use reading::read_body;
 pub use reply::{LONGEST_REPLY, REPLY_ROOM, limits, write_reply, write_reply_with};
 pub use status::{MOST_STATUS, StatusText};

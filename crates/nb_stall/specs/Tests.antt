@@ -1,5 +1,5 @@
 -- What a stall opens: a ticket, and requests under a session key.
-use Rattle.std.specs.Prelude.{◌≡◌, ℕ, List, codes, take, Option, Some, None, Result, Ok, Err}
+use Rattle.std.specs.Prelude.{ℕ, List, codes, Result, Ok, Err}
 use Rattle.sha2.specs.Sha256.{sha256}
 use Rattle.nb_units.specs.Fields.{◌>>=◌}
 use Rattle.nb_ticket.specs.declared.ticket.Ticket.{Ticket}
@@ -8,7 +8,6 @@ use Rattle.nb_ticket.specs.Opening.{admitted}
 use Rattle.nb_body.specs.declared.price_request.PriceRequest.{PriceRequest}
 use Rattle.nb_body.specs.Spelling.{price_request_bytes}
 use Rattle.nb_msgs.specs.declared.node.Reason.{Reason}
-use Rattle.nb_msgs.specs.declared.node.Reason.TheVariants as reason
 use Rattle.nb_msgs.specs.Tests.{or_seal, opened}
 use Rattle.nb_stall.specs.declared.opening.AskedPrice.{AskedPrice}
 use Rattle.nb_stall.specs.declared.stall.Stall.{Stall}
@@ -22,11 +21,6 @@ ticket_in stall bytes moment = do
 -- the digest of a request for a price
 abbrev pub request_digest : PriceRequest → List ℕ
 request_digest r = sha256 (price_request_bytes r)
-
--- for the contracts of private functions alone: a text that was unsealed stands at the front of a buffer
-abbrev pub Unseals : Option (List ℕ) → List ℕ → Result ℕ Reason → Type 0
-Unseals text buffer (Ok n) = text ≡ Some (take n buffer)
-Unseals text buffer (Err why) = (text ≡ None) × (why ≡ reason.Seal)
 
 -- what was opened, without its digest
 abbrev pub request_in : Result AskedPrice Reason → Result PriceRequest Reason

@@ -1,19 +1,16 @@
-ghost use Rattle.std.specs.Prelude.{◌≡◌, ◌≤◌, ◌+◌, length, codes, take, IfOk, Ok, Err};
-ghost use Rattle.nb_seal.specs.declared.limits.TheConstants.{CODE_BYTES, MAX_TEXT};
-ghost use Rattle.nb_seal.specs.Seal.{text_in};
+ghost use Rattle.std.specs.Prelude.{◌≡◌, ◌≤◌, length, codes, IfOk};
 ghost use Rattle.nb_ticket.specs.declared.ticket.TheConstants.{TICKET_BYTES};
 ghost use Rattle.nb_body.specs.Reading as body;
 ghost use Rattle.nb_msgs.specs.declared.lengths.TheConstants.{MAX_SEALED_PRICE_REQUEST, MAX_SEALED_GOODS_REQUEST, MAX_SEALED_PAYMENT};
-ghost use Rattle.nb_msgs.specs.declared.node.Reason.TheVariants as reason;
 ghost use Rattle.nb_msgs.specs.Tests.{opened};
 ghost use Rattle.nb_stall.specs.Tests as tests;
-ghost use Rattle.nb_stall.specs.Tests.{Unseals, request_digest};
+ghost use Rattle.nb_stall.specs.Tests.{request_digest};
 
 use crate::stall::Stall;
 use nb_body::{GoodsRequest, PaymentRequest, PriceRequest};
 use nb_msgs::{
     GOODS_REQUEST_LABEL, MAX_SEALED_GOODS_REQUEST, MAX_SEALED_PAYMENT, MAX_SEALED_PRICE_REQUEST,
-    PAYMENT_LABEL, PRICE_REQUEST_LABEL, Reason,
+    PAYMENT_LABEL, PRICE_REQUEST_LABEL, Reason, unsealed,
 };
 use nb_seal::{KeyState, sha};
 use nb_ticket::{Ticket, open_ticket};
@@ -37,24 +34,6 @@ pub fn open_for(stall: &Stall, ticket: &[u8], moment: u64) -> Result<Ticket, Rea
     match open_ticket(ticket, &stall.key, stall.id, moment) {
         Ok(opened) => Ok(opened),
         Err(_fault) => Err(Reason::Seal),
-    }
-}
-
-// The text that the bytes are the seal of, to the front of a buffer, and how long it is.
-fn unsealed(
-    key: &KeyState,
-    label: &[u8; 4],
-    bytes: &[u8],
-    buffer: &mut [u8],
-) -> Result<usize, Reason>
-    requires short { length bytes.now ≤ CODE_BYTES + MAX_TEXT }
-    requires room { length bytes.now ≤ length buffer.old }
-    ensures text { Unseals (text_in key.now label.now bytes.now) buffer.new result }
-    ensures within { IfOk result (λ n. n ≤ length bytes.now) }
-{
-    match key.unseal_to(label, bytes, buffer) {
-        Ok(n) => Ok(n),
-        Err(_bad) => Err(Reason::Seal),
     }
 }
 

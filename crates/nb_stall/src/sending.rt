@@ -10,28 +10,18 @@ use crate::stall::Stall;
 use nb_body::{GoodsHead, Quote};
 use nb_endorse::{Endorsement, MAX_SEALED, write_sealed};
 use nb_goods::{Parts, goods_key};
-use nb_msgs::{GOODS_HEAD_LABEL, Message, QUOTE_LABEL};
+use nb_msgs::{GOODS_HEAD_LABEL, Message, QUOTE_LABEL, sealed};
 use nb_seal::KeyState;
 use nb_units::width::SEAL;
 use nb_units::{Blob, Epoid, NoMemory, Small};
 use std::alloc::Global;
-
-// The seal of a text.
-fn seal(alloc: Global, key: &KeyState, label: &[u8; 4], plain: &[u8]) -> Result<Blob, NoMemory>
-    requires { length plain.now ≤ 1000 }
-    ensures { IfOk result (λ blob. blob ≡ seal_of key.now label.now plain.now) }
-{
-    let mut bytes = Vec::with_capacity(alloc, SEAL + plain.len())?;
-    key.seal_spare(label, plain, &mut bytes);
-    Ok(Blob::from_vec(bytes))
-}
 
 /// A price, sealed under the session key. Answers [`NoMemory`] where there is none for it.
 pub fn quote_message(alloc: Global, session: &KeyState, quote: &Quote) -> Result<Message, NoMemory>
     ensures { IfOk result (λ message. message ≡ messages.quote_message session.now quote.now) }
 {
     let plain = quote.spelled();
-    let sealed = seal(alloc, session, &QUOTE_LABEL, plain.as_slice())?;
+    let sealed = sealed(alloc, session, &QUOTE_LABEL, plain.as_slice())?;
     Ok(Message::Quote {
         transaction: quote.transaction,
         sealed,
@@ -61,7 +51,7 @@ pub fn goods_message(
         checksum: parts.checksum(),
     };
     let plain = head.spelled();
-    let sealed = seal(alloc, session, &GOODS_HEAD_LABEL, plain.as_slice())?;
+    let sealed = sealed(alloc, session, &GOODS_HEAD_LABEL, plain.as_slice())?;
     let part = parts.part(alloc, goods, place)?;
     Ok(Message::Goods {
         transaction,

@@ -12,21 +12,20 @@ ghost use Rattle.nb_msgs.specs.Tests.{opened};
 use nb_body::{GoodsHead, Quote};
 use nb_msgs::{
     GOODS_HEAD_LABEL, MAX_SEALED_HEAD, MAX_SEALED_QUOTE, MOST_STATUS, QUOTE_LABEL, Reason,
-    STATUS_LABEL, StatusText,
+    STATUS_LABEL, StatusText, unsealed,
 };
-use nb_seal::unseal_to;
+use nb_seal::KeyState;
 use nb_ticket::{Granted, open_grant};
 use nb_units::Secret;
 
 /// The quote that is sealed under the session key, or [`Reason::Seal`] where the bytes do not open to one.
+#[tactic(auto, unfolding(nb_msgs::specs::Tests::opened))]
 pub fn open_quote(session: &Secret, sealed: &[u8]) -> Result<Quote, Reason>
     requires { length sealed.now ≤ MAX_SEALED_QUOTE }
     ensures { result ≡ opened quote_of session.now (codes "m002") sealed.now }
 {
     let mut plain = [0u8; MAX_SEALED_QUOTE];
-    let Ok(n) = unseal_to(session, &QUOTE_LABEL, sealed, &mut plain) else {
-        return Err(Reason::Seal);
-    };
+    let n = unsealed(&KeyState::new(session), &QUOTE_LABEL, sealed, &mut plain)?;
     match Quote::read(plain.split_at(n).0) {
         Ok(quote) => Ok(quote),
         Err(_) => Err(Reason::Seal),
@@ -34,14 +33,13 @@ pub fn open_quote(session: &Secret, sealed: &[u8]) -> Result<Quote, Reason>
 }
 
 /// What is said of a part of goods, sealed under the session key, or [`Reason::Seal`] where the bytes do not open to that.
+#[tactic(auto, unfolding(nb_msgs::specs::Tests::opened))]
 pub fn open_head(session: &Secret, sealed: &[u8]) -> Result<GoodsHead, Reason>
     requires { length sealed.now ≤ MAX_SEALED_HEAD }
     ensures { result ≡ opened goods_head_of session.now (codes "m004") sealed.now }
 {
     let mut plain = [0u8; MAX_SEALED_HEAD];
-    let Ok(n) = unseal_to(session, &GOODS_HEAD_LABEL, sealed, &mut plain) else {
-        return Err(Reason::Seal);
-    };
+    let n = unsealed(&KeyState::new(session), &GOODS_HEAD_LABEL, sealed, &mut plain)?;
     match GoodsHead::read(plain.split_at(n).0) {
         Ok(head) => Ok(head),
         Err(_) => Err(Reason::Seal),
@@ -49,15 +47,14 @@ pub fn open_head(session: &Secret, sealed: &[u8]) -> Result<GoodsHead, Reason>
 }
 
 /// The status that the house sealed under the consumer's key, or [`Reason::Seal`] where the bytes do not open to one.
+#[tactic(auto, unfolding(nb_msgs::specs::Tests::opened))]
 pub fn open_status(key: &Secret, sealed: &[u8]) -> Result<StatusText, Reason>
     requires { length sealed.now ≤ MOST_STATUS }
     ensures opened { result ≡ opened text_of key.now (codes "stat") sealed.now }
     ensures lawful { IfOk result (λ t. IfSome t.receipt (λ s. ReceiptKeepsRules s.receipt)) }
 {
     let mut plain = [0u8; MOST_STATUS];
-    let Ok(n) = unseal_to(key, &STATUS_LABEL, sealed, &mut plain) else {
-        return Err(Reason::Seal);
-    };
+    let n = unsealed(&KeyState::new(key), &STATUS_LABEL, sealed, &mut plain)?;
     match StatusText::read(plain.split_at(n).0) {
         Ok(text) => Ok(text),
         Err(_) => Err(Reason::Seal),

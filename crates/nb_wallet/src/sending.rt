@@ -12,10 +12,9 @@ use crate::item::{SessionTicket, order_text};
 use crate::wallet::{Start, Wallet};
 use nb_body::{GoodsRequest, PaymentRequest, PriceRequest, StatusQuery};
 use nb_epo::{Hidden, Order, account_digest, hide, sign_order};
-use nb_msgs::{GOODS_REQUEST_LABEL, Message, PAYMENT_LABEL, PRICE_REQUEST_LABEL, STATUS_LABEL};
-use nb_seal::{hmac, seal_spare, sha};
+use nb_msgs::{GOODS_REQUEST_LABEL, Message, PAYMENT_LABEL, PRICE_REQUEST_LABEL, STATUS_LABEL, sealed};
+use nb_seal::{KeyState, hmac, sha};
 use nb_ticket::request;
-use nb_units::width::SEAL;
 use nb_units::{Blob, Buffer, Digest, Epoid, NoMemory, Price, Secret};
 use std::alloc::Global;
 
@@ -24,22 +23,6 @@ pub fn ticket_request(wallet: &Wallet, start: &Start) -> Message
     ensures { result ≡ messages.ticket_request wallet.now start.now }
 {
     Message::TicketAsk(request(&wallet.key, wallet.id, start.merchant, start.transaction))
-}
-
-// A text sealed under the session key.
-fn sealed(
-    alloc: Global,
-    session: &Secret,
-    label: &[u8; 4],
-    plain: &Buffer,
-) -> Result<Blob, NoMemory>
-    ensures bytes { IfOk result (λ sealed. sealed ≡ seal_of session.now label.now plain.now) }
-    ensures long { IfOk result (λ sealed. length sealed ≡ 32 + length plain.now) }
-{
-    let plain = plain.as_slice();
-    let mut bytes = Vec::with_capacity(alloc, SEAL + plain.len())?;
-    seal_spare(session, label, plain, &mut bytes);
-    Ok(Blob::from_vec(bytes))
 }
 
 // The ticket, to be shown to its merchant.
@@ -82,12 +65,9 @@ pub fn price_request(
     ensures message { IfOk result (λ message. message ≡ messages.price_request pass.now start.now) }
     ensures lawful { IfOk result MessageKeepsRules }
 {
-    let sealed = sealed(
-        alloc,
-        &pass.session,
-        &PRICE_REQUEST_LABEL,
-        &price_text(start),
-    )?;
+    let session = KeyState::new(&pass.session);
+    let text = price_text(start);
+    let sealed = sealed(alloc, &session, &PRICE_REQUEST_LABEL, text.as_slice())?;
     let ticket = ticket(alloc, pass)?;
     Ok(Message::PriceAsk { ticket, sealed })
 }
@@ -107,12 +87,9 @@ pub fn goods_request(
         transaction: start.transaction,
         place,
     };
-    let sealed = sealed(
-        alloc,
-        &pass.session,
-        &GOODS_REQUEST_LABEL,
-        &request.spelled(),
-    )?;
+    let session = KeyState::new(&pass.session);
+    let text = request.spelled();
+    let sealed = sealed(alloc, &session, &GOODS_REQUEST_LABEL, text.as_slice())?;
     let ticket = ticket(alloc, pass)?;
     Ok(Message::GoodsAsk { ticket, sealed })
 }
@@ -133,7 +110,9 @@ pub fn payment(
         transaction: start.transaction,
         order: order_text(alloc, order)?,
     };
-    let sealed = sealed(alloc, &pass.session, &PAYMENT_LABEL, &request.spelled())?;
+    let session = KeyState::new(&pass.session);
+    let text = request.spelled();
+    let sealed = sealed(alloc, &session, &PAYMENT_LABEL, text.as_slice())?;
     let ticket = ticket(alloc, pass)?;
     Ok(Message::Order { ticket, sealed })
 }
