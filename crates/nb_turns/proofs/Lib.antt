@@ -1,6 +1,7 @@
 pub mod Lists
 pub mod Single
 pub mod Keeping
+pub mod Each
 pub mod Growth
 pub mod Lining
 pub mod Adding

@@ -5,8 +5,8 @@ use Rattle.std.specs.Option.{option_to_list}
 use Rattle.nb_units.specs.declared.epoid.Epoid.{Epoid}
 use Rattle.nb_units.specs.declared.ids.AcctId.{AcctId}
 use Rattle.nb_book.specs.declared.entry.Entry.{Entry}
-use Rattle.nb_book.specs.Legal.{LegalAfter, Legal}
-use Rattle.nb_book.specs.Money.{accounts, balance, credits, debits, total}
+use Rattle.nb_book.specs.Legal.{IsOfRate, LegalAfter, Legal}
+use Rattle.nb_book.specs.Money.{accounts, balance, credits, debits, fees, total}
 use Rattle.nb_book.specs.Searches.{settles}
 use Rattle.nb_turns.specs.declared.limits.TheConstants.{MAX_FAULTS, MAX_REQUESTS}
 use Rattle.nb_turns.specs.declared.line.Line.{Line}
@@ -133,7 +133,7 @@ abbrev pub RunGrows : Type 0
 RunGrows = (house : House) (first : State) (rounds : List Round) (states : List State)
     → Run house first rounds states → AllByRecursion (λ (state : State). (more : List Entry) × (state.entries ≡ first.entries ++ more)) states
 
--- ---- Legal entries, and money
+-- ---- Legal entries
 
 -- what the verdicts over Legal entries record may come next, and there is room for it
 abbrev pub IsLawful : House → ℕ → Type 0
@@ -157,10 +157,32 @@ abbrev pub RunKeepsLegal : Type 0
 RunKeepsLegal = (house : House) (cap : ℕ) (first : State) (rounds : List Round) (states : List State)
     → IsLawful house cap → IsLegalState cap first → Run house first rounds states → AllByRecursion (IsLegalState cap) states
 
--- a list on which each order is settled once, and money is neither made nor lost
+-- ---- entries of a journal of one version, with one rate
+
+-- what the verdicts record such a journal may have
+abbrev pub RecordsOfRate : House → ℕ → ℕ → Type 0
+RecordsOfRate house version rate = (entries : List Entry) (request : Request) (entry : Entry) → (house.rules entries request).entry ≡ Some entry → IsOfRate version rate entry
+
+-- such a journal may have each entry, also of those in doubt
+abbrev pub IsStateOfRate : ℕ → ℕ → State → Type 0
+IsStateOfRate version rate state = AllByRecursion (IsOfRate version rate) (state.entries ++ state.doubt)
+
+-- a turn keeps this
+abbrev pub TurnKeepsRate : Type 0
+TurnKeepsRate = (house : House) (version rate : ℕ) (old new : State) (requests : List Request) (outcome : Outcome)
+    → RecordsOfRate house version rate → IsStateOfRate version rate old → Turn house old requests outcome new → IsStateOfRate version rate new
+
+-- each state of a run has it
+abbrev pub RunKeepsRate : Type 0
+RunKeepsRate = (house : House) (version rate : ℕ) (first : State) (rounds : List Round) (states : List State)
+    → RecordsOfRate house version rate → IsStateOfRate version rate first → Run house first rounds states → AllByRecursion (IsStateOfRate version rate) states
+
+-- ---- money
+
+-- a list on which each order is settled once, and money is neither made nor lost: what the house kept counts too
 pub record IsBalanced (entries : List Entry) : Type 0 where
   pub once : (order : Epoid) → count_by (settles order) entries ≤ 1
-  pub sums : sum_by (balance entries) (accounts entries) ≡ total entries
+  pub sums : sum_by (balance entries) (accounts entries) + fees entries ≡ total entries
   pub none_overdrawn : (account : AcctId) → debits entries account ≤ credits entries account
 
 -- the entries of each state of a run are balanced, without those in doubt and with them

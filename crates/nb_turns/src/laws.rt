@@ -68,6 +68,16 @@ pub fn run_keeps_legal()
     turn_keeps_legal();
 }
 
+/// Where a house records only what a journal of one version and one rate may have, a turn keeps each entry so, also of those in doubt.
+pub fn turn_keeps_rate()
+    ensures { law.TurnKeepsRate }
+{}
+
+/// So it is in each state of a run.
+pub fn run_keeps_rate()
+    ensures { law.RunKeepsRate }
+{}
+
 /// In each state of a run money is neither made nor lost.
 pub fn run_keeps_money()
     ensures { law.RunKeepsMoney }
