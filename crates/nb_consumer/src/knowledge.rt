@@ -1,6 +1,7 @@
 ghost use Rattle.std.specs.Prelude.{◌≡◌, ◌≤◌, ◌<◌, ◌+◌, [], length, map, is_some, is_none, option_copied, slice_get, IfOk, IfErr, IfSome, OnOk, OnErr, Some, None, Ok};
 ghost use Rattle.indexmap.specs.IndexMap.{spare};
 ghost use Rattle.nb_consumer.specs.Deeds as deeds;
+ghost use Rattle.nb_consumer.specs.declared.deed.Deed.TheVariants as does;
 ghost use Rattle.nb_consumer.specs.Goods.{goods_in};
 ghost use Rattle.nb_wallet.specs.Changes as changes;
 ghost use Rattle.nb_consumer.specs.State as state;
@@ -15,7 +16,7 @@ use indexmap::{IndexMap, IndexSet};
 use nb_body::GoodsHead;
 use nb_endorse::Signed;
 use nb_epo::Order;
-use nb_msgs::{End, Reason, Step};
+use nb_msgs::{End, Message, Reason, Step, To};
 use nb_units::{Blob, Epoid, NoMemory, Price};
 use nb_wallet::{
     Change, Held, Item, Purchase, Stage, Start, Wallet, ordered_from, raised_from, stage_ended,
@@ -301,14 +302,11 @@ impl Knowledge {
         self.change(transaction, stage, Change::Same)
     }
 
-    // Does what a row says: what is kept is spelled and remembered.
+    // Does what a row says.
     pub(crate) fn carry_out(&mut self, deed: Deed) -> Result<Step, NoMemory>
         requires { deeds.DeedFits self.old deed }
-        ensures told { IfOk result (λ step. step ≡ table.step_of (Ok deed)) }
-        ensures after { OnOk result (self.new ≡ table.after self.old (Ok deed)) }
-        ensures spelled { OnOk result (deeds.DeedIsSpelled deed) }
+        ensures answers { deeds.Answers self.old self.new (Ok deed) result }
         ensures lawful { IfOk result deeds.StepKeepsRules }
-        ensures err { OnErr result (self.new ≡ self.old) }
     {
         match deed {
             Deed::Sends { to, message } => Ok(Step::Move {
@@ -321,37 +319,69 @@ impl Knowledge {
                 place,
                 to,
                 message,
-            } => {
-                self.raise(transaction, place)?;
-                Ok(Step::Move {
-                    keep: None,
-                    to,
-                    message,
-                })
-            }
-            Deed::Keeps { item, to, message } => {
-                let keep = item.spelled(self.alloc)?;
-                self.remember(item)?;
-                Ok(Step::Move {
-                    keep: Some(keep),
-                    to,
-                    message,
-                })
-            }
+            } => self.raise_and_send(transaction, place, to, message),
+            Deed::Keeps { item, to, message } => self.keep_and_send(item, to, message),
             Deed::Ends {
                 transaction,
                 receipt,
                 end,
-            } => {
-                let item = Item::Ended {
-                    transaction,
-                    receipt,
-                };
-                let keep = item.spelled(self.alloc)?;
-                self.finish(transaction, &receipt, &end)?;
-                Ok(Step::Ended { keep, end })
-            }
+            } => self.keep_and_end(transaction, receipt, end),
         }
+    }
+
+    // Learns how many entries the house has, and sends a message.
+    fn raise_and_send(
+        &mut self,
+        transaction: u64,
+        place: u64,
+        to: To,
+        message: Message,
+    ) -> Result<Step, NoMemory>
+        requires { deeds.DeedFits self.old (does.Hears transaction place to message) }
+        ensures answers { deeds.Answers self.old self.new (Ok (does.Hears transaction place to message)) result }
+        ensures lawful { IfOk result deeds.StepKeepsRules }
+    {
+        self.raise(transaction, place)?;
+        Ok(Step::Move {
+            keep: None,
+            to,
+            message,
+        })
+    }
+
+    // Keeps an item, which is spelled and remembered, and sends a message.
+    fn keep_and_send(&mut self, item: Item, to: To, message: Message) -> Result<Step, NoMemory>
+        requires { deeds.DeedFits self.old (does.Keeps item to message) }
+        ensures answers { deeds.Answers self.old self.new (Ok (does.Keeps item to message)) result }
+        ensures lawful { IfOk result deeds.StepKeepsRules }
+    {
+        let keep = item.spelled(self.alloc)?;
+        self.remember(item)?;
+        Ok(Step::Move {
+            keep: Some(keep),
+            to,
+            message,
+        })
+    }
+
+    // Keeps a receipt, with which a purchase ends.
+    fn keep_and_end(
+        &mut self,
+        transaction: u64,
+        receipt: Signed,
+        end: End,
+    ) -> Result<Step, NoMemory>
+        requires { deeds.DeedFits self.old (does.Ends transaction receipt end) }
+        ensures answers { deeds.Answers self.old self.new (Ok (does.Ends transaction receipt end)) result }
+        ensures lawful { IfOk result deeds.StepKeepsRules }
+    {
+        let item = Item::Ended {
+            transaction,
+            receipt,
+        };
+        let keep = item.spelled(self.alloc)?;
+        self.finish(transaction, &receipt, &end)?;
+        Ok(Step::Ended { keep, end })
     }
 
     // The step of what a row gives.

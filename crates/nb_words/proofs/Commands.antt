@@ -1,5 +1,5 @@
 -- The commands, one by one: clap takes as many words as a command has positions, and no others.
-use Rattle.std.proofs.Common.{◌≡◌, ℕ, ◌+◌, ◌%◌, ◌<◌, ◌^◌, List, [], ◌∷◌, ◌++◌, false, refl, ap, sym, ◌∙◌, codes, Some, arith, ne_eqb}
+use Rattle.std.proofs.Common.{◌≡◌, ◌⊎◌, inl, inr, ℕ, ◌+◌, ◌%◌, ◌<◌, ◌^◌, List, [], ◌∷◌, ◌++◌, false, refl, ap, sym, ◌∙◌, codes, Some, None, arith, ne_eqb}
 use Rattle.std.specs.Prelude.{fold}
 use Rattle.std.specs.List.{AllByRecursion}
 use Rattle.std.specs.Fmt.{decimal}
@@ -35,14 +35,14 @@ number_named = decimal_by_steps (λ n ds. IsName ds) (λ n small. (omega arith, 
     more [] d is = absurd (not_nothing is)
     more (x ∷ ds) d is = (omega arith, is.1)
 
--- ---- init JOURNAL CAP
+-- ---- init JOURNAL CAP, and PERMILLE
 
-pub init_named : IsNamed (codes "init") (codes "JOURNAL" ∷ codes "CAP" ∷ [])
+pub init_named : IsNamed (codes "init") (codes "JOURNAL" ∷ codes "CAP" ∷ []) (codes "PERMILLE" ∷ [])
 unfolding clap_on_literals
 init_named = record { met = refl; silent = refl; found = refl }
 
 abbrev init : Shape
-init = leaf (codes "init") (codes "JOURNAL" ∷ codes "CAP" ∷ [])
+init = leaf (codes "init") (codes "JOURNAL" ∷ codes "CAP" ∷ []) (codes "PERMILLE" ∷ [])
 
 init_none : level_fault init [] nothing_held [] false [] ≡ MissingRequiredArgument ∷ []
 unfolding clap_on_literals
@@ -62,51 +62,95 @@ init_taken x xs y ys p q =
     (next_faults init 1 nothing_held x xs p ((y ∷ ys) ∷ []) ∙ next_faults init 2 _ y ys q [])
     ∙ ap (λ (w : Walk). level init [] w) (next_walk init 1 nothing_held x xs p ((y ∷ ys) ∷ []) ∙ next_walk init 2 _ y ys q [])
 
-init_more : (x : ℕ) (xs : Text) (y : ℕ) (ys : Text) (z : ℕ) (zs : Text) (rest : List Text) → IsBegin x → IsBegin y → IsBegin z → level_fault init [] nothing_held ((x ∷ xs) ∷ (y ∷ ys) ∷ (z ∷ zs) ∷ rest) false [] ≡ UnknownArgument ∷ []
+init_all_taken : (x : ℕ) (xs : Text) (y : ℕ) (ys : Text) (z : ℕ) (zs : Text) → IsBegin x → IsBegin y → IsBegin z → level_fault init [] nothing_held ((x ∷ xs) ∷ (y ∷ ys) ∷ (z ∷ zs) ∷ []) false [] ≡ []
 unfolding clap_on_literals
-init_more x xs y ys z zs rest p q r =
-    ap (λ (k : Kinds). level init k (fold (walked init.rules []) (at 1 nothing_held) ((x ∷ xs) ∷ (y ∷ ys) ∷ (z ∷ zs) ∷ rest)))
-    (next_faults init 1 nothing_held x xs p ((y ∷ ys) ∷ (z ∷ zs) ∷ rest) ∙ next_faults init 2 _ y ys q ((z ∷ zs) ∷ rest) ∙ next_faults init 3 _ z zs r rest)
+init_all_taken x xs y ys z zs p q r =
+    ap (λ (k : Kinds). level init k (fold (walked init.rules []) (at 1 nothing_held) ((x ∷ xs) ∷ (y ∷ ys) ∷ (z ∷ zs) ∷ [])))
+    (next_faults init 1 nothing_held x xs p ((y ∷ ys) ∷ (z ∷ zs) ∷ []) ∙ next_faults init 2 _ y ys q ((z ∷ zs) ∷ []) ∙ next_faults init 3 _ z zs r [])
+    ∙ ap (λ (w : Walk). level init [] w) (next_walk init 1 nothing_held x xs p ((y ∷ ys) ∷ (z ∷ zs) ∷ []) ∙ next_walk init 2 _ y ys q ((z ∷ zs) ∷ []) ∙ next_walk init 3 _ z zs r [])
+
+init_more : (x : ℕ) (xs : Text) (y : ℕ) (ys : Text) (z : ℕ) (zs : Text) (u : ℕ) (us : Text) (rest : List Text) → IsBegin x → IsBegin y → IsBegin z → IsBegin u → level_fault init [] nothing_held ((x ∷ xs) ∷ (y ∷ ys) ∷ (z ∷ zs) ∷ (u ∷ us) ∷ rest) false [] ≡ UnknownArgument ∷ []
+unfolding clap_on_literals
+init_more x xs y ys z zs u us rest p q r s =
+    ap (λ (k : Kinds). level init k (fold (walked init.rules []) (at 1 nothing_held) ((x ∷ xs) ∷ (y ∷ ys) ∷ (z ∷ zs) ∷ (u ∷ us) ∷ rest)))
+    (next_faults init 1 nothing_held x xs p ((y ∷ ys) ∷ (z ∷ zs) ∷ (u ∷ us) ∷ rest) ∙ next_faults init 2 _ y ys q ((z ∷ zs) ∷ (u ∷ us) ∷ rest) ∙ next_faults init 3 _ z zs r ((u ∷ us) ∷ rest) ∙ next_faults init 4 _ u us s rest)
 
 init_cap : (x : ℕ) (xs : Text) (y : ℕ) (ys : Text) → IsBegin x → IsBegin y → first_of (codes "CAP") (rows_after init.rules [] ((x ∷ xs) ∷ (y ∷ ys) ∷ [])) ≡ Some (y ∷ ys)
 unfolding clap_on_literals
 init_cap x xs y ys p q = ap (λ (w : Walk). first_of (codes "CAP") (finished init.rules w.held)) (next_walk init 1 nothing_held x xs p ((y ∷ ys) ∷ []) ∙ next_walk init 2 _ y ys q [])
 
+init_no_rate : (x : ℕ) (xs : Text) (y : ℕ) (ys : Text) → IsBegin x → IsBegin y → first_of (codes "PERMILLE") (rows_after init.rules [] ((x ∷ xs) ∷ (y ∷ ys) ∷ [])) ≡ None
+unfolding clap_on_literals
+init_no_rate x xs y ys p q = ap (λ (w : Walk). first_of (codes "PERMILLE") (finished init.rules w.held)) (next_walk init 1 nothing_held x xs p ((y ∷ ys) ∷ []) ∙ next_walk init 2 _ y ys q [])
+
+init_all_cap : (x : ℕ) (xs : Text) (y : ℕ) (ys : Text) (z : ℕ) (zs : Text) → IsBegin x → IsBegin y → IsBegin z → first_of (codes "CAP") (rows_after init.rules [] ((x ∷ xs) ∷ (y ∷ ys) ∷ (z ∷ zs) ∷ [])) ≡ Some (y ∷ ys)
+unfolding clap_on_literals
+init_all_cap x xs y ys z zs p q r = ap (λ (w : Walk). first_of (codes "CAP") (finished init.rules w.held)) (next_walk init 1 nothing_held x xs p ((y ∷ ys) ∷ (z ∷ zs) ∷ []) ∙ next_walk init 2 _ y ys q ((z ∷ zs) ∷ []) ∙ next_walk init 3 _ z zs r [])
+
+init_all_rate : (x : ℕ) (xs : Text) (y : ℕ) (ys : Text) (z : ℕ) (zs : Text) → IsBegin x → IsBegin y → IsBegin z → first_of (codes "PERMILLE") (rows_after init.rules [] ((x ∷ xs) ∷ (y ∷ ys) ∷ (z ∷ zs) ∷ [])) ≡ Some (z ∷ zs)
+unfolding clap_on_literals
+init_all_rate x xs y ys z zs p q r = ap (λ (w : Walk). first_of (codes "PERMILLE") (finished init.rules w.held)) (next_walk init 1 nothing_held x xs p ((y ∷ ys) ∷ (z ∷ zs) ∷ []) ∙ next_walk init 2 _ y ys q ((z ∷ zs) ∷ []) ∙ next_walk init 3 _ z zs r [])
+
+-- a journal and a cap, and a rate behind them or none
+abbrev pub AreInit : List Text → Type 0
+AreInit words =
+    ((journal : Text) × (number : Text) × (words ≡ journal ∷ number ∷ []) × IsName journal)
+    ⊎ ((journal : Text) × (number : Text) × (permille : Text) × (words ≡ journal ∷ number ∷ permille ∷ []) × IsName journal)
+
 -- clap takes no other number of words
-pub init_fits : (words : List Text) → AllByRecursion IsName words → fault_of program (codes "init" ∷ words) ≡ [] → (journal : Text) × (number : Text) × (words ≡ journal ∷ number ∷ []) × IsName journal
-init_fits words all none = go words all (sym (called (codes "init") (codes "JOURNAL" ∷ codes "CAP" ∷ []) init_named words) ∙ none)
+pub init_fits : (words : List Text) → AllByRecursion IsName words → fault_of program (codes "init" ∷ words) ≡ [] → AreInit words
+init_fits words all none = go words all (sym (called (codes "init") (codes "JOURNAL" ∷ codes "CAP" ∷ []) (codes "PERMILLE" ∷ []) init_named words) ∙ none)
   where
-    go : (words : List Text) → AllByRecursion IsName words → level_fault init [] nothing_held words false [] ≡ [] → (journal : Text) × (number : Text) × (words ≡ journal ∷ number ∷ []) × IsName journal
+    go : (words : List Text) → AllByRecursion IsName words → level_fault init [] nothing_held words false [] ≡ [] → AreInit words
     go [] all none = absurd (faulty _ _ _ init_none none)
     go ([] ∷ words) all none = absurd (not_nothing all.0)
     go ((x ∷ xs) ∷ []) all none = absurd (faulty _ _ _ (init_one x xs (begins x xs all.0)) none)
     go ((x ∷ xs) ∷ [] ∷ words) all none = absurd (not_nothing all.1.0)
-    go ((x ∷ xs) ∷ (y ∷ ys) ∷ []) all none = (x ∷ xs, y ∷ ys, refl, all.0)
+    go ((x ∷ xs) ∷ (y ∷ ys) ∷ []) all none = inl (x ∷ xs, y ∷ ys, refl, all.0)
     go ((x ∷ xs) ∷ (y ∷ ys) ∷ [] ∷ words) all none = absurd (not_nothing all.1.1.0)
-    go ((x ∷ xs) ∷ (y ∷ ys) ∷ (z ∷ zs) ∷ words) all none = absurd (faulty _ _ _ (init_more x xs y ys z zs words (begins x xs all.0) (begins y ys all.1.0) (begins z zs all.1.1.0)) none)
+    go ((x ∷ xs) ∷ (y ∷ ys) ∷ (z ∷ zs) ∷ []) all none = inr (x ∷ xs, y ∷ ys, z ∷ zs, refl, all.0)
+    go ((x ∷ xs) ∷ (y ∷ ys) ∷ (z ∷ zs) ∷ [] ∷ words) all none = absurd (not_nothing all.1.1.1.0)
+    go ((x ∷ xs) ∷ (y ∷ ys) ∷ (z ∷ zs) ∷ (u ∷ us) ∷ words) all none = absurd (faulty _ _ _ (init_more x xs y ys z zs u us words (begins x xs all.0) (begins y ys all.1.0) (begins z zs all.1.1.0) (begins u us all.1.1.1.0)) none)
 
--- as many words as it has positions are taken, and read as they stand
+-- the words without a rate are taken, and read as they stand
 pub init_read : (journal number : Text) → IsName journal → IsName number
-    → (fault_of program (codes "init" ∷ journal ∷ number ∷ []) ≡ []) × ((rows : List Row) × (subcommand_of program (codes "init" ∷ journal ∷ number ∷ []) ≡ Some (codes "init", rows)) × (first_of (codes "CAP") rows ≡ Some number))
+    → (fault_of program (codes "init" ∷ journal ∷ number ∷ []) ≡ []) × ((rows : List Row) × (subcommand_of program (codes "init" ∷ journal ∷ number ∷ []) ≡ Some (codes "init", rows)) × (first_of (codes "CAP") rows ≡ Some number) × (first_of (codes "PERMILLE") rows ≡ None))
 init_read [] number p q = absurd (not_nothing p)
 init_read (x ∷ xs) [] p q = absurd (not_nothing q)
 init_read (x ∷ xs) (y ∷ ys) p q = (
-  called (codes "init") (codes "JOURNAL" ∷ codes "CAP" ∷ []) init_named ((x ∷ xs) ∷ (y ∷ ys) ∷ []) ∙ init_taken x xs y ys (begins x xs p) (begins y ys q),
+  called (codes "init") (codes "JOURNAL" ∷ codes "CAP" ∷ []) (codes "PERMILLE" ∷ []) init_named ((x ∷ xs) ∷ (y ∷ ys) ∷ []) ∙ init_taken x xs y ys (begins x xs p) (begins y ys q),
   (
     rows_after init.rules [] ((x ∷ xs) ∷ (y ∷ ys) ∷ []),
-    entered_as (codes "init") (codes "JOURNAL" ∷ codes "CAP" ∷ []) init_named ((x ∷ xs) ∷ (y ∷ ys) ∷ []),
+    entered_as (codes "init") (codes "JOURNAL" ∷ codes "CAP" ∷ []) (codes "PERMILLE" ∷ []) init_named ((x ∷ xs) ∷ (y ∷ ys) ∷ []),
     init_cap x xs y ys (begins x xs p) (begins y ys q),
+    init_no_rate x xs y ys (begins x xs p) (begins y ys q),
+  ),
+)
+
+-- and so are those with one
+pub init_all_read : (journal number permille : Text) → IsName journal → IsName number → IsName permille
+    → (fault_of program (codes "init" ∷ journal ∷ number ∷ permille ∷ []) ≡ []) × ((rows : List Row) × (subcommand_of program (codes "init" ∷ journal ∷ number ∷ permille ∷ []) ≡ Some (codes "init", rows)) × (first_of (codes "CAP") rows ≡ Some number) × (first_of (codes "PERMILLE") rows ≡ Some permille))
+init_all_read [] number permille p q r = absurd (not_nothing p)
+init_all_read (x ∷ xs) [] permille p q r = absurd (not_nothing q)
+init_all_read (x ∷ xs) (y ∷ ys) [] p q r = absurd (not_nothing r)
+init_all_read (x ∷ xs) (y ∷ ys) (z ∷ zs) p q r = (
+  called (codes "init") (codes "JOURNAL" ∷ codes "CAP" ∷ []) (codes "PERMILLE" ∷ []) init_named ((x ∷ xs) ∷ (y ∷ ys) ∷ (z ∷ zs) ∷ []) ∙ init_all_taken x xs y ys z zs (begins x xs p) (begins y ys q) (begins z zs r),
+  (
+    rows_after init.rules [] ((x ∷ xs) ∷ (y ∷ ys) ∷ (z ∷ zs) ∷ []),
+    entered_as (codes "init") (codes "JOURNAL" ∷ codes "CAP" ∷ []) (codes "PERMILLE" ∷ []) init_named ((x ∷ xs) ∷ (y ∷ ys) ∷ (z ∷ zs) ∷ []),
+    init_all_cap x xs y ys z zs (begins x xs p) (begins y ys q) (begins z zs r),
+    init_all_rate x xs y ys z zs (begins x xs p) (begins y ys q) (begins z zs r),
   ),
 )
 
 -- ---- batch JOURNAL
 
-pub batch_named : IsNamed (codes "batch") (codes "JOURNAL" ∷ [])
+pub batch_named : IsNamed (codes "batch") (codes "JOURNAL" ∷ []) []
 unfolding clap_on_literals
 batch_named = record { met = refl; silent = refl; found = refl }
 
 abbrev batch : Shape
-batch = leaf (codes "batch") (codes "JOURNAL" ∷ [])
+batch = leaf (codes "batch") (codes "JOURNAL" ∷ []) []
 
 batch_none : level_fault batch [] nothing_held [] false [] ≡ MissingRequiredArgument ∷ []
 unfolding clap_on_literals
@@ -127,7 +171,7 @@ batch_more x xs y ys rest p q =
 
 -- clap takes no other number of words
 pub batch_fits : (words : List Text) → AllByRecursion IsName words → fault_of program (codes "batch" ∷ words) ≡ [] → (journal : Text) × (words ≡ journal ∷ []) × IsName journal
-batch_fits words all none = go words all (sym (called (codes "batch") (codes "JOURNAL" ∷ []) batch_named words) ∙ none)
+batch_fits words all none = go words all (sym (called (codes "batch") (codes "JOURNAL" ∷ []) [] batch_named words) ∙ none)
   where
     go : (words : List Text) → AllByRecursion IsName words → level_fault batch [] nothing_held words false [] ≡ [] → (journal : Text) × (words ≡ journal ∷ []) × IsName journal
     go [] all none = absurd (faulty _ _ _ batch_none none)
@@ -141,21 +185,21 @@ pub batch_read : (journal : Text) → IsName journal
     → (fault_of program (codes "batch" ∷ journal ∷ []) ≡ []) × ((rows : List Row) × (subcommand_of program (codes "batch" ∷ journal ∷ []) ≡ Some (codes "batch", rows)))
 batch_read [] p = absurd (not_nothing p)
 batch_read (x ∷ xs) p = (
-  called (codes "batch") (codes "JOURNAL" ∷ []) batch_named ((x ∷ xs) ∷ []) ∙ batch_taken x xs (begins x xs p),
+  called (codes "batch") (codes "JOURNAL" ∷ []) [] batch_named ((x ∷ xs) ∷ []) ∙ batch_taken x xs (begins x xs p),
   (
     rows_after batch.rules [] ((x ∷ xs) ∷ []),
-    entered_as (codes "batch") (codes "JOURNAL" ∷ []) batch_named ((x ∷ xs) ∷ []),
+    entered_as (codes "batch") (codes "JOURNAL" ∷ []) [] batch_named ((x ∷ xs) ∷ []),
   ),
 )
 
 -- ---- drill SEED ORDERS
 
-pub drill_named : IsNamed (codes "drill") (codes "SEED" ∷ codes "ORDERS" ∷ [])
+pub drill_named : IsNamed (codes "drill") (codes "SEED" ∷ codes "ORDERS" ∷ []) []
 unfolding clap_on_literals
 drill_named = record { met = refl; silent = refl; found = refl }
 
 abbrev drill : Shape
-drill = leaf (codes "drill") (codes "SEED" ∷ codes "ORDERS" ∷ [])
+drill = leaf (codes "drill") (codes "SEED" ∷ codes "ORDERS" ∷ []) []
 
 drill_none : level_fault drill [] nothing_held [] false [] ≡ MissingRequiredArgument ∷ []
 unfolding clap_on_literals
@@ -191,7 +235,7 @@ drill_orders x xs y ys p q = ap (λ (w : Walk). first_of (codes "ORDERS") (finis
 
 -- clap takes no other number of words
 pub drill_fits : (words : List Text) → AllByRecursion IsName words → fault_of program (codes "drill" ∷ words) ≡ [] → (seed : Text) × (orders : Text) × (words ≡ seed ∷ orders ∷ [])
-drill_fits words all none = go words all (sym (called (codes "drill") (codes "SEED" ∷ codes "ORDERS" ∷ []) drill_named words) ∙ none)
+drill_fits words all none = go words all (sym (called (codes "drill") (codes "SEED" ∷ codes "ORDERS" ∷ []) [] drill_named words) ∙ none)
   where
     go : (words : List Text) → AllByRecursion IsName words → level_fault drill [] nothing_held words false [] ≡ [] → (seed : Text) × (orders : Text) × (words ≡ seed ∷ orders ∷ [])
     go [] all none = absurd (faulty _ _ _ drill_none none)
@@ -208,10 +252,10 @@ pub drill_read : (seed orders : Text) → IsName seed → IsName orders
 drill_read [] orders p q = absurd (not_nothing p)
 drill_read (x ∷ xs) [] p q = absurd (not_nothing q)
 drill_read (x ∷ xs) (y ∷ ys) p q = (
-  called (codes "drill") (codes "SEED" ∷ codes "ORDERS" ∷ []) drill_named ((x ∷ xs) ∷ (y ∷ ys) ∷ []) ∙ drill_taken x xs y ys (begins x xs p) (begins y ys q),
+  called (codes "drill") (codes "SEED" ∷ codes "ORDERS" ∷ []) [] drill_named ((x ∷ xs) ∷ (y ∷ ys) ∷ []) ∙ drill_taken x xs y ys (begins x xs p) (begins y ys q),
   (
     rows_after drill.rules [] ((x ∷ xs) ∷ (y ∷ ys) ∷ []),
-    entered_as (codes "drill") (codes "SEED" ∷ codes "ORDERS" ∷ []) drill_named ((x ∷ xs) ∷ (y ∷ ys) ∷ []),
+    entered_as (codes "drill") (codes "SEED" ∷ codes "ORDERS" ∷ []) [] drill_named ((x ∷ xs) ∷ (y ∷ ys) ∷ []),
     drill_seed x xs y ys (begins x xs p) (begins y ys q),
     drill_orders x xs y ys (begins x xs p) (begins y ys q),
   ),
@@ -219,12 +263,12 @@ drill_read (x ∷ xs) (y ∷ ys) p q = (
 
 -- ---- serve JOURNAL ADDRESS WORKERS SESSIONS
 
-pub serve_named : IsNamed (codes "serve") (codes "JOURNAL" ∷ codes "ADDRESS" ∷ codes "WORKERS" ∷ codes "SESSIONS" ∷ [])
+pub serve_named : IsNamed (codes "serve") (codes "JOURNAL" ∷ codes "ADDRESS" ∷ codes "WORKERS" ∷ codes "SESSIONS" ∷ []) []
 unfolding clap_on_literals
 serve_named = record { met = refl; silent = refl; found = refl }
 
 abbrev serve : Shape
-serve = leaf (codes "serve") (codes "JOURNAL" ∷ codes "ADDRESS" ∷ codes "WORKERS" ∷ codes "SESSIONS" ∷ [])
+serve = leaf (codes "serve") (codes "JOURNAL" ∷ codes "ADDRESS" ∷ codes "WORKERS" ∷ codes "SESSIONS" ∷ []) []
 
 serve_none : level_fault serve [] nothing_held [] false [] ≡ MissingRequiredArgument ∷ []
 unfolding clap_on_literals
@@ -274,7 +318,7 @@ serve_sessions x xs y ys z zs u us p q r s = ap (λ (w : Walk). first_of (codes 
 
 -- clap takes no other number of words
 pub serve_fits : (words : List Text) → AllByRecursion IsName words → fault_of program (codes "serve" ∷ words) ≡ [] → (journal : Text) × (address : Text) × (workers : Text) × (sessions : Text) × (words ≡ journal ∷ address ∷ workers ∷ sessions ∷ []) × IsName journal × IsName address
-serve_fits words all none = go words all (sym (called (codes "serve") (codes "JOURNAL" ∷ codes "ADDRESS" ∷ codes "WORKERS" ∷ codes "SESSIONS" ∷ []) serve_named words) ∙ none)
+serve_fits words all none = go words all (sym (called (codes "serve") (codes "JOURNAL" ∷ codes "ADDRESS" ∷ codes "WORKERS" ∷ codes "SESSIONS" ∷ []) [] serve_named words) ∙ none)
   where
     go : (words : List Text) → AllByRecursion IsName words → level_fault serve [] nothing_held words false [] ≡ [] → (journal : Text) × (address : Text) × (workers : Text) × (sessions : Text) × (words ≡ journal ∷ address ∷ workers ∷ sessions ∷ []) × IsName journal × IsName address
     go [] all none = absurd (faulty _ _ _ serve_none none)
@@ -297,10 +341,10 @@ serve_read (x ∷ xs) [] workers sessions p q r s = absurd (not_nothing q)
 serve_read (x ∷ xs) (y ∷ ys) [] sessions p q r s = absurd (not_nothing r)
 serve_read (x ∷ xs) (y ∷ ys) (z ∷ zs) [] p q r s = absurd (not_nothing s)
 serve_read (x ∷ xs) (y ∷ ys) (z ∷ zs) (u ∷ us) p q r s = (
-  called (codes "serve") (codes "JOURNAL" ∷ codes "ADDRESS" ∷ codes "WORKERS" ∷ codes "SESSIONS" ∷ []) serve_named ((x ∷ xs) ∷ (y ∷ ys) ∷ (z ∷ zs) ∷ (u ∷ us) ∷ []) ∙ serve_taken x xs y ys z zs u us (begins x xs p) (begins y ys q) (begins z zs r) (begins u us s),
+  called (codes "serve") (codes "JOURNAL" ∷ codes "ADDRESS" ∷ codes "WORKERS" ∷ codes "SESSIONS" ∷ []) [] serve_named ((x ∷ xs) ∷ (y ∷ ys) ∷ (z ∷ zs) ∷ (u ∷ us) ∷ []) ∙ serve_taken x xs y ys z zs u us (begins x xs p) (begins y ys q) (begins z zs r) (begins u us s),
   (
     rows_after serve.rules [] ((x ∷ xs) ∷ (y ∷ ys) ∷ (z ∷ zs) ∷ (u ∷ us) ∷ []),
-    entered_as (codes "serve") (codes "JOURNAL" ∷ codes "ADDRESS" ∷ codes "WORKERS" ∷ codes "SESSIONS" ∷ []) serve_named ((x ∷ xs) ∷ (y ∷ ys) ∷ (z ∷ zs) ∷ (u ∷ us) ∷ []),
+    entered_as (codes "serve") (codes "JOURNAL" ∷ codes "ADDRESS" ∷ codes "WORKERS" ∷ codes "SESSIONS" ∷ []) [] serve_named ((x ∷ xs) ∷ (y ∷ ys) ∷ (z ∷ zs) ∷ (u ∷ us) ∷ []),
     serve_workers x xs y ys z zs u us (begins x xs p) (begins y ys q) (begins z zs r) (begins u us s),
     serve_sessions x xs y ys z zs u us (begins x xs p) (begins y ys q) (begins z zs r) (begins u us s),
   ),

@@ -78,8 +78,8 @@ no_more_faults s names h name before [] = refl
 no_more_faults s names h name before (word ∷ words) = no_more_faults s names h name (before ++ word ∷ []) words
 
 -- a command as it stands in the whole that is built
-abbrev pub leaf : Text → List Text → Shape
-leaf name ids = built_leaf (inherited (built program).top (shape name ids))
+abbrev pub leaf : Text → List Text → List Text → Shape
+leaf name needed optional = built_leaf (inherited (built program).top (shape name needed optional))
 
 abbrev pub names : Names
 names = names_of (built program)
@@ -89,12 +89,12 @@ or_else_nothing [] = refl
 or_else_nothing (x ∷ k) = refl
 
 -- the name of a command, by what the table computes to
-pub record IsNamed (name : Text) (ids : List Text) : Type 0 where
+pub record IsNamed (name : Text) (needed optional : List Text) : Type 0 where
   pub met : walked [] names (walk_from nothing_held) name ≡ inside nothing_held name []
   pub silent : turn_fault (built program).top names (walk_from nothing_held) name ≡ []
-  pub found : find (λ s. answers_to name (label_of s)) (built program).subs ≡ Some (leaf name ids)
+  pub found : find (λ s. answers_to name (label_of s)) (built program).subs ≡ Some (leaf name needed optional)
 
-module _ (name : Text) (ids : List Text) (is : IsNamed name ids) (words : List Text) where
+module _ (name : Text) (needed optional : List Text) (is : IsNamed name needed optional) (words : List Text) where
   walk_is : walk [] names nothing_held (name ∷ words) ≡ inside nothing_held name words
   walk_is = ap (λ (w : Walk). fold (walked [] names) w words) is.met ∙ stays [] names nothing_held name [] words
 
@@ -115,15 +115,15 @@ module _ (name : Text) (ids : List Text) (is : IsNamed name ids) (words : List T
   abbrev of_leaf : Option Shape → Kinds
   of_leaf o = option_map_or (λ s. level_fault s [] nothing_held words false []) o []
 
-  pub called : fault_of program (name ∷ words) ≡ level_fault (leaf name ids) [] nothing_held words false []
+  pub called : fault_of program (name ∷ words) ≡ level_fault (leaf name needed optional) [] nothing_held words false []
   unfolding defaults_fault
   called =
       ap (whole (walk [] names nothing_held (name ∷ words))) faults_are
       ∙ ap (λ (w : Walk). whole w []) walk_is
       ∙ ap (λ (o : Option Shape). or_else (of_leaf o) (check_fault (built program).top [] (is_some (option_map (λ s. rows_at s words) o)))) is.found
-      ∙ or_else_nothing (level_fault (leaf name ids) [] nothing_held words false [])
+      ∙ or_else_nothing (level_fault (leaf name needed optional) [] nothing_held words false [])
 
-  pub entered_as : subcommand_of program (name ∷ words) ≡ Some (name, rows_after (leaf name ids).rules [] words)
+  pub entered_as : subcommand_of program (name ∷ words) ≡ Some (name, rows_after (leaf name needed optional).rules [] words)
   entered_as =
       ap (λ (w : Walk). entered (built program) w.stopped) walk_is
       ∙ ap (λ (o : Option Shape). option_map (λ s. rows_at s words) o) is.found

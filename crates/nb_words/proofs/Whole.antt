@@ -16,10 +16,10 @@ use Rattle.clap.specs.declared.error.kind.ErrorKind.TheVariants.{UnknownArgument
 use Rattle.clap.proofs.OnLiterals.{clap_on_literals}
 use Rattle.nb_words.specs.declared.words.Command.{Command}
 use Rattle.nb_words.specs.declared.words.Command.TheVariants.{Init, Batch, Drill, Serve}
-use Rattle.nb_words.specs.Words.{IsName, IsCommand, CommandIs}
-use Rattle.nb_words.specs.Table.{program, CommandIn}
+use Rattle.nb_words.specs.Words.{IsName, IsInit, IsCommand, CommandIs}
+use Rattle.nb_words.specs.Table.{program, InitIn, RateIn, CommandIn}
 use Rattle.nb_words.proofs.Reading.{names, turned, entered_as}
-use Rattle.nb_words.proofs.Commands.{begins, not_nothing, faulty, number_named, init_named, init_fits, init_read, batch_named, batch_fits, batch_read, drill_named, drill_fits, drill_read, serve_named, serve_fits, serve_read}
+use Rattle.nb_words.proofs.Commands.{begins, not_nothing, faulty, number_named, init_named, AreInit, init_fits, init_read, init_all_read, batch_named, batch_fits, batch_read, drill_named, drill_fits, drill_read, serve_named, serve_fits, serve_read}
 
 -- ---- a first word that is no command's
 
@@ -67,10 +67,10 @@ named_by : (words : List Text) → AllByRecursion IsName words → 0 < length wo
 named_by [] all some none name rows told = absurd (omega (arith, some))
 named_by ([] ∷ words) all some none name rows told = absurd (not_nothing all.0)
 named_by ((x ∷ xs) ∷ words) all some none name rows told = elim (known x xs words all.0 none) [
-  | inl is ↦ by (codes "init") is (entered_as (codes "init") _ init_named words)
-  | inr (inl is) ↦ by (codes "batch") is (entered_as (codes "batch") _ batch_named words)
-  | inr (inr (inl is)) ↦ by (codes "drill") is (entered_as (codes "drill") _ drill_named words)
-  | inr (inr (inr is)) ↦ by (codes "serve") is (entered_as (codes "serve") _ serve_named words)
+  | inl is ↦ by (codes "init") is (entered_as (codes "init") _ _ init_named words)
+  | inr (inl is) ↦ by (codes "batch") is (entered_as (codes "batch") _ _ batch_named words)
+  | inr (inr (inl is)) ↦ by (codes "drill") is (entered_as (codes "drill") _ _ drill_named words)
+  | inr (inr (inr is)) ↦ by (codes "serve") is (entered_as (codes "serve") _ _ serve_named words)
 ]
   where
     by : (first : Text) → (x ∷ xs) ≡ first → {other : List Row} → subcommand_of program (first ∷ words) ≡ Some (first, other) → (behind : List Text) × ((x ∷ xs) ∷ words ≡ name ∷ behind) × AllByRecursion IsName behind
@@ -102,11 +102,18 @@ drill_name = (omega arith, λ e. omega (arith, e))
 serve_name : IsName (codes "serve")
 serve_name = (omega arith, λ e. omega (arith, e))
 
+init_taken : (words : List Text) (cap : ℕ) (rate : Option ℕ) → IsInit words cap rate → IsTaken words
+init_taken words cap None is =
+    let number = number_named cap (omega (arith, is.3)) in
+    subst IsTaken (sym is.1) ((init_name, (is.2, (number, tt))), (init_read is.0 (decimal cap) is.2 number).0, omega arith)
+init_taken words cap (Some rate) is =
+    let number = number_named cap (omega (arith, is.3)) in
+    let permille = number_named rate (omega (arith, is.4)) in
+    subst IsTaken (sym is.1) ((init_name, (is.2, (number, (permille, tt)))), (init_all_read is.0 (decimal cap) (decimal rate) is.2 number permille).0, omega arith)
+
 pub taken : (words : List Text) → IsCommand words → IsTaken words
 taken words (inl b) = subst IsTaken (sym b.1) ((batch_name, (b.2, tt)), (batch_read b.0 b.2).0, omega arith)
-taken words (inr (inl i)) =
-    let cap = number_named i.0 (omega (arith, i.1.3)) in
-    subst IsTaken (sym i.1.1) ((init_name, (i.1.2, (cap, tt))), (init_read i.1.0 (decimal i.0) i.1.2 cap).0, omega arith)
+taken words (inr (inl i)) = init_taken words i.0 i.1 i.2
 taken words (inr (inr (inl d))) =
     let seed = number_named d.0 d.2.1 in
     let orders = number_named d.1 (omega (arith, d.2.2)) in
@@ -123,15 +130,44 @@ taken words (inr (inr (inr s))) =
 same_rows : (told : Option (Text × List Row)) (name : Text) (rows other : List Row) → told ≡ Some (name, rows) → told ≡ Some (name, other) → rows ≡ other
 same_rows told name rows other first second = ap (λ (p : Text × List Row). p.1) (same_Some _ _ (sym first ∙ second))
 
-told_init : (words : List Text) → AllByRecursion IsName words → fault_of program (codes "init" ∷ words) ≡ [] → (rows : List Row) → subcommand_of program (codes "init" ∷ words) ≡ Some (codes "init", rows)
-    → (journal : Text) × (number : Text) × (words ≡ journal ∷ number ∷ []) × IsName journal × (first_of (codes "CAP") rows ≡ Some number)
-told_init words all none rows told =
-    let fits = init_fits words all none in
-    let P : List Text → Type 0 = λ ws. AllByRecursion IsName ws in
-    let each = subst P fits.2 all in
-    let read = (init_read fits.0 fits.1 each.0 each.1.0).1 in
-    let same = same_rows (subcommand_of program (codes "init" ∷ words)) (codes "init") read.0 rows (ap (λ (ws : List Text). subcommand_of program (codes "init" ∷ ws)) fits.2 ∙ read.1) told in
-    (fits.0, fits.1, fits.2, fits.3, subst (λ (rs : List Row). first_of (codes "CAP") rs ≡ Some fits.1) same read.2)
+-- the words behind init, and what was read of them
+abbrev InitTold : List Text → List Row → Type 0
+InitTold words rows =
+    ((journal : Text) × (number : Text) × (words ≡ journal ∷ number ∷ []) × IsName journal × (first_of (codes "CAP") rows ≡ Some number) × (first_of (codes "PERMILLE") rows ≡ None))
+    ⊎ ((journal : Text) × (number : Text) × (permille : Text) × (words ≡ journal ∷ number ∷ permille ∷ []) × IsName journal × (first_of (codes "CAP") rows ≡ Some number)
+    × (first_of (codes "PERMILLE") rows ≡ Some permille))
+
+told_init : (words : List Text) → AllByRecursion IsName words → fault_of program (codes "init" ∷ words) ≡ [] → (rows : List Row) → subcommand_of program (codes "init" ∷ words) ≡ Some (codes "init", rows) → InitTold words rows
+told_init words all none rows told = go (init_fits words all none)
+  where
+    go : AreInit words → InitTold words rows
+    go (inl fits) =
+        let P : List Text → Type 0 = λ ws. AllByRecursion IsName ws in
+        let each = subst P fits.2 all in
+        let read = (init_read fits.0 fits.1 each.0 each.1.0).1 in
+        let same = same_rows (subcommand_of program (codes "init" ∷ words)) (codes "init") read.0 rows (ap (λ (ws : List Text). subcommand_of program (codes "init" ∷ ws)) fits.2 ∙ read.1) told in
+        inl (
+          fits.0,
+          fits.1,
+          fits.2,
+          fits.3,
+          subst (λ (rs : List Row). first_of (codes "CAP") rs ≡ Some fits.1) same read.2,
+          subst (λ (rs : List Row). first_of (codes "PERMILLE") rs ≡ None) same read.3,
+        )
+    go (inr fits) =
+        let P : List Text → Type 0 = λ ws. AllByRecursion IsName ws in
+        let each = subst P fits.3 all in
+        let read = (init_all_read fits.0 fits.1 fits.2 each.0 each.1.0 each.1.1.0).1 in
+        let same = same_rows (subcommand_of program (codes "init" ∷ words)) (codes "init") read.0 rows (ap (λ (ws : List Text). subcommand_of program (codes "init" ∷ ws)) fits.3 ∙ read.1) told in
+        inr (
+          fits.0,
+          fits.1,
+          fits.2,
+          fits.3,
+          fits.4,
+          subst (λ (rs : List Row). first_of (codes "CAP") rs ≡ Some fits.1) same read.2,
+          subst (λ (rs : List Row). first_of (codes "PERMILLE") rs ≡ Some fits.2) same read.3,
+        )
 
 told_drill : (words : List Text) → AllByRecursion IsName words → fault_of program (codes "drill" ∷ words) ≡ [] → (rows : List Row) → subcommand_of program (codes "drill" ∷ words) ≡ Some (codes "drill", rows)
     → (seed orders : Text) × (words ≡ seed ∷ orders ∷ []) × (first_of (codes "SEED") rows ≡ Some seed) × (first_of (codes "ORDERS") rows ≡ Some orders)
@@ -168,14 +204,21 @@ told_serve words all none rows told =
       subst (λ (rs : List Row). first_of (codes "SESSIONS") rs ≡ Some fits.3) same read.3,
     )
 
+-- what is read of the words of init
+init_rows : (words : List Text) (cap : ℕ) (rate : Option ℕ) → IsInit words cap rate → (rows : List Row) × (subcommand_of program words ≡ Some (codes "init", rows)) × InitIn rows cap × RateIn rows rate
+init_rows words cap None is =
+    let read = (init_read is.0 (decimal cap) is.2 (number_named cap (omega (arith, is.3)))).1 in
+    (read.0, ap (subcommand_of program) is.1 ∙ read.1, (read.2, is.3), read.3)
+init_rows words cap (Some rate) is =
+    let read = (init_all_read is.0 (decimal cap) (decimal rate) is.2 (number_named cap (omega (arith, is.3))) (number_named rate (omega (arith, is.4)))).1 in
+    (read.0, ap (subcommand_of program) is.1 ∙ read.1, (read.2, is.3), (read.3, is.4))
+
 -- none was told, so that the words are none
 untold : (words : List Text) → CommandIn (subcommand_of program words) None → IsCommand words → ⊥
 untold words none (inl b) =
     let read = (batch_read b.0 b.2).1 in
     none.1 read.0 (ap (subcommand_of program) b.1 ∙ read.1)
-untold words none (inr (inl i)) =
-    let read = (init_read i.1.0 (decimal i.0) i.1.2 (number_named i.0 (omega (arith, i.1.3)))).1 in
-    none.0 read.0 i.0 (ap (subcommand_of program) i.1.1 ∙ read.1) (read.2, i.1.3)
+untold words none (inr (inl i)) = none.0 (init_rows words i.0 i.1 i.2).0 i.0 i.1 (init_rows words i.0 i.1 i.2).1 (init_rows words i.0 i.1 i.2).2 (init_rows words i.0 i.1 i.2).3
 untold words none (inr (inr (inl d))) =
     let read = (drill_read (decimal d.0) (decimal d.1) (number_named d.0 d.2.1) (number_named d.1 (omega (arith, d.2.2)))).1 in
     none.2 read.0 d.0 d.1 (ap (subcommand_of program) d.2.0 ∙ read.1) (read.2, read.3, d.2.1, d.2.2)
@@ -184,17 +227,32 @@ untold words none (inr (inr (inr s))) =
     let read = (serve_read is.0 is.1 (decimal s.0) (decimal s.1) is.3 is.4 (number_named s.0 (omega (arith, is.5.1))) (number_named s.1 (sessions_small s.0 s.1 is.5.0 is.5.3))).1 in
     none.3 read.0 s.0 s.1 (ap (subcommand_of program) is.2 ∙ read.1) (read.2, read.3, is.5)
 
+init_is : (words behind : List Text) (cap : ℕ) (rate : Option ℕ) (rows : List Row) → words ≡ codes "init" ∷ behind → InitTold behind rows → InitIn rows cap → RateIn rows rate → IsInit words cap rate
+init_is words behind cap None rows is (inl told) number missing =
+    let same = same_Some _ _ (sym told.4 ∙ number.0) in
+    (told.0, is ∙ ap (λ (ws : List Text). codes "init" ∷ ws) told.2 ∙ ap (λ (w : Text). codes "init" ∷ told.0 ∷ w ∷ []) same, told.3, number.1)
+init_is words behind cap None rows is (inr told) number missing = absurd cc
+init_is words behind cap (Some rate) rows is (inl told) number permille = absurd cc
+init_is words behind cap (Some rate) rows is (inr told) number permille =
+    let same = same_Some _ _ (sym told.5 ∙ number.0) in
+    let as_well = same_Some _ _ (sym told.6 ∙ permille.0) in (
+      told.0,
+      is ∙ ap (λ (ws : List Text). codes "init" ∷ ws) told.3 ∙ ap (λ (w : Text). codes "init" ∷ told.0 ∷ w ∷ told.2 ∷ []) same
+          ∙ ap (λ (w : Text). codes "init" ∷ told.0 ∷ decimal cap ∷ w ∷ []) as_well,
+      told.4,
+      number.1,
+      permille.1,
+    )
+
 pub command_is : (words : List Text) → AllByRecursion IsName words → 0 < length words → fault_of program words ≡ [] → (c : Option Command) → CommandIn (subcommand_of program words) c → CommandIs words c
 command_is words all some none None is = untold words is
 command_is words all some none (Some Batch) is =
     let n = named_by words all some none (codes "batch") is.0 is.1 in
     let fits = batch_fits n.0 n.2 (ap (fault_of program) (sym n.1) ∙ none) in
     (fits.0, n.1 ∙ ap (λ (ws : List Text). codes "batch" ∷ ws) fits.1, fits.2)
-command_is words all some none (Some (Init cap)) is =
+command_is words all some none (Some (Init cap rate)) is =
     let n = named_by words all some none (codes "init") is.0 is.1 in
-    let told = told_init n.0 n.2 (ap (fault_of program) (sym n.1) ∙ none) is.0 (ap (subcommand_of program) (sym n.1) ∙ is.1) in
-    let number = same_Some _ _ (sym told.4 ∙ is.2.0) in
-    (told.0, n.1 ∙ ap (λ (ws : List Text). codes "init" ∷ ws) told.2 ∙ ap (λ (w : Text). codes "init" ∷ told.0 ∷ w ∷ []) number, told.3, is.2.1)
+    init_is words n.0 cap rate is.0 n.1 (told_init n.0 n.2 (ap (fault_of program) (sym n.1) ∙ none) is.0 (ap (subcommand_of program) (sym n.1) ∙ is.1)) is.2 is.3
 command_is words all some none (Some (Drill seed orders)) is =
     let n = named_by words all some none (codes "drill") is.0 is.1 in
     let told = told_drill n.0 n.2 (ap (fault_of program) (sym n.1) ∙ none) is.0 (ap (subcommand_of program) (sym n.1) ∙ is.1) in

@@ -1,8 +1,9 @@
 -- The table of the commands as clap has it, and what clap tells of words.
-use Rattle.std.specs.Prelude.{◌≡◌, ℕ, true, ◌≤◌, ◌<◌, ◌^◌, List, [], ◌∷◌, map, codes, Option, Some, None}
+use Rattle.std.specs.Prelude.{◌≡◌, ℕ, Bool, true, false, ◌++◌, ◌≤◌, ◌<◌, ◌^◌, List, [], ◌∷◌, map, codes, Option, Some, None}
 use Rattle.std.specs.Fmt.{decimal}
 use Rattle.clap.specs.Walk.{Row, Rule, Text, first_of}
-use Rattle.clap.specs.Simple.{App, Shape, new_rule, new_shape, with_subcommand}
+use Rattle.clap.specs.Simple.{App, Shape, new_rule, new_shape, on_top, with_subcommand}
+use Rattle.nb_units.specs.declared.limits.TheConstants.{MAX_RATE}
 use Rattle.nb_play.specs.declared.frames.TheConstants.{MAX_ORDERS}
 use Rattle.nb_words.specs.declared.words.Command.{Command}
 use Rattle.nb_words.specs.declared.words.Command.TheVariants.{Init, Batch, Drill, Serve}
@@ -10,13 +11,17 @@ use Rattle.nb_words.specs.Words.{AreServed}
 
 -- ---- for the contracts of private functions alone
 
--- a position that has to be there, read as a text
-abbrev pub position : Text → Rule
-position id = record (new_rule id) { required = true }
+-- a position that has to be there or may be missing, read as a text
+abbrev pub position : Bool → Text → Rule
+position required id = record (new_rule id) { required = required }
 
--- a command with this name and these positions
-abbrev pub shape : Text → List Text → Shape
-shape name ids = record (new_shape name) { rules = map position ids }
+-- a command with this name, the positions that have to be there, and behind them those that may be missing
+abbrev pub shape : Text → List Text → List Text → Shape
+shape name needed optional = record (new_shape name) { rules = map (position true) needed ++ map (position false) optional }
+
+-- a command with these positions behind its own
+abbrev pub with_positions : App → List Text → Bool → App
+with_positions command ids required = on_top (λ s. record s { rules = s.rules ++ map (position required) ids }) command
 
 -- the program without commands: nothing but a command is asked for, and clap adds none
 abbrev pub bare : App
@@ -31,10 +36,10 @@ program =
     (with_subcommand
     (with_subcommand
     (with_subcommand bare
-    (shape (codes "init") (codes "JOURNAL" ∷ codes "CAP" ∷ [])))
-    (shape (codes "batch") (codes "JOURNAL" ∷ [])))
-    (shape (codes "drill") (codes "SEED" ∷ codes "ORDERS" ∷ [])))
-    (shape (codes "serve") (codes "JOURNAL" ∷ codes "ADDRESS" ∷ codes "WORKERS" ∷ codes "SESSIONS" ∷ []))
+    (shape (codes "init") (codes "JOURNAL" ∷ codes "CAP" ∷ []) (codes "PERMILLE" ∷ [])))
+    (shape (codes "batch") (codes "JOURNAL" ∷ []) []))
+    (shape (codes "drill") (codes "SEED" ∷ codes "ORDERS" ∷ []) []))
+    (shape (codes "serve") (codes "JOURNAL" ∷ codes "ADDRESS" ∷ codes "WORKERS" ∷ codes "SESSIONS" ∷ []) [])
 
 -- a number that is at most this was read at a position
 abbrev pub IsSmallAt : Text → List Row → ℕ → ℕ → Type 0
@@ -54,14 +59,19 @@ abbrev pub ServeIn : List Row → ℕ → ℕ → Type 0
 ServeIn rows workers sessions =
     (first_of (codes "WORKERS") rows ≡ Some (decimal workers)) × (first_of (codes "SESSIONS") rows ≡ Some (decimal sessions)) × AreServed workers sessions
 
+-- no rate was read, or one of at most 1,000
+abbrev pub RateIn : List Row → Option ℕ → Type 0
+RateIn rows None = first_of (codes "PERMILLE") rows ≡ None
+RateIn rows (Some rate) = IsSmallAt (codes "PERMILLE") rows MAX_RATE rate
+
 -- the command in what was read: its name, and what stands at its positions
 abbrev pub CommandIn : Option (Text × List Row) → Option Command → Type 0
-CommandIn told (Some (Init cap)) = (rows : List Row) × (told ≡ Some (codes "init", rows)) × InitIn rows cap
+CommandIn told (Some (Init cap rate)) = (rows : List Row) × (told ≡ Some (codes "init", rows)) × InitIn rows cap × RateIn rows rate
 CommandIn told (Some Batch) = (rows : List Row) × (told ≡ Some (codes "batch", rows))
 CommandIn told (Some (Drill seed orders)) = (rows : List Row) × (told ≡ Some (codes "drill", rows)) × DrillIn rows seed orders
 CommandIn told (Some (Serve workers sessions)) = (rows : List Row) × (told ≡ Some (codes "serve", rows)) × ServeIn rows workers sessions
 CommandIn told None =
-    ((rows : List Row) (cap : ℕ) → told ≡ Some (codes "init", rows) → InitIn rows cap → ⊥)
+    ((rows : List Row) (cap : ℕ) (rate : Option ℕ) → told ≡ Some (codes "init", rows) → InitIn rows cap → RateIn rows rate → ⊥)
     × ((rows : List Row) → told ≡ Some (codes "batch", rows) → ⊥)
     × ((rows : List Row) (seed orders : ℕ) → told ≡ Some (codes "drill", rows) → DrillIn rows seed orders → ⊥)
     × ((rows : List Row) (workers sessions : ℕ) → told ≡ Some (codes "serve", rows) → ServeIn rows workers sessions → ⊥)

@@ -2,6 +2,7 @@
 use Rattle.std.specs.Prelude.{◌≡◌, ◌≢◌, ℕ, ◌*◌, ◌≤◌, ◌<◌, ◌^◌, ◌⊎◌, List, [], ◌∷◌, length, codes, slice_index, slice_index_or, Option, Some, None}
 use Rattle.std.specs.List.{AllByRecursion}
 use Rattle.std.specs.Fmt.{decimal}
+use Rattle.nb_units.specs.declared.limits.TheConstants.{MAX_RATE}
 use Rattle.nb_play.specs.declared.frames.TheConstants.{MAX_ORDERS}
 use Rattle.nb_words.specs.declared.words.TheConstants.{MAX_WORKERS, MAX_LINKS}
 use Rattle.nb_words.specs.declared.words.Command.{Command}
@@ -15,9 +16,11 @@ minus = slice_index (codes "-") 0
 abbrev pub IsName : List ℕ → Type 0
 IsName word = (0 < length word) × (slice_index word 0 ≢ minus)
 
--- init JOURNAL CAP: the cap is below 2^32, in decimal
-abbrev pub IsInit : List (List ℕ) → ℕ → Type 0
-IsInit words cap = (journal : List ℕ) × (words ≡ codes "init" ∷ journal ∷ decimal cap ∷ []) × IsName journal × (cap < 2 ^ 32)
+-- init JOURNAL CAP, or init JOURNAL CAP PERMILLE: the cap is below 2^32, and the rate, if one is named, at most 1,000, both in decimal
+abbrev pub IsInit : List (List ℕ) → ℕ → Option ℕ → Type 0
+IsInit words cap None = (journal : List ℕ) × (words ≡ codes "init" ∷ journal ∷ decimal cap ∷ []) × IsName journal × (cap < 2 ^ 32)
+IsInit words cap (Some rate) =
+    (journal : List ℕ) × (words ≡ codes "init" ∷ journal ∷ decimal cap ∷ decimal rate ∷ []) × IsName journal × (cap < 2 ^ 32) × (rate ≤ MAX_RATE)
 
 -- batch JOURNAL
 abbrev pub IsBatch : List (List ℕ) → Type 0
@@ -40,11 +43,11 @@ IsServe words workers sessions =
 -- one of these
 abbrev pub IsCommand : List (List ℕ) → Type 0
 IsCommand words =
-    IsBatch words ⊎ ((cap : ℕ) × IsInit words cap) ⊎ ((seed orders : ℕ) × IsDrill words seed orders) ⊎ (workers : ℕ) × (sessions : ℕ) × IsServe words workers sessions
+    IsBatch words ⊎ ((cap : ℕ) × (rate : Option ℕ) × IsInit words cap rate) ⊎ ((seed orders : ℕ) × IsDrill words seed orders) ⊎ (workers : ℕ) × (sessions : ℕ) × IsServe words workers sessions
 
 -- the words are this command, or none
 abbrev pub CommandIs : List (List ℕ) → Option Command → Type 0
-CommandIs words (Some (Init cap)) = IsInit words cap
+CommandIs words (Some (Init cap rate)) = IsInit words cap rate
 CommandIs words (Some Batch) = IsBatch words
 CommandIs words (Some (Drill seed orders)) = IsDrill words seed orders
 CommandIs words (Some (Serve workers sessions)) = IsServe words workers sessions

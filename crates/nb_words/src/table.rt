@@ -1,4 +1,4 @@
-ghost use Rattle.std.specs.Prelude.{◌≡◌, ◌↔◌, ◌≤◌, ◌<◌, ◌^◌, ℕ, codes, map, IsTrue, IfOk, IfSome, Some};
+ghost use Rattle.std.specs.Prelude.{◌≡◌, ◌↔◌, ◌≤◌, ◌<◌, ◌^◌, ℕ, codes, map, IsTrue, IfOk, IfSome, Some, None};
 ghost use Rattle.std.specs.Fmt.{decimal};
 ghost use Rattle.clap.specs.Walk.{first_of};
 ghost use Rattle.clap.specs.Words.{app_of, found_of, rows_of, subcommand_rows_of, with_subcommand};
@@ -8,10 +8,11 @@ ghost use Rattle.nb_words.specs.Words.{AreServed};
 use crate::words::{Command, MAX_LINKS, MAX_WORKERS};
 use clap::{Arg, ArgMatches, Command as Shape};
 use nb_play::MAX_ORDERS;
-use nb_units::decimal_of;
+use nb_units::{MAX_RATE, decimal_of};
 use std::alloc::{AllocError, Global};
 
-/// The program, as clap reads its words: each row is a command, with its name and the names of what stands behind it.
+/// The program, as clap reads its words: each row is a command, with its name, the names of what stands behind it, and of what may stand behind
+/// that.
 pub(crate) fn program<'a>(alloc: Global) -> Result<Shape<'a>, AllocError>
     ensures { IfOk result (λ program. app_of program ≡ table.program) }
 {
@@ -20,14 +21,15 @@ pub(crate) fn program<'a>(alloc: Global) -> Result<Shape<'a>, AllocError>
         .disable_help_flag(true)
         .disable_help_subcommand(true)
         .subcommand_required(true);
-    let program = with(alloc, program, "init", &["JOURNAL", "CAP"])?;
-    let program = with(alloc, program, "batch", &["JOURNAL"])?;
-    let program = with(alloc, program, "drill", &["SEED", "ORDERS"])?;
+    let program = with(alloc, program, "init", &["JOURNAL", "CAP"], &["PERMILLE"])?;
+    let program = with(alloc, program, "batch", &["JOURNAL"], &[])?;
+    let program = with(alloc, program, "drill", &["SEED", "ORDERS"], &[])?;
     with(
         alloc,
         program,
         "serve",
         &["JOURNAL", "ADDRESS", "WORKERS", "SESSIONS"],
+        &[],
     )
 }
 
@@ -38,7 +40,14 @@ pub(crate) fn command_in(matches: &ArgMatches<'_>) -> Option<Command>
     let (name, given) = matches.subcommand()?;
     if is_init(name) {
         let cap = small_in(given, "CAP", u32::MAX)?;
-        return Some(Command::Init { cap });
+        if is_missing(given, "PERMILLE") {
+            return Some(Command::Init { cap, rate: None });
+        }
+        let rate = small_in(given, "PERMILLE", u32::from(MAX_RATE))?;
+        return Some(Command::Init {
+            cap,
+            rate: Some(rate as u16),
+        });
     }
     if is_batch(name) {
         return Some(Command::Batch);
@@ -58,20 +67,43 @@ pub(crate) fn command_in(matches: &ArgMatches<'_>) -> Option<Command>
     None
 }
 
-// The program with one command more. Each of its positions has to be there, and is read as a text.
+// The program with one command more. What is needed has to be there, and what is optional may be missing behind it; all of it is read as texts.
 fn with<'a>(
     alloc: Global,
     program: Shape<'a>,
     name: &'static str,
-    positions: &[&'static str],
+    needed: &[&'static str],
+    optional: &[&'static str],
 ) -> Result<Shape<'a>, AllocError>
-    ensures { IfOk result (λ more. app_of more ≡ with_subcommand (app_of program.entry) (table.shape name.now (map (λ id. id.now) positions.now))) }
+    ensures { IfOk result (λ more. app_of more ≡ with_subcommand (app_of program.entry) (table.shape name.now (map (λ id. id.now) needed.now) (map (λ id. id.now) optional.now))) }
 {
-    let mut command = Shape::new(alloc, name);
-    'adding: for position in positions {
-        command = command.arg(Arg::new(alloc, position).required(true))?;
-    }
+    let command = Shape::new(alloc, name);
+    let command = with_positions(alloc, command, needed, true)?;
+    let command = with_positions(alloc, command, optional, false)?;
     program.subcommand(command)
+}
+
+// The command with these positions behind its own. All of them have to be there, or each may be missing.
+fn with_positions<'a>(
+    alloc: Global,
+    command: Shape<'a>,
+    positions: &[&'static str],
+    required: bool,
+) -> Result<Shape<'a>, AllocError>
+    ensures { IfOk result (λ more. app_of more ≡ table.with_positions (app_of command.entry) (map (λ id. id.now) positions.now) required) }
+{
+    let mut more = command;
+    'adding: for position in positions {
+        more = more.arg(Arg::new(alloc, position).required(required))?;
+    }
+    Ok(more)
+}
+
+// Whether nothing stands at a position.
+fn is_missing(given: &ArgMatches<'_>, position: &str) -> bool
+    ensures { IsTrue result ↔ (first_of position.now (rows_of (found_of given.now)) ≡ None) }
+{
+    given.get_str(position).is_none()
 }
 
 // The number at a position, of 64 bits.

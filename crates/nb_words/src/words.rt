@@ -16,8 +16,9 @@ use std::alloc::Global;
 /// What the words tell the program to do.
 #[derive(Clone, Copy)]
 pub enum Command {
-    /// `init JOURNAL CAP`: make a journal that holds at most so many entries.
-    Init { cap: u32 },
+    /// `init JOURNAL CAP`, or `init JOURNAL CAP PERMILLE`: make a journal that holds at most so many entries, without fees, or with fees of so many
+    /// thousandths of a price.
+    Init { cap: u32, rate: Option<u16> },
     /// `batch JOURNAL`: answer the frames of the input in order.
     Batch,
     /// `drill SEED ORDERS`: make a journal, and answer the frames of a drill with so many orders over it.
@@ -38,8 +39,9 @@ pub fn limits()
 {}
 
 /// The command that the words are, where they are one. A name is not empty and does not begin with `-`, and so is an address; a number is
-/// decimal, and has no sign and no leading zero: a cap is below 2^32 and a seed below 2^64, a drill has at most [`nb_play::MAX_ORDERS`] orders, and a
-/// server from 1 to [`MAX_WORKERS`] workers, of at least one link each and at most [`MAX_LINKS`] over all.
+/// decimal, and has no sign and no leading zero: a cap is below 2^32, a rate at most [`MAX_RATE`](nb_units::MAX_RATE) and a seed below 2^64, a
+/// drill has at most [`nb_play::MAX_ORDERS`] orders, and a server from 1 to [`MAX_WORKERS`] workers, of at least one link each and at most
+/// [`MAX_LINKS`] over all.
 pub fn command_of(alloc: Global, words: &[String]) -> Result<Option<Command>, NoMemory>
     ensures command { IfOk result (CommandIs (map string_bytes words.now)) }
 
