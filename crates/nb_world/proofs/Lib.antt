@@ -15,3 +15,4 @@ pub mod Going
 pub mod Moving
 pub mod Receipting
 pub mod Holding
+pub mod Rating

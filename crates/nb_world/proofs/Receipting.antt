@@ -3,7 +3,7 @@ use Rattle.std.proofs.Common.{◌≡◌, ℕ, List, Option, None, Some, refl, sy
 use Rattle.std.specs.Option.{option_and_then}
 use Rattle.nb_units.specs.declared.epoid.Epoid.{Epoid}
 use Rattle.nb_book.specs.declared.entry.Entry.{Entry}
-use Rattle.nb_book.specs.declared.entry.Entry.TheVariants.{Enrol, Fund, Paid, Refused}
+use Rattle.nb_book.specs.declared.entry.Entry.TheVariants.{Enrol, Fund, Paid, Charged, Refused}
 use Rattle.nb_book.specs.declared.entry.TheConstants.{CONSUMER, MERCHANT}
 use Rattle.nb_book.specs.declared.kept.Kept.{Kept}
 use Rattle.nb_book.specs.Searches.{order_in}
@@ -27,7 +27,9 @@ unfolding IsOf receipt_in_role
 consumers at (Enrol id role acct nonce key) r is = absurd cc
 consumers at (Fund acct amount reference) r is = absurd cc
 consumers at (Paid digest epoid consumer merchant product price cacct macct moment key) r is =
-    (settlement at digest epoid consumer merchant product price moment (outcome.Paid cacct macct key), refl, sym (same_some _ r is))
+    (settlement at digest epoid consumer merchant product price moment (outcome.Paid cacct macct key None), refl, sym (same_some _ r is))
+consumers at (Charged digest epoid consumer merchant product price fee cacct macct moment key) r is =
+    (settlement at digest epoid consumer merchant product price moment (outcome.Paid cacct macct key (Some fee)), refl, sym (same_some _ r is))
 consumers at (Refused digest epoid consumer merchant product price code a b moment) r is =
     let why : RefusalReason = record { code = code; a = a; b = b } in
     let s : Settlement = settlement at digest epoid consumer merchant product price moment (outcome.Refused why) in
@@ -39,7 +41,9 @@ unfolding IsOf receipt_in_role
 merchants at (Enrol id role acct nonce key) r is = absurd cc
 merchants at (Fund acct amount reference) r is = absurd cc
 merchants at (Paid digest epoid consumer merchant product price cacct macct moment key) r is =
-    (settlement at digest epoid consumer merchant product price moment (outcome.Paid cacct macct key), refl, sym (same_some _ r is))
+    (settlement at digest epoid consumer merchant product price moment (outcome.Paid cacct macct key None), refl, sym (same_some _ r is))
+merchants at (Charged digest epoid consumer merchant product price fee cacct macct moment key) r is =
+    (settlement at digest epoid consumer merchant product price moment (outcome.Paid cacct macct key (Some fee)), refl, sym (same_some _ r is))
 merchants at (Refused digest epoid consumer merchant product price code a b moment) r is =
     let why : RefusalReason = record { code = code; a = a; b = b } in
     let s : Settlement = settlement at digest epoid consumer merchant product price moment (outcome.Refused why) in

@@ -30,7 +30,7 @@ use Rattle.nb_world.specs.declared.packet.Maker.TheVariants as by
 use Rattle.nb_world.specs.declared.packet.Packet.{Packet}
 use Rattle.nb_world.specs.declared.turning.Verdict.{Verdict}
 use Rattle.nb_world.specs.World.{Rules, World, request_of, commits}
-use Rattle.nb_world.specs.Steps.{run, next}
+use Rattle.nb_world.specs.Steps.{run}
 use Rattle.nb_world.specs.Laws.{RecordsLegal, IsSetUp, Asks, IsReply, RepliesSo, IsLawfulWorld, Begins}
 use Rattle.nb_world.specs.Headline.{OrderMovesOnce, MoneyIsConserved, verdict_shown, HouseRecordsLegal, TellsKey, KeyWhereItStands}
 use Rattle.nb_world.proofs.Chains.{same_some}
@@ -56,11 +56,11 @@ balanced : (entries : List Entry) → Legal entries → IsBalanced entries
 balanced entries legal = record { once = settled_once entries legal; sums = balances_make_total entries legal; none_overdrawn = none_overdrawn entries legal }
 
 -- the commit list is what a stop that keeps the entry leaves
+pub commits_left : {C M : Type 0} (p : Rules C M) (w : World C M) (es : List Event) → (run p w (es ++ on.Stop true ∷ [])).durable ≡ commits (run p w es)
+commits_left p w es = ap (λ x. x.durable) (run_then p w es (on.Stop true ∷ [])) ∙ (stop_leaves p (run p w es) true).durable
+
 commits_legal : {C M : Type 0} → StaysLegal → (p : Rules C M) (w : World C M) → RecordsLegal p.verdict → IsSetUp w → (es : List Event) → Legal (commits (run p w es))
-commits_legal stays p w records setup es =
-    let behind : Legal (run p w (es ++ on.Stop true ∷ [])).durable = (world_law stays p w records setup (es ++ on.Stop true ∷ [])).legal in
-    let there : run p w (es ++ on.Stop true ∷ []) ≡ next p (run p w es) (on.Stop true) = run_then p w es (on.Stop true ∷ []) in
-    subst Legal (ap (λ x. x.durable) there ∙ (stop_leaves p (run p w es) true).durable) behind
+commits_legal stays p w records setup es = subst Legal (commits_left p w es) (world_law stays p w records setup (es ++ on.Stop true ∷ [])).legal
 
 pub money_is_conserved : {C M : Type 0} → StaysLegal → MoneyIsConserved C M
 money_is_conserved stays p w records setup es = (
@@ -126,13 +126,13 @@ module _ {C M : Type 0} (stays : StaysLegal) (p : Rules C M) (shown : Decision �
       tells (run p w es) lawful made packet c at moment (subst (RepliesSo p.verdict (run p w es) made) maker so) asks status
 
 pub house_records_legal : {C M : Type 0} → escrow.RecordsLegal → HouseRecordsLegal C M
-house_records_legal legal p shown head cap by_house =
+house_records_legal legal p shown head cap by_house ruling =
     legal_by p shown (λ entries kind body moment. verdict entries head cap kind body moment) by_house
-    (λ entries kind body moment entry has. (legal entries head cap kind body moment entry has).0)
+    (λ entries kind body moment entry has. (legal entries head cap kind body moment entry ruling has).0.0)
 
 pub key_where_it_stands : {C M : Type 0} → StaysLegal → escrow.RecordsLegal → StatusTellsKey → StatusTellsTheOrder → KeyWhereItStands C M
-key_where_it_stands stays legal key told p shown head cap by_house =
+key_where_it_stands stays legal key told p shown head cap by_house ruling =
     key_shown stays p shown (λ entries kind body moment. verdict entries head cap kind body moment) by_house
-    (λ entries kind body moment entry has. (legal entries head cap kind body moment entry has).0)
+    (λ entries kind body moment entry has. (legal entries head cap kind body moment entry ruling has).0.0)
     (λ entries is body moment. key entries is head cap body moment)
     (λ entries body moment. told entries head cap STATUS_REQUEST body moment)

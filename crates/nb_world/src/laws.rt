@@ -118,7 +118,7 @@ pub fn order_moves_once<C, M>()
     nb_book::laws::stays_legal();
 }
 
-/// No money is made or lost along any run: the balances sum to the total of the funds, and no account is overdrawn; also with an
+/// No money is made or lost along any run: the balances and the fees sum to the total of the funds, and no account is overdrawn; also with an
 /// entry that is written and not opened.
 pub fn money_is_conserved<C, M>()
     ensures { headline.MoneyIsConserved C M }
@@ -126,9 +126,24 @@ pub fn money_is_conserved<C, M>()
     nb_book::laws::stays_legal();
 }
 
+/// Where a verdict records only what a journal of some version and rate may have, and the set-up has such entries alone, the durable entries are
+/// Legal under that version and that rate behind every list of events; also with an entry that is written and not opened.
+pub fn rate_is_kept<C, M>()
+    ensures { headline.RateIsKept C M }
+{
+    nb_book::laws::stays_legal();
+}
+
 /// The house records only what may come next: where the verdict is the house's, in whatever form its replies are shown.
 pub fn house_records_legal<C, M>()
     ensures { headline.HouseRecordsLegal C M }
+{
+    nb_escrow::laws::records_legal();
+}
+
+/// And it records only what a journal of its version and its rate may have.
+pub fn house_records_of_rate<C, M>()
+    ensures { headline.HouseRecordsOfRate C M }
 {
     nb_escrow::laws::records_legal();
 }
