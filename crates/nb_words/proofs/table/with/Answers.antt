@@ -7,7 +7,6 @@ use Rattle.clap.proofs.SimpleLemmas.{is_false}
 use Rattle.nb_words.specs.Table as table
 use Rattle.nb_words.proofs.table.with.Goals as goal
 
--- src/table.rt:65:1
 pub returns : goal.returns
 returns c =
     let needed = map (λ id. id.now) c.args.needed.now in
