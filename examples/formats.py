@@ -71,7 +71,7 @@ STATUSES = {
     5: ("the input ended within a frame, or holds what is no frame, or is no head", "bytes read, or the place of the fault", "mend the input from there on; the frames before it were answered"),
     6: ("there was no memory", "", "give the process more: docs/OPERATING.md says how much a journal takes"),
     7: ("the journal's disk failed as it was opened or made", "", "look at the disk and its free room, then start again"),
-    8: ("the file is no journal, has a bad entry, or is damaged", "place of the damage in the file, and else 0", "put the last copy in its place: docs/OPERATING.md says what that forgets"),
+    8: ("the file is no journal, has a bad entry, or is damaged", "place of the damage in the file, and else 0", "move the file aside, see what it holds with examples/show journal, and only then take the last copy: docs/OPERATING.md says what that forgets"),
     9: ("no journal is made: there is one, or the cap is out of its range", "", "take another file, or a cap from 1 to 1,000,000"),
     11: ("as many frames were answered as one run answers", "", "start again with the rest of the input"),
     13: ("a port failed, with connections left", "", "start again"),
@@ -267,23 +267,44 @@ def number(field):
     return int.from_bytes(field, "big")
 
 
+def walk(image, gate):
+    """The entries of a journal from its first gate on, the place of the gate behind them, and why it goes no further; None where that gate is not
+    open."""
+    entries = []
+    while True:
+        if gate >= len(image):
+            return entries, gate, "the file ends where a gate should stand"
+        if image[gate : gate + 1] != OPEN:
+            return entries, gate, None
+        size = number(image[gate + 1 : gate + 5])
+        item, behind = image[gate + 5 : gate + 5 + size], gate + 5 + size
+        if behind > len(image):
+            return entries, gate, "the item behind this gate is cut"
+        spelled = split(item)
+        if spelled is None:
+            return entries, gate, "the item behind this gate holds what is no entry"
+        entries += spelled
+        gate = behind
+
+
+def split(item):
+    """The entries of an item; None where it holds what is none."""
+    entries, place = [], 0
+    while place < len(item):
+        size = ENTRY_BYTES.get(item[place], 0)
+        if not 0 < size <= len(item) - place:
+            return None
+        entries.append(item[place : place + size])
+        place += size
+    return entries
+
+
 def read_journal(image, front):
     """The entries of a journal that begins with this front, and the place of the gate behind them; None where it is no such journal."""
     if not image.startswith(front):
         return None
-    entries, gate = [], len(front)
-    while image[gate : gate + 1] == OPEN:
-        item = image[gate + 5 :][: number(image[gate + 1 : gate + 5])]
-        gate += 5 + number(image[gate + 1 : gate + 5])
-        if gate >= len(image):
-            return None
-        while item:
-            size = ENTRY_BYTES.get(item[0], 0)
-            if not 0 < size <= len(item):
-                return None
-            entries.append(item[:size])
-            item = item[size:]
-    return entries, gate
+    entries, gate, fault = walk(image, len(front))
+    return None if fault else (entries, gate)
 
 
 def unsealed(key, label, sealed):
