@@ -1,6 +1,7 @@
 -- A turn, from its steps: settling, the verdicts, and making what they record durable.
 use Rattle.std.proofs.Common.{◌≡◌, ◌⊎◌, inl, inr, ⊎_elim, ℕ, ◌+◌, ◌≤◌, ◌<◌, Bool, cond, List, [], ◌∷◌, ◌++◌, length, Option, IfSome, refl, sym, ap, subst, ◌∙◌, append_assoc, arith}
 use Rattle.std.proofs.lemmas.List.{append-nil, length-append}
+use Rattle.nb_units.specs.declared.charter.Charter.{Charter}
 use Rattle.nb_port.specs.Tells.{DiskTells}
 use Rattle.nb_book.specs.declared.entry.Entry.{Entry}
 use Rattle.nb_journal.specs.declared.journal.Journal.{Journal}
@@ -23,7 +24,7 @@ use Rattle.nb_vault.specs.Vaults.{Went, OneGateOpens, doubt_in, house_in, handed
 use Rattle.nb_vault.proofs.Doubting.{few_faulted, few_recorded}
 use Rattle.nb_vault.proofs.Resting.{leaves_more, leaves_then, fresh_content, rest_images}
 use Rattle.nb_vault.proofs.Seeing.{doubt_seen, either_seen, state_at, state_seen}
-use Rattle.nb_vault.proofs.Vaulting.{house_lawful, decided_faults, failed_faults, same_opening, vault_behind}
+use Rattle.nb_vault.proofs.Vaulting.{journal_lawful, decided_faults, failed_faults, same_opening, vault_behind}
 
 -- the steps of a turn before what it records is made durable: from the vault, what was in doubt is settled, and the requests are decided
 pub record Steps {D : Type 0} (tells : DiskTells D) (old mid p : Parts D) (by : ℕ) (requests : List Request) : Type 0 where
@@ -42,7 +43,7 @@ pub record Steps {D : Type 0} (tells : DiskTells D) (old mid p : Parts D) (by : 
 
 pub then_same : {D : Type 0} (old mid new : Parts D) → SameOrigin old mid → SameOrigin mid new → SameOrigin old new
 then_same old mid new first second = record {
-  terms = record { head = second.terms.head ∙ first.terms.head; cap = second.terms.cap ∙ first.terms.cap };
+  terms = record { charter = second.terms.charter ∙ first.terms.charter; cap = second.terms.cap ∙ first.terms.cap };
   opening = second.opening ∙ first.opening;
   count = second.count ∙ first.count;
   head = second.head ∙ first.head;
@@ -50,7 +51,7 @@ then_same old mid new first second = record {
 
 -- what a vault was opened with stays
 origin_is : {D : Type 0} (tells : DiskTells D) (old new : Parts D) (more : List Entry) → IsVault tells old → SameOrigin old new → new.records.book.entries ≡ old.records.book.entries ++ more → (seen_as new).origin ≡ (seen_as old).origin
-origin_is tells old new more vault same grown = rw (same_opening tells old new more vault same grown, same.terms.head, same.terms.cap, same.count) refl
+origin_is tells old new more vault same grown = rw (same_opening tells old new more vault same grown, same.terms.charter, same.terms.cap, same.count) refl
 
 -- those in doubt behind a turn that failed so
 pub doubted_all : {D : Type 0} (tells : DiskTells D) (p new : Parts D) (by turn : ℕ) (counts : Counts) → Doubted tells p new by turn counts → doubt_of new.records ≡ p.records.group.items
@@ -59,7 +60,7 @@ doubted_all tells p new by turn counts d = ap (λ (b : Bool). cond b new.records
 -- the house stays
 pub house_is : {D : Type 0} (tells : DiskTells D) (old mid : Parts D) → IsVault tells old → SameOrigin old mid → house_of mid.head mid.records.book.cap ≡ house_in (seen_as old)
 house_is tells old mid vault same =
-    ap (λ h. house_of h mid.records.book.cap) (same.head ∙ vault.keys) ∙ ap (λ (cap : ℕ). house_of (head_of old.records.head) cap) same.terms.cap
+    ap (λ h. house_of h mid.records.book.cap) (same.head ∙ vault.keys) ∙ ap (λ (cap : ℕ). house_of (head_of old.records.charter) cap) same.terms.cap
 
 pub stepped : {D : Type 0} (tells : DiskTells D) (old mid p : Parts D) (by turn : ℕ) (requests : List Request) → IsVault tells old → old.faults < MAX_FAULTS → turn ≡ next_turn old.lines.items → Readied old mid by turn → Rests tells mid.records
     → SameOrigin old mid → Unwritten tells (disk_under old.records) (disk_under mid.records) → SameOrigin mid p → p.records.journal ≡ mid.records.journal → over_of p.records ≡ mid.records.book.entries
@@ -109,22 +110,22 @@ module _ {D : Type 0} (tells : DiskTells D) (old mid p : Parts D) (by : ℕ) (re
   few_told = omega (arith, s.few, s.vault.faults_are)
 
   -- the content stood for these entries
-  told_over : IfSome (tells.content (disk_under old.records)) (StandsFor old.records.head old.records.book.cap (over_of p.records))
+  told_over : IfSome (tells.content (disk_under old.records)) (StandsFor old.records.charter old.records.book.cap (over_of p.records))
   told_over =
-      subst (λ (t : Option (List ℕ)). IfSome t (StandsFor old.records.head old.records.book.cap (over_of p.records))) s.nothing.same
-      (subst (λ (es : List Entry). IfSome (tells.content (disk_under mid.records)) (StandsFor old.records.head old.records.book.cap es)) (sym s.over)
-      (subst (λ (cap : ℕ). IfSome (tells.content (disk_under mid.records)) (StandsFor old.records.head cap mid.records.book.entries)) s.first.terms.cap
-      (subst (λ (head : List ℕ). IfSome (tells.content (disk_under mid.records)) (StandsFor head mid.records.book.cap mid.records.book.entries)) s.first.terms.head
+      subst (λ (t : Option (List ℕ)). IfSome t (StandsFor old.records.charter old.records.book.cap (over_of p.records))) s.nothing.same
+      (subst (λ (es : List Entry). IfSome (tells.content (disk_under mid.records)) (StandsFor old.records.charter old.records.book.cap es)) (sym s.over)
+      (subst (λ (cap : ℕ). IfSome (tells.content (disk_under mid.records)) (StandsFor old.records.charter cap mid.records.book.entries)) s.first.terms.cap
+      (subst (λ (charter : Charter). IfSome (tells.content (disk_under mid.records)) (StandsFor charter mid.records.book.cap mid.records.book.entries)) s.first.terms.charter
       (fresh_content tells mid.records s.rests s.ready.fresh))))
 
   pub content_is : tells.content (disk_under p.records) ≡ tells.content (disk_under old.records)
   content_is = ap (λ (j : Journal D). tells.content j.disk) s.journal ∙ s.nothing.same
 
   -- the terms are those at the start
-  at_start : (es : List Entry) (c : List ℕ) → StandsFor p.records.head p.records.book.cap es c → StandsFor old.records.head old.records.book.cap es c
+  at_start : (es : List Entry) (c : List ℕ) → StandsFor p.records.charter p.records.book.cap es c → StandsFor old.records.charter old.records.book.cap es c
   at_start es c is =
-      subst (λ (head : List ℕ). StandsFor head old.records.book.cap es c) same.terms.head
-      (subst (λ (cap : ℕ). StandsFor p.records.head cap es c) same.terms.cap is)
+      subst (λ (charter : Charter). StandsFor charter old.records.book.cap es c) same.terms.charter
+      (subst (λ (cap : ℕ). StandsFor p.records.charter cap es c) same.terms.cap is)
 
   -- up to the end of settling what stood before is left, and since then the entries alone or with the group
   gate_opens : (new : Parts D) → LeavesOnly tells (disk_under old.records) (disk_under mid.records) (EitherOf old.records) → LeavesOnly tells (disk_under p.records) (disk_under new.records) (WithOrWithout p.records (over_of p.records) p.records.group.items)
@@ -133,9 +134,9 @@ module _ {D : Type 0} (tells : DiskTells D) (old mid p : Parts D) (by : ℕ) (re
     settled = disk_under mid.records;
     before = leaves_more tells (disk_under old.records) (disk_under mid.records) (EitherOf old.records) (StandsForState (seen_as old)) (λ c is. either_seen tells old s.vault c is) leaves;
     since = leaves_more tells (disk_under mid.records) (disk_under new.records) (WithOrWithout p.records (over_of p.records) p.records.group.items)
-        (StandsForEither old.records.head old.records.book.cap (over_of p.records) (recorded (house_in (seen_as old)) (over_of p.records) requests))
+        (StandsForEither old.records.charter old.records.book.cap (over_of p.records) (recorded (house_in (seen_as old)) (over_of p.records) requests))
         (λ c is. ⊎_elim (λ alone. inl (at_start (over_of p.records) c alone))
-        (λ all. inr (subst (λ (es : List Entry). StandsFor old.records.head old.records.book.cap (over_of p.records ++ es) c) group_is (at_start (over_of p.records ++ p.records.group.items) c all))) is)
+        (λ all. inr (subst (λ (es : List Entry). StandsFor old.records.charter old.records.book.cap (over_of p.records ++ es) c) group_is (at_start (over_of p.records ++ p.records.group.items) c all))) is)
         (subst (λ (j : Journal D). LeavesOnly tells j.disk (disk_under new.records) (WithOrWithout p.records (over_of p.records) p.records.group.items)) s.journal more);
   }
 
@@ -171,7 +172,7 @@ module _ {D : Type 0} (tells : DiskTells D) (old mid p : Parts D) (by : ℕ) (re
         (decided_list ∙ sym (decided_entries (house_in (seen_as old)) (opening_of old) by (next_turn old.lines.items) old.lines.items requests (over_of p.records) _ decided_adds))
         (inl decided_fresh) count
         (decided_count ∙ s.vault.faults_are ∙ sym (decided_faults (house_in (seen_as old)) (opening_of old) by (next_turn old.lines.items) old.lines.items requests _ s.vault.told.closed (over_of p.records) decided_adds))
-        (omega (arith, decided_count, s.vault.few)) (house_lawful (head_of old.records.head) old.records.book.cap)
+        (omega (arith, decided_count, s.vault.few)) (journal_lawful old.records.charter old.records.book.cap s.vault.rests.carries.terms)
         (few_recorded old.lines.items by (next_turn old.lines.items) s.vault.open_most s.ready.kept (recorded (house_in (seen_as old)) (over_of p.records) requests))
 
     pub decided_origin : SameOrigin p new → (seen_as new).origin ≡ (seen_as old).origin
@@ -183,7 +184,7 @@ module _ {D : Type 0} (tells : DiskTells D) (old mid p : Parts D) (by : ℕ) (re
     decided_idle idle none =
         subst (λ (disk : D). Unwritten tells (disk_under old.records) disk) (sym (idle (group_is ∙ none) ∙ ap (λ (j : Journal D). j.disk) s.journal)) s.nothing
 
-    pub decided_went : IsVault tells new → WritesItem p.records.head p.records.book.cap (over_of p.records) p.records.group.items (tells.content (disk_under p.records)) (tells.content (disk_under new.records))
+    pub decided_went : IsVault tells new → WritesItem p.records.charter p.records.book.cap (over_of p.records) p.records.group.items (tells.content (disk_under p.records)) (tells.content (disk_under new.records))
         → (p.records.group.items ≡ [] → disk_under new.records ≡ disk_under p.records)
         → LeavesOnly tells (disk_under old.records) (disk_under mid.records) (EitherOf old.records) → LeavesOnly tells (disk_under p.records) (disk_under new.records) (WithOrWithout p.records (over_of p.records) p.records.group.items)
         → (found out out' : List ℕ) → found ≡ handed_places (house_in (seen_as old)) requests (Decides (over_of p.records)) → out' ≡ out ++ replies (decided (house_in (seen_as old)) (over_of p.records) requests)
@@ -197,10 +198,10 @@ module _ {D : Type 0} (tells : DiskTells D) (old mid p : Parts D) (by : ℕ) (re
       lines = decided_adds;
       disk = record {
         told = told_over;
-        written = subst (λ (es : List Entry). WritesItem old.records.head old.records.book.cap (over_of p.records) es (tells.content (disk_under old.records)) (tells.content (disk_under new.records))) group_is
-            (subst (λ (t : Option (List ℕ)). WritesItem old.records.head old.records.book.cap (over_of p.records) p.records.group.items t (tells.content (disk_under new.records))) content_is
-            (subst (λ (cap : ℕ). WritesItem old.records.head cap (over_of p.records) p.records.group.items (tells.content (disk_under p.records)) (tells.content (disk_under new.records))) same.terms.cap
-            (subst (λ (head : List ℕ). WritesItem head p.records.book.cap (over_of p.records) p.records.group.items (tells.content (disk_under p.records)) (tells.content (disk_under new.records))) same.terms.head wrote)));
+        written = subst (λ (es : List Entry). WritesItem old.records.charter old.records.book.cap (over_of p.records) es (tells.content (disk_under old.records)) (tells.content (disk_under new.records))) group_is
+            (subst (λ (t : Option (List ℕ)). WritesItem old.records.charter old.records.book.cap (over_of p.records) p.records.group.items t (tells.content (disk_under new.records))) content_is
+            (subst (λ (cap : ℕ). WritesItem old.records.charter cap (over_of p.records) p.records.group.items (tells.content (disk_under p.records)) (tells.content (disk_under new.records))) same.terms.cap
+            (subst (λ (charter : Charter). WritesItem charter p.records.book.cap (over_of p.records) p.records.group.items (tells.content (disk_under p.records)) (tells.content (disk_under new.records))) same.terms.charter wrote)));
         idle = decided_idle idle;
         gate = gate_opens new leaves more;
       };
@@ -241,13 +242,13 @@ module _ {D : Type 0} (tells : DiskTells D) (old mid p : Parts D) (by : ℕ) (re
         (omega (arith, count, d.failed.before, ap (λ (j : Journal D). tells.faults j.disk) s.journal), d.failed.rose, omega (arith, d.failed.after))
         (doubted_count ∙ ap (λ (n : ℕ). n + 1) s.vault.faults_are
         ∙ sym (failed_faults (house_in (seen_as old)) (opening_of old) by (next_turn old.lines.items) old.lines.items requests (adopts by (next_turn old.lines.items) s.ready.kept ++ (doubts by (next_turn old.lines.items) (recorded (house_in (seen_as old)) (over_of p.records) requests) ++ Fault by (next_turn old.lines.items) counts.before counts.after ∷ [])) s.vault.told.closed counts.before counts.after (few_told, inr doubted_lines)))
-        (omega (arith, doubted_count, s.few)) (house_lawful (head_of old.records.head) old.records.book.cap)
+        (omega (arith, doubted_count, s.few)) (journal_lawful old.records.charter old.records.book.cap s.vault.rests.carries.terms)
         (omega (arith, (rests.doubt d.stale).group.most, ap length (d.group ∙ group_is), ap length (doubted_are old.lines.items by (next_turn old.lines.items) counts.before counts.after s.ready.kept (recorded (house_in (seen_as old)) (over_of p.records) requests) some_recorded s.vault.told.closed)))
 
     pub doubted_origin : SameOrigin p new → (seen_as new).origin ≡ (seen_as old).origin
     doubted_origin last = origin_is tells old new s.ready.kept s.vault (then_same old p new same last) (d.entries ∙ over_is)
 
-    pub doubted_went : IsVault tells new → TearsItem p.records.head p.records.book.cap (over_of p.records) p.records.group.items (tells.content (disk_under p.records)) (tells.content (disk_under new.records))
+    pub doubted_went : IsVault tells new → TearsItem p.records.charter p.records.book.cap (over_of p.records) p.records.group.items (tells.content (disk_under p.records)) (tells.content (disk_under new.records))
         → LeavesOnly tells (disk_under old.records) (disk_under mid.records) (EitherOf old.records) → LeavesOnly tells (disk_under p.records) (disk_under new.records) (WithOrWithout p.records (over_of p.records) p.records.group.items)
         → (out out' : List ℕ) → out' ≡ out → Went tells (seen_as old) (seen_as new) by requests (Fails counts.before counts.after) [] out out'
     doubted_went vault torn leaves more out out' bytes = record {
@@ -269,10 +270,10 @@ module _ {D : Type 0} (tells : DiskTells D) (old mid p : Parts D) (by : ℕ) (re
         refl,
         record {
           told = told_over;
-          written = subst (λ (es : List Entry). TearsItem old.records.head old.records.book.cap (over_of p.records) es (tells.content (disk_under old.records)) (tells.content (disk_under new.records))) group_is
-              (subst (λ (t : Option (List ℕ)). TearsItem old.records.head old.records.book.cap (over_of p.records) p.records.group.items t (tells.content (disk_under new.records))) content_is
-              (subst (λ (cap : ℕ). TearsItem old.records.head cap (over_of p.records) p.records.group.items (tells.content (disk_under p.records)) (tells.content (disk_under new.records))) same.terms.cap
-              (subst (λ (head : List ℕ). TearsItem head p.records.book.cap (over_of p.records) p.records.group.items (tells.content (disk_under p.records)) (tells.content (disk_under new.records))) same.terms.head torn)));
+          written = subst (λ (es : List Entry). TearsItem old.records.charter old.records.book.cap (over_of p.records) es (tells.content (disk_under old.records)) (tells.content (disk_under new.records))) group_is
+              (subst (λ (t : Option (List ℕ)). TearsItem old.records.charter old.records.book.cap (over_of p.records) p.records.group.items t (tells.content (disk_under new.records))) content_is
+              (subst (λ (cap : ℕ). TearsItem old.records.charter cap (over_of p.records) p.records.group.items (tells.content (disk_under p.records)) (tells.content (disk_under new.records))) same.terms.cap
+              (subst (λ (charter : Charter). TearsItem charter p.records.book.cap (over_of p.records) p.records.group.items (tells.content (disk_under p.records)) (tells.content (disk_under new.records))) same.terms.charter torn)));
           gate = gate_opens new leaves more;
         },
       );
@@ -292,21 +293,21 @@ module _ {D : Type 0} (tells : DiskTells D) (old mid p : Parts D) (by : ℕ) (re
       (subst (λ (j : Journal D). LeavesOnly tells j.disk (disk_under new.records) (WithOrWithout p.records (over_of p.records) p.records.group.items)) s.journal more)
       (λ c is. inl (either_seen tells old s.vault c is)) (λ c is. ⊎_elim (λ before. inl (without c before)) (λ behind. inr (with_group c behind list)) is)
     where
-      at_end : (es : List Entry) (c : List ℕ) → StandsFor p.records.head p.records.book.cap es c → StandsFor new.records.head new.records.book.cap es c
+      at_end : (es : List Entry) (c : List ℕ) → StandsFor p.records.charter p.records.book.cap es c → StandsFor new.records.charter new.records.book.cap es c
       at_end es c is =
-          subst (λ (head : List ℕ). StandsFor head new.records.book.cap es c) (sym last.terms.head)
-          (subst (λ (cap : ℕ). StandsFor p.records.head cap es c) (sym last.terms.cap) is)
+          subst (λ (charter : Charter). StandsFor charter new.records.book.cap es c) (sym last.terms.charter)
+          (subst (λ (cap : ℕ). StandsFor p.records.charter cap es c) (sym last.terms.cap) is)
 
-      without : (c : List ℕ) → StandsFor p.records.head p.records.book.cap (over_of p.records) c → StandsForState (seen_as old) c
+      without : (c : List ℕ) → StandsFor p.records.charter p.records.book.cap (over_of p.records) c → StandsForState (seen_as old) c
       without c is = either_seen tells old s.vault c (⊎_elim
-          (λ none. inl (at_start old.records.book.entries c (subst (λ (es : List Entry). StandsFor p.records.head p.records.book.cap es c) (over_is ∙ ap (λ (es : List Entry). old.records.book.entries ++ es) none ∙ append-nil old.records.book.entries) is)))
-          (λ all. inr (at_start (old.records.book.entries ++ doubt_of old.records) c (subst (λ (es : List Entry). StandsFor p.records.head p.records.book.cap es c) (over_is ∙ ap (λ (es : List Entry). old.records.book.entries ++ es) all) is)))
+          (λ none. inl (at_start old.records.book.entries c (subst (λ (es : List Entry). StandsFor p.records.charter p.records.book.cap es c) (over_is ∙ ap (λ (es : List Entry). old.records.book.entries ++ es) none ∙ append-nil old.records.book.entries) is)))
+          (λ all. inr (at_start (old.records.book.entries ++ doubt_of old.records) c (subst (λ (es : List Entry). StandsFor p.records.charter p.records.book.cap es c) (over_is ∙ ap (λ (es : List Entry). old.records.book.entries ++ es) all) is)))
           s.ready.kept_is)
 
-      with_group : (c : List ℕ) → StandsFor p.records.head p.records.book.cap (over_of p.records ++ p.records.group.items) c
+      with_group : (c : List ℕ) → StandsFor p.records.charter p.records.book.cap (over_of p.records ++ p.records.group.items) c
           → (new.records.book.entries ≡ over_of p.records ++ p.records.group.items) ⊎ (new.records.book.entries ++ doubt_of new.records ≡ over_of p.records ++ p.records.group.items) → StandsForState (seen_as new) c
-      with_group c is (inl alone) = either_seen tells new vault c (inl (at_end new.records.book.entries c (subst (λ (es : List Entry). StandsFor p.records.head p.records.book.cap es c) (sym alone) is)))
-      with_group c is (inr both) = either_seen tells new vault c (inr (at_end (new.records.book.entries ++ doubt_of new.records) c (subst (λ (es : List Entry). StandsFor p.records.head p.records.book.cap es c) (sym both) is)))
+      with_group c is (inl alone) = either_seen tells new vault c (inl (at_end new.records.book.entries c (subst (λ (es : List Entry). StandsFor p.records.charter p.records.book.cap es c) (sym alone) is)))
+      with_group c is (inr both) = either_seen tells new vault c (inr (at_end (new.records.book.entries ++ doubt_of new.records) c (subst (λ (es : List Entry). StandsFor p.records.charter p.records.book.cap es c) (sym both) is)))
 
 -- ---- a turn that could not settle what was in doubt
 
@@ -335,7 +336,7 @@ module _ {D : Type 0} (tells : DiskTells D) (old new : Parts D) (by : ℕ) (requ
       (omega (arith, u.failed.before), u.failed.rose, omega (arith, u.failed.after))
       (u.faults ∙ ap (λ (n : ℕ). n + 1) vault.faults_are
       ∙ sym (failed_faults (house_in (seen_as old)) (opening_of old) by (next_turn old.lines.items) old.lines.items requests _ vault.told.closed counts.before counts.after unready_adds))
-      (omega (arith, u.faults, few)) (house_lawful (head_of old.records.head) old.records.book.cap) (few_faulted old.lines.items by (next_turn old.lines.items) vault.open_most counts.before counts.after)
+      (omega (arith, u.faults, few)) (journal_lawful old.records.charter old.records.book.cap vault.rests.carries.terms) (few_faulted old.lines.items by (next_turn old.lines.items) vault.open_most counts.before counts.after)
 
   pub unready_origin : SameOrigin old new → (seen_as new).origin ≡ (seen_as old).origin
   unready_origin same = origin_is tells old new [] vault same (u.entries ∙ sym (append-nil old.records.book.entries))
@@ -399,8 +400,8 @@ module _ {D : Type 0} (tells : DiskTells D) (old new : Parts D) (before : IsVaul
   quiet_failed more = absurd (omega (arith, more, ap (λ (s : State). s.faults) same_state))
 
   -- and nothing was recorded, and so nothing was written
-  pub quiet_decided : (head : List ℕ) (cap : ℕ) (over group kept : List Entry) → over ≡ old.records.book.entries ++ kept → new.records.book.entries ≡ over ++ group
-      → WritesItem head cap over group (tells.content (disk_under old.records)) (tells.content (disk_under new.records)) → tells.content (disk_under new.records) ≡ tells.content (disk_under old.records)
-  quiet_decided head cap over [] kept is list wrote = wrote
-  quiet_decided head cap over (e ∷ more) kept is list wrote =
+  pub quiet_decided : (charter : Charter) (cap : ℕ) (over group kept : List Entry) → over ≡ old.records.book.entries ++ kept → new.records.book.entries ≡ over ++ group
+      → WritesItem charter cap over group (tells.content (disk_under old.records)) (tells.content (disk_under new.records)) → tells.content (disk_under new.records) ≡ tells.content (disk_under old.records)
+  quiet_decided charter cap over [] kept is list wrote = wrote
+  quiet_decided charter cap over (e ∷ more) kept is list wrote =
       absurd (omega (arith, ap length list, length-append over (e ∷ more), ap length is, length-append old.records.book.entries kept, ap (λ (s : State). length s.entries) same_state))

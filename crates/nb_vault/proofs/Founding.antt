@@ -3,11 +3,13 @@ use Rattle.std.proofs.Common.{◌≡◌, inl, ℕ, ◌≤◌, Bool, false, cond,
 use Rattle.std.proofs.lemmas.List.{append-nil, take_all}
 use Rattle.nb_book.specs.declared.entry.Entry.{Entry}
 use Rattle.std.specs.Vec.{vec_capacity}
-use Rattle.nb_book.specs.Legal.{Legal}
+use Rattle.nb_units.specs.declared.charter.Charter.{Charter}
+use Rattle.nb_book.specs.Legal.{Legal, LegalUnder}
 use Rattle.nb_escrow.specs.Head.{head_of}
 use Rattle.nb_journal.specs.declared.journal.Journal.{Journal}
 use Rattle.nb_journal.specs.declared.opening.Opened.{Opened}
 use Rattle.nb_journal.specs.Layout.{front_bytes}
+use Rattle.nb_journal.specs.Opening.{charter_of}
 use Rattle.nb_journal.specs.States.{AtRest}
 use Rattle.nb_turns.specs.declared.line.Line.{Line}
 use Rattle.nb_turns.specs.Lines.{entries_of, faults_of, open_doubt}
@@ -59,10 +61,10 @@ legal_nothing cap opening entries lines none at legal within =
 
 -- a vault over the items of a journal that was opened
 pub restored_as : {D : Type 0} (tells : DiskTells D) (o : Opened D) (count : ℕ) (p : Parts D) → IsOpened tells o → count ≤ tells.faults o.journal.disk → HasRoom p.records
-    → p.records.journal ≡ o.journal → p.records.head ≡ o.head → p.records.book.cap ≡ o.cap → Joins o.items.items p.records.book.entries → Legal p.records.book.entries → length p.records.book.entries ≤ p.records.book.cap
-    → p.opening ≡ length p.records.book.entries → p.count ≡ count → p.lines.items ≡ [] → p.faults ≡ 0 → most_lines p.records.book.cap ≤ vec_capacity p.lines → p.head ≡ head_of p.records.head → IsRestored tells o count p
-restored_as tells o count p opened le has journal head cap joins legal within opening from lines none room keys =
-    let rest : AtRest tells (front_bytes p.records.book.cap p.records.head) o.items.items p.records.journal = rw (journal, cap, head) opened.rest in
+    → p.records.journal ≡ o.journal → p.records.charter ≡ charter_of o → p.records.book.cap ≡ o.cap → Joins o.items.items p.records.book.entries → LegalUnder p.records.charter.version p.records.charter.rate p.records.book.entries → length p.records.book.entries ≤ p.records.book.cap
+    → p.opening ≡ length p.records.book.entries → p.count ≡ count → p.lines.items ≡ [] → p.faults ≡ 0 → most_lines p.records.book.cap ≤ vec_capacity p.lines → p.head ≡ head_of p.records.charter → IsRestored tells o count p
+restored_as tells o count p opened le has journal charter cap joins legal within opening from lines none room keys =
+    let rest : AtRest tells (front_bytes p.records.book.cap p.records.charter) o.items.items p.records.journal = rw (journal, cap, charter) opened.rest in
     let all : take p.opening p.records.book.entries ≡ p.records.book.entries = take_all p.opening p.records.book.entries (omega (arith, opening)) in
     record {
       vault = record {
@@ -70,7 +72,7 @@ restored_as tells o count p opened le has journal head cap joins legal within op
           items = o.items.items;
           carries = record {
             joins = joins;
-            terms = rw (cap, head) opened.terms;
+            terms = rw (cap, charter) opened.terms;
             cap = ap (λ (j : Journal _). j.cap) journal ∙ opened.cap ∙ sym cap;
             room = ap (λ (j : Journal _). j.room) journal ∙ opened.room;
             legal = legal;
@@ -87,7 +89,7 @@ restored_as tells o count p opened le has journal head cap joins legal within op
         faults_are = none ∙ ap faults_of (sym lines);
         few = omega (arith, none);
         keys = keys;
-        lawful = legal_nothing p.records.book.cap (opening_of p) p.records.book.entries p.lines.items lines all legal within;
+        lawful = legal_nothing p.records.book.cap (opening_of p) p.records.book.entries p.lines.items lines all legal.legal within;
         open_most = omega (arith, ap (λ (ls : List Line). length (open_doubt ls)) lines);
       };
       joins = joins;
@@ -95,31 +97,31 @@ restored_as tells o count p opened le has journal head cap joins legal within op
       fresh = rest.fresh;
       lines = lines;
       from = from;
-      head = head;
+      charter = charter;
       cap = cap;
       disk = ap (λ (j : Journal _). j.disk) journal;
     }
 
 module _ {D : Type 0} (tells : DiskTells D) (disk : D) (o : Opened D) (count : ℕ) where
   -- the content stands for the entries that were read
-  pub opens_stands : (p : Parts D) → IsRestored tells o count p → tells.content o.journal.disk ≡ tells.content disk → IfSome (tells.content disk) (StandsFor (seen_as p).origin.head (seen_as p).origin.cap (seen_as p).origin.entries)
+  pub opens_stands : (p : Parts D) → IsRestored tells o count p → tells.content o.journal.disk ≡ tells.content disk → IfSome (tells.content disk) (StandsFor (seen_as p).origin.charter (seen_as p).origin.cap (seen_as p).origin.entries)
   opens_stands p r same =
-      subst (λ (es : List Entry). IfSome (tells.content disk) (StandsFor p.records.head p.records.book.cap es)) (sym (take_all p.opening p.records.book.entries (omega (arith, r.opening))))
-      (subst (λ (t : Option (List ℕ)). IfSome t (StandsFor p.records.head p.records.book.cap p.records.book.entries)) (ap tells.content r.disk ∙ same) (fresh_content tells p.records r.vault.rests r.fresh))
+      subst (λ (es : List Entry). IfSome (tells.content disk) (StandsFor p.records.charter p.records.book.cap es)) (sym (take_all p.opening p.records.book.entries (omega (arith, r.opening))))
+      (subst (λ (t : Option (List ℕ)). IfSome t (StandsFor p.records.charter p.records.book.cap p.records.book.entries)) (ap tells.content r.disk ∙ same) (fresh_content tells p.records r.vault.rests r.fresh))
 
   -- they are the entries that the content stands for
-  pub opens_whole : (v : Chronicled D) → IfSome (tells.content disk) (StandsFor v.origin.head v.origin.cap v.origin.entries) → (image head : List ℕ) (cap : ℕ) (entries : List Entry) → tells.content disk ≡ Some image → StandsFor head cap entries image
-      → (v.origin.head ≡ head) × (v.origin.cap ≡ cap) × (v.origin.entries ≡ entries)
-  opens_whole v stands image head cap entries is whole =
-      let same = one_list image v.origin.head head v.origin.cap cap v.origin.entries entries (told_of (tells.content disk) (StandsFor v.origin.head v.origin.cap v.origin.entries) image is stands) whole in
+  pub opens_whole : (v : Chronicled D) → IfSome (tells.content disk) (StandsFor v.origin.charter v.origin.cap v.origin.entries) → (image : List ℕ) (charter : Charter) (cap : ℕ) (entries : List Entry) → tells.content disk ≡ Some image → StandsFor charter cap entries image
+      → (v.origin.charter ≡ charter) × (v.origin.cap ≡ cap) × (v.origin.entries ≡ entries)
+  opens_whole v stands image charter cap entries is whole =
+      let same = one_list image v.origin.charter charter v.origin.cap cap v.origin.entries entries (told_of (tells.content disk) (StandsFor v.origin.charter v.origin.cap v.origin.entries) image is stands) whole in
       (same.1, same.0, same.2)
 
   -- none of its items is bad
-  pub fails_whole : (fault : VaultFault) (back : D) → RestoreFails o back fault → IfSome (tells.content disk) (λ image. Holds image o.cap o.head o.items.items) → (image head : List ℕ) (cap : ℕ) (entries : List Entry) → tells.content disk ≡ Some image
-      → StandsFor head cap entries image → OpensWhole head cap entries (Err (fault, back))
-  fails_whole (opens.Unborn found) back fails holds image head cap entries is whole = absurd fails
-  fails_whole (opens.Damaged item place) back fails holds image head cap entries is whole = absurd fails
-  fails_whole (opens.BadEntry item) back fails holds image head cap entries is whole =
-      absurd (no_bad head cap entries image item whole (record { cap = o.cap; head = o.head; items = o.items.items; holds = told_of (tells.content disk) (λ image. Holds image o.cap o.head o.items.items) image is holds; first = fails.0 }))
-  fails_whole (opens.DiskFault before after) back fails holds image head cap entries is whole = absurd fails
-  fails_whole opens.NoMemory back fails holds image head cap entries is whole = tt
+  pub fails_whole : (fault : VaultFault) (back : D) → RestoreFails o back fault → IfSome (tells.content disk) (λ image. Holds image o.cap (charter_of o) o.items.items) → (image : List ℕ) (charter : Charter) (cap : ℕ) (entries : List Entry) → tells.content disk ≡ Some image
+      → StandsFor charter cap entries image → OpensWhole charter cap entries (Err (fault, back))
+  fails_whole (opens.Unborn found) back fails holds image charter cap entries is whole = absurd fails
+  fails_whole (opens.Damaged item place) back fails holds image charter cap entries is whole = absurd fails
+  fails_whole (opens.BadEntry item) back fails holds image charter cap entries is whole =
+      absurd (no_bad charter cap entries image item whole (record { cap = o.cap; charter = charter_of o; items = o.items.items; holds = told_of (tells.content disk) (λ image. Holds image o.cap (charter_of o) o.items.items) image is holds; first = fails.0 }))
+  fails_whole (opens.DiskFault before after) back fails holds image charter cap entries is whole = absurd fails
+  fails_whole opens.NoMemory back fails holds image charter cap entries is whole = tt

@@ -16,17 +16,17 @@ module _ {D : Type 0} (old new : Chronicled D) (requests : List Request) (same :
   before outcome (inl is) = record { entries = entries_in old; stands = is; whole = inl (inl refl) }
   before outcome (inr is) = record { entries = entries_in old ++ doubt_in old; stands = is; whole = inl (inr refl) }
 
-  at_start : (es : List Entry) → StandsFor new.origin.head new.origin.cap es image → StandsFor old.origin.head old.origin.cap es image
-  at_start es is = subst (λ (o : Origin). StandsFor o.head o.cap es image) same is
+  at_start : (es : List Entry) → StandsFor new.origin.charter new.origin.cap es image → StandsFor old.origin.charter old.origin.cap es image
+  at_start es is = subst (λ (o : Origin). StandsFor o.charter o.cap es image) same is
 
   -- the entries and the doubt behind it are these
   behind : (outcome : Outcome) (es ds : List Entry) → entries_in new ≡ es → doubt_in new ≡ ds → (SettlesInto (state_of old) es ⊎ HasAll old new requests outcome es)
       → (SettlesInto (state_of old) (es ++ ds) ⊎ HasAll old new requests outcome (es ++ ds)) → StandsForState new image → HasNoneOrAll old new requests outcome image
-  behind outcome es ds entries doubt alone both (inl is) = record { entries = es; stands = subst (λ (xs : List Entry). StandsFor old.origin.head old.origin.cap xs image) entries (at_start (entries_in new) is); whole = alone }
+  behind outcome es ds entries doubt alone both (inl is) = record { entries = es; stands = subst (λ (xs : List Entry). StandsFor old.origin.charter old.origin.cap xs image) entries (at_start (entries_in new) is); whole = alone }
   behind outcome es ds entries doubt alone both (inr is) = record {
     entries = es ++ ds;
-    stands = subst (λ (xs : List Entry). StandsFor old.origin.head old.origin.cap (es ++ xs) image) doubt
-        (subst (λ (xs : List Entry). StandsFor old.origin.head old.origin.cap (xs ++ doubt_in new) image) entries (at_start (entries_in new ++ doubt_in new) is));
+    stands = subst (λ (xs : List Entry). StandsFor old.origin.charter old.origin.cap (es ++ xs) image) doubt
+        (subst (λ (xs : List Entry). StandsFor old.origin.charter old.origin.cap (xs ++ doubt_in new) image) entries (at_start (entries_in new ++ doubt_in new) is));
     whole = both;
   }
 

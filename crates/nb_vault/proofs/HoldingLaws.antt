@@ -4,10 +4,10 @@ use Rattle.std.specs.Prelude.{map}
 use Rattle.std.specs.List.{flat_map, AllByRecursion}
 use Rattle.std.proofs.lemmas.List.{map-append, length-map, take_at, get_or_at}
 use Rattle.std.proofs.lemmas.Grind.{flat_map-append}
+use Rattle.nb_units.specs.declared.charter.Charter.{Charter}
 use Rattle.nb_book.specs.declared.entry.Entry.{Entry}
-use Rattle.nb_book.specs.Legal.{Legal}
+use Rattle.nb_book.specs.Legal.{LegalUnder}
 use Rattle.nb_book.specs.Spelling.{Spells, entries_bytes}
-use Rattle.nb_book.proofs.Growing.{front_legal}
 use Rattle.nb_book.proofs.Layouts.{one_spelling}
 use Rattle.nb_journal.specs.Layout.{IsItem}
 use Rattle.nb_journal.specs.Reading.{Holds, IsUnborn, IsDamaged}
@@ -15,7 +15,7 @@ use Rattle.nb_journal.proofs.ReadingLaws.{stands_read, one_journal, whole_not_da
 use Rattle.nb_vault.specs.Holdings.{Joins, StandsFor, OneList}
 use Rattle.nb_vault.specs.Opens.{IsBadEntry}
 use Rattle.nb_vault.specs.Restoring.{FirstBad}
-use Rattle.nb_vault.proofs.Joining.{few_items, short_entries}
+use Rattle.nb_vault.proofs.Joining.{few_items, short_entries, under_front}
 
 abbrev AreGroups : List (List Entry) → Type 0
 AreGroups groups = AllByRecursion (λ (group : List Entry). Spells (entries_bytes group) group) groups
@@ -48,20 +48,20 @@ items_short (g ∷ gs) each = (omega (arith, short_entries g each.0.each, each.0
 
 -- ---- what stands for a list is read as its journal
 
-pub holds_of : (head : List ℕ) (cap : ℕ) (entries : List Entry) (image : List ℕ) (s : StandsFor head cap entries image) → Holds image cap head s.items
-holds_of head cap entries image s =
-    stands_read image head cap s.items s.terms (subst (AllByRecursion IsItem) (sym s.joins.spelled) (items_short s.joins.groups s.joins.each)) (omega (arith, few_items s.items entries s.joins, s.within)) s.stands
+pub holds_of : (charter : Charter) (cap : ℕ) (entries : List Entry) (image : List ℕ) (s : StandsFor charter cap entries image) → Holds image cap charter s.items
+holds_of charter cap entries image s =
+    stands_read image charter cap s.items s.terms (subst (AllByRecursion IsItem) (sym s.joins.spelled) (items_short s.joins.groups s.joins.each)) (omega (arith, few_items s.items entries s.joins, s.within)) s.stands
 
 pub one_list : OneList
-one_list image head head' cap cap' entries entries' first second =
-    let same = one_journal image head head' cap cap' first.items second.items (holds_of head cap entries image first) (holds_of head' cap' entries' image second) in
+one_list image charter charter' cap cap' entries entries' first second =
+    let same = one_journal image charter charter' cap cap' first.items second.items (holds_of charter cap entries image first) (holds_of charter' cap' entries' image second) in
     (same.0, same.1, joins_one first.items entries entries' first.joins (subst (λ (items : List (List ℕ)). Joins items entries') (sym same.2) second.joins))
 
-pub no_unborn : (head : List ℕ) (cap : ℕ) (entries : List Entry) (image found : List ℕ) → StandsFor head cap entries image → IsUnborn image found → ⊥
-no_unborn head cap entries image found s unborn = (unborn_is_neither image found head cap 0 0 s.items unborn).0 (holds_of head cap entries image s)
+pub no_unborn : (charter : Charter) (cap : ℕ) (entries : List Entry) (image found : List ℕ) → StandsFor charter cap entries image → IsUnborn image found → ⊥
+no_unborn charter cap entries image found s unborn = (unborn_is_neither image found charter cap 0 0 s.items unborn).0 (holds_of charter cap entries image s)
 
-pub no_damage : (head : List ℕ) (cap : ℕ) (entries : List Entry) (image : List ℕ) (item place : ℕ) → StandsFor head cap entries image → IsDamaged image item place → ⊥
-no_damage head cap entries image item place s damaged = whole_not_damaged image head cap item place s.items (holds_of head cap entries image s) damaged
+pub no_damage : (charter : Charter) (cap : ℕ) (entries : List Entry) (image : List ℕ) (item place : ℕ) → StandsFor charter cap entries image → IsDamaged image item place → ⊥
+no_damage charter cap entries image item place s damaged = whole_not_damaged image charter cap item place s.items (holds_of charter cap entries image s) damaged
 
 -- ---- each of its items is good
 
@@ -83,12 +83,13 @@ groups_front : (front : List (List Entry)) (group : List Entry) (back : List (Li
 groups_front [] group back each = (tt, each.0)
 groups_front (f ∷ fs) group back each = let more = groups_front fs group back each.1 in ((each.0, more.0), more.1)
 
-pub no_bad : (head : List ℕ) (cap : ℕ) (entries : List Entry) (image : List ℕ) (item : ℕ) → StandsFor head cap entries image → IsBadEntry image item → ⊥
-no_bad head cap entries image item s bad =
-    let same = one_journal image head bad.head cap bad.cap s.items bad.items (holds_of head cap entries image s) bad.holds in
-    first_bad (subst (λ (c : ℕ). FirstBad c s.items item) (sym same.0) (subst (λ (items : List (List ℕ)). FirstBad bad.cap items item) (sym same.2) bad.first))
+pub no_bad : (charter : Charter) (cap : ℕ) (entries : List Entry) (image : List ℕ) (item : ℕ) → StandsFor charter cap entries image → IsBadEntry image item → ⊥
+no_bad charter cap entries image item s bad =
+    let same = one_journal image charter bad.charter cap bad.cap s.items bad.items (holds_of charter cap entries image s) bad.holds in
+    first_bad (subst (λ (ch : Charter). FirstBad ch cap s.items item) (sym same.1) (subst (λ (c : ℕ). FirstBad bad.charter c s.items item) (sym same.0)
+    (subst (λ (items : List (List ℕ)). FirstBad bad.charter bad.cap items item) (sym same.2) bad.first)))
   where
-    first_bad : FirstBad cap s.items item → ⊥
+    first_bad : FirstBad charter cap s.items item → ⊥
     first_bad first =
         let groups = s.joins.groups in
         let split = split_groups groups item (omega (arith, first.inside, ap length s.joins.spelled, length-map groups entries_bytes)) in
@@ -105,7 +106,5 @@ no_bad head cap entries image item s bad =
         let whole : entries ≡ (first.before ++ split.group) ++ joined split.back =
         s.joins.joined ∙ ap joined split.is ∙ flat_map-append (λ (group : List Entry). group) split.front (split.group ∷ split.back)
         ∙ ap (λ (xs : List Entry). xs ++ (split.group ++ joined split.back)) (sym before_is) ∙ sym (append_assoc first.before split.group (joined split.back)) in
-        let front : take (length (first.before ++ split.group)) entries ≡ first.before ++ split.group =
-        ap (take (length (first.before ++ split.group))) whole ∙ take_at (first.before ++ split.group) (joined split.back) (length (first.before ++ split.group)) refl in
         first.bad split.group (subst (λ (x : List ℕ). Spells x split.group) (sym item_is) parts.1)
-        (record { legal = subst Legal front (front_legal entries (length (first.before ++ split.group)) s.legal); within = omega (arith, s.within, ap length whole, length-append (first.before ++ split.group) (joined split.back)) })
+        (record { legal = under_front charter.version charter.rate (first.before ++ split.group) (joined split.back) (subst (LegalUnder charter.version charter.rate) whole s.legal); within = omega (arith, s.within, ap length whole, length-append (first.before ++ split.group) (joined split.back)) })

@@ -2,14 +2,17 @@
 use Rattle.std.proofs.Common.{◌≡◌, ◌⊎◌, inl, inr, ⊎_elim, ℕ, suc, ◌+◌, ◌*◌, ◌<◌, ◌≤◌, Bool, ltb, false, true, List, [], ◌∷◌, ◌++◌, length, take, drop, get_or, refl, sym, ap, subst, ◌∙◌, append_assoc, arith}
 use Rattle.std.specs.Prelude.{map}
 use Rattle.std.specs.List.{flat_map, AllByRecursion}
-use Rattle.std.proofs.lemmas.List.{map-append, append-nil, length-append, take-append-le, take-append-drop, get_or_append_left}
+use Rattle.std.proofs.lemmas.List.{map-append, append-nil, length-append, take-append-le, take-append-drop, take_at, get_or_append_left}
 use Rattle.std.proofs.Math.Seq.{drop-cons, take-append_seam, get_or-append_seam}
 use Rattle.std.proofs.lemmas.Bool.{ltb-true, ltb-false}
 use Rattle.std.proofs.lemmas.Grind.{flat_map-append}
+use Rattle.nb_units.specs.Charter.{MayRule, AreVersionAndRate}
 use Rattle.nb_book.specs.declared.entry.Entry.{Entry}
-use Rattle.nb_book.specs.Legal.{LegalAfter, Legal}
+use Rattle.nb_book.specs.Legal.{IsOfRate, LegalAfter, Legal, LegalUnder, NextUnder}
 use Rattle.nb_book.specs.Spelling.{entry_bytes, entries_bytes, IsEntry, Spells}
+use Rattle.nb_book.proofs.Growing.{front_legal}
 use Rattle.nb_book.proofs.Layouts.{entry_layout}
+use Rattle.nb_turns.proofs.Lists.{all_at, all_parts}
 use Rattle.nb_vault.specs.Holdings.{Joins}
 
 -- ---- lists
@@ -53,7 +56,7 @@ joins_item items item entries more joins spells = record {
 }
 
 -- entries are short
-pub short_entries : (es : List Entry) → AllByRecursion IsEntry es → length (entries_bytes es) ≤ 117 * length es
+pub short_entries : (es : List Entry) → AllByRecursion IsEntry es → length (entries_bytes es) ≤ 125 * length es
 short_entries [] each = omega arith
 short_entries (e ∷ es) each = omega (arith, (entry_layout.0 e each.0).1, short_entries es each.1, length-append (entry_bytes e) (entries_bytes es))
 
@@ -91,3 +94,23 @@ legal_next front entries now i d legal is inside =
     ap (λ (es : List Entry). front ++ es) (sym (take-append-drop i entries) ∙ ap (λ (es : List Entry). take i entries ++ es) (drop-cons entries i d inside))
     ∙ sym (append_assoc front (take i entries) (get_or entries i d ∷ drop (suc i) entries)) ∙ ap (λ (es : List Entry). es ++ get_or entries i d ∷ drop (suc i) entries) (sym is) in
     legal_at now (get_or entries i d) (drop (suc i) entries) (subst Legal whole legal)
+
+-- ---- under a version and a rate
+
+-- what a journal may have a house may decide under
+pub may_rule : (version rate : ℕ) → AreVersionAndRate version rate → MayRule version rate
+may_rule version rate (inl first) = (inl first.0, omega (arith, first.1))
+may_rule version rate (inr fee) = (inr fee.0, fee.1)
+
+module _ (version rate : ℕ) where
+  pub under_more : (H : List Entry) (e : Entry) → LegalUnder version rate H → NextUnder version rate H e → LegalUnder version rate (H ++ e ∷ [])
+  under_more H e under next = record { legal = legal_more H e under.legal next.0; each = all_more (IsOfRate version rate) H e under.each next.1 }
+
+  pub under_at : (xs : List Entry) (e : Entry) (more : List Entry) → LegalUnder version rate (xs ++ e ∷ more) → NextUnder version rate xs e
+  under_at xs e more under = (legal_at xs e more under.legal, all_at (IsOfRate version rate) xs e more under.each)
+
+  pub under_front : (xs more : List Entry) → LegalUnder version rate (xs ++ more) → LegalUnder version rate xs
+  under_front xs more under = record {
+    legal = subst Legal (take_at xs more (length xs) refl) (front_legal (xs ++ more) (length xs) under.legal);
+    each = (all_parts (IsOfRate version rate) xs more under.each).0;
+  }

@@ -46,16 +46,16 @@ module _ {D : Type 0} (tells : DiskTells D) (old new : Chronicled D) (by : ℕ) 
   paid_over : IsPayable (first ++ recorded (house_in old) first before) old.origin.cap request.body request.moment p → IsPaidOver old new before request p out out' first (first ++ recorded (house_in old) first before)
   paid_over is =
       let house = house_in old in
-      let head = head_of old.origin.head in
+      let head = head_of old.origin.charter in
       let here : List Entry = first ++ recorded house first before in
-      let paid = paid_exactly_where here head old.origin.cap request.kind request.body request.moment (payment_of p request.moment) in
-      let entry : (house.rules here request).entry ≡ Some (payment_of p request.moment) = (paid.1 (order, (p, is, refl))).0 in
+      let paid = paid_exactly_where here head old.origin.cap request.kind request.body request.moment (payment_of head p request.moment) in
+      let entry : (house.rules here request).entry ≡ Some (payment_of head p request.moment) = (paid.1 (order, (p, is, refl))).0 in
       let more : List Entry = recorded house (with_entry house here request) behind in
       record {
         later = more;
         recorded = ap (λ (s : State). s.entries) went.turn.2
             ∙ ap (λ (es : List Entry). first ++ es) (recorded_then house first before (request ∷ behind) ∙ ap (λ e. recorded house first before ++ (option_to_list e ++ more)) entry)
-            ∙ sym (append_assoc first (recorded house first before) (payment_of p request.moment ∷ more));
+            ∙ sym (append_assoc first (recorded house first before) (payment_of head p request.moment ∷ more));
         rest = replies (decided house (with_entry house here request) behind);
         replied = went.out_is ∙ ap (λ (bytes : List ℕ). out ++ bytes) (replies_then house first before (request ∷ behind));
         told = subst (λ (kind : ℕ). TellsPayment p (verdict here head old.origin.cap kind request.body request.moment).reply) (sym order) (payable_is_told here head old.origin.cap request.body request.moment p is);

@@ -3,16 +3,17 @@ use Rattle.std.proofs.Common.{◌≡◌, ◌⊎◌, inl, inr, ⊎_elim, ℕ, ◌
 use Rattle.std.specs.List.{AllByRecursion}
 use Rattle.std.proofs.lemmas.List.{append-nil, take-append-drop, take_at, drop-drop, drop_all, length-drop}
 use Rattle.std.proofs.lemmas.Grind.{flat_map-append}
+use Rattle.nb_units.specs.declared.charter.Charter.{Charter}
 use Rattle.nb_units.specs.Laws.{StandsAt}
 use Rattle.nb_book.specs.declared.entry.Entry.{Entry}
-use Rattle.nb_book.specs.declared.entry.Entry.TheVariants.{Enrol, Fund, Paid, Refused}
+use Rattle.nb_book.specs.declared.entry.Entry.TheVariants.{Enrol, Fund, Paid, Charged, Refused}
 use Rattle.nb_book.specs.declared.spelling.EntryFault.{EntryFault}
 use Rattle.nb_book.specs.declared.spelling.TheConstants.{MAX_ITEM_ENTRIES}
-use Rattle.nb_book.specs.Legal.{Legal, LegalAfter}
+use Rattle.nb_book.specs.Legal.{LegalUnder, NextUnder}
 use Rattle.nb_book.specs.Spelling.{IsEntry, Spells, entry_bytes, entries_bytes, bytes_of_kind}
 use Rattle.nb_book.proofs.Layouts.{one_spelling, entry_long}
 use Rattle.nb_vault.specs.Restoring.{SpellsNothing}
-use Rattle.nb_vault.proofs.Joining.{all_more, legal_at}
+use Rattle.nb_vault.proofs.Joining.{all_more, under_at}
 
 -- an entry has bytes
 entry_some : (e : Entry) → IsEntry e → 1 ≤ length (entry_bytes e)
@@ -22,6 +23,7 @@ entry_some e fits = omega (arith, entry_long e fits, some e)
     some (Enrol id role acct nonce key) = omega arith
     some (Fund acct amount reference) = omega arith
     some (Paid digest epoid consumer merchant product price cacct macct moment key) = omega arith
+    some (Charged digest epoid consumer merchant product price fee cacct macct moment key) = omega arith
     some (Refused digest epoid consumer merchant product price code a b moment) = omega arith
 
 -- so many entries were read of an item, up to the place
@@ -128,9 +130,9 @@ left_over item before now place n entries so_far spells = some (goes_on so_far.r
 all_of : (before now read entries : List Entry) (next : Entry) (more : List Entry) → now ≡ before ++ read → entries ≡ read ++ next ∷ more → before ++ entries ≡ now ++ next ∷ more
 all_of before now read entries next more a b = ap (λ (es : List Entry). before ++ es) b ∙ sym (append_assoc before read (next ∷ more)) ∙ ap (λ (es : List Entry). es ++ next ∷ more) (sym a)
 
-module _ (cap : ℕ) (item : List ℕ) (before now : List Entry) (place n : ℕ) (so_far : ReadOn item before now place n) where
+module _ (charter : Charter) (cap : ℕ) (item : List ℕ) (before now : List Entry) (place n : ℕ) (so_far : ReadOn item before now place n) where
   -- no entry is read there
-  pub bad_unread : (result : Result Entry EntryFault) (fault : EntryFault) → ((e : Entry) → IsEntry e → StandsAt (entry_bytes e) item place → result ≡ Ok e) → result ≡ Err fault → SpellsNothing cap item before
+  pub bad_unread : (result : Result Entry EntryFault) (fault : EntryFault) → ((e : Entry) → IsEntry e → StandsAt (entry_bytes e) item place → result ≡ Ok e) → result ≡ Err fault → SpellsNothing charter cap item before
   bad_unread result fault found is entries spells list =
       let left = left_over item before now place n entries so_far spells in
       no_result (sym (found left.next left.fits left.stands) ∙ is)
@@ -139,23 +141,23 @@ module _ (cap : ℕ) (item : List ℕ) (before now : List Entry) (place n : ℕ)
       no_result both = cc
 
   -- as many are held as may be
-  pub bad_full : cap ≤ length now → SpellsNothing cap item before
+  pub bad_full : cap ≤ length now → SpellsNothing charter cap item before
   bad_full full entries spells list =
       let left = left_over item before now place n entries so_far spells in
       omega (arith, full, list.within, ap length (all_of before now so_far.read entries left.next left.more so_far.entries left.is), length-append now (left.next ∷ left.more))
 
   -- the entry there may not come next
-  pub bad_illegal : (result : Result Entry EntryFault) (e : Entry) → ((e : Entry) → IsEntry e → StandsAt (entry_bytes e) item place → result ≡ Ok e) → result ≡ Ok e → (LegalAfter now e → ⊥) → SpellsNothing cap item before
+  pub bad_illegal : (result : Result Entry EntryFault) (e : Entry) → ((e : Entry) → IsEntry e → StandsAt (entry_bytes e) item place → result ≡ Ok e) → result ≡ Ok e → (NextUnder charter.version charter.rate now e → ⊥) → SpellsNothing charter cap item before
   bad_illegal result e found is illegal entries spells list =
       let left = left_over item before now place n entries so_far spells in
-      let legal : Legal (now ++ left.next ∷ left.more) = subst Legal (all_of before now so_far.read entries left.next left.more so_far.entries left.is) list.legal in
-      illegal (subst (LegalAfter now) (same (sym (found left.next left.fits left.stands) ∙ is)) (legal_at now left.next left.more legal))
+      let legal : LegalUnder charter.version charter.rate (now ++ left.next ∷ left.more) = subst (LegalUnder charter.version charter.rate) (all_of before now so_far.read entries left.next left.more so_far.entries left.is) list.legal in
+      illegal (subst (NextUnder charter.version charter.rate now) (same (sym (found left.next left.fits left.stands) ∙ is)) (under_at charter.version charter.rate now left.next left.more legal))
     where
       same : {d : Entry} → (let ok : Result Entry EntryFault = Ok d in ok ≡ Ok e) → d ≡ e
       same both = cc
 
   -- there are too many
-  pub bad_long : MAX_ITEM_ENTRIES ≤ n → SpellsNothing cap item before
+  pub bad_long : MAX_ITEM_ENTRIES ≤ n → SpellsNothing charter cap item before
   bad_long many entries spells list =
       let left = left_over item before now place n entries so_far spells in
       omega (arith, many, spells.most, so_far.count, ap length left.is, length-append so_far.read (left.next ∷ left.more))

@@ -3,7 +3,7 @@ use Rattle.std.proofs.Common.{◌≡◌, ⊎_elim, ℕ, ◌≤◌, Bool, true, f
 use Rattle.std.proofs.lemmas.List.{append-nil, length-append, length-take}
 use Rattle.nb_port.specs.Tells.{DiskTells}
 use Rattle.nb_book.specs.declared.entry.Entry.{Entry}
-use Rattle.nb_book.specs.Legal.{Legal}
+use Rattle.nb_book.specs.Legal.{LegalUnder}
 use Rattle.nb_book.specs.Spelling.{entries_bytes}
 use Rattle.nb_book.proofs.Counting.{settled_once}
 use Rattle.nb_book.proofs.Summing.{balances_make_total, none_overdrawn}
@@ -46,11 +46,11 @@ module _ {D : Type 0} (tells : DiskTells D) (p : Parts D) (vault : IsVault tells
 
   pub either_seen : (image : List ℕ) → EitherOf p.records image → StandsForState (seen_as p) image
   either_seen image is =
-      subst (λ (entries : List Entry). StandsForEither p.records.head p.records.book.cap entries (doubt_in (seen_as p)) image) (sym entries_seen)
-      (subst (λ (doubt : List Entry). StandsForEither p.records.head p.records.book.cap p.records.book.entries doubt image) (sym doubt_seen) is)
+      subst (λ (entries : List Entry). StandsForEither p.records.charter p.records.book.cap entries (doubt_in (seen_as p)) image) (sym entries_seen)
+      (subst (λ (doubt : List Entry). StandsForEither p.records.charter p.records.book.cap p.records.book.entries doubt image) (sym doubt_seen) is)
 
-  legal_with : (b : Bool) → p.records.journal.stale ≡ b → Legal (p.records.book.entries ++ cond b p.records.group.items [])
-  legal_with false fresh = subst Legal (sym (append-nil p.records.book.entries)) vault.rests.carries.legal
+  legal_with : (b : Bool) → p.records.journal.stale ≡ b → LegalUnder p.records.charter.version p.records.charter.rate (p.records.book.entries ++ cond b p.records.group.items [])
+  legal_with false fresh = subst (LegalUnder p.records.charter.version p.records.charter.rate) (sym (append-nil p.records.book.entries)) vault.rests.carries.legal
   legal_with true stale = (vault.rests.doubt stale).group.legal
 
   count_with : (b : Bool) → p.records.journal.stale ≡ b → length (p.records.book.entries ++ cond b p.records.group.items []) ≤ p.records.book.cap
@@ -74,7 +74,7 @@ module _ {D : Type 0} (tells : DiskTells D) (p : Parts D) (vault : IsVault tells
     legal = rw (entries_seen, doubt_seen) (legal_with p.records.journal.stale refl);
     within = rw (entries_seen, doubt_seen) (count_with p.records.journal.stale refl);
     money = subst IsBalanced (sym entries_seen)
-        (record { once = settled_once p.records.book.entries vault.rests.carries.legal; sums = balances_make_total p.records.book.entries vault.rests.carries.legal; none_overdrawn = none_overdrawn p.records.book.entries vault.rests.carries.legal });
+        (record { once = settled_once p.records.book.entries vault.rests.carries.legal.legal; sums = balances_make_total p.records.book.entries vault.rests.carries.legal.legal; none_overdrawn = none_overdrawn p.records.book.entries vault.rests.carries.legal.legal });
     terms = vault.rests.carries.terms;
     bytes = told (tells.content (disk_under p.records)) (rest_content tells p.records vault.rests);
     images = λ image is. either_seen image (rest_images tells p.records vault.rests image is);
@@ -90,12 +90,12 @@ module _ {D : Type 0} (tells : DiskTells D) (p : Parts D) (vault : IsVault tells
     told = omega (arith, vault.has.told, vault.faults_are, ap length entries_seen, length-take p.opening p.records.book.entries);
   }
 
-  place_with : (b : Bool) → p.records.journal.stale ≡ b → p.records.journal.gate ≡ length (up_to_gate (front_bytes p.records.book.cap p.records.head) vault.rests.items)
+  place_with : (b : Bool) → p.records.journal.stale ≡ b → p.records.journal.gate ≡ length (up_to_gate (front_bytes p.records.book.cap p.records.charter) vault.rests.items)
   place_with false fresh = (vault.rests.fresh fresh).place
   place_with true stale = (vault.rests.doubt stale).rest.place
 
   stands_with : (b : Bool) → p.records.journal.stale ≡ b
-      → IfSome (tells.content (disk_under p.records)) (HoldsItems b (front_bytes p.records.book.cap p.records.head) vault.rests.items (entries_bytes p.records.group.items))
+      → IfSome (tells.content (disk_under p.records)) (HoldsItems b (front_bytes p.records.book.cap p.records.charter) vault.rests.items (entries_bytes p.records.group.items))
   stands_with false fresh = (vault.rests.fresh fresh).bytes
   stands_with true stale = (vault.rests.doubt stale).rest.bytes
 
@@ -114,7 +114,7 @@ module _ {D : Type 0} (tells : DiskTells D) (p : Parts D) (vault : IsVault tells
     items = vault.rests.items;
     joins = subst (Joins vault.rests.items) (sym entries_seen) vault.rests.carries.joins;
     place = place_with p.records.journal.stale refl;
-    stands = doubted_with p.records.journal.stale refl (tells.content (disk_under p.records)) (front_bytes p.records.book.cap p.records.head) vault.rests.items
+    stands = doubted_with p.records.journal.stale refl (tells.content (disk_under p.records)) (front_bytes p.records.book.cap p.records.charter) vault.rests.items
         (stands_with p.records.journal.stale refl);
   }
 
@@ -122,7 +122,7 @@ module _ {D : Type 0} (tells : DiskTells D) (p : Parts D) (vault : IsVault tells
   pub durable : p.records.journal.stale ≡ false → IsDurable tells (seen_as p)
   durable fresh = record {
     fresh = fresh;
-    images = λ image is. subst (λ (es : List Entry). StandsFor p.records.head p.records.book.cap es image) (sym entries_seen) (fresh_images tells p.records vault.rests fresh image is);
+    images = λ image is. subst (λ (es : List Entry). StandsFor p.records.charter p.records.book.cap es image) (sym entries_seen) (fresh_images tells p.records vault.rests fresh image is);
   }
 
 -- so many lines are enough

@@ -5,13 +5,14 @@ use Rattle.std.specs.List.{AllByRecursion}
 use Rattle.std.specs.Option.{option_to_list}
 use Rattle.std.proofs.lemmas.List.{length-reverse, reverse-append, take-append-le}
 use Rattle.std.proofs.lemmas.Grind.{flat_map-append}
+use Rattle.nb_units.specs.declared.charter.Charter.{Charter}
 use Rattle.nb_port.specs.Tells.{DiskTells}
 use Rattle.nb_port.specs.Faults.{Backed, Failure}
 use Rattle.nb_port.proofs.Backing.{backed_append}
 use Rattle.nb_book.specs.declared.entry.Entry.{Entry}
-use Rattle.nb_escrow.specs.declared.head.Head.{Head}
 use Rattle.nb_escrow.specs.Head.{head_of}
 use Rattle.nb_escrow.proofs.Recording.{records_legal}
+use Rattle.nb_journal.specs.Layout.{AreTerms}
 use Rattle.nb_turns.specs.declared.limits.TheConstants.{MAX_FAULTS, MAX_REQUESTS}
 use Rattle.nb_turns.specs.declared.line.Line.{Line}
 use Rattle.nb_turns.specs.Turns.{Request, House, State, Outcome, Decides, Fails, Unsettled, Doubts, failure_of}
@@ -23,8 +24,8 @@ use Rattle.nb_turns.proofs.Numbering.{lines_tell_failure, turns_never_fall}
 use Rattle.nb_turns.proofs.Sounding.{lines_stay_sound}
 use Rattle.nb_vault.specs.declared.parts.Parts.{Parts}
 use Rattle.nb_vault.specs.Parts.{HasLines, IsVault, SameOrigin, Tells, opening_of}
-use Rattle.nb_vault.specs.Rules.{house_of}
-use Rattle.nb_vault.proofs.Joining.{legal_more}
+use Rattle.nb_vault.specs.Rules.{HousesAreLawful, HousesRecordOf, house_of}
+use Rattle.nb_vault.proofs.Joining.{legal_more, may_rule}
 use Rattle.nb_vault.specs.Records.{Rests, disk_under, doubt_of}
 
 -- the next number is no greater than the number of lines
@@ -37,8 +38,18 @@ numbers_behind by lines added are small =
     newest (l ∷ ls) all = omega (arith, small, all.0.1)
 
 -- what a house records is Legal next, and there is room for it
-pub house_lawful : (head : Head) (cap : ℕ) → IsLawful (house_of head cap) cap
-house_lawful head cap entries request entry legal is = records_legal entries head cap request.kind request.body request.moment entry is
+pub house_lawful : HousesAreLawful
+house_lawful head cap ruling entries request entry legal is =
+    let next = records_legal entries head cap request.kind request.body request.moment entry ruling is in
+    (next.0.0, next.1)
+
+-- and a journal of its version and its rate may have it
+pub house_records : HousesRecordOf
+house_records head cap ruling entries request entry is = (records_legal entries head cap request.kind request.body request.moment entry ruling is).0.1
+
+-- so it is of the house of a journal
+pub journal_lawful : (charter : Charter) (cap : ℕ) → AreTerms cap charter → IsLawful (house_of (head_of charter) cap) cap
+journal_lawful charter cap terms = house_lawful (head_of charter) cap (may_rule charter.version charter.rate terms.ruled)
 
 -- ---- how many of the lines are faults
 
@@ -78,7 +89,7 @@ module _ {D : Type 0} (tells : DiskTells D) where
     has = has;
     faults_are = faults ∙ ap faults_of (sym lines);
     few = few;
-    keys = same.head ∙ vault.keys ∙ ap head_of (sym same.terms.head);
+    keys = same.head ∙ vault.keys ∙ ap head_of (sym same.terms.charter);
     lawful = subst (λ (ls : List Line). AreLegal new.records.book.cap (opening_of new) ls) (sym lines)
         (subst (λ (opening : List Entry). AreLegal new.records.book.cap opening (old.lines.items ++ added)) (sym (same_opening old new more vault same grown))
         (subst (λ (cap : ℕ). AreLegal cap (opening_of old) (old.lines.items ++ added)) (sym same.terms.cap)

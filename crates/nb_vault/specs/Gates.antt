@@ -24,7 +24,7 @@ pub record HasAll {D : Type 0} (old new : Chronicled D) (requests : List Request
 -- the image stands for the entries from before, without what was in doubt or with it, and has none of those of a turn, or all
 pub record HasNoneOrAll {D : Type 0} (old new : Chronicled D) (requests : List Request) (outcome : Outcome) (image : List ℕ) : Type 0 where
   pub entries : List Entry
-  pub stands : StandsFor old.origin.head old.origin.cap entries image
+  pub stands : StandsFor old.origin.charter old.origin.cap entries image
   pub whole : SettlesInto (state_of old) entries ⊎ HasAll old new requests outcome entries
 
 -- so it is of each image that a stop leaves at any moment of a turn

@@ -1,11 +1,13 @@
 -- What opening a vault gives.
-use Rattle.std.specs.Prelude.{◌≡◌, ◌≢◌, ℕ, ◌≤◌, ⊤, false, List, [], Option, Some, IfSome, Result, Ok, Err, length, vec_capacity}
+use Rattle.std.specs.Prelude.{◌≡◌, ℕ, ◌≤◌, ⊤, false, List, [], Option, Some, IfSome, Result, Ok, Err, length, vec_capacity}
+use Rattle.nb_units.specs.declared.charter.Charter.{Charter}
 use Rattle.nb_port.specs.Tells.{DiskTells}
 use Rattle.nb_port.specs.Faults.{Rose}
 use Rattle.nb_book.specs.declared.entry.Entry.{Entry}
 use Rattle.nb_book.specs.declared.spelling.TheConstants.{MAX_ITEM_ENTRIES}
 use Rattle.nb_journal.specs.declared.opening.Opened.{Opened}
-use Rattle.nb_journal.specs.Layout.{magic, front_bytes, AreTerms}
+use Rattle.nb_journal.specs.Layout.{IsMagic, front_bytes, AreTerms}
+use Rattle.nb_journal.specs.Opening.{charter_of}
 use Rattle.nb_journal.specs.Reading.{Holds, IsUnborn, IsDamaged}
 use Rattle.nb_journal.specs.States.{AtRest}
 use Rattle.nb_turns.specs.declared.limits.TheConstants.{MAX_REQUESTS}
@@ -21,13 +23,13 @@ use Rattle.nb_vault.specs.Records.{disk_under}
 use Rattle.nb_vault.specs.Restoring.{FirstBad}
 use Rattle.nb_vault.specs.Vaults.{Chronicled, IsDurable, Keeps, most_lines}
 
--- the image is a journal, and this is its first item that does not spell entries which may come next
+-- the image is a journal, and this is its first item that does not spell entries which may come next in a journal of its charter
 pub record IsBadEntry (image : List ℕ) (item : ℕ) : Type 0 where
   pub cap : ℕ
-  pub head : List ℕ
+  pub charter : Charter
   pub items : List (List ℕ)
-  pub holds : Holds image cap head items
-  pub first : FirstBad cap items item
+  pub holds : Holds image cap charter items
+  pub first : FirstBad charter cap items item
 
 -- what stands for a list is none of these
 pub record IsGood (image : List ℕ) : Type 0 where
@@ -36,11 +38,11 @@ pub record IsGood (image : List ℕ) : Type 0 where
   pub lawful : (item : ℕ) → IsBadEntry image item → ⊥
 
 abbrev pub WholeIsGood : Type 0
-WholeIsGood = (image head : List ℕ) (cap : ℕ) (entries : List Entry) → StandsFor head cap entries image → IsGood image
+WholeIsGood = (image : List ℕ) (charter : Charter) (cap : ℕ) (entries : List Entry) → StandsFor charter cap entries image → IsGood image
 
 -- by cases on the fault, for the disk before and after
 abbrev pub VaultOpenFails : {D : Type 0} → DiskTells D → D → D → VaultFault → Type 0
-VaultOpenFails tells old new (opens.Unborn found) = (found ≢ magic) × IfSome (tells.content old) (λ image. IsUnborn image found)
+VaultOpenFails tells old new (opens.Unborn found) = (IsMagic found → ⊥) × IfSome (tells.content old) (λ image. IsUnborn image found)
 VaultOpenFails tells old new (opens.Damaged item place) = IfSome (tells.content old) (λ image. IsDamaged image item place)
 VaultOpenFails tells old new (opens.BadEntry item) = IfSome (tells.content old) (λ image. IsBadEntry image item)
 VaultOpenFails tells old new (opens.DiskFault before after) = (before ≡ tells.faults old) × (after ≡ tells.faults new) × Rose before after
@@ -50,7 +52,7 @@ VaultOpenFails tells old new opens.NoMemory = ⊤
 pub record VaultOpensAs {D : Type 0} (tells : DiskTells D) (disk : D) (v : Chronicled D) : Type 0 where
   pub lines : v.lines ≡ []
   pub count : v.origin.faults ≡ tells.faults disk
-  pub stands : IfSome (tells.content disk) (StandsFor v.origin.head v.origin.cap v.origin.entries)
+  pub stands : IfSome (tells.content disk) (StandsFor v.origin.charter v.origin.cap v.origin.entries)
   pub durable : IsDurable tells v
   pub keeps : Keeps tells v
 
@@ -60,14 +62,14 @@ VaultOpenGives tells disk (Ok v) = VaultOpensAs tells disk v
 VaultOpenGives tells disk (Err e) = VaultOpenFails tells disk e.1 e.0
 
 -- what comes of a content that stands for these entries: they are opened, or the disk failed, or there was no memory
-abbrev pub OpensWhole : {D : Type 0} → List ℕ → ℕ → List Entry → Result (Chronicled D) (VaultFault × D) → Type 0
-OpensWhole head cap entries (Ok v) = (v.origin.head ≡ head) × (v.origin.cap ≡ cap) × (v.origin.entries ≡ entries)
-OpensWhole head cap entries (Err (opens.DiskFault before after, disk)) = ⊤
-OpensWhole head cap entries (Err (opens.NoMemory, disk)) = ⊤
-OpensWhole head cap entries (Err other) = ⊥
+abbrev pub OpensWhole : {D : Type 0} → Charter → ℕ → List Entry → Result (Chronicled D) (VaultFault × D) → Type 0
+OpensWhole charter cap entries (Ok v) = (v.origin.charter ≡ charter) × (v.origin.cap ≡ cap) × (v.origin.entries ≡ entries)
+OpensWhole charter cap entries (Err (opens.DiskFault before after, disk)) = ⊤
+OpensWhole charter cap entries (Err (opens.NoMemory, disk)) = ⊤
+OpensWhole charter cap entries (Err other) = ⊥
 
 abbrev pub WholeOpens : {D : Type 0} → Option (List ℕ) → Result (Chronicled D) (VaultFault × D) → Type 0
-WholeOpens content result = (image head : List ℕ) (cap : ℕ) (entries : List Entry) → content ≡ Some image → StandsFor head cap entries image → OpensWhole head cap entries result
+WholeOpens content result = (image : List ℕ) (charter : Charter) (cap : ℕ) (entries : List Entry) → content ≡ Some image → StandsFor charter cap entries image → OpensWhole charter cap entries result
 
 -- the disk, in the vault or given back
 abbrev pub disk_in : {D : Type 0} → Result (Chronicled D) (VaultFault × D) → D
@@ -78,8 +80,8 @@ disk_in (Err e) = e.1
 
 -- a journal that was opened, with its items
 pub record IsOpened {D : Type 0} (tells : DiskTells D) (o : Opened D) : Type 0 where
-  pub terms : AreTerms o.cap o.head
-  pub rest : AtRest tells (front_bytes o.cap o.head) o.items.items o.journal
+  pub terms : AreTerms o.cap (charter_of o)
+  pub rest : AtRest tells (front_bytes o.cap (charter_of o)) o.items.items o.journal
   pub cap : o.journal.cap ≡ o.cap
   pub room : o.journal.room ≡ ROOM
 
@@ -105,13 +107,13 @@ pub record IsRestored {D : Type 0} (tells : DiskTells D) (o : Opened D) (count :
   pub fresh : p.records.journal.stale ≡ false
   pub lines : p.lines.items ≡ []
   pub from : p.count ≡ count
-  pub head : p.records.head ≡ o.head
+  pub charter : p.records.charter ≡ charter_of o
   pub cap : p.records.book.cap ≡ o.cap
   pub disk : disk_under p.records ≡ o.journal.disk
 
 -- by cases on the fault, with the disk that is given back
 abbrev pub RestoreFails : {D : Type 0} → Opened D → D → VaultFault → Type 0
-RestoreFails o disk (opens.BadEntry item) = FirstBad o.cap o.items.items item × (disk ≡ o.journal.disk)
+RestoreFails o disk (opens.BadEntry item) = FirstBad (charter_of o) o.cap o.items.items item × (disk ≡ o.journal.disk)
 RestoreFails o disk opens.NoMemory = disk ≡ o.journal.disk
 RestoreFails o disk other = ⊥
 

@@ -23,7 +23,7 @@ use Rattle.nb_vault.specs.Vaults.{Chronicled, most_lines}
 -- what contracts see of it
 abbrev pub seen_as : {D : Type 0} → Parts D → Chronicled D
 seen_as p = record {
-  origin = record { entries = take p.opening p.records.book.entries; head = p.records.head; cap = p.records.book.cap; faults = p.count };
+  origin = record { entries = take p.opening p.records.book.entries; charter = p.records.charter; cap = p.records.book.cap; faults = p.count };
   lines = p.lines.items;
   stale = p.records.journal.stale;
   disk = p.records.journal.disk;
@@ -56,7 +56,7 @@ pub record IsVault {D : Type 0} (tells : DiskTells D) (p : Parts D) : Type 0 whe
   pub has : HasLines p p.records.book.entries
   pub faults_are : p.faults ≡ faults_of p.lines.items
   pub few : p.faults ≤ MAX_FAULTS
-  pub keys : p.head ≡ head_of p.records.head
+  pub keys : p.head ≡ head_of p.records.charter
   pub lawful : AreLegal p.records.book.cap (opening_of p) p.lines.items
   pub open_most : length (open_doubt p.lines.items) ≤ MAX_REQUESTS
 

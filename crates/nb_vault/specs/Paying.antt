@@ -18,17 +18,17 @@ use Rattle.nb_vault.specs.Vaults.{Chronicled, entries_in, house_in, state_of, Tu
 -- over these entries the order is paid: its payment is recorded behind them, and both receipts of the reply say so, with the key
 pub record IsPaidOver {D : Type 0} (old new : Chronicled D) (before : List Request) (request : Request) (p : Presented) (out out' : List ℕ) (first over : List Entry) : Type 0 where
   pub later : List Entry
-  pub recorded : entries_in new ≡ over ++ (payment_of p request.moment ∷ later)
+  pub recorded : entries_in new ≡ over ++ (payment_of (head_of old.origin.charter) p request.moment ∷ later)
   pub rest : List ℕ
   pub replied : out' ≡ out ++ (replies (decided (house_in old) first before) ++ (((house_in old).rules over request).reply ++ rest))
-  pub told : TellsPayment p (verdict over (head_of old.origin.head) old.origin.cap request.kind request.body request.moment).reply
+  pub told : TellsPayment p (verdict over (head_of old.origin.charter) old.origin.cap request.kind request.body request.moment).reply
 
 -- the turn was decided over these entries, which are those from before, without what was in doubt or with it, and for which the content
 -- stood; and a request of it that is an order, and is payable over these and what the requests before it record, is paid over them
 pub record IsDecidedSo {D : Type 0} (tells : DiskTells D) (old new : Chronicled D) (before : List Request) (request : Request) (p : Presented) (out out' : List ℕ) : Type 0 where
   pub first : List Entry
   pub settled : SettlesInto (state_of old) first
-  pub stood : IfSome (tells.content old.disk) (StandsFor old.origin.head old.origin.cap first)
+  pub stood : IfSome (tells.content old.disk) (StandsFor old.origin.charter old.origin.cap first)
   pub paid : IsPayable (first ++ recorded (house_in old) first before) old.origin.cap request.body request.moment p
       → IsPaidOver old new before request p out out' first (first ++ recorded (house_in old) first before)
 

@@ -1,11 +1,12 @@
 -- The entries of a house, in memory and on the disk, between two turns and within one, over what a disk tells.
 use Rattle.std.specs.Prelude.{◌≡◌, ◌≢◌, ℕ, ◌≤◌, true, false, Option, List, [], ◌++◌, length, take, Result, Ok, Err, if◌then◌else◌, vec_capacity}
 use Rattle.std.specs.List.{AllByRecursion}
+use Rattle.nb_units.specs.declared.charter.Charter.{Charter}
 use Rattle.nb_port.specs.Tells.{DiskTells}
 use Rattle.nb_port.specs.Faults.{Rose}
 use Rattle.nb_book.specs.declared.entry.Entry.{Entry}
 use Rattle.nb_book.specs.declared.spelling.TheConstants.{MAX_ITEM_ENTRIES}
-use Rattle.nb_book.specs.Legal.{Legal}
+use Rattle.nb_book.specs.Legal.{LegalUnder}
 use Rattle.nb_book.specs.Spelling.{entries_bytes, IsEntry}
 use Rattle.nb_journal.specs.declared.journal.Settled.{Settled}
 use Rattle.nb_journal.specs.declared.journal.Settled.TheVariants as settles
@@ -23,18 +24,18 @@ pub record HasRoom {D : Type 0} (r : Records D) : Type 0 where
   pub item : ROOM ≤ vec_capacity r.item
   pub places : MAX_REQUESTS ≤ vec_capacity r.places
 
--- the items are those of a journal with these entries, under the head and the cap of the records
+-- the items are those of a journal with these entries, under the charter and the cap of the records
 pub record Carries {D : Type 0} (r : Records D) (entries : List Entry) (items : List (List ℕ)) : Type 0 where
   pub joins : Joins items entries
-  pub terms : AreTerms r.book.cap r.head
+  pub terms : AreTerms r.book.cap r.charter
   pub cap : r.journal.cap ≡ r.book.cap
   pub room : r.journal.room ≡ ROOM
-  pub legal : Legal entries
+  pub legal : LegalUnder r.charter.version r.charter.rate entries
   pub count : length entries ≤ r.book.cap
 
--- these entries may be the next item
-pub record IsGroup (cap : ℕ) (entries group : List Entry) : Type 0 where
-  pub legal : Legal (entries ++ group)
+-- these entries may be the next item of a journal of this charter
+pub record IsGroup (charter : Charter) (cap : ℕ) (entries group : List Entry) : Type 0 where
+  pub legal : LegalUnder charter.version charter.rate (entries ++ group)
   pub within : length (entries ++ group) ≤ cap
   pub each : AllByRecursion IsEntry group
   pub most : length group ≤ MAX_ITEM_ENTRIES
@@ -42,15 +43,15 @@ pub record IsGroup (cap : ℕ) (entries group : List Entry) : Type 0 where
 -- the group is in doubt, behind these items
 pub record IsDoubted {D : Type 0} (tells : DiskTells D) (r : Records D) (items : List (List ℕ)) : Type 0 where
   pub some : r.group.items ≢ []
-  pub group : IsGroup r.book.cap r.book.entries r.group.items
-  pub rest : InDoubt tells (front_bytes r.book.cap r.head) items (entries_bytes r.group.items) r.journal
+  pub group : IsGroup r.charter r.book.cap r.book.entries r.group.items
+  pub rest : InDoubt tells (front_bytes r.book.cap r.charter) items (entries_bytes r.group.items) r.journal
 
 -- between two turns: the journal holds the entries of the book, and where it is stale the group is in doubt
 pub record Rests {D : Type 0} (tells : DiskTells D) (r : Records D) : Type 0 where
   pub items : List (List ℕ)
   pub carries : Carries r r.book.entries items
   pub has : HasRoom r
-  pub fresh : r.journal.stale ≡ false → AtRest tells (front_bytes r.book.cap r.head) items r.journal
+  pub fresh : r.journal.stale ≡ false → AtRest tells (front_bytes r.book.cap r.charter) items r.journal
   pub doubt : r.journal.stale ≡ true → IsDoubted tells r items
 
 -- the entries before a turn
@@ -62,10 +63,10 @@ pub record Gathers {D : Type 0} (tells : DiskTells D) (r : Records D) : Type 0 w
   pub items : List (List ℕ)
   pub carries : Carries r (over_of r) items
   pub has : HasRoom r
-  pub rest : AtRest tells (front_bytes r.book.cap r.head) items r.journal
+  pub rest : AtRest tells (front_bytes r.book.cap r.charter) items r.journal
   pub base : r.base ≤ length r.book.entries
   pub whole : r.book.entries ≡ over_of r ++ r.group.items
-  pub group : IsGroup r.book.cap (over_of r) r.group.items
+  pub group : IsGroup r.charter r.book.cap (over_of r) r.group.items
   pub bytes : r.item.items ≡ entries_bytes r.group.items
 
 -- the entries in doubt
@@ -77,15 +78,15 @@ disk_under r = r.journal.disk
 
 -- an image stands for these entries, without those or with them
 abbrev pub WithOrWithout : {D : Type 0} → Records D → List Entry → List Entry → List ℕ → Type 0
-WithOrWithout r entries more image = StandsForEither r.head r.book.cap entries more image
+WithOrWithout r entries more image = StandsForEither r.charter r.book.cap entries more image
 
 -- the same of the entries in doubt
 abbrev pub EitherOf : {D : Type 0} → Records D → List ℕ → Type 0
 EitherOf r image = WithOrWithout r r.book.entries (doubt_of r) image
 
--- head and cap stay
+-- charter and cap stay
 pub record SameTerms {D : Type 0} (old new : Records D) : Type 0 where
-  pub head : new.head ≡ old.head
+  pub charter : new.charter ≡ old.charter
   pub cap : new.book.cap ≡ old.book.cap
 
 -- the counts of the disk's faults at the beginning of a call that failed and at its end
@@ -114,5 +115,5 @@ RecordGives tells old new (Err counts) =
 
 -- what was written of it, for the content before and after
 abbrev pub RecordWrites : {D : Type 0} → Records D → Option (List ℕ) → Option (List ℕ) → Result (Unit {0}) Counts → Type 0
-RecordWrites old before after (Ok done) = WritesItem old.head old.book.cap (over_of old) old.group.items before after
-RecordWrites old before after (Err counts) = TearsItem old.head old.book.cap (over_of old) old.group.items before after
+RecordWrites old before after (Ok done) = WritesItem old.charter old.book.cap (over_of old) old.group.items before after
+RecordWrites old before after (Err counts) = TearsItem old.charter old.book.cap (over_of old) old.group.items before after

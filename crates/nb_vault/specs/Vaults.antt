@@ -4,7 +4,7 @@ use Rattle.std.proofs.Common.{inl, inr}
 use Rattle.nb_port.specs.Tells.{DiskTells}
 use Rattle.nb_port.specs.Faults.{Rose, Backed}
 use Rattle.nb_book.specs.declared.entry.Entry.{Entry}
-use Rattle.nb_book.specs.Legal.{Legal}
+use Rattle.nb_book.specs.Legal.{LegalUnder}
 use Rattle.nb_book.specs.Spelling.{entries_bytes}
 use Rattle.nb_journal.specs.Layout.{AreTerms, front_bytes, up_to_gate}
 use Rattle.nb_journal.specs.Stands.{Stands, BeforeOrAfter}
@@ -44,11 +44,11 @@ state_of v = record { entries = entries_in v; doubt = doubt_in v; faults = fault
 
 -- the house that it is
 abbrev pub house_in : {D : Type 0} → Chronicled D → House
-house_in v = house_of (head_of v.origin.head) v.origin.cap
+house_in v = house_of (head_of v.origin.charter) v.origin.cap
 
 -- an image stands for the entries, without those in doubt or with them
 abbrev pub StandsForState : {D : Type 0} → Chronicled D → List ℕ → Type 0
-StandsForState v image = StandsForEither v.origin.head v.origin.cap (entries_in v) (doubt_in v) image
+StandsForState v image = StandsForEither v.origin.charter v.origin.cap (entries_in v) (doubt_in v) image
 
 -- the most lines that a vault with this cap ever has: one for each entry, and for each turn that fails one for each entry in doubt and
 -- one for the fault
@@ -57,11 +57,11 @@ most_lines cap = cap + (MAX_REQUESTS + 1) * MAX_FAULTS
 
 -- what every vault keeps
 pub record Keeps {D : Type 0} (tells : DiskTells D) (v : Chronicled D) : Type 0 where
-  -- its list is Legal, also with the entries in doubt, and within the cap
-  pub legal : Legal (entries_in v ++ doubt_in v)
+  -- its list is Legal under its version and its rate, also with the entries in doubt, and within the cap
+  pub legal : LegalUnder v.origin.charter.version v.origin.charter.rate (entries_in v ++ doubt_in v)
   pub within : length (entries_in v ++ doubt_in v) ≤ v.origin.cap
   pub money : IsBalanced (entries_in v)
-  pub terms : AreTerms v.origin.cap v.origin.head
+  pub terms : AreTerms v.origin.cap v.origin.charter
   -- it is what its content stands for, and what a stop leaves
   pub bytes : IfSome (tells.content v.disk) (StandsForState v)
   pub images : (image : List ℕ) → tells.allowed v.disk image → StandsForState v image
@@ -94,8 +94,8 @@ HoldsItems true front items item image = BeforeOrAfter front items item image
 pub record GateIsAt {D : Type 0} (tells : DiskTells D) (v : Chronicled D) (gate : ℕ) : Type 0 where
   pub items : List (List ℕ)
   pub joins : Joins items (entries_in v)
-  pub place : gate ≡ length (up_to_gate (front_bytes v.origin.cap v.origin.head) items)
-  pub stands : IfSome (tells.content v.disk) (HoldsItems v.stale (front_bytes v.origin.cap v.origin.head) items (entries_bytes (doubt_in v)))
+  pub place : gate ≡ length (up_to_gate (front_bytes v.origin.cap v.origin.charter) items)
+  pub stands : IfSome (tells.content v.disk) (HoldsItems v.stale (front_bytes v.origin.cap v.origin.charter) items (entries_bytes (doubt_in v)))
 
 -- ---- answering
 
@@ -104,21 +104,21 @@ pub record GateIsAt {D : Type 0} (tells : DiskTells D) (v : Chronicled D) (gate 
 pub record OneGateOpens {D : Type 0} (tells : DiskTells D) (old new : Chronicled D) (requests : List Request) (over : List Entry) : Type 0 where
   pub settled : D
   pub before : LeavesOnly tells old.disk settled (StandsForState old)
-  pub since : LeavesOnly tells settled new.disk (StandsForEither old.origin.head old.origin.cap over (recorded (house_in old) over requests))
+  pub since : LeavesOnly tells settled new.disk (StandsForEither old.origin.charter old.origin.cap over (recorded (house_in old) over requests))
 
 -- the disk in a turn that decided over these entries: its content stood for them, and what the verdicts record is written as one item.
 -- Where they record nothing, nothing is written
 pub record WritesTurn {D : Type 0} (tells : DiskTells D) (old new : Chronicled D) (requests : List Request) (over : List Entry) : Type 0 where
-  pub told : IfSome (tells.content old.disk) (StandsFor old.origin.head old.origin.cap over)
-  pub written : WritesItem old.origin.head old.origin.cap over (recorded (house_in old) over requests) (tells.content old.disk) (tells.content new.disk)
+  pub told : IfSome (tells.content old.disk) (StandsFor old.origin.charter old.origin.cap over)
+  pub written : WritesItem old.origin.charter old.origin.cap over (recorded (house_in old) over requests) (tells.content old.disk) (tells.content new.disk)
   pub idle : recorded (house_in old) over requests ≡ [] → Unwritten tells old.disk new.disk
   pub gate : OneGateOpens tells old new requests over
 
 -- the disk in a turn whose item could not be made durable: its content stood for the entries that the turn was decided over, and bytes
 -- of the item's range may have changed
 pub record TearsTurn {D : Type 0} (tells : DiskTells D) (old new : Chronicled D) (requests : List Request) (over : List Entry) : Type 0 where
-  pub told : IfSome (tells.content old.disk) (StandsFor old.origin.head old.origin.cap over)
-  pub written : TearsItem old.origin.head old.origin.cap over (recorded (house_in old) over requests) (tells.content old.disk) (tells.content new.disk)
+  pub told : IfSome (tells.content old.disk) (StandsFor old.origin.charter old.origin.cap over)
+  pub written : TearsItem old.origin.charter old.origin.cap over (recorded (house_in old) over requests) (tells.content old.disk) (tells.content new.disk)
   pub gate : OneGateOpens tells old new requests over
 
 -- the disk in a turn that could not settle what was in doubt, told from this count on: nothing is written
@@ -189,7 +189,7 @@ place_in other = []
 -- each image that a stop leaves stands for the entries alone, and nothing is in doubt
 pub record IsDurable {D : Type 0} (tells : DiskTells D) (v : Chronicled D) : Type 0 where
   pub fresh : v.stale ≡ false
-  pub images : (image : List ℕ) → tells.allowed v.disk image → StandsFor v.origin.head v.origin.cap (entries_in v) image
+  pub images : (image : List ℕ) → tells.allowed v.disk image → StandsFor v.origin.charter v.origin.cap (entries_in v) image
 
 -- where it answered
 abbrev pub DurableWhere : {D : Type 0} → DiskTells D → Chronicled D → AnswerAll → Type 0

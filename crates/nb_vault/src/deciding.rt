@@ -4,6 +4,7 @@ ghost use Rattle.std.specs.Prelude.{◌≡◌, ◌≤◌, ◌<◌, ◌+◌, ◌*
 ghost use Rattle.std.specs.List.{All};
 ghost use Rattle.std.specs.Option.{option_to_list};
 ghost use Rattle.nb_book.specs.declared.spelling.TheConstants.{MAX_ITEM_ENTRIES};
+ghost use Rattle.nb_escrow.specs.Head.{head_of};
 ghost use Rattle.nb_msgs.specs.declared.reply.TheConstants.{REPLY_ROOM};
 ghost use Rattle.nb_turns.specs.declared.limits.TheConstants.{MAX_REQUESTS};
 ghost use Rattle.nb_turns.specs.Turns.{decided, places, recorded, replies};
@@ -29,6 +30,7 @@ impl<D: Disk> Records<D> {
         out: &mut Vec<u8>,
     )
         requires rests { Rests D.tells self.old }
+        requires keys { head.now ≡ head_of self.old.charter }
         requires fresh { self.old.journal.stale ≡ false }
         requires few { length asks.now ≤ MAX_REQUESTS }
         requires within { All (IsWithin bytes.now) asks.now }
@@ -52,6 +54,7 @@ impl<D: Disk> Records<D> {
     // Decides one more.
     fn decide_one(&mut self, head: &Head, kind: u8, body: &[u8], moment: u64, out: &mut Vec<u8>)
         requires gathers { Gathers D.tells self.old }
+        requires keys { head.now ≡ head_of self.old.charter }
         requires few { length self.old.group.items < MAX_ITEM_ENTRIES }
         requires places { length self.old.places.items < MAX_REQUESTS }
         requires room { REPLY_ROOM ≤ spare_of out.old }

@@ -4,17 +4,17 @@ ghost use Rattle.nb_vault.specs.Gates.{OneGate};
 ghost use Rattle.nb_vault.specs.Holdings.{OneList};
 ghost use Rattle.nb_vault.specs.Opens.{WholeIsGood};
 ghost use Rattle.nb_vault.specs.Paying.{PayableIsPaid};
-ghost use Rattle.nb_vault.specs.Rules.{HousesAreLawful};
+ghost use Rattle.nb_vault.specs.Rules.{HousesAreLawful, HousesRecordOf};
 ghost use Rattle.nb_vault.specs.Vaults.{LinesFit};
 
 use nb_port::Disk;
 
-/// An image stands for one list of entries, with one head and one cap.
+/// An image stands for one list of entries, with one charter and one cap.
 pub fn one_list()
     ensures { OneList }
 {}
 
-/// An image that stands for a list begins with the magic, is not damaged and has no bad entry.
+/// An image that stands for a list begins with a magic, is not damaged and has no bad entry.
 pub fn whole_is_good()
     ensures { WholeIsGood }
 {}
@@ -25,9 +25,11 @@ pub fn payable_is_paid<D: Disk>()
     ensures { PayableIsPaid D.tells }
 {}
 
-/// What a house records may come next in its list, and there is room for it.
+/// Of a house whose version is one of the two and whose rate is at most 1,000: what it records may come next in its list, there is room
+/// for it, and a journal of this version and this rate may have it.
 pub fn houses_are_lawful()
-    ensures { HousesAreLawful }
+    ensures lawful { HousesAreLawful }
+    ensures rate { HousesRecordOf }
 {}
 
 /// A vault has at most one line for each entry of its cap and 33,000 more: 1,000 turns may fail, with a line for each of the 32 entries

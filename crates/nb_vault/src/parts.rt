@@ -166,7 +166,7 @@ impl<D> Parts<D> {
         let Records {
             book: _,
             journal,
-            head: _,
+            charter: _,
             group: _,
             item: _,
             places: _,

@@ -1,24 +1,25 @@
 // The entries of a house, in memory and on the disk.
 
 ghost use Rattle.std.specs.Prelude.{◌≡◌, ◌≤◌, ◌<◌, ◌++◌, ◌∷◌, [], false, length, take, vec_capacity};
-ghost use Rattle.nb_book.specs.Legal.{LegalAfter, Legal};
+ghost use Rattle.nb_book.specs.Legal.{Legal, NextUnder};
 ghost use Rattle.nb_book.specs.declared.spelling.TheConstants.{MAX_ITEM_ENTRIES};
 ghost use Rattle.nb_journal.specs.Time.{LeavesOnly, Unwritten};
 ghost use Rattle.nb_vault.specs.Records.{Rests, Gathers, RecordsSettle, RecordGives, RecordWrites, SameTerms, disk_under, over_of, EitherOf, WithOrWithout};
 
 use nb_book::{Book, Entry, MAX_ENTRY, MAX_ITEM_ENTRIES, write_entry};
-use nb_journal::{AppendFault, HEAD, Journal, Settled, StillStale};
+use nb_journal::{AppendFault, Journal, Settled, StillStale};
 use nb_port::Disk;
+use nb_units::Charter;
 
 // The most bytes of an item.
 pub(crate) const ROOM: u32 = (MAX_ITEM_ENTRIES * MAX_ENTRY) as u32;
 
-// The entries that are recorded, and the journal that they stand in with its head.
+// The entries that are recorded, and the journal that they stand in with its charter.
 #[derive(Drop)]
 pub(crate) struct Records<D> {
     pub(crate) book: Book,
     pub(crate) journal: Journal<D>,
-    pub(crate) head: [u8; HEAD],
+    pub(crate) charter: Charter,
     // The entries in doubt, or, in a turn, those recorded so far, and their bytes.
     pub(crate) group: Vec<Entry>,
     pub(crate) item: Vec<u8>,
@@ -67,7 +68,7 @@ impl<D: Disk> Records<D> {
         ensures over { over_of self.new ≡ self.old.book.entries }
         ensures book { self.new.book ≡ self.old.book }
         ensures journal { self.new.journal ≡ self.old.journal }
-        ensures head { self.new.head ≡ self.old.head }
+        ensures charter { self.new.charter ≡ self.old.charter }
         ensures group { self.new.group.items ≡ [] }
         ensures places { self.new.places.items ≡ [] }
     {
@@ -77,10 +78,10 @@ impl<D: Disk> Records<D> {
         self.places.clear();
     }
 
-    // One entry more of a turn, which is legal next.
+    // One entry more of a turn, which may come next in the journal.
     pub(crate) fn gather(&mut self, entry: &Entry)
         requires gathers { Gathers D.tells self.old }
-        requires legal { LegalAfter self.old.book.entries entry.now }
+        requires legal { NextUnder self.old.charter.version self.old.charter.rate self.old.book.entries entry.now }
         requires within { length self.old.book.entries < self.old.book.cap }
         requires few { length self.old.group.items < MAX_ITEM_ENTRIES }
         ensures gathers { Gathers D.tells self.new }

@@ -1,11 +1,14 @@
 // The entries of a journal's items, into a book.
 
 ghost use Rattle.std.specs.Prelude.{◌≡◌, ◌≤◌, [], length};
+ghost use Rattle.std.specs.List.{AllByRecursion};
+ghost use Rattle.nb_units.specs.Charter.{MayRule};
 ghost use Rattle.nb_units.specs.declared.limits.TheConstants.{MAX_CAP};
+ghost use Rattle.nb_book.specs.Legal.{IsOfRate};
 ghost use Rattle.nb_vault.specs.Restoring.{ItemGives, ItemsRestore, IsList};
 
 use nb_book::{Book, MAX_ITEM_ENTRIES, read_entry};
-use nb_units::{Blob, Cut};
+use nb_units::{Blob, Charter, Cut};
 
 // How the entries of one item went into the book.
 #[derive(Clone, Copy)]
@@ -21,15 +24,17 @@ pub(crate) enum ItemsRead {
     Bad { item: u32 },
 }
 
-// Applies the entries of the items, up to the first item that does not spell entries which may come next.
-pub(crate) fn restore(book: &mut Book, items: &[Blob]) -> ItemsRead
+// Applies the entries of the items, up to the first item that does not spell entries which may come next in a journal of this
+// charter.
+pub(crate) fn restore(book: &mut Book, charter: &Charter, items: &[Blob]) -> ItemsRead
     requires empty { book.old.entries ≡ [] }
+    requires ruled { MayRule charter.now.version charter.now.rate }
     requires few { length items.now ≤ MAX_CAP }
-    ensures gives { ItemsRestore book.old.cap items.now book.new.entries result }
+    ensures gives { ItemsRestore charter.now book.old.cap items.now book.new.entries result }
     ensures cap { book.new.cap ≡ book.old.cap }
 {
     for (i, item) in items.iter().enumerate() {
-        match restore_item(book, item.as_slice()) {
+        match restore_item(book, charter, item.as_slice()) {
             ItemRead::Whole => {}
             ItemRead::Bad => return ItemsRead::Bad { item: i as u32 },
         }
@@ -38,9 +43,11 @@ pub(crate) fn restore(book: &mut Book, items: &[Blob]) -> ItemsRead
 }
 
 // Applies the entries of one item. Of every book it is told what its list is.
-fn restore_item(book: &mut Book, item: &[u8]) -> ItemRead
-    ensures gives { ItemGives book.old.cap item.now book.old.entries book.new.entries result }
-    ensures list { IsList book.old.cap book.old.entries }
+fn restore_item(book: &mut Book, charter: &Charter, item: &[u8]) -> ItemRead
+    requires ruled { MayRule charter.now.version charter.now.rate }
+    requires each { AllByRecursion (IsOfRate charter.now.version charter.now.rate) book.old.entries }
+    ensures gives { ItemGives charter.now book.old.cap item.now book.old.entries book.new.entries result }
+    ensures list { IsList charter.now book.old.cap book.old.entries }
     ensures cap { book.new.cap ≡ book.old.cap }
 {
     let room = (book.cap() - book.len()) as usize;
@@ -53,7 +60,7 @@ fn restore_item(book: &mut Book, item: &[u8]) -> ItemRead
             Ok(entry) => entry,
             Err(_) => return ItemRead::Bad,
         };
-        if !book.legal(&entry) {
+        if !book.legal(&entry, charter.version, charter.rate) {
             return ItemRead::Bad;
         }
         book.apply(&entry);

@@ -131,7 +131,7 @@ impl<D: Disk> Vault<D> {
 
     /// The house's key, 32 bytes, as its head has it.
     pub fn house(&self) -> Secret
-        ensures { result ≡ (head_of self.now.origin.head).house }
+        ensures { result ≡ (head_of self.now.origin.charter).house }
     {
         self.parts.head.house
     }

@@ -12,7 +12,7 @@ use nb_escrow::Head;
 use nb_journal::{Journal, MAGIC_BYTES, OpenFault, Opened};
 use nb_port::Disk;
 use nb_turns::{Line, MAX_REQUESTS};
-use nb_units::NoMemory;
+use nb_units::{Charter, NoMemory};
 use std::alloc::Global;
 use std::fmt;
 
@@ -97,15 +97,22 @@ fn restored<D: Disk>(
     let Opened {
         journal,
         head,
+        version,
+        rate,
         cap,
         items,
     } = opened;
-    let keys = Head::read(&head);
+    let charter = Charter {
+        head,
+        version,
+        rate,
+    };
+    let keys = Head::read(&head, version, rate);
     let mut room = match Room::new(alloc, cap, &keys.index) {
         Ok(room) => room,
         Err(_) => return Err((VaultFault::NoMemory, journal.into_disk())),
     };
-    match restore(&mut room.book, items.as_slice()) {
+    match restore(&mut room.book, &charter, items.as_slice()) {
         ItemsRead::Whole => {}
         ItemsRead::Bad { item } => {
             return Err((VaultFault::BadEntry { item }, journal.into_disk()));
@@ -116,7 +123,7 @@ fn restored<D: Disk>(
         records: Records {
             book: room.book,
             journal,
-            head,
+            charter,
             group: room.turn.group,
             item: room.turn.item,
             places: room.turn.places,

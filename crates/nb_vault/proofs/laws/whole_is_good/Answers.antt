@@ -2,8 +2,8 @@ use Rattle.nb_vault.proofs.HoldingLaws.{no_unborn, no_damage, no_bad}
 use Rattle.nb_vault.proofs.laws.whole_is_good.Goals as goal
 
 pub returns : goal.returns
-returns c = λ image head cap entries stands. record {
-  born = λ found. no_unborn head cap entries image found stands;
-  whole = λ item place. no_damage head cap entries image item place stands;
-  lawful = λ item. no_bad head cap entries image item stands;
+returns c = λ image charter cap entries stands. record {
+  born = λ found. no_unborn charter cap entries image found stands;
+  whole = λ item place. no_damage charter cap entries image item place stands;
+  lawful = λ item. no_bad charter cap entries image item stands;
 }

@@ -15,5 +15,6 @@ loop-i-preserved c =
     record {
       joins = subst (λ (xs : List (List ℕ)). Joins xs c.restore_item.new.book.entries) (sym one)
           (subst (Joins (take i items ++ c.as_slice.result.now ∷ [])) (sym whole.2) (joins_item (take i items) c.as_slice.result.now c.loop-i.book.entries whole.0 c.loop-i.invariant.joins whole.1));
+      each = whole.3;
       cap = c.restore_item.ensures.cap ∙ c.loop-i.invariant.cap;
     }

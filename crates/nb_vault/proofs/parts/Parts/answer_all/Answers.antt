@@ -1,6 +1,7 @@
 use Rattle.std.proofs.Common.{◌≡◌, inl, inr, ℕ, List, ◌++◌, refl, sym, ap, take, subst, ◌∙◌, arith}
 use Rattle.std.proofs.lemmas.List.{take_at}
 use Rattle.nb_book.specs.declared.entry.Entry.{Entry}
+use Rattle.nb_escrow.specs.Head.{head_of}
 use Rattle.nb_journal.specs.declared.journal.Journal.{Journal}
 use Rattle.nb_turns.specs.Turns.{House, decided, places, replies}
 use Rattle.nb_vault.specs.declared.parts.Parts.{Parts}
@@ -13,6 +14,9 @@ use Rattle.nb_vault.specs.Vaults.{house_in}
 use Rattle.nb_vault.proofs.Answering.{content_is, decided_origin, decided_vault, decided_went, doubted_all, doubted_count, doubted_origin, doubted_vault, doubted_went, house_is, leaves_here, over_is, quiet_decided, quiet_failed, stepped, turn_leaves, unready_leaves, unready_origin, unready_vault, unready_went}
 use Rattle.nb_vault.proofs.Seeing.{durable}
 use Rattle.nb_vault.proofs.parts.Parts.answer_all.Goals as goal
+
+pub decide_each-requires-clause-keys : goal.decide_each-requires-clause-keys
+decide_each-requires-clause-keys g c = c.ready.ensures.origin.head ∙ c.requires.vault.keys ∙ ap head_of (sym c.ready.ensures.origin.terms.charter)
 
 pub returns-then-self-ge-MAX_FAULTS-clause-any_moment : goal.returns-then-self-ge-MAX_FAULTS-clause-any_moment
 returns-then-self-ge-MAX_FAULTS-clause-any_moment g c =
@@ -119,8 +123,8 @@ returns-in-Ok-commit-clause-quiet g c =
     let done = subst (λ (n : ℕ). Committed p c.commit.new.self c.args.by n) c.next_turn-turn.ensures c.in-Ok-commit.ensures.gives in
     let vault = decided_vault tells old mid p c.args.by requests steps c.commit.new.self done c.commit.ensures.origin c.commit.ensures.rests c.commit.ensures.has
     (omega (arith, c.ready.ensures.count, c.commit.ensures.count, ap (λ (j : Journal _). tells.faults j.disk) c.decide_each.ensures.journal)) in
-    λ same. quiet_decided tells old c.commit.new.self c.requires.vault vault same p.records.head p.records.book.cap (over_of p.records) p.records.group.items steps.ready.kept (over_is tells old mid p c.args.by requests steps) done.entries
-    (subst (λ t. WritesItem p.records.head p.records.book.cap (over_of p.records) p.records.group.items t (tells.content c.commit.new.self.records.journal.disk))
+    λ same. quiet_decided tells old c.commit.new.self c.requires.vault vault same p.records.charter p.records.book.cap (over_of p.records) p.records.group.items steps.ready.kept (over_is tells old mid p c.args.by requests steps) done.entries
+    (subst (λ t. WritesItem p.records.charter p.records.book.cap (over_of p.records) p.records.group.items t (tells.content c.commit.new.self.records.journal.disk))
     (content_is tells old mid p c.args.by requests steps) c.in-Ok-commit.ensures.writes)
 
 pub returns-in-Err-commit-clause-vault : goal.returns-in-Err-commit-clause-vault

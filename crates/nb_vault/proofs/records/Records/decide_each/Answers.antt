@@ -1,12 +1,16 @@
-use Rattle.std.proofs.Common.{◌≡◌, ◌+◌, ◌++◌, ◌∷◌, [], ℕ, List, length, take, get_or, ap, ◌∙◌, arith}
+use Rattle.std.proofs.Common.{◌≡◌, ◌+◌, ◌++◌, ◌∷◌, [], ℕ, List, length, take, get_or, sym, ap, ◌∙◌, arith}
 use Rattle.std.specs.Option.{option_to_list}
 use Rattle.nb_book.specs.declared.entry.Entry.{Entry}
+use Rattle.nb_escrow.specs.Head.{head_of}
 use Rattle.nb_turns.specs.Turns.{Request, Ruling, decided, places, recorded, replies}
 use Rattle.nb_vault.specs.declared.answer.AskAt.{AskAt}
 use Rattle.nb_vault.specs.Asking.{request_at, request_of, requests_of}
 use Rattle.nb_vault.specs.Rules.{house_of, house_rules}
 use Rattle.nb_vault.proofs.Verdicts.{asked, comes_to, few_recorded, goes_on, one_request, place_count, place_one, record_one, reply_one, request_count}
 use Rattle.nb_vault.proofs.records.Records.decide_each.Goals as goal
+
+pub decide_one-requires-clause-keys : goal.decide_one-requires-clause-keys
+decide_one-requires-clause-keys g c = c.requires.keys ∙ ap head_of (sym c.loop-ask.invariant.charter)
 
 pub decide_one-requires-clause-few : goal.decide_one-requires-clause-few
 decide_one-requires-clause-few g c =
@@ -47,7 +51,7 @@ loop-ask-preserved g c =
     record {
       gathers = step.gathers;
       over = step.over ∙ inv.over;
-      head = step.terms.head ∙ inv.head;
+      charter = step.terms.charter ∙ inv.charter;
       cap = step.terms.cap ∙ inv.cap;
       journal = step.journal ∙ inv.journal;
       entries = goes_on c.decide_one.new.self.book.entries now over (recorded house over requests) (recorded house over (requests_of bytes (take (i + 1) asks))) (option_to_list (house.rules now request).entry)

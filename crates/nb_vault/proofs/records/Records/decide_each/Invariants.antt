@@ -11,7 +11,7 @@ abbrev pub invariant-loop-ask : goal.invariant-loop-ask
 invariant-loop-ask g l = record {
   gathers : Gathers g.D.Disk.tells l.self;
   over : over_of l.self ≡ l.fn.self.book.entries;
-  head : l.self.head ≡ l.fn.self.head;
+  charter : l.self.charter ≡ l.fn.self.charter;
   cap : l.self.book.cap ≡ l.fn.self.book.cap;
   journal : l.self.journal ≡ l.fn.self.journal;
   entries : l.self.book.entries ≡ l.fn.self.book.entries ++ recorded (house_of l.head l.fn.self.book.cap) l.fn.self.book.entries (requests_of l.bytes (take l.ask-index l.asks));

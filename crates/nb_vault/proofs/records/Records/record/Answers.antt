@@ -25,8 +25,8 @@ returns-in-Ok-clause-rests g c =
     let gathers = c.requires.gathers in
     let some = some_of old.group.items c.as_slice.result.now (eqb-false (length c.as_slice.result.now) 0 (sym c.if-is_empty.ensures)) c.as_slice.ensures.value in
     grown_rests g.D.Disk.tells old _ _ old.group.items gathers.items gathers.carries gathers.group some
-    (record { head = refl; cap = refl; most = c.append.ensures.limits.0; room = c.append.ensures.limits.1 }) (record { group = gathers.has.group; item = gathers.has.item; places = gathers.has.places })
-    (subst (λ (item : List ℕ). AtRest g.D.Disk.tells (front_bytes old.book.cap old.head) (gathers.items ++ item ∷ []) c.append.new.self) (c.as_slice-2.ensures.value ∙ gathers.bytes)
+    (record { charter = refl; cap = refl; most = c.append.ensures.limits.0; room = c.append.ensures.limits.1 }) (record { group = gathers.has.group; item = gathers.has.item; places = gathers.has.places })
+    (subst (λ (item : List ℕ). AtRest g.D.Disk.tells (front_bytes old.book.cap old.charter) (gathers.items ++ item ∷ []) c.append.new.self) (c.as_slice-2.ensures.value ∙ gathers.bytes)
     (c.in-Ok.ensures.gives _ gathers.items gathers.rest))
     gathers.whole
 
@@ -43,8 +43,8 @@ returns-in-Err-DiskFault-clause-rests g c =
     let some = some_of old.group.items c.as_slice.result.now (eqb-false (length c.as_slice.result.now) 0 (sym c.if-is_empty.ensures)) c.as_slice.ensures.value in
     let failed = subst (AppendFails g.D.Disk.tells old.journal c.append.new.self c.as_slice-2.result.now) c.in-Err-DiskFault.field-0-is c.in-Err-DiskFault.ensures.gives in
     doubt_rests g.D.Disk.tells old _ _ gathers.items gathers.carries gathers.group some
-    (record { head = refl; cap = c.undo_to.ensures.cap; most = c.append.ensures.limits.0; room = c.append.ensures.limits.1 }) (record { group = gathers.has.group; item = gathers.has.item; places = gathers.has.places })
-    (subst (λ (item : List ℕ). InDoubt g.D.Disk.tells (front_bytes old.book.cap old.head) gathers.items item c.append.new.self) (c.as_slice-2.ensures.value ∙ gathers.bytes)
+    (record { charter = refl; cap = c.undo_to.ensures.cap; most = c.append.ensures.limits.0; room = c.append.ensures.limits.1 }) (record { group = gathers.has.group; item = gathers.has.item; places = gathers.has.places })
+    (subst (λ (item : List ℕ). InDoubt g.D.Disk.tells (front_bytes old.book.cap old.charter) gathers.items item c.append.new.self) (c.as_slice-2.ensures.value ∙ gathers.bytes)
     (failed.3 _ gathers.items gathers.rest))
     c.undo_to.ensures.entries
 

@@ -27,5 +27,5 @@ returns-in-Ok-Kept-clause-rests g c =
     let d = rests.doubt (subst (λ (s : Settled). DoubtBeforeSettle r.journal (Ok s)) c.in-Ok-Kept.field-0-is c.in-Ok-Kept.ensures.asked) in
     let kept = subst (SettlesAs g.D.Disk.tells r.journal c.settle.new.self) c.in-Ok-Kept.field-0-is c.in-Ok-Kept.ensures.gives in
     grown_rests g.D.Disk.tells r _ _ r.group.items rests.items rests.carries d.group d.some
-    (record { head = refl; cap = c.apply_all.ensures.cap; most = c.settle.ensures.limits.0; room = c.settle.ensures.limits.1 }) (record { group = rests.has.group; item = rests.has.item; places = rests.has.places })
+    (record { charter = refl; cap = c.apply_all.ensures.cap; most = c.settle.ensures.limits.0; room = c.settle.ensures.limits.1 }) (record { group = rests.has.group; item = rests.has.item; places = rests.has.places })
     (kept.1 _ rests.items (entries_bytes r.group.items) d.rest) (c.apply_all.ensures.entries ∙ ap (λ (es : List Entry). r.book.entries ++ es) c.as_slice.ensures.value)

@@ -1,4 +1,4 @@
-use Rattle.std.proofs.Common.{subst, sym}
+use Rattle.std.proofs.Common.{subst}
 use Rattle.nb_vault.specs.Vaults.{GateIsAt}
 use Rattle.nb_vault.proofs.Seeing.{gate_is_at}
 use Rattle.nb_vault.proofs.vault.Vault.end.Goals as goal

@@ -33,7 +33,7 @@ returns-in-Err-clause-whole g c =
     fails_whole g.D.Disk.tells c.args.disk c.in-Ok.opened c.fault_count-count.result c.in-Err.fault c.in-Err.disk c.in-Err.ensures.gives c.in-Ok.ensures.gives.holds
 
 pub returns-in-Err-Damaged-default-clause-whole : goal.returns-in-Err-Damaged-default-clause-whole
-returns-in-Err-Damaged-default-clause-whole g c = λ image head cap entries is whole.
+returns-in-Err-Damaged-default-clause-whole g c = λ image charter cap entries is whole.
     let w = c.in-Err-Damaged-default in
     let fails = subst (OpenFails g.D.Disk.tells c.args.disk w.disk) w.field-0-0-is w.ensures.gives in
-    no_damage head cap entries image w.item w.place whole (told_of (g.D.Disk.tells.content c.args.disk) (λ image. IsDamaged image w.item w.place) image is fails)
+    no_damage charter cap entries image w.item w.place whole (told_of (g.D.Disk.tells.content c.args.disk) (λ image. IsDamaged image w.item w.place) image is fails)
