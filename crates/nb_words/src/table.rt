@@ -1,4 +1,4 @@
-ghost use Rattle.std.specs.Prelude.{◌≡◌, ◌↔◌, ◌≤◌, ◌<◌, ◌^◌, ℕ, codes, map, IsTrue, IfOk, IfSome, Some, None};
+ghost use Rattle.std.specs.Prelude.{◌≡◌, ◌↔◌, ◌≤◌, ◌<◌, ◌^◌, ℕ, codes, map, IsTrue, IfOk, IfSome, Option, Some, None};
 ghost use Rattle.std.specs.Fmt.{decimal};
 ghost use Rattle.clap.specs.Walk.{first_of};
 ghost use Rattle.clap.specs.Words.{app_of, found_of, rows_of, subcommand_rows_of, with_subcommand};
@@ -40,14 +40,8 @@ pub(crate) fn command_in(matches: &ArgMatches<'_>) -> Option<Command>
     let (name, given) = matches.subcommand()?;
     if is_init(name) {
         let cap = small_in(given, "CAP", u32::MAX)?;
-        if is_missing(given, "PERMILLE") {
-            return Some(Command::Init { cap, rate: None });
-        }
-        let rate = small_in(given, "PERMILLE", u32::from(MAX_RATE))?;
-        return Some(Command::Init {
-            cap,
-            rate: Some(rate as u16),
-        });
+        let rate = rate_in(given)?;
+        return Some(Command::Init { cap, rate });
     }
     if is_batch(name) {
         return Some(Command::Batch);
@@ -97,6 +91,18 @@ fn with_positions<'a>(
         more = more.arg(Arg::new(alloc, position).required(required))?;
     }
     Ok(more)
+}
+
+// What stands at the position of the rate: nothing, or a rate. None where it is something else.
+fn rate_in(given: &ArgMatches<'_>) -> Option<Option<u16>>
+    ensures some { IfSome result (table.RateIn (rows_of (found_of given.now))) }
+    ensures each { (rate : Option ℕ) → table.RateIn (rows_of (found_of given.now)) rate → result ≡ Some rate }
+{
+    if is_missing(given, "PERMILLE") {
+        return Some(None);
+    }
+    let rate = small_in(given, "PERMILLE", u32::from(MAX_RATE))?;
+    Some(Some(rate as u16))
 }
 
 // Whether nothing stands at a position.

@@ -6,6 +6,7 @@ pub mod Outside
 pub mod Serving
 pub mod Stopping
 pub mod Settling
+pub mod Rating
 pub mod Tying
 pub mod Playing
 pub mod Small
@@ -15,4 +16,3 @@ pub mod Going
 pub mod Moving
 pub mod Receipting
 pub mod Holding
-pub mod Rating

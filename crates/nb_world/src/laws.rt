@@ -134,14 +134,15 @@ pub fn rate_is_kept<C, M>()
     nb_book::laws::stays_legal();
 }
 
-/// The house records only what may come next: where the verdict is the house's, in whatever form its replies are shown.
+/// The house records only what may come next: where the verdict is the house's, under a head under which a house may decide, and in whatever form its
+/// replies are shown.
 pub fn house_records_legal<C, M>()
     ensures { headline.HouseRecordsLegal C M }
 {
     nb_escrow::laws::records_legal();
 }
 
-/// And it records only what a journal of its version and its rate may have.
+/// And it records only what a journal of the head's version and rate may have.
 pub fn house_records_of_rate<C, M>()
     ensures { headline.HouseRecordsOfRate C M }
 {
@@ -150,7 +151,7 @@ pub fn house_records_of_rate<C, M>()
 
 /// Each packet that the house made of a status query shows the decision over the durable entries that it tells the number of: to an authentic query
 /// that asks for no more entries than these, the decision's reply gives the key exactly where one of them pays the order and names who asks. So it
-/// is where the verdict is the house's, in whatever form its decisions are shown.
+/// is where the verdict is the house's, under a head under which a house may decide, and in whatever form its decisions are shown.
 pub fn key_where_it_stands<C, M>()
     ensures { headline.KeyWhereItStands C M }
 {
