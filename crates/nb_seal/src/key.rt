@@ -1,4 +1,4 @@
-ghost use Rattle.std.specs.Prelude.{◌≡◌, ◌++◌};
+ghost use Rattle.std.specs.Prelude.{◌≡◌, ◌↔◌, ◌++◌, IsTrue};
 ghost use Rattle.nb_seal.specs.Hmac.{hmac_of};
 
 use crate::limits::CODE_BYTES;
@@ -40,6 +40,24 @@ impl KeyState {
             key: *key,
             inner,
             outer,
+        }
+    }
+
+    /// Whether this is the state of the key: all 32 bytes are compared.
+    pub fn is_of(&self, key: &[u8; CODE_BYTES]) -> bool
+        ensures { IsTrue result ↔ (self.now ≡ key.now) }
+    {
+        self.key == *key
+    }
+
+    /// A state of the same key. No block of the hash is made again.
+    pub fn copy(&self) -> KeyState
+        ensures { result ≡ self.now }
+    {
+        KeyState {
+            key: self.key,
+            inner: self.inner.clone().unwrap(),
+            outer: self.outer.clone().unwrap(),
         }
     }
 
