@@ -5,7 +5,8 @@
 //! sealed under the merchant's key, and is held by its digest. A [`Receipt`] is what the house says of the order to one of
 //! its parties: [`Signed`] with the house's tag, and sealed under the party's key. A [`Refusal`] is a code and what the code
 //! shows: two numbers and 32 bytes, of which zeros are what it does not show. A [`Reply`] is what one request is answered,
-//! and [`ReplyKeys`] are the keys that it is made with: [`ReplyStates`] are their states, where they were made before.
+//! and [`ReplyKeys`] are the keys that it is made with: [`ReplyStates`] are their states, where they were made before. [`KeptStates`] are
+//! those that a house keeps from one request to the next, each in a [`StateCache`]: nothing that is answered depends on what one holds.
 //!
 //! The layouts stand in `specs/Spelling.antt`, each as a function of the value, and in `specs/Reading.antt`, field by field
 //! with the place of each. That they are the two sides of one thing is proved by the functions of [`laws`]: what was
@@ -17,9 +18,13 @@
 //!
 //! Left to others: what the order's bytes say and whether it is paid, which code a refused order gets and what its receipt
 //! shows to whom, whose keys these are, which refusal a request gets, and how a reply is spelled in bytes. No memory is
-//! taken.
+//! taken, but by a cache where it is made.
+//!
+//! Not said: that a cache keeps anything. A state that is given is that of its key whatever the slots hold, and what keeping saves is for bench to
+//! show.
 #![tactic(auto)]
 
+mod cache;
 mod endorsement;
 pub mod laws;
 pub mod places;
@@ -28,6 +33,7 @@ pub mod refusal;
 mod reply;
 mod sealed;
 
+pub use cache::{KeptStates, PARTY_SLOTS, StateCache};
 pub use endorsement::{
     DigestedEndorsement, Endorsement, MAX_SEALED, digest_of, read_sealed, read_sealed_with,
     write_sealed,
