@@ -93,14 +93,16 @@ same_epoid-true p q same =
     ∙ ap (λ (t : ℕ). made q.merchant.0 t p.serial) (eqb-true p.moment q.moment front.1)
     ∙ ap (λ (n : ℕ). made q.merchant.0 q.moment n) (eqb-true p.serial q.serial parts.1)
 
+-- a number that a legal entry enrols is new
+pub enrols_new : (H : List Entry) (e : Entry) → LegalAfter H e → (id : PartyId) → enrols id e ≡ true → IsNone (party_in H id)
+enrols_new H (Enrol who role acct nonce key) next id names =
+    subst (λ (n : ℕ). IsNone (party_in H (record { 0 = n }))) (eqb-true who.0 id.0 names) next.3
+enrols_new H other next id names = cc
+
 pub enrolled_once : (H : List Entry) → Legal H → (id : PartyId) → count_by (enrols id) H ≤ 1
 enrolled_once = along (λ H. (id : PartyId) → count_by (enrols id) H ≤ 1) (λ id. omega arith) more where
   more : (H : List Entry) (e : Entry) → Legal H → LegalAfter H e → ((id : PartyId) → count_by (enrols id) H ≤ 1) → (id : PartyId) → count_by (enrols id) (H ++ e ∷ []) ≤ 1
-  more H e legal next once id = once_more (enrols id) (party_at id) (tests_party id) H e (new e next) (once id) where
-    new : (e : Entry) → LegalAfter H e → enrols id e ≡ true → IsNone (party_in H id)
-    new (Enrol who role acct nonce key) next names =
-        subst (λ (n : ℕ). IsNone (party_in H (record { 0 = n }))) (eqb-true who.0 id.0 names) next.3
-    new other next names = cc
+  more H e legal next once id = once_more (enrols id) (party_at id) (tests_party id) H e (enrols_new H e next id) (once id)
 
 pub opened_once : (H : List Entry) → Legal H → (a : AcctId) → count_by (opens a) H ≤ 1
 opened_once = along (λ H. (a : AcctId) → count_by (opens a) H ≤ 1) (λ a. omega arith) more where

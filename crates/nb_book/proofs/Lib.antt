@@ -9,3 +9,4 @@ pub mod Layouts
 pub mod Indexing
 pub mod Naming
 pub mod Keeping
+pub mod Confirming

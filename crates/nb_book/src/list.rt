@@ -20,7 +20,8 @@ use std::alloc::Global;
 
 // The entries in order, and the answers to all that they are asked: the party of a number, the holder of an account, the settlement of an order,
 // the fund of a reference, the balance of an account, and the total. Nothing else in this crate looks into them. An answer is found by an index
-// of places of entries, and balances and the total are kept; `Tied` says how. All memory is taken by `new`.
+// of places of entries, and balances and the total are kept; `Tied` says how. Where a party is enrolled is found without an index too, by a place that
+// the entry there confirms. All memory is taken by `new`.
 #[derive(Drop)]
 pub(crate) struct EntryList {
     entries: Vec<Entry>,
@@ -31,6 +32,9 @@ pub(crate) struct EntryList {
     accounts: FixedIndex,
     references: FixedIndex,
     orders: FixedIndex,
+    // For each remainder of a party's number the place of the last enrolment of such a number, or any other place: it is believed only where the
+    // entry there enrols the number that is asked for.
+    enrolments: Vec<u32>,
     // A number for each entry: at the place of an enrolment the balance of the account that it opens.
     balances: Vec<u64>,
     // All that the entries brought into the house.
@@ -39,16 +43,20 @@ pub(crate) struct EntryList {
     fees: u64,
 }
 
-// The indexes of a list with no entries.
+// How many remainders of parties' numbers have a place of an enrolment.
+const REMAINDERS: usize = 4096;
+
+// The indexes of a list with no entries, and its places of enrolments.
 #[derive(Drop)]
 struct EmptyIndexes {
     parties: FixedIndex,
     accounts: FixedIndex,
     references: FixedIndex,
     orders: FixedIndex,
+    enrolments: Vec<u32>,
 }
 
-// Indexes with room for so many entries.
+// Indexes with room for so many entries, and places for all remainders.
 fn indexes_for(alloc: Global, cap: u32, key: &[u8; 16]) -> Result<EmptyIndexes, NoMemory>
     requires { cap ≤ MAX_CAP }
     ensures { IfOk result (AreEmptyIndexes cap key.now) }
@@ -58,6 +66,7 @@ fn indexes_for(alloc: Global, cap: u32, key: &[u8; 16]) -> Result<EmptyIndexes, 
         accounts: index_for(alloc, cap, key)?,
         references: index_for(alloc, cap, key)?,
         orders: index_for(alloc, cap, key)?,
+        enrolments: vec![in alloc; 0; REMAINDERS]?,
     })
 }
 
@@ -69,6 +78,13 @@ fn index_for(alloc: Global, cap: u32, key: &[u8; 16]) -> Result<FixedIndex, NoMe
     match FixedIndex::new(alloc, 2 * cap + 2, key) {
         Ok(index) => Ok(index),
         Err(_) => Err(NoMemory),
+    }
+}
+
+// Keeps the place of this number's enrolment.
+fn keep_place(places: &mut Vec<u32>, id: PartyId, at: u32) {
+    if let Some(place) = places.get_mut(id.0 as usize % REMAINDERS) {
+        *place = at;
     }
 }
 
@@ -102,6 +118,7 @@ impl EntryList {
             accounts,
             references,
             orders,
+            enrolments,
         } = indexes_for(alloc, cap, key)?;
         Ok(EntryList {
             entries: Vec::with_capacity(alloc, cap as usize)?,
@@ -110,6 +127,7 @@ impl EntryList {
             accounts,
             references,
             orders,
+            enrolments,
             balances: Vec::with_capacity(alloc, cap as usize)?,
             total: 0,
             fees: 0,
@@ -168,6 +186,7 @@ impl EntryList {
             Entry::Enrol { id, acct, .. } => {
                 self.parties.put(&name_key(id.0), at);
                 self.accounts.put(&name_key(acct.0), at);
+                keep_place(&mut self.enrolments, id, at);
                 self.balances.push_reserved(0);
             }
             Entry::Fund {
@@ -183,27 +202,31 @@ impl EntryList {
             }
             Entry::Paid {
                 ref epoid,
+                consumer,
+                merchant,
                 price,
                 cacct,
                 macct,
                 ..
             } => {
-                let payer = self.seat(cacct);
-                let payee = self.seat(macct);
+                let payer = self.seat_of(consumer, cacct);
+                let payee = self.seat_of(merchant, macct);
                 transfer(&mut self.balances, payer, price.0, payee, price.0);
                 self.orders.put(&epoid.write(), at);
                 self.balances.push_reserved(0);
             }
             Entry::Charged {
                 ref epoid,
+                consumer,
+                merchant,
                 price,
                 fee,
                 cacct,
                 macct,
                 ..
             } => {
-                let payer = self.seat(cacct);
-                let payee = self.seat(macct);
+                let payer = self.seat_of(consumer, cacct);
+                let payee = self.seat_of(merchant, macct);
                 transfer(&mut self.balances, payer, price.0, payee, price.0 - fee);
                 self.fees += fee;
                 self.orders.put(&epoid.write(), at);
@@ -263,27 +286,31 @@ impl EntryList {
             }
             Entry::Paid {
                 ref epoid,
+                consumer,
+                merchant,
                 price,
                 cacct,
                 macct,
                 ..
             } => {
-                let payer = self.seat(cacct);
-                let payee = self.seat(macct);
+                let payer = self.seat_of(consumer, cacct);
+                let payee = self.seat_of(merchant, macct);
                 transfer(&mut self.balances, payee, price.0, payer, price.0);
                 self.orders.take_off(&epoid.write());
                 let _ = self.balances.pop();
             }
             Entry::Charged {
                 ref epoid,
+                consumer,
+                merchant,
                 price,
                 fee,
                 cacct,
                 macct,
                 ..
             } => {
-                let payer = self.seat(cacct);
-                let payee = self.seat(macct);
+                let payer = self.seat_of(consumer, cacct);
+                let payee = self.seat_of(merchant, macct);
                 transfer(&mut self.balances, payee, price.0 - fee, payer, price.0);
                 self.fees -= fee;
                 self.orders.take_off(&epoid.write());
@@ -318,8 +345,58 @@ impl EntryList {
         }
     }
 
+    // The same for the account of a party, which stands at the place of the party's enrolment.
+    fn seat_of(&self, id: PartyId, account: AcctId) -> usize
+        requires tied { Tied self.now self.now.entries.items }
+        requires legal { Legal self.now.entries.items }
+        requires held { IsSome (holder_in self.now.entries.items account) }
+        ensures place { first_place (opens account) self.now.entries.items ≡ Some result }
+        ensures within { result < length self.now.entries.items }
+    {
+        if let Some(party) = self.confirmed(id) {
+            if party.acct == account {
+                return party.at as usize;
+            }
+        }
+        self.seat(account)
+    }
+
     // The party that the first enrolment of this number enrols.
     pub(crate) fn party(&self, id: PartyId) -> Option<Party>
+        requires tied { Tied self.now self.now.entries.items }
+        requires legal { Legal self.now.entries.items }
+        ensures { result ≡ party_in self.now.entries.items id }
+    {
+        match self.confirmed(id) {
+            Some(party) => Some(party),
+            None => self.indexed(id),
+        }
+    }
+
+    // The same, where the entry at the place that is kept for this number enrols it.
+    fn confirmed(&self, id: PartyId) -> Option<Party>
+        requires { Legal self.now.entries.items }
+        ensures { IfSome result (λ party. party_in self.now.entries.items id ≡ Some party) }
+    {
+        match self.enrolments.get(id.0 as usize % REMAINDERS) {
+            Some(at) => self.enrolled_at(*at, id),
+            None => None,
+        }
+    }
+
+    // The same, where the entry at this place, if there is one, enrols it.
+    fn enrolled_at(&self, at: u32, id: PartyId) -> Option<Party>
+        requires { Legal self.now.entries.items }
+        ensures { IfSome result (λ party. party_in self.now.entries.items id ≡ Some party) }
+    {
+        if at as usize >= self.entries.len() {
+            return None;
+        }
+        self.entries[at as usize].enrolled(at, id)
+    }
+
+    // The same by the index.
+    fn indexed(&self, id: PartyId) -> Option<Party>
         requires { Tied self.now self.now.entries.items }
         ensures { result ≡ party_in self.now.entries.items id }
     {

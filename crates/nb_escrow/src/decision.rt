@@ -16,7 +16,7 @@ use crate::status::decide_status;
 use crate::ticket::decide_ticket;
 use nb_book::{Book, Entry};
 use nb_endorse::refusal::NOT_SERVED;
-use nb_endorse::{Refusal, Reply, ReplyKeys, ReplyStates};
+use nb_endorse::{KeptStates, Refusal, Reply, ReplyKeys, ReplyStates};
 use nb_units::AcctId;
 use nb_units::frames::{
     ENROL_REQUEST, FUND_REQUEST, ORDER_REQUEST, STATUS_REQUEST, TICKET_REQUEST,
@@ -48,17 +48,26 @@ pub fn decide(book: &Book, head: &Head, kind: u8, body: &[u8], moment: u64) -> D
     // order with it and names who asks.
     ensures key { kind ≡ STATUS_REQUEST → KeyWherePaid book.now.entries body.now result.reply }
 {
-    decide_with(book, head, kind, body, moment, &mut ReplyStates::none())
+    decide_with(
+        book,
+        head,
+        kind,
+        body,
+        moment,
+        &mut KeptStates::none(),
+        &mut ReplyStates::none(),
+    )
 }
 
-/// Decides as [`decide`] does, and leaves the states of the reply's keys. Those of a merchant, a consumer and the house are made
-/// once for all codes of a request.
+/// Decides as [`decide`] does, with the states of keys that are kept, and leaves those of the reply's keys. The state of a key that is not kept is
+/// made once for all codes of the request, and is kept then. What is decided does not depend on what is kept.
 pub fn decide_with(
     book: &Book,
     head: &Head,
     kind: u8,
     body: &[u8],
     moment: u64,
+    kept: &mut KeptStates,
     states: &mut ReplyStates,
 ) -> Decision
     requires terms { IsRuling head.now }
@@ -76,7 +85,7 @@ pub fn decide_with(
     ensures states { states.new ≡ result.keys }
 {
     *states = ReplyStates::none();
-    match test(book, head, kind, body, moment, states) {
+    match test(book, head, kind, body, moment, kept, states) {
         Ok(decision) => decision,
         Err(refusal) => {
             *states = ReplyStates::none();
@@ -96,6 +105,7 @@ fn test(
     kind: u8,
     body: &[u8],
     moment: u64,
+    kept: &mut KeptStates,
     states: &mut ReplyStates,
 ) -> Result<Decision, Refusal>
     requires terms { IsRuling head.now }
@@ -108,11 +118,11 @@ fn test(
     ensures states { IfOk result (λ decision. decision.keys ≡ states.new) }
 {
     match kind {
-        ORDER_REQUEST => decide_order(book, head, body, moment, states),
-        STATUS_REQUEST => decide_status(book, head, body, states),
-        TICKET_REQUEST => decide_ticket(book, head, body, moment, states),
-        ENROL_REQUEST => decide_enrolment(book, head, body),
-        FUND_REQUEST => decide_funding(book, head, body),
+        ORDER_REQUEST => decide_order(book, head, body, moment, kept, states),
+        STATUS_REQUEST => decide_status(book, head, body, kept, states),
+        TICKET_REQUEST => decide_ticket(book, head, body, moment, kept, states),
+        ENROL_REQUEST => decide_enrolment(book, head, body, kept),
+        FUND_REQUEST => decide_funding(book, head, body, kept),
         _ => Err(Refusal::of(NOT_SERVED, u64::from(kind), 0)),
     }
 }

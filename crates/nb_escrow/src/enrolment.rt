@@ -11,9 +11,8 @@ use crate::decision::Decision;
 use crate::head::Head;
 use nb_body::Enrolment;
 use nb_book::{Book, Entry, Party};
-use nb_endorse::Refusal;
 use nb_endorse::refusal::PARTY_HELD;
-use nb_seal::hmac;
+use nb_endorse::{KeptStates, Refusal};
 use nb_units::{AcctId, PartyId};
 
 // What the tag of an enrolment is over begins with this.
@@ -45,7 +44,12 @@ fn place_of(asked: &Enrolment, party: &Party) -> Option<u64>
 
 // The tests of an enrolment, in order.
 #[tactic(auto, unfolding(crate::specs::Enrolments::enrol_steps))]
-pub(crate) fn decide_enrolment(book: &Book, head: &Head, body: &[u8]) -> Result<Decision, Refusal>
+pub(crate) fn decide_enrolment(
+    book: &Book,
+    head: &Head,
+    body: &[u8],
+    kept: &mut KeptStates,
+) -> Result<Decision, Refusal>
     ensures steps { result ≡ enrol_steps book.now.entries head.now book.now.cap body.now }
     ensures legal { IfOk result (λ decision. IfSome decision.entry (NextUnder head.now.version head.now.rate book.now.entries)) }
     ensures room { IfOk result (λ decision. IsSome decision.entry → length book.now.entries < book.now.cap) }
@@ -53,10 +57,8 @@ pub(crate) fn decide_enrolment(book: &Book, head: &Head, body: &[u8]) -> Result<
     ensures keys { IfOk result (λ decision. decision.keys ≡ no_keys) }
 {
     let asked = Enrolment::read(body)?;
-    check_tag(
-        &asked.tag,
-        &hmac(&head.operator, &ENROL_LABEL, signed(body)),
-    )?;
+    let operator_key = kept.operator(&head.operator);
+    check_tag(&asked.tag, &operator_key.code(&ENROL_LABEL, signed(body)))?;
     let entry = entry_of(&asked);
     if let Some(at) = enrolled_at(book, &asked) {
         return Ok(Decision::done(asked.acct, at, balance_now(book, asked.acct), None));

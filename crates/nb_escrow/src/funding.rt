@@ -13,9 +13,8 @@ use crate::decision::Decision;
 use crate::head::Head;
 use nb_body::Funding;
 use nb_book::{Book, Entry, Funded, MAX_TOTAL};
-use nb_endorse::Refusal;
 use nb_endorse::refusal::{ACCOUNT_NOT_HELD, REFERENCE_HELD, TOTAL_TOO_HIGH};
-use nb_seal::hmac;
+use nb_endorse::{KeptStates, Refusal};
 use nb_units::AcctId;
 
 // What the tag of a funding is over begins with this.
@@ -42,7 +41,12 @@ fn place_of(asked: &Funding, funded: &Funded) -> Option<u64>
 
 // The tests of a funding, in order.
 #[tactic(auto, unfolding(crate::specs::Fundings::fund_steps))]
-pub(crate) fn decide_funding(book: &Book, head: &Head, body: &[u8]) -> Result<Decision, Refusal>
+pub(crate) fn decide_funding(
+    book: &Book,
+    head: &Head,
+    body: &[u8],
+    kept: &mut KeptStates,
+) -> Result<Decision, Refusal>
     ensures steps { result ≡ fundings.fund_steps book.now.entries head.now book.now.cap body.now }
     ensures legal { IfOk result (λ decision. IfSome decision.entry (NextUnder head.now.version head.now.rate book.now.entries)) }
     ensures room { IfOk result (λ decision. IsSome decision.entry → length book.now.entries < book.now.cap) }
@@ -50,7 +54,8 @@ pub(crate) fn decide_funding(book: &Book, head: &Head, body: &[u8]) -> Result<De
     ensures keys { IfOk result (λ decision. decision.keys ≡ no_keys) }
 {
     let asked = Funding::read(body)?;
-    check_tag(&asked.tag, &hmac(&head.operator, &FUND_LABEL, signed(body)))?;
+    let operator_key = kept.operator(&head.operator);
+    check_tag(&asked.tag, &operator_key.code(&FUND_LABEL, signed(body)))?;
     let entry = entry_of(&asked);
     if let Some(at) = funded_at(book, &asked) {
         return Ok(Decision::done(asked.acct, at, balance_now(book, asked.acct), None));

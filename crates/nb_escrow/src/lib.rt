@@ -8,7 +8,8 @@
 //! `Settlements.antt`. The layout of what may be asked for is `nb_body`'s, and that of a request for a ticket `nb_ticket`'s. In `src/` each of these has its file: `order.rt`, `payment.rt`, `status.rt`, `ticket.rt`, `enrolment.rt`,
 //! `funding.rt`, `checks.rt`, `settlement.rt`.
 //!
-//! [`decide_with`] is the same, and leaves the states of the reply's keys, which were made once for all codes of the request.
+//! [`decide_with`] is the same, with states of keys that are kept from one request to the next, and leaves those of the reply's keys, which were made
+//! at most once for all codes of the request.
 //!
 //! A decision's entry is legal after those held, and within the journal's cap. No memory is taken. What holds of every
 //! verdict stands in `specs/Laws.antt` and `Replies.antt`, and is proved by the functions of [`laws`]. Among it stands, in words

@@ -26,8 +26,8 @@ use nb_endorse::refusal::{
     WRONG_TAG,
 };
 use nb_endorse::{
-    DigestedEndorsement, Endorsement, Refusal, Reply, ReplyKeys, ReplyStates, SealedFault,
-    read_sealed_with,
+    DigestedEndorsement, Endorsement, KeptStates, Refusal, Reply, ReplyKeys, ReplyStates,
+    SealedFault, read_sealed_with,
 };
 use nb_epo::{Hidden, Order, RevealFault, read_order, read_tag_ok, reveal_with};
 use nb_seal::KeyState;
@@ -56,6 +56,7 @@ pub(crate) fn decide_order(
     head: &Head,
     body: &[u8],
     moment: u64,
+    kept: &mut KeptStates,
     states: &mut ReplyStates,
 ) -> Result<Decision, Refusal>
     requires { IsRuling head.now }
@@ -67,21 +68,17 @@ pub(crate) fn decide_order(
 {
     let asked = EndorsedOrder::read(body)?;
     let merchant = find_party_as(book, MERCHANT, asked.merchant)?;
-    let merchant_key = KeyState::new(&merchant.key);
+    let merchant_key = kept.merchant(asked.merchant, &merchant.key);
     let opened = open_endorsement(&asked.sealed, &merchant_key)?;
     let endorsement = opened.endorsement;
     let digest = opened.digest;
     let order = read_endorsed(&endorsement.order)?;
     let consumer = find_party_as(book, CONSUMER, order.consumer)?;
     check_merchant(asked.merchant, &order)?;
-    let consumer_key = KeyState::new(&consumer.key);
+    let consumer_key = kept.consumer(order.consumer, &consumer.key);
     check_order_tag(&endorsement.order, &order, &consumer_key)?;
     let hidden = open_hidden(&order.hidden, &consumer_key)?;
-    *states = ReplyStates::from_states(
-        KeyState::new(&head.house),
-        merchant_key,
-        Some(consumer_key),
-    );
+    *states = ReplyStates::from_states(kept.house(&head.house), merchant_key, Some(consumer_key));
     let presented = Presented {
         merchant,
         consumer,

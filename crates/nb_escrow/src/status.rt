@@ -8,9 +8,9 @@ use crate::decision::Decision;
 use crate::head::Head;
 use crate::settlement::settled_before;
 use nb_body::StatusQuery;
-use nb_book::{Book, Party};
+use nb_book::{Book, MERCHANT, Party};
 use nb_endorse::refusal::TOO_FEW_ENTRIES;
-use nb_endorse::{Refusal, Reply, ReplyKeys, ReplyStates};
+use nb_endorse::{KeptStates, Refusal, Reply, ReplyKeys, ReplyStates};
 use nb_seal::KeyState;
 use nb_units::{Cut, Epoid, Malformed, PartyId, Tag};
 
@@ -23,6 +23,7 @@ pub(crate) fn decide_status(
     book: &Book,
     head: &Head,
     body: &[u8],
+    kept: &mut KeptStates,
     states: &mut ReplyStates,
 ) -> Result<Decision, Refusal>
     ensures steps { result ≡ status_steps book.now.entries head.now body.now }
@@ -33,11 +34,22 @@ pub(crate) fn decide_status(
 {
     let asked = StatusQuery::read(body)?;
     let asker = find_party(book, asked.asker)?;
-    let asker_key = KeyState::new(&asker.key);
+    let asker_key = asker_state(kept, asked.asker, &asker);
     check_tag(&asked.tag, &asker_key.code(&STATUS_LABEL, signed(body)))?;
     check_entries(book, asked.least)?;
-    *states = ReplyStates::from_states(KeyState::new(&head.house), asker_key, None);
+    *states = ReplyStates::from_states(kept.house(&head.house), asker_key, None);
     Ok(status_of(book, head, &asker, &asked))
+}
+
+// The state of the key of who asks, which is kept with those of its role.
+fn asker_state(kept: &mut KeptStates, id: PartyId, asker: &Party) -> KeyState
+    ensures { result ≡ asker.now.key }
+{
+    if asker.role == MERCHANT {
+        kept.merchant(id, &asker.key)
+    } else {
+        kept.consumer(id, &asker.key)
+    }
 }
 
 #[tactic(auto, unfolding(crate::specs::Statuses::enough_entries))]

@@ -10,7 +10,7 @@ use crate::decision::Decision;
 use crate::head::Head;
 use nb_book::{Book, CONSUMER, MERCHANT};
 use nb_endorse::refusal::WRONG_TAG;
-use nb_endorse::{Refusal, Reply, ReplyKeys, ReplyStates};
+use nb_endorse::{KeptStates, Refusal, Reply, ReplyKeys, ReplyStates};
 use nb_seal::KeyState;
 use nb_ticket::{TicketAsk, request_ok_with, session_key_with, until};
 
@@ -21,6 +21,7 @@ pub(crate) fn decide_ticket(
     head: &Head,
     body: &[u8],
     moment: u64,
+    kept: &mut KeptStates,
     states: &mut ReplyStates,
 ) -> Result<Decision, Refusal>
     ensures steps { result ≡ ticket_steps book.now.entries head.now body.now moment }
@@ -30,11 +31,11 @@ pub(crate) fn decide_ticket(
 {
     let asked = TicketAsk::read(body)?;
     let consumer = find_party_as(book, CONSUMER, asked.consumer)?;
-    let consumer_key = KeyState::new(&consumer.key);
+    let consumer_key = kept.consumer(asked.consumer, &consumer.key);
     check_request_tag(&asked, &consumer_key)?;
     let merchant = find_party_as(book, MERCHANT, asked.merchant)?;
-    let merchant_key = KeyState::new(&merchant.key);
-    let house_key = KeyState::new(&head.house);
+    let merchant_key = kept.merchant(asked.merchant, &merchant.key);
+    let house_key = kept.house(&head.house);
     let reply = granted(&asked, &house_key, moment);
     *states = ReplyStates::from_states(house_key, consumer_key, Some(merchant_key));
     Ok(Decision {

@@ -88,25 +88,25 @@ take_off-requires-in-Fund-clause-last c =
     let b : BeforeLast c.args.self.now front e = before_last c.args.self.now e c.requires.tied c.requires.legal c.requires.some (λ d. c.requires.last d ∙ c.in-Fund.is) in
     (is_last reference_key c.args.self.now.cap c.args.self.now.references front e c.in-Fund.reference b.tied.references refl).1
 
-pub seat-payer-requires-clause-held : goal.seat-payer-requires-clause-held
-seat-payer-requires-clause-held c =
+pub seat_of-payer-requires-clause-held : goal.seat_of-payer-requires-clause-held
+seat_of-payer-requires-clause-held c =
     let front : List Entry = take (length c.args.self.now.entries.items - 1) c.args.self.now.entries.items in
     let e : Entry = Paid c.in-Paid.digest c.in-Paid.epoid c.in-Paid.consumer c.in-Paid.merchant c.in-Paid.product c.in-Paid.price c.in-Paid.cacct c.in-Paid.macct c.in-Paid.moment c.in-Paid.key in
     let b : BeforeLast c.args.self.now front e = before_last c.args.self.now e c.requires.tied c.requires.legal c.requires.some (λ d. c.requires.last d ∙ c.in-Paid.is) in
     subst (λ (xs : List Entry). IsSome (holder_in xs c.in-Paid.cacct)) (sym b.behind.whole) (held_behind front e c.in-Paid.cacct (both_held front c.in-Paid.epoid c.in-Paid.consumer c.in-Paid.merchant c.in-Paid.price c.in-Paid.cacct c.in-Paid.macct c.in-Paid.moment b.behind.next).0)
 
-pub seat-payee-requires-in-Paid-clause-held : goal.seat-payee-requires-in-Paid-clause-held
-seat-payee-requires-in-Paid-clause-held c =
+pub seat_of-payee-requires-clause-held : goal.seat_of-payee-requires-clause-held
+seat_of-payee-requires-clause-held c =
     let front : List Entry = take (length c.args.self.now.entries.items - 1) c.args.self.now.entries.items in
     let e : Entry = Paid c.in-Paid.digest c.in-Paid.epoid c.in-Paid.consumer c.in-Paid.merchant c.in-Paid.product c.in-Paid.price c.in-Paid.cacct c.in-Paid.macct c.in-Paid.moment c.in-Paid.key in
     let b : BeforeLast c.args.self.now front e = before_last c.args.self.now e c.requires.tied c.requires.legal c.requires.some (λ d. c.requires.last d ∙ c.in-Paid.is) in
     subst (λ (xs : List Entry). IsSome (holder_in xs c.in-Paid.macct)) (sym b.behind.whole) (held_behind front e c.in-Paid.macct (both_held front c.in-Paid.epoid c.in-Paid.consumer c.in-Paid.merchant c.in-Paid.price c.in-Paid.cacct c.in-Paid.macct c.in-Paid.moment b.behind.next).1)
 
 pub transfer-requires-clause-payer : goal.transfer-requires-clause-payer
-transfer-requires-clause-payer c = omega (arith, c.seat-payee-in-Paid.ensures.within, c.requires.tied.balances.long)
+transfer-requires-clause-payer c = omega (arith, c.seat_of-payee.ensures.within, c.requires.tied.balances.long)
 
 pub transfer-requires-clause-payee : goal.transfer-requires-clause-payee
-transfer-requires-clause-payee c = omega (arith, c.seat-payer.ensures.within, c.requires.tied.balances.long)
+transfer-requires-clause-payee c = omega (arith, c.seat_of-payer.ensures.within, c.requires.tied.balances.long)
 
 pub transfer-requires-clause-held : goal.transfer-requires-clause-held
 transfer-requires-clause-held c =
@@ -115,7 +115,7 @@ transfer-requires-clause-held c =
     let b : BeforeLast c.args.self.now front e = before_last c.args.self.now e c.requires.tied c.requires.legal c.requires.some (λ d. c.requires.last d ∙ c.in-Paid.is) in
     omega (
       arith,
-      was_brought front e c.args.self.now.entries.items c.args.self.now.balances.items c.in-Paid.macct c.seat-payee-in-Paid.result b.behind c.requires.tied.balances refl c.seat-payee-in-Paid.ensures.place,
+      was_brought front e c.args.self.now.entries.items c.args.self.now.balances.items c.in-Paid.macct c.seat_of-payee.result b.behind c.requires.tied.balances refl c.seat_of-payee.ensures.place,
       own_amount c.in-Paid.macct c.in-Paid.price.0,
     )
 
@@ -124,7 +124,7 @@ transfer-requires-clause-fits c =
     let front : List Entry = take (length c.args.self.now.entries.items - 1) c.args.self.now.entries.items in
     let e : Entry = Paid c.in-Paid.digest c.in-Paid.epoid c.in-Paid.consumer c.in-Paid.merchant c.in-Paid.product c.in-Paid.price c.in-Paid.cacct c.in-Paid.macct c.in-Paid.moment c.in-Paid.key in
     let b : BeforeLast c.args.self.now front e = before_last c.args.self.now e c.requires.tied c.requires.legal c.requires.some (λ d. c.requires.last d ∙ c.in-Paid.is) in
-    price_fits c.args.self.now.entries.items c.args.self.now.balances.items c.in-Paid.cacct c.seat-payer.result c.in-Paid.price c.in-Paid.price.0 c.requires.legal c.requires.tied.balances c.seat-payer.ensures.place b.behind.next.3 (omega arith)
+    price_fits c.args.self.now.entries.items c.args.self.now.balances.items c.in-Paid.cacct c.seat_of-payer.result c.in-Paid.price c.in-Paid.price.0 c.requires.legal c.requires.tied.balances c.seat_of-payer.ensures.place b.behind.next.3 (omega arith)
 
 pub take_off-requires-in-Paid-clause-some : goal.take_off-requires-in-Paid-clause-some
 take_off-requires-in-Paid-clause-some c =
@@ -140,15 +140,15 @@ take_off-requires-in-Paid-clause-last c =
     let b : BeforeLast c.args.self.now front e = before_last c.args.self.now e c.requires.tied c.requires.legal c.requires.some (λ d. c.requires.last d ∙ c.in-Paid.is) in
     (is_last order_key c.args.self.now.cap c.args.self.now.orders front e c.write.result b.tied.orders (ap (λ (k : List ℕ). Some k) (sym c.write.ensures.spelling))).1
 
-pub seat-payer-requires-in-Charged-clause-held : goal.seat-payer-requires-in-Charged-clause-held
-seat-payer-requires-in-Charged-clause-held c =
+pub seat_of-payer-requires-in-Charged-clause-held : goal.seat_of-payer-requires-in-Charged-clause-held
+seat_of-payer-requires-in-Charged-clause-held c =
     let front : List Entry = take (length c.args.self.now.entries.items - 1) c.args.self.now.entries.items in
     let e : Entry = Charged c.in-Charged.digest c.in-Charged.epoid c.in-Charged.consumer c.in-Charged.merchant c.in-Charged.product c.in-Charged.price c.in-Charged.fee c.in-Charged.cacct c.in-Charged.macct c.in-Charged.moment c.in-Charged.key in
     let b : BeforeLast c.args.self.now front e = before_last c.args.self.now e c.requires.tied c.requires.legal c.requires.some (λ d. c.requires.last d ∙ c.in-Charged.is) in
     subst (λ (xs : List Entry). IsSome (holder_in xs c.in-Charged.cacct)) (sym b.behind.whole) (held_behind front e c.in-Charged.cacct (both_held front c.in-Charged.epoid c.in-Charged.consumer c.in-Charged.merchant c.in-Charged.price c.in-Charged.cacct c.in-Charged.macct c.in-Charged.moment b.behind.next.0).0)
 
-pub seat-payee-requires-in-Charged-clause-held : goal.seat-payee-requires-in-Charged-clause-held
-seat-payee-requires-in-Charged-clause-held c =
+pub seat_of-payee-requires-in-Charged-clause-held : goal.seat_of-payee-requires-in-Charged-clause-held
+seat_of-payee-requires-in-Charged-clause-held c =
     let front : List Entry = take (length c.args.self.now.entries.items - 1) c.args.self.now.entries.items in
     let e : Entry = Charged c.in-Charged.digest c.in-Charged.epoid c.in-Charged.consumer c.in-Charged.merchant c.in-Charged.product c.in-Charged.price c.in-Charged.fee c.in-Charged.cacct c.in-Charged.macct c.in-Charged.moment c.in-Charged.key in
     let b : BeforeLast c.args.self.now front e = before_last c.args.self.now e c.requires.tied c.requires.legal c.requires.some (λ d. c.requires.last d ∙ c.in-Charged.is) in
@@ -162,10 +162,10 @@ overflow_sub-price c =
     fee_within c.in-Charged.price c.in-Charged.fee b.behind.next.1
 
 pub transfer-requires-in-Charged-clause-payer : goal.transfer-requires-in-Charged-clause-payer
-transfer-requires-in-Charged-clause-payer c = omega (arith, c.seat-payee-in-Charged.ensures.within, c.requires.tied.balances.long)
+transfer-requires-in-Charged-clause-payer c = omega (arith, c.seat_of-payee-in-Charged.ensures.within, c.requires.tied.balances.long)
 
 pub transfer-requires-in-Charged-clause-payee : goal.transfer-requires-in-Charged-clause-payee
-transfer-requires-in-Charged-clause-payee c = omega (arith, c.seat-payer-in-Charged.ensures.within, c.requires.tied.balances.long)
+transfer-requires-in-Charged-clause-payee c = omega (arith, c.seat_of-payer-in-Charged.ensures.within, c.requires.tied.balances.long)
 
 pub transfer-requires-in-Charged-clause-held : goal.transfer-requires-in-Charged-clause-held
 transfer-requires-in-Charged-clause-held c =
@@ -174,7 +174,7 @@ transfer-requires-in-Charged-clause-held c =
     let b : BeforeLast c.args.self.now front e = before_last c.args.self.now e c.requires.tied c.requires.legal c.requires.some (λ d. c.requires.last d ∙ c.in-Charged.is) in
     omega (
       arith,
-      was_brought front e c.args.self.now.entries.items c.args.self.now.balances.items c.in-Charged.macct c.seat-payee-in-Charged.result b.behind c.requires.tied.balances refl c.seat-payee-in-Charged.ensures.place,
+      was_brought front e c.args.self.now.entries.items c.args.self.now.balances.items c.in-Charged.macct c.seat_of-payee-in-Charged.result b.behind c.requires.tied.balances refl c.seat_of-payee-in-Charged.ensures.place,
       own_amount c.in-Charged.macct (c.in-Charged.price.0 - c.in-Charged.fee),
     )
 
@@ -183,7 +183,7 @@ transfer-requires-in-Charged-clause-fits c =
     let front : List Entry = take (length c.args.self.now.entries.items - 1) c.args.self.now.entries.items in
     let e : Entry = Charged c.in-Charged.digest c.in-Charged.epoid c.in-Charged.consumer c.in-Charged.merchant c.in-Charged.product c.in-Charged.price c.in-Charged.fee c.in-Charged.cacct c.in-Charged.macct c.in-Charged.moment c.in-Charged.key in
     let b : BeforeLast c.args.self.now front e = before_last c.args.self.now e c.requires.tied c.requires.legal c.requires.some (λ d. c.requires.last d ∙ c.in-Charged.is) in
-    price_fits c.args.self.now.entries.items c.args.self.now.balances.items c.in-Charged.cacct c.seat-payer-in-Charged.result c.in-Charged.price c.in-Charged.price.0 c.requires.legal c.requires.tied.balances c.seat-payer-in-Charged.ensures.place b.behind.next.0.3 (omega arith)
+    price_fits c.args.self.now.entries.items c.args.self.now.balances.items c.in-Charged.cacct c.seat_of-payer-in-Charged.result c.in-Charged.price c.in-Charged.price.0 c.requires.legal c.requires.tied.balances c.seat_of-payer-in-Charged.ensures.place b.behind.next.0.3 (omega arith)
 
 pub overflow_sub-self-in-Charged : goal.overflow_sub-self-in-Charged
 overflow_sub-self-in-Charged c =
@@ -281,8 +281,8 @@ returns-in-Paid-clause-tied c =
     let front : List Entry = take (length c.args.self.now.entries.items - 1) c.args.self.now.entries.items in
     let e : Entry = Paid c.in-Paid.digest c.in-Paid.epoid c.in-Paid.consumer c.in-Paid.merchant c.in-Paid.product c.in-Paid.price c.in-Paid.cacct c.in-Paid.macct c.in-Paid.moment c.in-Paid.key in
     let b : BeforeLast c.args.self.now front e = before_last c.args.self.now e c.requires.tied c.requires.legal c.requires.some (λ d. c.requires.last d ∙ c.in-Paid.is) in
-    let seat : first_place (opens c.in-Paid.cacct) front ≡ Some c.seat-payer.result = place_before front e c.args.self.now.entries.items c.in-Paid.cacct c.seat-payer.result b.behind refl c.seat-payer.ensures.place in
-    let seat_too : first_place (opens c.in-Paid.macct) front ≡ Some c.seat-payee-in-Paid.result = place_before front e c.args.self.now.entries.items c.in-Paid.macct c.seat-payee-in-Paid.result b.behind refl c.seat-payee-in-Paid.ensures.place in
+    let seat : first_place (opens c.in-Paid.cacct) front ≡ Some c.seat_of-payer.result = place_before front e c.args.self.now.entries.items c.in-Paid.cacct c.seat_of-payer.result b.behind refl c.seat_of-payer.ensures.place in
+    let seat_too : first_place (opens c.in-Paid.macct) front ≡ Some c.seat_of-payee.result = place_before front e c.args.self.now.entries.items c.in-Paid.macct c.seat_of-payee.result b.behind refl c.seat_of-payee.ensures.place in
     let count : c.transfer.new.balances.len - 1 ≡ length front = omega (arith, c.transfer.new.balances.ok.0, c.transfer.ensures.long, b.tied.balances.long, length_push front e) in
     record {
       most = c.requires.tied.most;
@@ -294,7 +294,7 @@ returns-in-Paid-clause-tied c =
       balances = rw (c.pop-in-Paid.ensures.rest, count)
           (kept_pop front e c.args.self.now.balances.items c.transfer.new.balances.items b.behind.legal b.behind.next b.tied.balances c.transfer.ensures.long
           (λ a place placed.
-          transferred front c.in-Paid.macct c.in-Paid.cacct a c.seat-payee-in-Paid.result c.seat-payer.result place c.args.self.now.balances.items c.transfer.new.balances.items c.in-Paid.price.0 c.in-Paid.price.0
+          transferred front c.in-Paid.macct c.in-Paid.cacct a c.seat_of-payee.result c.seat_of-payer.result place c.args.self.now.balances.items c.transfer.new.balances.items c.in-Paid.price.0 c.in-Paid.price.0
           seat_too seat placed (c.transfer.ensures.each place)));
       room = omega (arith, c.requires.tied.room, c.transfer.ensures.capacity, c.pop-in-Paid.ensures.capacity);
       sum = omega (arith, b.tied.sum, sum_by_push fund front e);
@@ -306,8 +306,8 @@ returns-in-Charged-clause-tied c =
     let front : List Entry = take (length c.args.self.now.entries.items - 1) c.args.self.now.entries.items in
     let e : Entry = Charged c.in-Charged.digest c.in-Charged.epoid c.in-Charged.consumer c.in-Charged.merchant c.in-Charged.product c.in-Charged.price c.in-Charged.fee c.in-Charged.cacct c.in-Charged.macct c.in-Charged.moment c.in-Charged.key in
     let b : BeforeLast c.args.self.now front e = before_last c.args.self.now e c.requires.tied c.requires.legal c.requires.some (λ d. c.requires.last d ∙ c.in-Charged.is) in
-    let seat : first_place (opens c.in-Charged.cacct) front ≡ Some c.seat-payer-in-Charged.result = place_before front e c.args.self.now.entries.items c.in-Charged.cacct c.seat-payer-in-Charged.result b.behind refl c.seat-payer-in-Charged.ensures.place in
-    let seat_too : first_place (opens c.in-Charged.macct) front ≡ Some c.seat-payee-in-Charged.result = place_before front e c.args.self.now.entries.items c.in-Charged.macct c.seat-payee-in-Charged.result b.behind refl c.seat-payee-in-Charged.ensures.place in
+    let seat : first_place (opens c.in-Charged.cacct) front ≡ Some c.seat_of-payer-in-Charged.result = place_before front e c.args.self.now.entries.items c.in-Charged.cacct c.seat_of-payer-in-Charged.result b.behind refl c.seat_of-payer-in-Charged.ensures.place in
+    let seat_too : first_place (opens c.in-Charged.macct) front ≡ Some c.seat_of-payee-in-Charged.result = place_before front e c.args.self.now.entries.items c.in-Charged.macct c.seat_of-payee-in-Charged.result b.behind refl c.seat_of-payee-in-Charged.ensures.place in
     let count : c.transfer-in-Charged.new.balances.len - 1 ≡ length front = omega (arith, c.transfer-in-Charged.new.balances.ok.0, c.transfer-in-Charged.ensures.long, b.tied.balances.long, length_push front e) in
     record {
       most = c.requires.tied.most;
@@ -319,7 +319,7 @@ returns-in-Charged-clause-tied c =
       balances = rw (c.pop-in-Charged.ensures.rest, count)
           (kept_pop front e c.args.self.now.balances.items c.transfer-in-Charged.new.balances.items b.behind.legal b.behind.next b.tied.balances c.transfer-in-Charged.ensures.long
           (λ a place placed.
-          transferred front c.in-Charged.macct c.in-Charged.cacct a c.seat-payee-in-Charged.result c.seat-payer-in-Charged.result place c.args.self.now.balances.items c.transfer-in-Charged.new.balances.items (c.in-Charged.price.0 - c.in-Charged.fee) c.in-Charged.price.0
+          transferred front c.in-Charged.macct c.in-Charged.cacct a c.seat_of-payee-in-Charged.result c.seat_of-payer-in-Charged.result place c.args.self.now.balances.items c.transfer-in-Charged.new.balances.items (c.in-Charged.price.0 - c.in-Charged.fee) c.in-Charged.price.0
           seat_too seat placed (c.transfer-in-Charged.ensures.each place)));
       room = omega (arith, c.requires.tied.room, c.transfer-in-Charged.ensures.capacity, c.pop-in-Charged.ensures.capacity);
       sum = omega (arith, b.tied.sum, sum_by_push fund front e);

@@ -7,7 +7,7 @@ use Rattle.nb_book.specs.Indexes.{party_key}
 use Rattle.nb_book.proofs.Counting.{tests_party}
 use Rattle.nb_book.proofs.Indexing.{StandsFor, looked_up, looked_nowhere}
 use Rattle.nb_book.proofs.Naming.{party_stands}
-use Rattle.nb_book.proofs.list.EntryList.party.Goals as goal
+use Rattle.nb_book.proofs.list.EntryList.indexed.Goals as goal
 
 pub index-requires : goal.index-requires
 index-requires c =

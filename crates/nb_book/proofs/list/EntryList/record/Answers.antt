@@ -66,39 +66,39 @@ pub put-requires-in-Fund-clause-room : goal.put-requires-in-Fund-clause-room
 put-requires-in-Fund-clause-room c =
     has_room reference_key c.args.self.now.cap c.args.self.now.references c.args.self.now.entries.items c.requires.tied.references c.requires.within
 
-pub seat-payer-requires-clause-held : goal.seat-payer-requires-clause-held
-seat-payer-requires-clause-held c =
+pub seat_of-payer-requires-clause-held : goal.seat_of-payer-requires-clause-held
+seat_of-payer-requires-clause-held c =
     let H : List Entry = c.args.self.now.entries.items in
     let e : Entry = Paid c.in-Paid.digest c.in-Paid.epoid c.in-Paid.consumer c.in-Paid.merchant c.in-Paid.product c.in-Paid.price c.in-Paid.cacct c.in-Paid.macct c.in-Paid.moment c.in-Paid.key in
     let next : LegalAfter H e = rw c.in-Paid.is at c.requires.next in
     (both_held H c.in-Paid.epoid c.in-Paid.consumer c.in-Paid.merchant c.in-Paid.price c.in-Paid.cacct c.in-Paid.macct c.in-Paid.moment next).0
 
-pub seat-payee-requires-in-Paid-clause-held : goal.seat-payee-requires-in-Paid-clause-held
-seat-payee-requires-in-Paid-clause-held c =
+pub seat_of-payee-requires-clause-held : goal.seat_of-payee-requires-clause-held
+seat_of-payee-requires-clause-held c =
     let H : List Entry = c.args.self.now.entries.items in
     let e : Entry = Paid c.in-Paid.digest c.in-Paid.epoid c.in-Paid.consumer c.in-Paid.merchant c.in-Paid.product c.in-Paid.price c.in-Paid.cacct c.in-Paid.macct c.in-Paid.moment c.in-Paid.key in
     let next : LegalAfter H e = rw c.in-Paid.is at c.requires.next in
     (both_held H c.in-Paid.epoid c.in-Paid.consumer c.in-Paid.merchant c.in-Paid.price c.in-Paid.cacct c.in-Paid.macct c.in-Paid.moment next).1
 
 pub transfer-requires-clause-payer : goal.transfer-requires-clause-payer
-transfer-requires-clause-payer c = omega (arith, c.seat-payer.ensures.within, c.requires.tied.balances.long)
+transfer-requires-clause-payer c = omega (arith, c.seat_of-payer.ensures.within, c.requires.tied.balances.long)
 
 pub transfer-requires-clause-payee : goal.transfer-requires-clause-payee
-transfer-requires-clause-payee c = omega (arith, c.seat-payee-in-Paid.ensures.within, c.requires.tied.balances.long)
+transfer-requires-clause-payee c = omega (arith, c.seat_of-payee.ensures.within, c.requires.tied.balances.long)
 
 pub transfer-requires-clause-held : goal.transfer-requires-clause-held
 transfer-requires-clause-held c =
     let H : List Entry = c.args.self.now.entries.items in
     let e : Entry = Paid c.in-Paid.digest c.in-Paid.epoid c.in-Paid.consumer c.in-Paid.merchant c.in-Paid.product c.in-Paid.price c.in-Paid.cacct c.in-Paid.macct c.in-Paid.moment c.in-Paid.key in
     let next : LegalAfter H e = rw c.in-Paid.is at c.requires.next in
-    omega (arith, c.requires.tied.balances.each c.in-Paid.cacct c.seat-payer.result c.seat-payer.ensures.place, next.4)
+    omega (arith, c.requires.tied.balances.each c.in-Paid.cacct c.seat_of-payer.result c.seat_of-payer.ensures.place, next.4)
 
 pub transfer-requires-clause-fits : goal.transfer-requires-clause-fits
 transfer-requires-clause-fits c =
     let H : List Entry = c.args.self.now.entries.items in
     let e : Entry = Paid c.in-Paid.digest c.in-Paid.epoid c.in-Paid.consumer c.in-Paid.merchant c.in-Paid.product c.in-Paid.price c.in-Paid.cacct c.in-Paid.macct c.in-Paid.moment c.in-Paid.key in
     let next : LegalAfter H e = rw c.in-Paid.is at c.requires.next in
-    price_fits H c.args.self.now.balances.items c.in-Paid.macct c.seat-payee-in-Paid.result c.in-Paid.price c.in-Paid.price.0 c.requires.legal c.requires.tied.balances c.seat-payee-in-Paid.ensures.place next.3 (omega arith)
+    price_fits H c.args.self.now.balances.items c.in-Paid.macct c.seat_of-payee.result c.in-Paid.price c.in-Paid.price.0 c.requires.legal c.requires.tied.balances c.seat_of-payee.ensures.place next.3 (omega arith)
 
 pub put-requires-in-Paid-clause-absent : goal.put-requires-in-Paid-clause-absent
 put-requires-in-Paid-clause-absent c =
@@ -113,15 +113,15 @@ pub put-requires-in-Paid-clause-room : goal.put-requires-in-Paid-clause-room
 put-requires-in-Paid-clause-room c =
     has_room order_key c.args.self.now.cap c.args.self.now.orders c.args.self.now.entries.items c.requires.tied.orders c.requires.within
 
-pub seat-payer-requires-in-Charged-clause-held : goal.seat-payer-requires-in-Charged-clause-held
-seat-payer-requires-in-Charged-clause-held c =
+pub seat_of-payer-requires-in-Charged-clause-held : goal.seat_of-payer-requires-in-Charged-clause-held
+seat_of-payer-requires-in-Charged-clause-held c =
     let H : List Entry = c.args.self.now.entries.items in
     let e : Entry = Charged c.in-Charged.digest c.in-Charged.epoid c.in-Charged.consumer c.in-Charged.merchant c.in-Charged.product c.in-Charged.price c.in-Charged.fee c.in-Charged.cacct c.in-Charged.macct c.in-Charged.moment c.in-Charged.key in
     let next : LegalAfter H e = rw c.in-Charged.is at c.requires.next in
     (both_held H c.in-Charged.epoid c.in-Charged.consumer c.in-Charged.merchant c.in-Charged.price c.in-Charged.cacct c.in-Charged.macct c.in-Charged.moment next.0).0
 
-pub seat-payee-requires-in-Charged-clause-held : goal.seat-payee-requires-in-Charged-clause-held
-seat-payee-requires-in-Charged-clause-held c =
+pub seat_of-payee-requires-in-Charged-clause-held : goal.seat_of-payee-requires-in-Charged-clause-held
+seat_of-payee-requires-in-Charged-clause-held c =
     let H : List Entry = c.args.self.now.entries.items in
     let e : Entry = Charged c.in-Charged.digest c.in-Charged.epoid c.in-Charged.consumer c.in-Charged.merchant c.in-Charged.product c.in-Charged.price c.in-Charged.fee c.in-Charged.cacct c.in-Charged.macct c.in-Charged.moment c.in-Charged.key in
     let next : LegalAfter H e = rw c.in-Charged.is at c.requires.next in
@@ -135,24 +135,24 @@ overflow_sub-price c =
     fee_within c.in-Charged.price c.in-Charged.fee next.1
 
 pub transfer-requires-in-Charged-clause-payer : goal.transfer-requires-in-Charged-clause-payer
-transfer-requires-in-Charged-clause-payer c = omega (arith, c.seat-payer-in-Charged.ensures.within, c.requires.tied.balances.long)
+transfer-requires-in-Charged-clause-payer c = omega (arith, c.seat_of-payer-in-Charged.ensures.within, c.requires.tied.balances.long)
 
 pub transfer-requires-in-Charged-clause-payee : goal.transfer-requires-in-Charged-clause-payee
-transfer-requires-in-Charged-clause-payee c = omega (arith, c.seat-payee-in-Charged.ensures.within, c.requires.tied.balances.long)
+transfer-requires-in-Charged-clause-payee c = omega (arith, c.seat_of-payee-in-Charged.ensures.within, c.requires.tied.balances.long)
 
 pub transfer-requires-in-Charged-clause-held : goal.transfer-requires-in-Charged-clause-held
 transfer-requires-in-Charged-clause-held c =
     let H : List Entry = c.args.self.now.entries.items in
     let e : Entry = Charged c.in-Charged.digest c.in-Charged.epoid c.in-Charged.consumer c.in-Charged.merchant c.in-Charged.product c.in-Charged.price c.in-Charged.fee c.in-Charged.cacct c.in-Charged.macct c.in-Charged.moment c.in-Charged.key in
     let next : LegalAfter H e = rw c.in-Charged.is at c.requires.next in
-    omega (arith, c.requires.tied.balances.each c.in-Charged.cacct c.seat-payer-in-Charged.result c.seat-payer-in-Charged.ensures.place, next.0.4)
+    omega (arith, c.requires.tied.balances.each c.in-Charged.cacct c.seat_of-payer-in-Charged.result c.seat_of-payer-in-Charged.ensures.place, next.0.4)
 
 pub transfer-requires-in-Charged-clause-fits : goal.transfer-requires-in-Charged-clause-fits
 transfer-requires-in-Charged-clause-fits c =
     let H : List Entry = c.args.self.now.entries.items in
     let e : Entry = Charged c.in-Charged.digest c.in-Charged.epoid c.in-Charged.consumer c.in-Charged.merchant c.in-Charged.product c.in-Charged.price c.in-Charged.fee c.in-Charged.cacct c.in-Charged.macct c.in-Charged.moment c.in-Charged.key in
     let next : LegalAfter H e = rw c.in-Charged.is at c.requires.next in
-    price_fits H c.args.self.now.balances.items c.in-Charged.macct c.seat-payee-in-Charged.result c.in-Charged.price (c.in-Charged.price.0 - c.in-Charged.fee) c.requires.legal c.requires.tied.balances c.seat-payee-in-Charged.ensures.place next.0.3 (omega arith)
+    price_fits H c.args.self.now.balances.items c.in-Charged.macct c.seat_of-payee-in-Charged.result c.in-Charged.price (c.in-Charged.price.0 - c.in-Charged.fee) c.requires.legal c.requires.tied.balances c.seat_of-payee-in-Charged.ensures.place next.0.3 (omega arith)
 
 pub overflow_add-self-in-Charged : goal.overflow_add-self-in-Charged
 overflow_add-self-in-Charged c =
@@ -255,8 +255,8 @@ returns-in-Paid-clause-tied c =
       balances = rw c.push_reserved-in-Paid.ensures.items
           (kept_push H e c.args.self.now.balances.items c.transfer.new.balances.items c.requires.legal next c.requires.tied.balances c.transfer.ensures.long
           (λ a place placed.
-          transferred H c.in-Paid.cacct c.in-Paid.macct a c.seat-payer.result c.seat-payee-in-Paid.result place c.args.self.now.balances.items c.transfer.new.balances.items c.in-Paid.price.0 c.in-Paid.price.0
-          c.seat-payer.ensures.place c.seat-payee-in-Paid.ensures.place placed (c.transfer.ensures.each place)));
+          transferred H c.in-Paid.cacct c.in-Paid.macct a c.seat_of-payer.result c.seat_of-payee.result place c.args.self.now.balances.items c.transfer.new.balances.items c.in-Paid.price.0 c.in-Paid.price.0
+          c.seat_of-payer.ensures.place c.seat_of-payee.ensures.place placed (c.transfer.ensures.each place)));
       room = omega (arith, c.requires.tied.room, c.transfer.ensures.capacity, c.push_reserved-in-Paid.ensures.capacity);
       sum = rw (sum_by_push fund H e) (omega (arith, c.requires.tied.sum));
       fees = rw (sum_by_push fee_in H e) (omega (arith, c.requires.tied.fees));
@@ -279,8 +279,8 @@ returns-in-Charged-clause-tied c =
       balances = rw c.push_reserved-in-Charged.ensures.items
           (kept_push H e c.args.self.now.balances.items c.transfer-in-Charged.new.balances.items c.requires.legal next c.requires.tied.balances c.transfer-in-Charged.ensures.long
           (λ a place placed.
-          transferred H c.in-Charged.cacct c.in-Charged.macct a c.seat-payer-in-Charged.result c.seat-payee-in-Charged.result place c.args.self.now.balances.items c.transfer-in-Charged.new.balances.items c.in-Charged.price.0 (c.in-Charged.price.0 - c.in-Charged.fee)
-          c.seat-payer-in-Charged.ensures.place c.seat-payee-in-Charged.ensures.place placed (c.transfer-in-Charged.ensures.each place)));
+          transferred H c.in-Charged.cacct c.in-Charged.macct a c.seat_of-payer-in-Charged.result c.seat_of-payee-in-Charged.result place c.args.self.now.balances.items c.transfer-in-Charged.new.balances.items c.in-Charged.price.0 (c.in-Charged.price.0 - c.in-Charged.fee)
+          c.seat_of-payer-in-Charged.ensures.place c.seat_of-payee-in-Charged.ensures.place placed (c.transfer-in-Charged.ensures.each place)));
       room = omega (arith, c.requires.tied.room, c.transfer-in-Charged.ensures.capacity, c.push_reserved-in-Charged.ensures.capacity);
       sum = rw (sum_by_push fund H e) (omega (arith, c.requires.tied.sum));
       fees = rw (sum_by_push fee_in H e) (omega (arith, c.requires.tied.fees));
