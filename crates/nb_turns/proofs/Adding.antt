@@ -11,11 +11,11 @@ use Rattle.nb_book.proofs.Growing.{front_legal}
 use Rattle.nb_turns.specs.declared.limits.TheConstants.{MAX_FAULTS, MAX_REQUESTS}
 use Rattle.nb_turns.specs.declared.line.Line.{Line}
 use Rattle.nb_turns.specs.declared.line.Line.TheVariants.{Commit, Adopted, Fault}
-use Rattle.nb_turns.specs.Turns.{Request, House, State, Decides, Fails, Refuses, SettlesInto, Unsettled, Doubts, recorded}
-use Rattle.nb_turns.specs.Lines.{doubted, is_doubt, is_fault, entries_of, faults_of, open_doubt, IsClosed, StateOver, adopts, commits, doubts, Settled, DecidedLines, DoubtedLines, UnsettledLines}
+use Rattle.nb_turns.specs.Turns.{Request, House, State, Outcome, Decides, Fails, Refuses, SettlesInto, Unsettled, Doubts, recorded}
+use Rattle.nb_turns.specs.Lines.{doubted, is_doubt, is_fault, entries_of, faults_of, open_doubt, AddsLines, IsClosed, StateOver, adopts, commits, doubts, Settled, DecidedLines, DoubtedLines, UnsettledLines}
 use Rattle.nb_turns.specs.Laws.{IsLawful, TellsState, TurnAddsLines, AreLegal, LinesKeepLegal}
 use Rattle.nb_turns.proofs.Lists.{all_append, all_map}
-use Rattle.nb_turns.proofs.Keeping.{IsList, records_list}
+use Rattle.nb_turns.proofs.Keeping.{Admits, IsList, records_list}
 use Rattle.nb_turns.proofs.Lining.{state_with, all_reverse, decided_entries, doubted_lines_entries, decided_behind, unsettled_behind, doubted_behind, doubted_open, doubt_faults}
 
 -- ---- the lines of a turn
@@ -126,7 +126,19 @@ open_behind before lines all = by_reverse (reverse lines) refl (all_reverse IsRe
         inr (ap (λ (xs : List Line). reverse (filter_map doubted (take_while is_doubt (drop (prefix_len is_fault xs) xs)))) (reverse-append before lines ∙ ap (λ (xs : List Line). xs ++ reverse before) is)
         ∙ none_open (older ++ reverse before) newest each.0)
 
-module _ (stays : StaysLegal) (house : House) (cap : ℕ) (lawful : IsLawful house cap) (opening : List Entry) (by turn : ℕ) (before : List Line) (requests : List Request) (added : List Line)
+-- the list over which the turn of these lines was decided admits its requests
+abbrev pub FailedAdmits : (house : House) (cap : ℕ) (opening : List Entry) (by turn : ℕ) (before : List Line) (requests : List Request) (from to : ℕ) (added : List Line)
+    → UnsettledLines by turn before from to added ⊎ DoubtedLines house opening by turn before requests from to added → Type 0
+FailedAdmits house cap opening by turn before requests from to added (inl unsettled) = Unit {0}
+FailedAdmits house cap opening by turn before requests from to added (inr doubted) = Admits house cap doubted.over requests
+
+abbrev pub LinesAdmit : (house : House) (cap : ℕ) (opening : List Entry) (by turn : ℕ) (before : List Line) (requests : List Request) (outcome : Outcome) (added : List Line)
+    → AddsLines house opening by turn before requests outcome added → Type 0
+LinesAdmit house cap opening by turn before requests (Decides over) added adds = Admits house cap over requests
+LinesAdmit house cap opening by turn before requests (Fails from to) added adds = FailedAdmits house cap opening by turn before requests from to added adds.1
+LinesAdmit house cap opening by turn before requests Refuses added adds = Unit {0}
+
+module _ (house : House) (cap : ℕ) (opening : List Entry) (by turn : ℕ) (before : List Line) (requests : List Request) (added : List Line)
     (legal : AreLegal cap opening before) where
   -- without those in doubt
   front_list : IsList cap (entries_of opening before)
@@ -151,8 +163,8 @@ module _ (stays : StaysLegal) (house : House) (cap : ℕ) (lawful : IsLawful hou
   no_lines : added ≡ [] → AreLegal cap opening (before ++ added)
   no_lines none = subst (AreLegal cap opening) (sym (ap (λ (ls : List Line). before ++ ls) none ∙ append-nil before)) legal
 
-  decided_legal : (over : List Entry) → DecidedLines house opening by turn before requests over added → AreLegal cap opening (before ++ added)
-  decided_legal over d = by_lines (open_behind before added recorded_all)
+  decided_legal : (over : List Entry) → Admits house cap over requests → DecidedLines house opening by turn before requests over added → AreLegal cap opening (before ++ added)
+  decided_legal over admits d = by_lines (open_behind before added recorded_all)
     where
       recorded_all : AllByRecursion IsRecorded added
       recorded_all = subst (AllByRecursion IsRecorded) (sym d.lines)
@@ -162,7 +174,7 @@ module _ (stays : StaysLegal) (house : House) (cap : ℕ) (lawful : IsLawful hou
       by_lines (inl none) = no_lines none
       by_lines (inr closed) =
           are_legal (over ++ recorded house over requests) []
-          (subst (IsList cap) (sym (append-nil (over ++ recorded house over requests))) (records_list stays house cap lawful over requests (settled_lines d.kept over d.settled)))
+          (subst (IsList cap) (sym (append-nil (over ++ recorded house over requests))) (admits (settled_lines d.kept over d.settled)))
           (decided_entries house opening by turn before requests over added d) closed
 
   unsettled_legal : (from to : ℕ) → UnsettledLines by turn before from to added → AreLegal cap opening (before ++ added)
@@ -173,17 +185,38 @@ module _ (stays : StaysLegal) (house : House) (cap : ℕ) (lawful : IsLawful hou
       unsettled_open : (from to : ℕ) → UnsettledLines by turn before from to added → open_doubt (before ++ added) ≡ open_doubt before
       unsettled_open from to u = ap (λ (ls : List Line). open_doubt (before ++ ls)) u.lines ∙ doubt_faults before by turn from to
 
-  doubted_legal : IsClosed before → (from to : ℕ) → DoubtedLines house opening by turn before requests from to added → AreLegal cap opening (before ++ added)
-  doubted_legal closed from to d =
-      are_legal d.over (recorded house d.over requests) (records_list stays house cap lawful d.over requests (settled_lines d.kept d.over d.settled))
+  doubted_legal : IsClosed before → (from to : ℕ) → (d : DoubtedLines house opening by turn before requests from to added) → Admits house cap d.over requests → AreLegal cap opening (before ++ added)
+  doubted_legal closed from to d admits =
+      are_legal d.over (recorded house d.over requests) (admits (settled_lines d.kept d.over d.settled))
       (doubted_lines_entries house opening by turn before requests from to added d) (doubted_open house opening by turn before requests added closed from to d)
 
-pub lines_keep_legal : StaysLegal → LinesKeepLegal
-lines_keep_legal stays house cap opening by turn before requests (Decides over) added lawful closed legal adds =
-    decided_legal stays house cap lawful opening by turn before requests added legal over adds
-lines_keep_legal stays house cap opening by turn before requests (Fails from to) added lawful closed legal adds = failed adds.1
+-- lines keep what they record Legal behind each turn whose requests are admitted
+pub lines_keep_admitted : (house : House) (cap : ℕ) (opening : List Entry) (by turn : ℕ) (before : List Line) (requests : List Request) (outcome : Outcome) (added : List Line)
+    → IsClosed before → AreLegal cap opening before → (adds : AddsLines house opening by turn before requests outcome added)
+    → LinesAdmit house cap opening by turn before requests outcome added adds → AreLegal cap opening (before ++ added)
+lines_keep_admitted house cap opening by turn before requests (Decides over) added closed legal adds admits =
+    decided_legal house cap opening by turn before requests added legal over admits adds
+lines_keep_admitted house cap opening by turn before requests (Fails from to) added closed legal adds admits = failed adds.1 admits
   where
-    failed : UnsettledLines by turn before from to added ⊎ DoubtedLines house opening by turn before requests from to added → AreLegal cap opening (before ++ added)
-    failed (inl u) = unsettled_legal stays house cap lawful opening by turn before requests added legal from to u
-    failed (inr d) = doubted_legal stays house cap lawful opening by turn before requests added legal closed from to d
-lines_keep_legal stays house cap opening by turn before requests Refuses added lawful closed legal adds = no_lines stays house cap lawful opening by turn before requests added legal adds.1
+    failed : (how : UnsettledLines by turn before from to added ⊎ DoubtedLines house opening by turn before requests from to added)
+        → FailedAdmits house cap opening by turn before requests from to added how → AreLegal cap opening (before ++ added)
+    failed (inl u) admits = unsettled_legal house cap opening by turn before requests added legal from to u
+    failed (inr d) admits = doubted_legal house cap opening by turn before requests added legal closed from to d admits
+lines_keep_admitted house cap opening by turn before requests Refuses added closed legal adds admits = no_lines house cap opening by turn before requests added legal adds.1
+
+-- so they are where the house is lawful
+lawful_admits : StaysLegal → (house : House) (cap : ℕ) (opening : List Entry) (by turn : ℕ) (before : List Line) (requests : List Request) (outcome : Outcome) (added : List Line)
+    → IsLawful house cap → (adds : AddsLines house opening by turn before requests outcome added) → LinesAdmit house cap opening by turn before requests outcome added adds
+lawful_admits stays house cap opening by turn before requests (Decides over) added lawful adds = records_list stays house cap lawful over requests
+lawful_admits stays house cap opening by turn before requests (Fails from to) added lawful adds = failed adds.1
+  where
+    failed : (how : UnsettledLines by turn before from to added ⊎ DoubtedLines house opening by turn before requests from to added)
+        → FailedAdmits house cap opening by turn before requests from to added how
+    failed (inl u) = tt
+    failed (inr d) = records_list stays house cap lawful d.over requests
+lawful_admits stays house cap opening by turn before requests Refuses added lawful adds = tt
+
+pub lines_keep_legal : StaysLegal → LinesKeepLegal
+lines_keep_legal stays house cap opening by turn before requests outcome added lawful closed legal adds =
+    lines_keep_admitted house cap opening by turn before requests outcome added closed legal adds
+    (lawful_admits stays house cap opening by turn before requests outcome added lawful adds)

@@ -20,6 +20,10 @@ use Rattle.nb_turns.proofs.Lists.{all_weaker}
 abbrev pub IsList : ℕ → List Entry → Type 0
 IsList cap entries = Legal entries × (length entries ≤ cap)
 
+-- a list over which these requests are decided stays so with what they record
+abbrev pub Admits : House → ℕ → List Entry → List Request → Type 0
+Admits house cap over requests = IsList cap over → IsList cap (over ++ recorded house over requests)
+
 module _ (stays : StaysLegal) (house : House) (cap : ℕ) (lawful : IsLawful house cap) where
   grows : (over : List Entry) (entry : Option Entry) → ((e : Entry) → entry ≡ Some e → LegalAfter over e × (length over < cap)) → IsList cap over → IsList cap (over ++ option_to_list entry)
   grows over None may is = subst (IsList cap) (sym (append-nil over)) is
@@ -27,7 +31,8 @@ module _ (stays : StaysLegal) (house : House) (cap : ℕ) (lawful : IsLawful hou
       let next : LegalAfter over e × (length over < cap) = may e refl in
       (stays over e is.0 next.0, omega (arith, next.1, length-append over (e ∷ [])))
 
-  pub records_list : (over : List Entry) (requests : List Request) → IsList cap over → IsList cap (over ++ recorded house over requests)
+  -- so it is of every list where the house is lawful
+  pub records_list : (over : List Entry) (requests : List Request) → Admits house cap over requests
   records_list over [] is = subst (IsList cap) (sym (append-nil over)) is
   records_list over (r ∷ rs) is =
       subst (IsList cap) (behind_more house over r rs)
