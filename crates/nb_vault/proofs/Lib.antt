@@ -10,3 +10,4 @@ pub mod HoldingLaws
 pub mod Founding
 pub mod Paying
 pub mod Gating
+pub mod Alone

@@ -5,27 +5,24 @@ use Rattle.std.specs.List.{AllByRecursion}
 use Rattle.std.specs.Option.{option_to_list}
 use Rattle.std.proofs.lemmas.List.{length-reverse, reverse-append, take-append-le}
 use Rattle.std.proofs.lemmas.Grind.{flat_map-append}
-use Rattle.nb_units.specs.declared.charter.Charter.{Charter}
 use Rattle.nb_port.specs.Tells.{DiskTells}
 use Rattle.nb_port.specs.Faults.{Backed, Failure}
 use Rattle.nb_port.proofs.Backing.{backed_append}
 use Rattle.nb_book.specs.declared.entry.Entry.{Entry}
 use Rattle.nb_escrow.specs.Head.{head_of}
 use Rattle.nb_escrow.proofs.Recording.{records_legal}
-use Rattle.nb_journal.specs.Layout.{AreTerms}
 use Rattle.nb_turns.specs.declared.limits.TheConstants.{MAX_FAULTS, MAX_REQUESTS}
 use Rattle.nb_turns.specs.declared.line.Line.{Line}
 use Rattle.nb_turns.specs.Turns.{Request, House, State, Outcome, Decides, Fails, Unsettled, Doubts, failure_of}
 use Rattle.nb_turns.specs.Lines.{AddsLines, AreOf, IsClosed, entries_of, failure_in, failures_in, faults_of, maker_of, next_turn, one_above, open_doubt, turn_of}
-use Rattle.nb_turns.specs.Laws.{AreLegal, IsLawful}
-use Rattle.nb_turns.proofs.Adding.{lines_keep_legal}
+use Rattle.nb_turns.specs.Laws.{AreLegal}
+use Rattle.nb_turns.proofs.Adding.{LinesAdmit, lines_keep_admitted}
 use Rattle.nb_turns.proofs.Lining.{all_reverse, lines_are_of, lines_tell_turn}
 use Rattle.nb_turns.proofs.Numbering.{lines_tell_failure, turns_never_fall}
 use Rattle.nb_turns.proofs.Sounding.{lines_stay_sound}
 use Rattle.nb_vault.specs.declared.parts.Parts.{Parts}
 use Rattle.nb_vault.specs.Parts.{HasLines, IsVault, SameOrigin, Tells, opening_of}
-use Rattle.nb_vault.specs.Rules.{HousesAreLawful, HousesRecordOf, house_of}
-use Rattle.nb_vault.proofs.Joining.{legal_more, may_rule}
+use Rattle.nb_vault.specs.Rules.{HousesAreLawful, HousesRecordOf}
 use Rattle.nb_vault.specs.Records.{Rests, disk_under, doubt_of}
 
 -- the next number is no greater than the number of lines
@@ -46,10 +43,6 @@ house_lawful head cap ruling entries request entry legal is =
 -- and a journal of its version and its rate may have it
 pub house_records : HousesRecordOf
 house_records head cap ruling entries request entry is = (records_legal entries head cap request.kind request.body request.moment entry ruling is).0.1
-
--- so it is of the house of a journal
-pub journal_lawful : (charter : Charter) (cap : ℕ) → AreTerms cap charter → IsLawful (house_of (head_of charter) cap) cap
-journal_lawful charter cap terms = house_lawful (head_of charter) cap (may_rule charter.version charter.rate terms.ruled)
 
 -- ---- how many of the lines are faults
 
@@ -74,13 +67,13 @@ module _ {D : Type 0} (tells : DiskTells D) where
   -- a turn leads to a vault
   pub vault_behind : (old new : Parts D) (more : List Entry) (house : House) (by : ℕ) (requests : List Request) (outcome : Outcome) (added : List Line)
       → IsVault tells old → SameOrigin old new → Rests tells new.records → HasLines new new.records.book.entries → new.records.book.entries ≡ old.records.book.entries ++ more
-      → AddsLines house (opening_of old) by (next_turn old.lines.items) old.lines.items requests outcome added → new.lines.items ≡ old.lines.items ++ added
+      → (adds : AddsLines house (opening_of old) by (next_turn old.lines.items) old.lines.items requests outcome added) → new.lines.items ≡ old.lines.items ++ added
       → new.records.book.entries ≡ entries_of (opening_of old) (old.lines.items ++ added)
       → (doubt_of new.records ≡ []) ⊎ (doubt_of new.records ≡ open_doubt (old.lines.items ++ added))
       → Backed (tells.faults (disk_under old.records)) (option_to_list (failure_of outcome)) (tells.faults (disk_under new.records))
       → new.faults ≡ faults_of (old.lines.items ++ added) → new.faults ≤ MAX_FAULTS
-      → IsLawful house old.records.book.cap → length (open_doubt (old.lines.items ++ added)) ≤ MAX_REQUESTS → IsVault tells new
-  vault_behind old new more house by requests outcome added vault same rests has grown adds lines listed doubt backed faults few lawful open_most = record {
+      → LinesAdmit house old.records.book.cap (opening_of old) by (next_turn old.lines.items) old.lines.items requests outcome added adds → length (open_doubt (old.lines.items ++ added)) ≤ MAX_REQUESTS → IsVault tells new
+  vault_behind old new more house by requests outcome added vault same rests has grown adds lines listed doubt backed faults few admits open_most = record {
     rests = rests;
     opened = omega (arith, same.opening, vault.opened, ap length grown, length-append old.records.book.entries more);
     told = subst (λ (opening : List Entry). Tells opening new.records.book.entries (doubt_of new.records) new.count (tells.faults (disk_under new.records)) new.lines.items) (sym (same_opening old new more vault same grown))
@@ -93,7 +86,7 @@ module _ {D : Type 0} (tells : DiskTells D) where
     lawful = subst (λ (ls : List Line). AreLegal new.records.book.cap (opening_of new) ls) (sym lines)
         (subst (λ (opening : List Entry). AreLegal new.records.book.cap opening (old.lines.items ++ added)) (sym (same_opening old new more vault same grown))
         (subst (λ (cap : ℕ). AreLegal cap (opening_of old) (old.lines.items ++ added)) (sym same.terms.cap)
-        (lines_keep_legal legal_more house old.records.book.cap (opening_of old) by (next_turn old.lines.items) old.lines.items requests outcome added lawful vault.told.closed vault.lawful adds)));
+        (lines_keep_admitted house old.records.book.cap (opening_of old) by (next_turn old.lines.items) old.lines.items requests outcome added vault.told.closed vault.lawful adds admits)));
     open_most = subst (λ (ls : List Line). length (open_doubt ls) ≤ MAX_REQUESTS) (sym lines) open_most;
   }
     where

@@ -101,25 +101,25 @@ pub record GateIsAt {D : Type 0} (tells : DiskTells D) (v : Chronicled D) (gate 
 
 -- one gate opens all that the turn records over these entries: there is the disk behind settling, up to which a stop leaves what stands for
 -- the state before the turn, and since which it leaves what stands for the entries alone, or with all that is recorded
-pub record OneGateOpens {D : Type 0} (tells : DiskTells D) (old new : Chronicled D) (requests : List Request) (over : List Entry) : Type 0 where
+pub record OneGateOpens {D : Type 0} (house : House) (tells : DiskTells D) (old new : Chronicled D) (requests : List Request) (over : List Entry) : Type 0 where
   pub settled : D
   pub before : LeavesOnly tells old.disk settled (StandsForState old)
-  pub since : LeavesOnly tells settled new.disk (StandsForEither old.origin.charter old.origin.cap over (recorded (house_in old) over requests))
+  pub since : LeavesOnly tells settled new.disk (StandsForEither old.origin.charter old.origin.cap over (recorded house over requests))
 
 -- the disk in a turn that decided over these entries: its content stood for them, and what the verdicts record is written as one item.
 -- Where they record nothing, nothing is written
-pub record WritesTurn {D : Type 0} (tells : DiskTells D) (old new : Chronicled D) (requests : List Request) (over : List Entry) : Type 0 where
+pub record WritesTurn {D : Type 0} (house : House) (tells : DiskTells D) (old new : Chronicled D) (requests : List Request) (over : List Entry) : Type 0 where
   pub told : IfSome (tells.content old.disk) (StandsFor old.origin.charter old.origin.cap over)
-  pub written : WritesItem old.origin.charter old.origin.cap over (recorded (house_in old) over requests) (tells.content old.disk) (tells.content new.disk)
-  pub idle : recorded (house_in old) over requests ≡ [] → Unwritten tells old.disk new.disk
-  pub gate : OneGateOpens tells old new requests over
+  pub written : WritesItem old.origin.charter old.origin.cap over (recorded house over requests) (tells.content old.disk) (tells.content new.disk)
+  pub idle : recorded house over requests ≡ [] → Unwritten tells old.disk new.disk
+  pub gate : OneGateOpens house tells old new requests over
 
 -- the disk in a turn whose item could not be made durable: its content stood for the entries that the turn was decided over, and bytes
 -- of the item's range may have changed
-pub record TearsTurn {D : Type 0} (tells : DiskTells D) (old new : Chronicled D) (requests : List Request) (over : List Entry) : Type 0 where
+pub record TearsTurn {D : Type 0} (house : House) (tells : DiskTells D) (old new : Chronicled D) (requests : List Request) (over : List Entry) : Type 0 where
   pub told : IfSome (tells.content old.disk) (StandsFor old.origin.charter old.origin.cap over)
-  pub written : TearsItem old.origin.charter old.origin.cap over (recorded (house_in old) over requests) (tells.content old.disk) (tells.content new.disk)
-  pub gate : OneGateOpens tells old new requests over
+  pub written : TearsItem old.origin.charter old.origin.cap over (recorded house over requests) (tells.content old.disk) (tells.content new.disk)
+  pub gate : OneGateOpens house tells old new requests over
 
 -- the disk in a turn that could not settle what was in doubt, told from this count on: nothing is written
 pub record LeavesTurn {D : Type 0} (tells : DiskTells D) (old new : Chronicled D) (before : ℕ) : Type 0 where
@@ -129,21 +129,21 @@ pub record LeavesTurn {D : Type 0} (tells : DiskTells D) (old new : Chronicled D
 -- how a turn failed: its state, its lines and the disk tell one and the same. What was in doubt could not be settled, and then there is
 -- the line of the fault alone; or what the verdicts over these entries record could not be made durable, and then there is a line of a
 -- doubt for each of it
-abbrev pub FailsOnDisk : {D : Type 0} → (tells : DiskTells D) (old new : Chronicled D) (by : ℕ) (requests : List Request) (before after : ℕ) (added : List Line)
-    → Unsettled (state_of old) (state_of new) ⊎ Doubts (house_in old) (state_of old) requests (state_of new)
-    → UnsettledLines by (next_turn old.lines) old.lines before after added ⊎ DoubtedLines (house_in old) old.origin.entries by (next_turn old.lines) old.lines requests before after added
+abbrev pub FailsOnDisk : {D : Type 0} → (house : House) (tells : DiskTells D) (old new : Chronicled D) (by : ℕ) (requests : List Request) (before after : ℕ) (added : List Line)
+    → Unsettled (state_of old) (state_of new) ⊎ Doubts house (state_of old) requests (state_of new)
+    → UnsettledLines by (next_turn old.lines) old.lines before after added ⊎ DoubtedLines house old.origin.entries by (next_turn old.lines) old.lines requests before after added
     → Type 0
-FailsOnDisk tells old new by requests before after added (inl unsettled) (inl lines) = LeavesTurn tells old new before
-FailsOnDisk tells old new by requests before after added (inr doubts) (inr lines) = (lines.over ≡ doubts.over) × TearsTurn tells old new requests doubts.over
-FailsOnDisk tells old new by requests before after added (inl unsettled) (inr lines) = ⊥
-FailsOnDisk tells old new by requests before after added (inr doubts) (inl lines) = ⊥
+FailsOnDisk house tells old new by requests before after added (inl unsettled) (inl lines) = LeavesTurn tells old new before
+FailsOnDisk house tells old new by requests before after added (inr doubts) (inr lines) = (lines.over ≡ doubts.over) × TearsTurn house tells old new requests doubts.over
+FailsOnDisk house tells old new by requests before after added (inl unsettled) (inr lines) = ⊥
+FailsOnDisk house tells old new by requests before after added (inr doubts) (inl lines) = ⊥
 
 -- what a turn that went so did to the disk, by what its state and its lines tell of it
-abbrev pub OnDisk : {D : Type 0} → (tells : DiskTells D) (old new : Chronicled D) (by : ℕ) (requests : List Request) (added : List Line) (outcome : Outcome)
-    → Turn (house_in old) (state_of old) requests outcome (state_of new) → AddsLines (house_in old) old.origin.entries by (next_turn old.lines) old.lines requests outcome added → Type 0
-OnDisk tells old new by requests added (Decides over) turn lines = WritesTurn tells old new requests over
-OnDisk tells old new by requests added (Fails before after) turn lines = FailsOnDisk tells old new by requests before after added turn.1 lines.1
-OnDisk tells old new by requests added Refuses turn lines = new ≡ old
+abbrev pub OnDisk : {D : Type 0} → (house : House) (tells : DiskTells D) (old new : Chronicled D) (by : ℕ) (requests : List Request) (added : List Line) (outcome : Outcome)
+    → Turn house (state_of old) requests outcome (state_of new) → AddsLines house old.origin.entries by (next_turn old.lines) old.lines requests outcome added → Type 0
+OnDisk house tells old new by requests added (Decides over) turn lines = WritesTurn house tells old new requests over
+OnDisk house tells old new by requests added (Fails before after) turn lines = FailsOnDisk house tells old new by requests before after added turn.1 lines.1
+OnDisk house tells old new by requests added Refuses turn lines = new ≡ old
 
 -- what is handed out of a turn that went so: the places and the replies of requests that were decided, and else nothing
 abbrev pub handed_places : House → List Request → Outcome → List ℕ
@@ -154,16 +154,20 @@ abbrev pub handed_replies : House → List Request → Outcome → List ℕ
 handed_replies house requests (Decides over) = replies (decided house over requests)
 handed_replies house requests other = []
 
--- a turn went so: from the vault before to the one behind it, with these places and replies handed out. Its lines stand behind those
--- before it, and are of who asked, under the next turn's number; state, lines and disk tell the same of it
-pub record Went {D : Type 0} (tells : DiskTells D) (old new : Chronicled D) (by : ℕ) (requests : List Request) (outcome : Outcome) (found : List ℕ) (out out' : List ℕ) : Type 0 where
-  pub turn : Turn (house_in old) (state_of old) requests outcome (state_of new)
-  pub found_is : found ≡ handed_places (house_in old) requests outcome
-  pub out_is : out' ≡ out ++ handed_replies (house_in old) requests outcome
+-- a turn by the rules of this house went so: from the vault before to the one behind it, with these places and replies handed out. Its lines
+-- stand behind those before it, and are of who asked, under the next turn's number; state, lines and disk tell the same of it
+pub record WentBy {D : Type 0} (house : House) (tells : DiskTells D) (old new : Chronicled D) (by : ℕ) (requests : List Request) (outcome : Outcome) (found : List ℕ) (out out' : List ℕ) : Type 0 where
+  pub turn : Turn house (state_of old) requests outcome (state_of new)
+  pub found_is : found ≡ handed_places house requests outcome
+  pub out_is : out' ≡ out ++ handed_replies house requests outcome
   pub added : List Line
   pub behind : new.lines ≡ old.lines ++ added
-  pub lines : AddsLines (house_in old) old.origin.entries by (next_turn old.lines) old.lines requests outcome added
-  pub disk : OnDisk tells old new by requests added outcome turn lines
+  pub lines : AddsLines house old.origin.entries by (next_turn old.lines) old.lines requests outcome added
+  pub disk : OnDisk house tells old new by requests added outcome turn lines
+
+-- a turn of the house that the vault is went so
+abbrev pub Went : {D : Type 0} → DiskTells D → Chronicled D → Chronicled D → ℕ → List Request → Outcome → List ℕ → List ℕ → List ℕ → Type 0
+Went tells old new by requests outcome found out out' = WentBy (house_in old) tells old new by requests outcome found out out'
 
 -- how a turn went, by the answer
 abbrev pub TurnOf : {D : Type 0} → DiskTells D → Chronicled D → Chronicled D → ℕ → List Request → List ℕ → List ℕ → List ℕ → AnswerAll → Type 0

@@ -29,7 +29,7 @@ returns-in-Err-clause-vault g c =
     let requests = requests_of c.args.bytes.now c.args.asks.now in
     let counts = c.in-Err.field-0 in
     let unready = subst (λ (n : ℕ). Unready tells old c.ready.new.self c.args.by n counts) c.next_turn-turn.ensures c.in-Err.ensures.gives in
-    unready_vault tells old c.ready.new.self c.args.by requests counts c.requires.vault c.if-self-ge-MAX_FAULTS.false unready c.ready.ensures.origin c.ready.ensures.rests c.ready.ensures.has
+    unready_vault (house_in (seen_as old)) tells old c.ready.new.self c.args.by requests counts c.requires.vault c.if-self-ge-MAX_FAULTS.false unready c.ready.ensures.origin c.ready.ensures.rests c.ready.ensures.has
 
 pub returns-in-Err-clause-turn : goal.returns-in-Err-clause-turn
 returns-in-Err-clause-turn g c =
@@ -38,7 +38,7 @@ returns-in-Err-clause-turn g c =
     let requests = requests_of c.args.bytes.now c.args.asks.now in
     let counts = c.in-Err.field-0 in
     let unready = subst (λ (n : ℕ). Unready tells old c.ready.new.self c.args.by n counts) c.next_turn-turn.ensures c.in-Err.ensures.gives in
-    unready_went tells old c.ready.new.self c.args.by requests counts c.requires.vault c.if-self-ge-MAX_FAULTS.false unready (unready_vault tells old c.ready.new.self c.args.by requests counts c.requires.vault c.if-self-ge-MAX_FAULTS.false unready c.ready.ensures.origin c.ready.ensures.rests c.ready.ensures.has) c.ready.ensures.nothing c.args.out.now.items
+    unready_went (house_in (seen_as old)) tells old c.ready.new.self c.args.by requests counts c.requires.vault c.if-self-ge-MAX_FAULTS.false unready (unready_vault (house_in (seen_as old)) tells old c.ready.new.self c.args.by requests counts c.requires.vault c.if-self-ge-MAX_FAULTS.false unready c.ready.ensures.origin c.ready.ensures.rests c.ready.ensures.has) c.ready.ensures.nothing c.args.out.now.items
 
 pub returns-in-Err-clause-any_moment : goal.returns-in-Err-clause-any_moment
 returns-in-Err-clause-any_moment g c =
@@ -47,7 +47,7 @@ returns-in-Err-clause-any_moment g c =
     let requests = requests_of c.args.bytes.now c.args.asks.now in
     let counts = c.in-Err.field-0 in
     let unready = subst (λ (n : ℕ). Unready tells old c.ready.new.self c.args.by n counts) c.next_turn-turn.ensures c.in-Err.ensures.gives in
-    unready_leaves tells old c.ready.new.self c.args.by requests counts c.requires.vault c.if-self-ge-MAX_FAULTS.false unready (unready_vault tells old c.ready.new.self c.args.by requests counts c.requires.vault c.if-self-ge-MAX_FAULTS.false unready c.ready.ensures.origin c.ready.ensures.rests c.ready.ensures.has) c.ready.ensures.any_moment
+    unready_leaves (house_in (seen_as old)) tells old c.ready.new.self c.args.by requests counts c.requires.vault c.if-self-ge-MAX_FAULTS.false unready (unready_vault (house_in (seen_as old)) tells old c.ready.new.self c.args.by requests counts c.requires.vault c.if-self-ge-MAX_FAULTS.false unready c.ready.ensures.origin c.ready.ensures.rests c.ready.ensures.has) c.ready.ensures.any_moment
 
 pub returns-in-Ok-commit-clause-vault : goal.returns-in-Ok-commit-clause-vault
 returns-in-Ok-commit-clause-vault g c =
@@ -57,9 +57,10 @@ returns-in-Ok-commit-clause-vault g c =
     let requests = requests_of c.args.bytes.now c.args.asks.now in
     let p : Parts _ = record { records = c.decide_each.new.self; head = mid.head; opening = mid.opening; count = mid.count; lines = mid.lines; faults = mid.faults } in
     let steps = stepped tells old mid p c.args.by c.next_turn-turn.result requests c.requires.vault c.if-self-ge-MAX_FAULTS.false c.next_turn-turn.ensures c.in-Ok.ensures.gives c.ready.ensures.rests
-    c.ready.ensures.origin c.ready.ensures.nothing (record { terms = c.decide_each.ensures.terms; opening = refl; count = refl; head = refl }) c.decide_each.ensures.journal c.decide_each.ensures.over c.decide_each.ensures.group refl refl in
+    c.ready.ensures.origin c.ready.ensures.nothing (record { terms = c.decide_each.ensures.terms; opening = refl; count = refl; head = refl }) c.decide_each.ensures.journal c.decide_each.ensures.over c.decide_each.ensures.group
+    (c.decide_each.ensures.gathers.group.legal.legal, c.decide_each.ensures.gathers.group.within) refl refl in
     let done = subst (λ (n : ℕ). Committed p c.commit.new.self c.args.by n) c.next_turn-turn.ensures c.in-Ok-commit.ensures.gives in
-    let vault = decided_vault tells old mid p c.args.by requests steps c.commit.new.self done c.commit.ensures.origin c.commit.ensures.rests c.commit.ensures.has
+    let vault = decided_vault (house_in (seen_as old)) tells old mid p c.args.by requests steps c.commit.new.self done c.commit.ensures.origin c.commit.ensures.rests c.commit.ensures.has
     (omega (arith, c.ready.ensures.count, c.commit.ensures.count, ap (λ (j : Journal _). tells.faults j.disk) c.decide_each.ensures.journal)) in
     vault
 
@@ -71,15 +72,16 @@ returns-in-Ok-commit-clause-turn g c =
     let requests = requests_of c.args.bytes.now c.args.asks.now in
     let p : Parts _ = record { records = c.decide_each.new.self; head = mid.head; opening = mid.opening; count = mid.count; lines = mid.lines; faults = mid.faults } in
     let steps = stepped tells old mid p c.args.by c.next_turn-turn.result requests c.requires.vault c.if-self-ge-MAX_FAULTS.false c.next_turn-turn.ensures c.in-Ok.ensures.gives c.ready.ensures.rests
-    c.ready.ensures.origin c.ready.ensures.nothing (record { terms = c.decide_each.ensures.terms; opening = refl; count = refl; head = refl }) c.decide_each.ensures.journal c.decide_each.ensures.over c.decide_each.ensures.group refl refl in
+    c.ready.ensures.origin c.ready.ensures.nothing (record { terms = c.decide_each.ensures.terms; opening = refl; count = refl; head = refl }) c.decide_each.ensures.journal c.decide_each.ensures.over c.decide_each.ensures.group
+    (c.decide_each.ensures.gathers.group.legal.legal, c.decide_each.ensures.gathers.group.within) refl refl in
     let done = subst (λ (n : ℕ). Committed p c.commit.new.self c.args.by n) c.next_turn-turn.ensures c.in-Ok-commit.ensures.gives in
-    let vault = decided_vault tells old mid p c.args.by requests steps c.commit.new.self done c.commit.ensures.origin c.commit.ensures.rests c.commit.ensures.has
+    let vault = decided_vault (house_in (seen_as old)) tells old mid p c.args.by requests steps c.commit.new.self done c.commit.ensures.origin c.commit.ensures.rests c.commit.ensures.has
     (omega (arith, c.ready.ensures.count, c.commit.ensures.count, ap (λ (j : Journal _). tells.faults j.disk) c.decide_each.ensures.journal)) in
     let house = house_is tells old mid c.requires.vault c.ready.ensures.origin in
     let same : decided (house_of mid.head mid.records.book.cap) mid.records.book.entries requests ≡ decided (house_in (seen_as old)) (over_of p.records) requests =
     ap (λ (h : House). decided h mid.records.book.entries requests) house ∙ ap (λ (es : List Entry). decided (house_in (seen_as old)) es requests) (sym c.decide_each.ensures.over) in (
       over_of p.records,
-      decided_went tells old mid p c.args.by requests steps c.commit.new.self done vault c.in-Ok-commit.ensures.writes c.commit.ensures.idle c.ready.ensures.any_moment c.commit.ensures.any_moment _ c.args.out.now.items c.decide_each.new.out.items
+      decided_went (house_in (seen_as old)) tells old mid p c.args.by requests steps c.commit.new.self done vault c.in-Ok-commit.ensures.writes c.commit.ensures.idle c.ready.ensures.any_moment c.commit.ensures.any_moment _ c.args.out.now.items c.decide_each.new.out.items
           (ap (λ v. v.items) c.commit.ensures.places ∙ c.decide_each.ensures.places ∙ ap places same) (c.decide_each.ensures.out ∙ ap (λ answers. c.args.out.now.items ++ replies answers) same),
     )
 
@@ -91,11 +93,12 @@ returns-in-Ok-commit-clause-any_moment g c =
     let requests = requests_of c.args.bytes.now c.args.asks.now in
     let p : Parts _ = record { records = c.decide_each.new.self; head = mid.head; opening = mid.opening; count = mid.count; lines = mid.lines; faults = mid.faults } in
     let steps = stepped tells old mid p c.args.by c.next_turn-turn.result requests c.requires.vault c.if-self-ge-MAX_FAULTS.false c.next_turn-turn.ensures c.in-Ok.ensures.gives c.ready.ensures.rests
-    c.ready.ensures.origin c.ready.ensures.nothing (record { terms = c.decide_each.ensures.terms; opening = refl; count = refl; head = refl }) c.decide_each.ensures.journal c.decide_each.ensures.over c.decide_each.ensures.group refl refl in
+    c.ready.ensures.origin c.ready.ensures.nothing (record { terms = c.decide_each.ensures.terms; opening = refl; count = refl; head = refl }) c.decide_each.ensures.journal c.decide_each.ensures.over c.decide_each.ensures.group
+    (c.decide_each.ensures.gathers.group.legal.legal, c.decide_each.ensures.gathers.group.within) refl refl in
     let done = subst (λ (n : ℕ). Committed p c.commit.new.self c.args.by n) c.next_turn-turn.ensures c.in-Ok-commit.ensures.gives in
-    let vault = decided_vault tells old mid p c.args.by requests steps c.commit.new.self done c.commit.ensures.origin c.commit.ensures.rests c.commit.ensures.has
+    let vault = decided_vault (house_in (seen_as old)) tells old mid p c.args.by requests steps c.commit.new.self done c.commit.ensures.origin c.commit.ensures.rests c.commit.ensures.has
     (omega (arith, c.ready.ensures.count, c.commit.ensures.count, ap (λ (j : Journal _). tells.faults j.disk) c.decide_each.ensures.journal)) in
-    turn_leaves tells old mid p c.args.by requests steps c.commit.new.self vault c.commit.ensures.origin (inl done.entries) c.ready.ensures.any_moment c.commit.ensures.any_moment
+    turn_leaves (house_in (seen_as old)) tells old mid p c.args.by requests steps c.commit.new.self vault c.commit.ensures.origin (inl done.entries) c.ready.ensures.any_moment c.commit.ensures.any_moment
 
 pub returns-in-Ok-commit-clause-durable : goal.returns-in-Ok-commit-clause-durable
 returns-in-Ok-commit-clause-durable g c =
@@ -105,9 +108,10 @@ returns-in-Ok-commit-clause-durable g c =
     let requests = requests_of c.args.bytes.now c.args.asks.now in
     let p : Parts _ = record { records = c.decide_each.new.self; head = mid.head; opening = mid.opening; count = mid.count; lines = mid.lines; faults = mid.faults } in
     let steps = stepped tells old mid p c.args.by c.next_turn-turn.result requests c.requires.vault c.if-self-ge-MAX_FAULTS.false c.next_turn-turn.ensures c.in-Ok.ensures.gives c.ready.ensures.rests
-    c.ready.ensures.origin c.ready.ensures.nothing (record { terms = c.decide_each.ensures.terms; opening = refl; count = refl; head = refl }) c.decide_each.ensures.journal c.decide_each.ensures.over c.decide_each.ensures.group refl refl in
+    c.ready.ensures.origin c.ready.ensures.nothing (record { terms = c.decide_each.ensures.terms; opening = refl; count = refl; head = refl }) c.decide_each.ensures.journal c.decide_each.ensures.over c.decide_each.ensures.group
+    (c.decide_each.ensures.gathers.group.legal.legal, c.decide_each.ensures.gathers.group.within) refl refl in
     let done = subst (λ (n : ℕ). Committed p c.commit.new.self c.args.by n) c.next_turn-turn.ensures c.in-Ok-commit.ensures.gives in
-    let vault = decided_vault tells old mid p c.args.by requests steps c.commit.new.self done c.commit.ensures.origin c.commit.ensures.rests c.commit.ensures.has
+    let vault = decided_vault (house_in (seen_as old)) tells old mid p c.args.by requests steps c.commit.new.self done c.commit.ensures.origin c.commit.ensures.rests c.commit.ensures.has
     (omega (arith, c.ready.ensures.count, c.commit.ensures.count, ap (λ (j : Journal _). tells.faults j.disk) c.decide_each.ensures.journal)) in
     durable tells c.commit.new.self vault done.fresh
 
@@ -119,13 +123,14 @@ returns-in-Ok-commit-clause-quiet g c =
     let requests = requests_of c.args.bytes.now c.args.asks.now in
     let p : Parts _ = record { records = c.decide_each.new.self; head = mid.head; opening = mid.opening; count = mid.count; lines = mid.lines; faults = mid.faults } in
     let steps = stepped tells old mid p c.args.by c.next_turn-turn.result requests c.requires.vault c.if-self-ge-MAX_FAULTS.false c.next_turn-turn.ensures c.in-Ok.ensures.gives c.ready.ensures.rests
-    c.ready.ensures.origin c.ready.ensures.nothing (record { terms = c.decide_each.ensures.terms; opening = refl; count = refl; head = refl }) c.decide_each.ensures.journal c.decide_each.ensures.over c.decide_each.ensures.group refl refl in
+    c.ready.ensures.origin c.ready.ensures.nothing (record { terms = c.decide_each.ensures.terms; opening = refl; count = refl; head = refl }) c.decide_each.ensures.journal c.decide_each.ensures.over c.decide_each.ensures.group
+    (c.decide_each.ensures.gathers.group.legal.legal, c.decide_each.ensures.gathers.group.within) refl refl in
     let done = subst (λ (n : ℕ). Committed p c.commit.new.self c.args.by n) c.next_turn-turn.ensures c.in-Ok-commit.ensures.gives in
-    let vault = decided_vault tells old mid p c.args.by requests steps c.commit.new.self done c.commit.ensures.origin c.commit.ensures.rests c.commit.ensures.has
+    let vault = decided_vault (house_in (seen_as old)) tells old mid p c.args.by requests steps c.commit.new.self done c.commit.ensures.origin c.commit.ensures.rests c.commit.ensures.has
     (omega (arith, c.ready.ensures.count, c.commit.ensures.count, ap (λ (j : Journal _). tells.faults j.disk) c.decide_each.ensures.journal)) in
-    λ same. quiet_decided tells old c.commit.new.self c.requires.vault vault same p.records.charter p.records.book.cap (over_of p.records) p.records.group.items steps.ready.kept (over_is tells old mid p c.args.by requests steps) done.entries
+    λ same. quiet_decided tells old c.commit.new.self c.requires.vault vault same p.records.charter p.records.book.cap (over_of p.records) p.records.group.items steps.ready.kept (over_is (house_in (seen_as old)) tells old mid p c.args.by requests steps) done.entries
     (subst (λ t. WritesItem p.records.charter p.records.book.cap (over_of p.records) p.records.group.items t (tells.content c.commit.new.self.records.journal.disk))
-    (content_is tells old mid p c.args.by requests steps) c.in-Ok-commit.ensures.writes)
+    (content_is (house_in (seen_as old)) tells old mid p c.args.by requests steps) c.in-Ok-commit.ensures.writes)
 
 pub returns-in-Err-commit-clause-vault : goal.returns-in-Err-commit-clause-vault
 returns-in-Err-commit-clause-vault g c =
@@ -135,10 +140,11 @@ returns-in-Err-commit-clause-vault g c =
     let requests = requests_of c.args.bytes.now c.args.asks.now in
     let p : Parts _ = record { records = c.decide_each.new.self; head = mid.head; opening = mid.opening; count = mid.count; lines = mid.lines; faults = mid.faults } in
     let steps = stepped tells old mid p c.args.by c.next_turn-turn.result requests c.requires.vault c.if-self-ge-MAX_FAULTS.false c.next_turn-turn.ensures c.in-Ok.ensures.gives c.ready.ensures.rests
-    c.ready.ensures.origin c.ready.ensures.nothing (record { terms = c.decide_each.ensures.terms; opening = refl; count = refl; head = refl }) c.decide_each.ensures.journal c.decide_each.ensures.over c.decide_each.ensures.group refl refl in
+    c.ready.ensures.origin c.ready.ensures.nothing (record { terms = c.decide_each.ensures.terms; opening = refl; count = refl; head = refl }) c.decide_each.ensures.journal c.decide_each.ensures.over c.decide_each.ensures.group
+    (c.decide_each.ensures.gathers.group.legal.legal, c.decide_each.ensures.gathers.group.within) refl refl in
     let counts = c.in-Err-commit.field-0 in
     let done = subst (λ (n : ℕ). Doubted tells p c.commit.new.self c.args.by n counts) c.next_turn-turn.ensures c.in-Err-commit.ensures.gives in
-    let vault = doubted_vault tells old mid p c.args.by requests steps c.commit.new.self counts done c.commit.ensures.origin c.commit.ensures.rests c.commit.ensures.has c.ready.ensures.count in
+    let vault = doubted_vault (house_in (seen_as old)) tells old mid p c.args.by requests steps c.commit.new.self counts done c.commit.ensures.origin c.commit.ensures.rests c.commit.ensures.has c.ready.ensures.count in
     vault
 
 pub returns-in-Err-commit-clause-turn : goal.returns-in-Err-commit-clause-turn
@@ -149,11 +155,12 @@ returns-in-Err-commit-clause-turn g c =
     let requests = requests_of c.args.bytes.now c.args.asks.now in
     let p : Parts _ = record { records = c.decide_each.new.self; head = mid.head; opening = mid.opening; count = mid.count; lines = mid.lines; faults = mid.faults } in
     let steps = stepped tells old mid p c.args.by c.next_turn-turn.result requests c.requires.vault c.if-self-ge-MAX_FAULTS.false c.next_turn-turn.ensures c.in-Ok.ensures.gives c.ready.ensures.rests
-    c.ready.ensures.origin c.ready.ensures.nothing (record { terms = c.decide_each.ensures.terms; opening = refl; count = refl; head = refl }) c.decide_each.ensures.journal c.decide_each.ensures.over c.decide_each.ensures.group refl refl in
+    c.ready.ensures.origin c.ready.ensures.nothing (record { terms = c.decide_each.ensures.terms; opening = refl; count = refl; head = refl }) c.decide_each.ensures.journal c.decide_each.ensures.over c.decide_each.ensures.group
+    (c.decide_each.ensures.gathers.group.legal.legal, c.decide_each.ensures.gathers.group.within) refl refl in
     let counts = c.in-Err-commit.field-0 in
     let done = subst (λ (n : ℕ). Doubted tells p c.commit.new.self c.args.by n counts) c.next_turn-turn.ensures c.in-Err-commit.ensures.gives in
-    let vault = doubted_vault tells old mid p c.args.by requests steps c.commit.new.self counts done c.commit.ensures.origin c.commit.ensures.rests c.commit.ensures.has c.ready.ensures.count in
-    doubted_went tells old mid p c.args.by requests steps c.commit.new.self counts done vault c.in-Err-commit.ensures.writes c.ready.ensures.any_moment c.commit.ensures.any_moment c.args.out.now.items c.truncate.new.self.items
+    let vault = doubted_vault (house_in (seen_as old)) tells old mid p c.args.by requests steps c.commit.new.self counts done c.commit.ensures.origin c.commit.ensures.rests c.commit.ensures.has c.ready.ensures.count in
+    doubted_went (house_in (seen_as old)) tells old mid p c.args.by requests steps c.commit.new.self counts done vault c.in-Err-commit.ensures.writes c.ready.ensures.any_moment c.commit.ensures.any_moment c.args.out.now.items c.truncate.new.self.items
     (c.truncate.ensures.items ∙ ap (take c.len-told.result) c.decide_each.ensures.out ∙ take_at c.args.out.now.items _ c.len-told.result (sym c.args.out.now.ok.0 ∙ sym c.len-told.ensures))
 
 pub returns-in-Err-commit-clause-any_moment : goal.returns-in-Err-commit-clause-any_moment
@@ -164,11 +171,12 @@ returns-in-Err-commit-clause-any_moment g c =
     let requests = requests_of c.args.bytes.now c.args.asks.now in
     let p : Parts _ = record { records = c.decide_each.new.self; head = mid.head; opening = mid.opening; count = mid.count; lines = mid.lines; faults = mid.faults } in
     let steps = stepped tells old mid p c.args.by c.next_turn-turn.result requests c.requires.vault c.if-self-ge-MAX_FAULTS.false c.next_turn-turn.ensures c.in-Ok.ensures.gives c.ready.ensures.rests
-    c.ready.ensures.origin c.ready.ensures.nothing (record { terms = c.decide_each.ensures.terms; opening = refl; count = refl; head = refl }) c.decide_each.ensures.journal c.decide_each.ensures.over c.decide_each.ensures.group refl refl in
+    c.ready.ensures.origin c.ready.ensures.nothing (record { terms = c.decide_each.ensures.terms; opening = refl; count = refl; head = refl }) c.decide_each.ensures.journal c.decide_each.ensures.over c.decide_each.ensures.group
+    (c.decide_each.ensures.gathers.group.legal.legal, c.decide_each.ensures.gathers.group.within) refl refl in
     let counts = c.in-Err-commit.field-0 in
     let done = subst (λ (n : ℕ). Doubted tells p c.commit.new.self c.args.by n counts) c.next_turn-turn.ensures c.in-Err-commit.ensures.gives in
-    let vault = doubted_vault tells old mid p c.args.by requests steps c.commit.new.self counts done c.commit.ensures.origin c.commit.ensures.rests c.commit.ensures.has c.ready.ensures.count in
-    turn_leaves tells old mid p c.args.by requests steps c.commit.new.self vault c.commit.ensures.origin
+    let vault = doubted_vault (house_in (seen_as old)) tells old mid p c.args.by requests steps c.commit.new.self counts done c.commit.ensures.origin c.commit.ensures.rests c.commit.ensures.has c.ready.ensures.count in
+    turn_leaves (house_in (seen_as old)) tells old mid p c.args.by requests steps c.commit.new.self vault c.commit.ensures.origin
     (inr (ap (λ (es : List Entry). es ++ doubt_of c.commit.new.self.records) done.entries ∙ ap (λ (es : List Entry). over_of p.records ++ es) (doubted_all tells p c.commit.new.self c.args.by _ counts done)))
     c.ready.ensures.any_moment c.commit.ensures.any_moment
 
@@ -180,11 +188,12 @@ returns-in-Err-commit-clause-quiet g c =
     let requests = requests_of c.args.bytes.now c.args.asks.now in
     let p : Parts _ = record { records = c.decide_each.new.self; head = mid.head; opening = mid.opening; count = mid.count; lines = mid.lines; faults = mid.faults } in
     let steps = stepped tells old mid p c.args.by c.next_turn-turn.result requests c.requires.vault c.if-self-ge-MAX_FAULTS.false c.next_turn-turn.ensures c.in-Ok.ensures.gives c.ready.ensures.rests
-    c.ready.ensures.origin c.ready.ensures.nothing (record { terms = c.decide_each.ensures.terms; opening = refl; count = refl; head = refl }) c.decide_each.ensures.journal c.decide_each.ensures.over c.decide_each.ensures.group refl refl in
+    c.ready.ensures.origin c.ready.ensures.nothing (record { terms = c.decide_each.ensures.terms; opening = refl; count = refl; head = refl }) c.decide_each.ensures.journal c.decide_each.ensures.over c.decide_each.ensures.group
+    (c.decide_each.ensures.gathers.group.legal.legal, c.decide_each.ensures.gathers.group.within) refl refl in
     let counts = c.in-Err-commit.field-0 in
     let done = subst (λ (n : ℕ). Doubted tells p c.commit.new.self c.args.by n counts) c.next_turn-turn.ensures c.in-Err-commit.ensures.gives in
-    let vault = doubted_vault tells old mid p c.args.by requests steps c.commit.new.self counts done c.commit.ensures.origin c.commit.ensures.rests c.commit.ensures.has c.ready.ensures.count in
-    λ same. quiet_failed tells old c.commit.new.self c.requires.vault vault same (doubted_count tells old mid p c.args.by requests steps c.commit.new.self counts done)
+    let vault = doubted_vault (house_in (seen_as old)) tells old mid p c.args.by requests steps c.commit.new.self counts done c.commit.ensures.origin c.commit.ensures.rests c.commit.ensures.has c.ready.ensures.count in
+    λ same. quiet_failed tells old c.commit.new.self c.requires.vault vault same (doubted_count (house_in (seen_as old)) tells old mid p c.args.by requests steps c.commit.new.self counts done)
 
 pub returns-in-Err-clause-origin : goal.returns-in-Err-clause-origin
 returns-in-Err-clause-origin g c =
@@ -193,7 +202,7 @@ returns-in-Err-clause-origin g c =
     let requests = requests_of c.args.bytes.now c.args.asks.now in
     let counts = c.in-Err.field-0 in
     let unready = subst (λ (n : ℕ). Unready tells old c.ready.new.self c.args.by n counts) c.next_turn-turn.ensures c.in-Err.ensures.gives in
-    unready_origin tells old c.ready.new.self c.args.by requests counts c.requires.vault c.if-self-ge-MAX_FAULTS.false unready c.ready.ensures.origin
+    unready_origin (house_in (seen_as old)) tells old c.ready.new.self c.args.by requests counts c.requires.vault c.if-self-ge-MAX_FAULTS.false unready c.ready.ensures.origin
 
 pub returns-in-Ok-commit-clause-origin : goal.returns-in-Ok-commit-clause-origin
 returns-in-Ok-commit-clause-origin g c =
@@ -203,9 +212,10 @@ returns-in-Ok-commit-clause-origin g c =
     let requests = requests_of c.args.bytes.now c.args.asks.now in
     let p : Parts _ = record { records = c.decide_each.new.self; head = mid.head; opening = mid.opening; count = mid.count; lines = mid.lines; faults = mid.faults } in
     let steps = stepped tells old mid p c.args.by c.next_turn-turn.result requests c.requires.vault c.if-self-ge-MAX_FAULTS.false c.next_turn-turn.ensures c.in-Ok.ensures.gives c.ready.ensures.rests
-    c.ready.ensures.origin c.ready.ensures.nothing (record { terms = c.decide_each.ensures.terms; opening = refl; count = refl; head = refl }) c.decide_each.ensures.journal c.decide_each.ensures.over c.decide_each.ensures.group refl refl in
+    c.ready.ensures.origin c.ready.ensures.nothing (record { terms = c.decide_each.ensures.terms; opening = refl; count = refl; head = refl }) c.decide_each.ensures.journal c.decide_each.ensures.over c.decide_each.ensures.group
+    (c.decide_each.ensures.gathers.group.legal.legal, c.decide_each.ensures.gathers.group.within) refl refl in
     let done = subst (λ (n : ℕ). Committed p c.commit.new.self c.args.by n) c.next_turn-turn.ensures c.in-Ok-commit.ensures.gives in
-    decided_origin tells old mid p c.args.by requests steps c.commit.new.self done c.commit.ensures.origin
+    decided_origin (house_in (seen_as old)) tells old mid p c.args.by requests steps c.commit.new.self done c.commit.ensures.origin
 
 pub returns-in-Err-commit-clause-origin : goal.returns-in-Err-commit-clause-origin
 returns-in-Err-commit-clause-origin g c =
@@ -215,7 +225,8 @@ returns-in-Err-commit-clause-origin g c =
     let requests = requests_of c.args.bytes.now c.args.asks.now in
     let p : Parts _ = record { records = c.decide_each.new.self; head = mid.head; opening = mid.opening; count = mid.count; lines = mid.lines; faults = mid.faults } in
     let steps = stepped tells old mid p c.args.by c.next_turn-turn.result requests c.requires.vault c.if-self-ge-MAX_FAULTS.false c.next_turn-turn.ensures c.in-Ok.ensures.gives c.ready.ensures.rests
-    c.ready.ensures.origin c.ready.ensures.nothing (record { terms = c.decide_each.ensures.terms; opening = refl; count = refl; head = refl }) c.decide_each.ensures.journal c.decide_each.ensures.over c.decide_each.ensures.group refl refl in
+    c.ready.ensures.origin c.ready.ensures.nothing (record { terms = c.decide_each.ensures.terms; opening = refl; count = refl; head = refl }) c.decide_each.ensures.journal c.decide_each.ensures.over c.decide_each.ensures.group
+    (c.decide_each.ensures.gathers.group.legal.legal, c.decide_each.ensures.gathers.group.within) refl refl in
     let counts = c.in-Err-commit.field-0 in
     let done = subst (λ (n : ℕ). Doubted tells p c.commit.new.self c.args.by n counts) c.next_turn-turn.ensures c.in-Err-commit.ensures.gives in
-    doubted_origin tells old mid p c.args.by requests steps c.commit.new.self counts done c.commit.ensures.origin
+    doubted_origin (house_in (seen_as old)) tells old mid p c.args.by requests steps c.commit.new.self counts done c.commit.ensures.origin
