@@ -1,5 +1,8 @@
 // What a book is asked, and what becomes of it.
 
+ghost use Rattle.std.specs.Prelude.{IsTrue};
+ghost use Rattle.nb_book.specs.Legal.{LegalAfter};
+
 use crate::entries::{entry_of, epoid_of, in_words};
 use crate::trial::Trial;
 use crate::words::Words;
@@ -11,9 +14,9 @@ use std::alloc::Global;
 const KEY: [u8; 16] = [0; 16];
 
 impl Trial {
-    /// `book CAP [RATE]`: a book without entries, of a journal with this rate or of one without fees. `next ENTRY`: whether it may come next. `apply ENTRY`: it comes next. `undo`: the last one is
-    /// taken off. `party ID`, `account ID`, `reference HEX`, `order MERCHANT MOMENT SERIAL`: what the book has of it. `counts`: its cap, its
-    /// money and its entries. `fees`: what the house kept.
+    /// `book CAP [RATE]`: a book without entries, of a journal with this rate or of one without fees. `next ENTRY`: whether it may come next.
+    /// `apply ENTRY`: it comes next. `undo`: the last one is taken off. `party ID`, `account ID`, `reference HEX`, `order MERCHANT MOMENT SERIAL`: what
+    /// the book has of it. `counts`: its cap, its money and its entries. `fees`: what the house kept.
     pub fn of_book(&mut self, word: &str, words: &[&str]) -> Result<String, NoMemory> {
         let mut words = Words::new(words);
         let alloc = self.alloc;
@@ -44,7 +47,9 @@ fn made(alloc: Global, cap: Option<u32>) -> Result<Option<Book>, NoMemory> {
 }
 
 // Whether an entry may come next in a journal with this rate, or in one without fees.
-fn legal(book: &Book, entry: &Entry, rate: Option<u16>) -> bool {
+fn legal(book: &Book, entry: &Entry, rate: Option<u16>) -> bool
+    ensures { IsTrue result → LegalAfter book.now.entries entry.now }
+{
     match rate {
         None => book.legal(entry, FIRST_VERSION, 0),
         Some(rate) => book.legal(entry, FEE_VERSION, rate.min(MAX_RATE)),
