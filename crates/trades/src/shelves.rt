@@ -20,18 +20,25 @@ pub(crate) fn catalogue(alloc: Global, words: &[&str]) -> Result<String, NoMemor
 /// what the catalogue then has of its number.
 pub(crate) fn puts(alloc: Global, words: &[&str]) -> Result<String, NoMemory> {
     let mut catalogue = Catalogue::new(alloc);
-    let (mut told, mut rest) = (String::new(alloc), words);
-    while let [number, price, goods, more @ ..] = rest {
-        let put = catalogue.put(
-            number.parse::<u32>().unwrap_or(0),
-            Price(nb_lines::number(*price)),
-            nb_lines::spelled(alloc, *goods),
-        );
-        let has = products(alloc, &catalogue, &[*number])?;
-        told.push_str(format!(in alloc; "{}:{has} ", came_of(put))?.as_str())?;
-        rest = more;
+    let mut told = String::new(alloc);
+    for product in words.chunks(3) {
+        told.push_str(put(alloc, &mut catalogue, product)?.as_str())?;
     }
     Ok(told)
+}
+
+// What came of one of them, and what the catalogue then has of its number.
+fn put(alloc: Global, catalogue: &mut Catalogue, product: &[&str]) -> Result<String, NoMemory> {
+    let [number, price, goods] = product else {
+        return nb_lines::unclear(alloc);
+    };
+    let put = catalogue.put(
+        number.parse::<u32>().unwrap_or(0),
+        Price(nb_lines::number(*price)),
+        nb_lines::spelled(alloc, *goods),
+    );
+    let has = products(alloc, catalogue, &[*number])?;
+    Ok(format!(in alloc; "{}:{has} ", came_of(put))?)
 }
 
 // What came of a product that was put into a catalogue, in words.
