@@ -16,7 +16,7 @@ use nb_seal::{KeyState, same};
 use nb_units::width::{
     CODE, EPOID, FLAG, MOMENT, MONEY, PARTY, PLACE, PRODUCT, SEAL, SECRET, SHOWN, TAG,
 };
-use nb_units::{Buffer, Cut, Epoid, Malformed, PartyId, Pen, Price, Secret, Tag, allow, is_reason};
+use nb_units::{Buffer, Cut, Epoid, Malformed, PartyId, Price, Secret, Tag, allow, is_reason};
 
 /// The code of an order that was paid.
 pub const PAID_CODE: u8 = 0;
@@ -172,19 +172,10 @@ pub fn seal_receipt(s: &Signed, key: &Secret) -> [u8; RECEIPT_BYTES]
     ensures sealed { result ≡ seal_of key.now (codes "rcpt") (spelling.signed_bytes s.now) }
     ensures fits { spelling.IsSigned s.now }
 {
-    seal_receipt_with(s, &KeyState::new(key))
-}
-
-// The receipt and its tag, sealed as `seal_receipt` does, under the key of this state.
-pub(crate) fn seal_receipt_with(s: &Signed, key: &KeyState) -> [u8; RECEIPT_BYTES]
-    requires lawful { ReceiptKeepsRules s.now.receipt }
-    ensures sealed { result ≡ seal_of key.now (codes "rcpt") (spelling.signed_bytes s.now) }
-    ensures fits { spelling.IsSigned s.now }
-{
     let mut plain = Buffer::new();
     s.spell(&mut plain);
     let mut sealed = [0u8; RECEIPT_BYTES];
-    let _all = key.seal_to(&RECEIPT_LABEL, plain.as_slice(), &mut sealed);
+    let _all = KeyState::new(key).seal_to(&RECEIPT_LABEL, plain.as_slice(), &mut sealed);
     sealed
 }
 
@@ -198,9 +189,21 @@ pub fn write_receipt(s: &Signed, key: &Secret, out: &mut Vec<u8>)
     ensures long { vec_len out.new ≡ vec_len out.old + RECEIPT_BYTES }
     ensures room { vec_capacity out.new ≡ vec_capacity out.old }
 {
-    let sealed = seal_receipt(s, key);
-    let mut pen = Pen::over(out);
-    pen.raw(&sealed);
+    write_receipt_with(s, &KeyState::new(key), out);
+}
+
+// Appends the receipt and its tag, sealed in their place, as `write_receipt` does, under the key of this state.
+pub(crate) fn write_receipt_with(s: &Signed, key: &KeyState, out: &mut Vec<u8>)
+    requires lawful { ReceiptKeepsRules s.now.receipt }
+    requires room { RECEIPT_BYTES ≤ spare_of out.old }
+    ensures bytes { out.new.items ≡ out.old.items ++ seal_of key.now (codes "rcpt") (spelling.signed_bytes s.now) }
+    ensures fits { spelling.IsSigned s.now }
+    ensures long { vec_len out.new ≡ vec_len out.old + RECEIPT_BYTES }
+    ensures room { vec_capacity out.new ≡ vec_capacity out.old }
+{
+    let mut plain = Buffer::new();
+    s.spell(&mut plain);
+    key.seal_spare(&RECEIPT_LABEL, plain.as_slice(), out);
 }
 
 /// The receipt and its tag that at most [`RECEIPT_BYTES`] bytes are the seal of under a party's key and the label "rcpt".

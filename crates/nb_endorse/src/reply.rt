@@ -1,4 +1,5 @@
-ghost use Rattle.std.specs.Prelude.{◌≡◌, ◌≤◌, ◌+◌, ◌++◌, length, codes, take, drop, vec_capacity};
+ghost use Rattle.std.specs.Prelude.{◌≡◌, ◌≤◌, ◌+◌, ◌++◌, length, codes, take, drop, vec_capacity, vec_len};
+ghost use Rattle.nb_endorse.specs.declared.receipt.TheConstants.{RECEIPT_BYTES};
 ghost use Rattle.nb_units.specs.Room.{spare_of};
 ghost use Rattle.nb_seal.specs.declared.limits.TheConstants.{CODE_BYTES, MAX_TEXT};
 ghost use Rattle.nb_seal.specs.Seal.{seal_of};
@@ -8,8 +9,7 @@ ghost use Rattle.nb_endorse.specs.Spelling.{IsSigned, signed_bytes};
 ghost use Rattle.nb_endorse.specs.Tags.{signed_receipt};
 
 use crate::receipt::{
-    NO_KEY, RECEIPT_BYTES, Receipt, Signed, seal_receipt, seal_receipt_with, sign_receipt,
-    sign_receipt_with,
+    NO_KEY, Receipt, Signed, sign_receipt, sign_receipt_with, write_receipt, write_receipt_with,
 };
 use crate::refusal::Refusal;
 use nb_seal::{KeyState, seal_spare, seal_to};
@@ -144,27 +144,33 @@ impl ReplyStates {
         }
     }
 
-    /// The receipt and its tag, sealed under the first key.
-    pub fn seal_first(&self, s: &Signed) -> [u8; RECEIPT_BYTES]
+    /// Appends the receipt and its tag, sealed under the first key: [`RECEIPT_BYTES`] bytes, which needs room for as many. It takes no memory.
+    pub fn write_first(&self, s: &Signed, out: &mut Vec<u8>)
         requires lawful { ReceiptKeepsRules s.now.receipt }
-        ensures sealed { result ≡ seal_of self.now.first (codes "rcpt") (signed_bytes s.now) }
+        requires room { RECEIPT_BYTES ≤ spare_of out.old }
+        ensures bytes { out.new.items ≡ out.old.items ++ seal_of self.now.first (codes "rcpt") (signed_bytes s.now) }
         ensures fits { IsSigned s.now }
+        ensures long { vec_len out.new ≡ vec_len out.old + RECEIPT_BYTES }
+        ensures room { vec_capacity out.new ≡ vec_capacity out.old }
     {
         match &self.first {
-            Some(key) => seal_receipt_with(s, key),
-            None => seal_receipt(s, &NO_KEY),
+            Some(key) => write_receipt_with(s, key, out),
+            None => write_receipt(s, &NO_KEY, out),
         }
     }
 
-    /// The receipt and its tag, sealed under the second key.
-    pub fn seal_second(&self, s: &Signed) -> [u8; RECEIPT_BYTES]
+    /// Appends the receipt and its tag, sealed under the second key: [`RECEIPT_BYTES`] bytes, which needs room for as many. It takes no memory.
+    pub fn write_second(&self, s: &Signed, out: &mut Vec<u8>)
         requires lawful { ReceiptKeepsRules s.now.receipt }
-        ensures sealed { result ≡ seal_of self.now.second (codes "rcpt") (signed_bytes s.now) }
+        requires room { RECEIPT_BYTES ≤ spare_of out.old }
+        ensures bytes { out.new.items ≡ out.old.items ++ seal_of self.now.second (codes "rcpt") (signed_bytes s.now) }
         ensures fits { IsSigned s.now }
+        ensures long { vec_len out.new ≡ vec_len out.old + RECEIPT_BYTES }
+        ensures room { vec_capacity out.new ≡ vec_capacity out.old }
     {
         match &self.second {
-            Some(key) => seal_receipt_with(s, key),
-            None => seal_receipt(s, &NO_KEY),
+            Some(key) => write_receipt_with(s, key, out),
+            None => write_receipt(s, &NO_KEY, out),
         }
     }
 

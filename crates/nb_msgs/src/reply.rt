@@ -1,6 +1,9 @@
 ghost use Rattle.std.specs.Prelude.{◌≡◌, ◌≤◌, ◌<◌, ◌+◌, ◌^◌, ◌++◌, codes, length, vec_capacity, IfSome};
 ghost use Rattle.nb_seal.specs.Seal.{seal_of};
+ghost use Rattle.nb_units.specs.Fields.{be4};
 ghost use Rattle.nb_units.specs.Room.{spare_of};
+ghost use Rattle.nb_units.specs.declared.width.TheConstants.{LENGTH};
+ghost use Rattle.nb_endorse.specs.declared.receipt.TheConstants.{RECEIPT_BYTES};
 ghost use Rattle.nb_units.specs.declared.frames.TheConstants.{HEADER};
 ghost use Rattle.nb_units.specs.Epoid.{IsEpoid};
 ghost use Rattle.nb_endorse.specs.declared.reply.Reply.TheVariants as reply;
@@ -23,7 +26,7 @@ use nb_units::frames::{
     DONE_REPLY, GRANT_REPLY, HEADER, REFUSED_REPLY, RESULT_REPLY, STATUS_REPLY,
 };
 use nb_units::width::{LENGTH, SEAL};
-use nb_units::{AcctId, Buffer, Epoid};
+use nb_units::{AcctId, Buffer, Epoid, Pen};
 
 /// The room that is asked for a reply's frame.
 pub const REPLY_ROOM: usize = 512;
@@ -58,10 +61,7 @@ pub fn write_reply_with(reply: &Reply, keys: &ReplyStates, out: &mut Vec<u8>)
     ensures room { vec_capacity out.new ≡ vec_capacity out.old }
 {
     match reply {
-        Reply::Result { merchant, consumer } => {
-            let body = result_body(merchant, consumer, keys);
-            write_frame(RESULT_REPLY, body.as_slice(), out);
-        }
+        Reply::Result { merchant, consumer } => write_result(merchant, consumer, keys, out),
         Reply::Status {
             place,
             epoid,
@@ -86,21 +86,34 @@ pub fn write_reply_with(reply: &Reply, keys: &ReplyStates, out: &mut Vec<u8>)
     }
 }
 
-// The body that gives each party its receipt, signed by the house and sealed. Receipts that are equal, as those of a payment, are
-// signed once.
-fn result_body(merchant: &Receipt, consumer: &Receipt, keys: &ReplyStates) -> Buffer
+// Appends the frame that gives each party its receipt, signed by the house and sealed in its place behind the header. Receipts that are
+// equal, as those of a payment, are signed once.
+fn write_result(merchant: &Receipt, consumer: &Receipt, keys: &ReplyStates, out: &mut Vec<u8>)
     requires merchant { ReceiptKeepsRules merchant.now }
     requires consumer { ReceiptKeepsRules consumer.now }
-    ensures bytes { result ≡ (layout.result_frame keys.now merchant.now consumer.now).body }
+    requires room { REPLY_ROOM ≤ spare_of out.old }
+    ensures bytes { out.new.items ≡ out.old.items ++ layout.reply_bytes keys.now (reply.Result merchant.now consumer.now) }
     ensures fits { IsReceipt merchant.now × IsReceipt consumer.now }
-    ensures short { length result ≤ MOST_BODY }
+    ensures short { length (layout.reply_bytes keys.now (reply.Result merchant.now consumer.now)) ≤ LONGEST_REPLY }
+    ensures room { vec_capacity out.new ≡ vec_capacity out.old }
 {
     let first = keys.sign(merchant);
     let second = sign_again(&first, consumer, keys);
-    let mut body = Buffer::new();
-    body.bytes(&seal_first(&first, merchant, keys));
-    body.bytes(&seal_second(&second, consumer, keys));
-    body
+    write_header(RESULT_REPLY, MOST_BODY as u32, out);
+    write_length(out);
+    keys.write_first(&first, out);
+    write_length(out);
+    keys.write_second(&second, out);
+}
+
+// The length of a sealed receipt, before it.
+fn write_length(out: &mut Vec<u8>)
+    requires { LENGTH ≤ spare_of out.old }
+    ensures bytes { out.new.items ≡ out.old.items ++ be4 RECEIPT_BYTES }
+    ensures room { vec_capacity out.new ≡ vec_capacity out.old }
+{
+    let mut pen = Pen::over(out);
+    pen.u32(RECEIPT_BYTES as u32);
 }
 
 // The receipt with its tag under the house's key, beside another one that was signed so.
@@ -113,26 +126,6 @@ fn sign_again(first: &Signed, receipt: &Receipt, keys: &ReplyStates) -> Signed
     } else {
         keys.sign(receipt)
     }
-}
-
-// A receipt that was signed, sealed for who asked.
-fn seal_first(signed: &Signed, receipt: &Receipt, keys: &ReplyStates) -> [u8; RECEIPT_BYTES]
-    requires lawful { ReceiptKeepsRules receipt.now }
-    requires signed { signed.now ≡ signed_receipt keys.now.house receipt.now }
-    ensures sealed { result ≡ layout.sealed_receipt keys.now.house keys.now.first receipt.now }
-    ensures fits { IsReceipt receipt.now }
-{
-    keys.seal_first(signed)
-}
-
-// A receipt that was signed, sealed for the other party.
-fn seal_second(signed: &Signed, receipt: &Receipt, keys: &ReplyStates) -> [u8; RECEIPT_BYTES]
-    requires lawful { ReceiptKeepsRules receipt.now }
-    requires signed { signed.now ≡ signed_receipt keys.now.house receipt.now }
-    ensures sealed { result ≡ layout.sealed_receipt keys.now.house keys.now.second receipt.now }
-    ensures fits { IsReceipt receipt.now }
-{
-    keys.seal_second(signed)
 }
 
 // Appends the frame of a status, which is sealed for who asked in its place behind the header.
