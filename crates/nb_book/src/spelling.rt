@@ -1,4 +1,4 @@
-ghost use Rattle.std.specs.Prelude.{◌≡◌, ◌≤◌, ◌+◌, ◌++◌, length, vec_capacity, IfOk, IfErr, Ok};
+ghost use Rattle.std.specs.Prelude.{◌≡◌, ◌≤◌, ◌+◌, ◌++◌, [], length, vec_capacity, IfOk, IfErr, Ok};
 ghost use Rattle.nb_units.specs.declared.buffer.TheConstants.{MAX_BUFFER};
 ghost use Rattle.nb_units.specs.Fields.{moved};
 ghost use Rattle.nb_units.specs.Laws.{StandsAt};
@@ -50,7 +50,8 @@ pub fn write_entry(e: &Entry, out: &mut Vec<u8>)
     ensures long { length (spelling.entry_bytes e.now) ≤ MAX_ENTRY }
     ensures room { vec_capacity out.new ≡ vec_capacity out.old }
 {
-    let bytes = e.spelled();
+    let mut bytes = Buffer::new();
+    e.spell(&mut bytes);
     let mut pen = Pen::over(out);
     pen.raw(bytes.as_slice());
 }
@@ -88,6 +89,19 @@ impl Entry {
         ensures fits { spelling.IsEntry self.now }
         ensures long { length result ≤ MAX_ENTRY }
     {
+        let mut bytes = Buffer::new();
+        self.spell(&mut bytes);
+        bytes
+    }
+
+    // The same, in a buffer without a byte.
+    fn spell(&self, bytes: &mut Buffer)
+        requires lawful { spelling.EntryKeepsRules self.now }
+        requires empty { bytes.old ≡ [] }
+        ensures bytes { bytes.new ≡ spelling.entry_bytes self.now }
+        ensures fits { spelling.IsEntry self.now }
+        ensures long { length bytes.new ≤ MAX_ENTRY }
+    {
         match self {
             Entry::Enrol {
                 id,
@@ -95,12 +109,12 @@ impl Entry {
                 acct,
                 nonce,
                 key,
-            } => enrol_spelled(*id, *role, *acct, *nonce, key),
+            } => spell_enrol(*id, *role, *acct, *nonce, key, bytes),
             Entry::Fund {
                 acct,
                 amount,
                 reference,
-            } => fund_spelled(*acct, *amount, reference),
+            } => spell_fund(*acct, *amount, reference, bytes),
             Entry::Paid {
                 digest,
                 epoid,
@@ -114,7 +128,7 @@ impl Entry {
                 key,
             } => {
                 let terms = OrderTerms::of(digest, *epoid, *consumer, *merchant, *product, *price);
-                paid_spelled(&terms, *cacct, *macct, *moment, key)
+                spell_paid(&terms, *cacct, *macct, *moment, key, bytes)
             }
             Entry::Charged {
                 digest,
@@ -130,7 +144,7 @@ impl Entry {
                 key,
             } => {
                 let terms = OrderTerms::of(digest, *epoid, *consumer, *merchant, *product, *price);
-                charged_spelled(&terms, *fee, *cacct, *macct, *moment, key)
+                spell_charged(&terms, *fee, *cacct, *macct, *moment, key, bytes)
             }
             Entry::Refused {
                 digest,
@@ -145,106 +159,117 @@ impl Entry {
                 moment,
             } => {
                 let terms = OrderTerms::of(digest, *epoid, *consumer, *merchant, *product, *price);
-                refused_spelled(&terms, *code, *a, *b, *moment)
+                spell_refused(&terms, *code, *a, *b, *moment, bytes)
             }
         }
     }
 }
 
-// What follows spells one kind of entry each.
+// What follows spells one kind of entry each, in a buffer without a byte.
 
 #[tactic(auto, unfolding(crate::specs::Spelling::entry_bytes))]
-fn enrol_spelled(id: PartyId, role: u8, acct: AcctId, nonce: u64, key: &[u8; 32]) -> Buffer
-    requires { spelling.IsRole role }
-    ensures bytes { result ≡ spelling.entry_bytes (Enrol id role acct nonce key.now) }
+fn spell_enrol(
+    id: PartyId,
+    role: u8,
+    acct: AcctId,
+    nonce: u64,
+    key: &[u8; 32],
+    bytes: &mut Buffer,
+)
+    requires role { spelling.IsRole role }
+    requires empty { bytes.old ≡ [] }
+    ensures bytes { bytes.new ≡ spelling.entry_bytes (Enrol id role acct nonce key.now) }
     ensures fits { spelling.IsEntry (Enrol id role acct nonce key.now) }
-    ensures long { length result ≤ MAX_ENTRY }
+    ensures long { length bytes.new ≤ MAX_ENTRY }
 {
-    let mut bytes = Buffer::new();
     bytes.u8(ENROL_ENTRY);
     bytes.u32(id.0);
     bytes.u8(role);
     bytes.u32(acct.0);
     bytes.u64(nonce);
     bytes.raw(key);
-    bytes
 }
 
 #[tactic(auto, unfolding(crate::specs::Spelling::entry_bytes))]
-fn fund_spelled(acct: AcctId, amount: u64, reference: &[u8; 16]) -> Buffer
-    ensures bytes { result ≡ spelling.entry_bytes (Fund acct amount reference.now) }
+fn spell_fund(acct: AcctId, amount: u64, reference: &[u8; 16], bytes: &mut Buffer)
+    requires empty { bytes.old ≡ [] }
+    ensures bytes { bytes.new ≡ spelling.entry_bytes (Fund acct amount reference.now) }
     ensures fits { spelling.IsEntry (Fund acct amount reference.now) }
-    ensures long { length result ≤ MAX_ENTRY }
+    ensures long { length bytes.new ≤ MAX_ENTRY }
 {
-    let mut bytes = Buffer::new();
     bytes.u8(FUND_ENTRY);
     bytes.u32(acct.0);
     bytes.u64(amount);
     bytes.raw(reference);
-    bytes
 }
 
 #[tactic(auto, unfolding(crate::specs::Spelling::entry_bytes))]
-fn paid_spelled(
+fn spell_paid(
     terms: &OrderTerms,
     cacct: AcctId,
     macct: AcctId,
     moment: u64,
     key: &[u8; 32],
-) -> Buffer
-    ensures bytes { result ≡ spelling.entry_bytes (Paid terms.now.digest terms.now.epoid terms.now.consumer terms.now.merchant terms.now.product terms.now.price cacct macct moment key.now) }
+    bytes: &mut Buffer,
+)
+    requires empty { bytes.old ≡ [] }
+    ensures bytes { bytes.new ≡ spelling.entry_bytes (Paid terms.now.digest terms.now.epoid terms.now.consumer terms.now.merchant terms.now.product terms.now.price cacct macct moment key.now) }
     ensures fits { spelling.IsEntry (Paid terms.now.digest terms.now.epoid terms.now.consumer terms.now.merchant terms.now.product terms.now.price cacct macct moment key.now) }
-    ensures long { length result ≤ MAX_ENTRY }
+    ensures long { length bytes.new ≤ MAX_ENTRY }
 {
-    let mut bytes = Buffer::new();
     bytes.u8(PAID_ENTRY);
-    terms.write(&mut bytes);
+    terms.write(bytes);
     bytes.u32(cacct.0);
     bytes.u32(macct.0);
     bytes.u64(moment);
     bytes.raw(key);
-    bytes
 }
 
 #[tactic(auto, unfolding(crate::specs::Spelling::entry_bytes))]
-fn charged_spelled(
+fn spell_charged(
     terms: &OrderTerms,
     fee: u64,
     cacct: AcctId,
     macct: AcctId,
     moment: u64,
     key: &[u8; 32],
-) -> Buffer
-    ensures bytes { result ≡ spelling.entry_bytes (Charged terms.now.digest terms.now.epoid terms.now.consumer terms.now.merchant terms.now.product terms.now.price fee cacct macct moment key.now) }
+    bytes: &mut Buffer,
+)
+    requires empty { bytes.old ≡ [] }
+    ensures bytes { bytes.new ≡ spelling.entry_bytes (Charged terms.now.digest terms.now.epoid terms.now.consumer terms.now.merchant terms.now.product terms.now.price fee cacct macct moment key.now) }
     ensures fits { spelling.IsEntry (Charged terms.now.digest terms.now.epoid terms.now.consumer terms.now.merchant terms.now.product terms.now.price fee cacct macct moment key.now) }
-    ensures long { length result ≤ MAX_ENTRY }
+    ensures long { length bytes.new ≤ MAX_ENTRY }
 {
-    let mut bytes = Buffer::new();
     bytes.u8(CHARGED_ENTRY);
-    terms.write(&mut bytes);
+    terms.write(bytes);
     bytes.u64(fee);
     bytes.u32(cacct.0);
     bytes.u32(macct.0);
     bytes.u64(moment);
     bytes.raw(key);
-    bytes
 }
 
 #[tactic(auto, unfolding(crate::specs::Spelling::entry_bytes))]
-fn refused_spelled(terms: &OrderTerms, code: u8, a: u64, b: u64, moment: u64) -> Buffer
-    requires { IsReason code }
-    ensures bytes { result ≡ spelling.entry_bytes (Refused terms.now.digest terms.now.epoid terms.now.consumer terms.now.merchant terms.now.product terms.now.price code a b moment) }
+fn spell_refused(
+    terms: &OrderTerms,
+    code: u8,
+    a: u64,
+    b: u64,
+    moment: u64,
+    bytes: &mut Buffer,
+)
+    requires code { IsReason code }
+    requires empty { bytes.old ≡ [] }
+    ensures bytes { bytes.new ≡ spelling.entry_bytes (Refused terms.now.digest terms.now.epoid terms.now.consumer terms.now.merchant terms.now.product terms.now.price code a b moment) }
     ensures fits { spelling.IsEntry (Refused terms.now.digest terms.now.epoid terms.now.consumer terms.now.merchant terms.now.product terms.now.price code a b moment) }
-    ensures long { length result ≤ MAX_ENTRY }
+    ensures long { length bytes.new ≤ MAX_ENTRY }
 {
-    let mut bytes = Buffer::new();
     bytes.u8(REFUSED_ENTRY);
-    terms.write(&mut bytes);
+    terms.write(bytes);
     bytes.u8(code);
     bytes.u64(a);
     bytes.u64(b);
     bytes.u64(moment);
-    bytes
 }
 
 // The entry at the front of the bytes.

@@ -95,7 +95,7 @@ settled_more s over (inr is) = ((s.doubt, is), subst (λ (x : List Entry). Start
 over_legal : {D : Type 0} (tells : DiskTells D) (old : Chronicled D) (over : List Entry) → Keeps tells old → SettlesInto (state_of old) over → Legal over
 over_legal tells old over keeps settled =
     let front = (settled_more (state_of old) over settled).1 in
-    subst Legal (front_is (entries_in old ++ doubt_in old) over front.0 front.1) (front_legal (entries_in old ++ doubt_in old) (length over) keeps.legal)
+    subst Legal (front_is (entries_in old ++ doubt_in old) over front.0 front.1) (front_legal (entries_in old ++ doubt_in old) (length over) keeps.legal.legal)
 
 -- what the second of two passes was decided over begins with all entries that the first has seen
 over_more : {D : Type 0} (tells : DiskTells D) (by by' : ℕ) (v w u z : View Origin Line) (requests requests' : List Request) (found found' out out' more more' : List ℕ)

@@ -1,4 +1,4 @@
-ghost use Rattle.std.specs.Prelude.{◌≡◌, ◌≤◌, ◌↔◌, ◌+◌, ◌++◌, length, codes, vec_capacity, vec_len, IfOk, IfSome, IsTrue, None, Ok, ◌<◌, ◌^◌};
+ghost use Rattle.std.specs.Prelude.{◌≡◌, ◌≤◌, ◌↔◌, ◌+◌, ◌++◌, [], length, codes, vec_capacity, vec_len, IfOk, IfSome, IsTrue, None, Ok, ◌<◌, ◌^◌};
 ghost use Rattle.nb_seal.specs.Seal.{Opens, seal_of};
 ghost use Rattle.nb_units.specs.Room.{spare_of};
 ghost use Rattle.nb_units.specs.Reads.{Reads};
@@ -121,9 +121,21 @@ impl Signed {
         ensures fits { spelling.IsSigned self.now }
         ensures long { length result ≡ SIGNED_BYTES }
     {
-        let mut bytes = spelled(&self.receipt);
-        bytes.raw(&self.tag);
+        let mut bytes = Buffer::new();
+        self.spell(&mut bytes);
         bytes
+    }
+
+    // The same, in a buffer without a byte.
+    fn spell(&self, bytes: &mut Buffer)
+        requires lawful { ReceiptKeepsRules self.now.receipt }
+        requires empty { bytes.old ≡ [] }
+        ensures bytes { bytes.new ≡ spelling.signed_bytes self.now }
+        ensures fits { spelling.IsSigned self.now }
+        ensures long { length bytes.new ≡ SIGNED_BYTES }
+    {
+        spell_untagged(&self.receipt, bytes);
+        bytes.raw(&self.tag);
     }
 }
 
@@ -138,7 +150,8 @@ pub fn sign_receipt(r: &Receipt, house: &Secret) -> Signed
 pub(crate) fn sign_receipt_with(r: &Receipt, house: &KeyState) -> Signed
     ensures { result ≡ signed_receipt house.now r.now }
 {
-    let plain = spelled(r);
+    let mut plain = Buffer::new();
+    spell_untagged(r, &mut plain);
     Signed {
         receipt: *r,
         tag: house.code(&RECEIPT_LABEL, plain.as_slice()),
@@ -168,8 +181,10 @@ pub(crate) fn seal_receipt_with(s: &Signed, key: &KeyState) -> [u8; RECEIPT_BYTE
     ensures sealed { result ≡ seal_of key.now (codes "rcpt") (spelling.signed_bytes s.now) }
     ensures fits { spelling.IsSigned s.now }
 {
+    let mut plain = Buffer::new();
+    s.spell(&mut plain);
     let mut sealed = [0u8; RECEIPT_BYTES];
-    let _all = key.seal_to(&RECEIPT_LABEL, s.spelled().as_slice(), &mut sealed);
+    let _all = key.seal_to(&RECEIPT_LABEL, plain.as_slice(), &mut sealed);
     sealed
 }
 
@@ -220,14 +235,14 @@ fn opened(bytes: &[u8], key: &Secret) -> Result<Signed, SealedFault>
     Ok(signed)
 }
 
-// The receipt's bytes before its tag.
+// The receipt's bytes before its tag, in a buffer without a byte.
 #[tactic(auto, unfolding(crate::specs::Spelling::receipt_bytes))]
-fn spelled(r: &Receipt) -> Buffer
-    ensures bytes { result ≡ spelling.receipt_bytes r.now }
+fn spell_untagged(r: &Receipt, bytes: &mut Buffer)
+    requires empty { bytes.old ≡ [] }
+    ensures bytes { bytes.new ≡ spelling.receipt_bytes r.now }
     ensures fits { ReceiptKeepsRules r.now → spelling.IsReceipt r.now }
-    ensures long { length result ≡ UNTAGGED_BYTES }
+    ensures long { length bytes.new ≡ UNTAGGED_BYTES }
 {
-    let mut bytes = Buffer::new();
     bytes.u8(r.code);
     bytes.u32(r.consumer.0);
     bytes.u32(r.merchant.0);
@@ -236,9 +251,8 @@ fn spelled(r: &Receipt) -> Buffer
     bytes.raw(&r.epoid.write());
     bytes.u64(r.at);
     bytes.u64(r.moment);
-    write_key(&r.key, &mut bytes);
-    write_shown(r.shown, &mut bytes);
-    bytes
+    write_key(&r.key, bytes);
+    write_shown(r.shown, bytes);
 }
 
 // A key behind a byte that says whether there is one.

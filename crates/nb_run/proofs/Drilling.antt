@@ -19,6 +19,7 @@ use Rattle.nb_turns.specs.Lines.{entry_of, entries_of}
 use Rattle.nb_turns.specs.Turns.{Request, Answered}
 use Rattle.nb_vault.specs.declared.vault.opening.VaultFault.{VaultFault}
 use Rattle.nb_vault.specs.declared.vault.opening.VaultFault.TheVariants.{Unborn, Damaged, BadEntry, DiskFault, NoMemory}
+use Rattle.nb_journal.specs.Making.{without_fee}
 use Rattle.nb_vault.specs.Holdings.{StandsFor}
 use Rattle.nb_vault.proofs.HoldingLaws.{one_list}
 use Rattle.nb_batch.specs.Batch.{Outside, frame_of, moment_of}
@@ -200,7 +201,7 @@ module _ {D : Type 0} (tells : DiskTells D) (made new : D) (seed orders : ℕ) (
       | inl none ↦ subst (λ (ls : List Line). total (recorded ls) < 2 ^ 64) (sym none.1) (omega arith)
       | inr b ↦ omega (
         arith,
-        total_fits (b.0.last.entries ++ b.0.last.doubt) b.0.legal,
+        total_fits (b.0.last.entries ++ b.0.last.doubt) b.0.legal.legal,
         sum_by-append fund b.0.last.entries b.0.last.doubt,
         ap total b.1,
         sum_by-append fund b.0.opening (recorded lines),

@@ -1,5 +1,5 @@
 -- A head alone, for a disk without a journal, makes one, unless something failed.
-use Rattle.std.proofs.Common.{◌≡◌, ◌≢◌, ℕ, ◌+◌, List, [], ◌∷◌, ◌++◌, length, subst, Option, None, Some, IfSome, refl, sym, ap, ◌∙◌, arith, inl, inr}
+use Rattle.std.proofs.Common.{◌≡◌, ◌≢◌, ℕ, ◌+◌, ◌≤◌, List, [], ◌∷◌, ◌++◌, length, subst, Option, None, Some, IfSome, refl, sym, ap, ◌∙◌, arith, inl, inr}
 use Rattle.std.specs.Io.KnownBytes.{IsAtEnd}
 use Rattle.std.proofs.lemmas.List.{length-append}
 use Rattle.std.proofs.lemmas.Option.{same_Some}
@@ -7,7 +7,7 @@ use Rattle.nb_port.specs.Tells.{DiskTells}
 use Rattle.nb_port.specs.Faults.{Rose}
 use Rattle.nb_units.specs.Charter.{AreVersionAndRate}
 use Rattle.nb_units.specs.declared.charter.Charter.{Charter}
-use Rattle.nb_units.specs.declared.limits.TheConstants.{HEAD}
+use Rattle.nb_units.specs.declared.limits.TheConstants.{HEAD, MAX_RATE}
 use Rattle.nb_port.specs.Disk.{Only, wrote_at}
 use Rattle.nb_book.specs.Legal.{Legal}
 use Rattle.nb_journal.specs.Layout.{AreTerms, IsMagic, front_bytes}
@@ -18,7 +18,7 @@ use Rattle.nb_journal.specs.Reading.{found_in}
 use Rattle.nb_run.specs.declared.ending.TheConstants.{CLEAN}
 use Rattle.nb_run.specs.declared.init.InitEnd.{InitEnd}
 use Rattle.nb_run.specs.declared.init.InitEnd.TheVariants.{Made, BadCap, ReadFault, BadInput, Exists, LookFault, DiskFault}
-use Rattle.nb_run.specs.Init.{IsMade, MakesAs, ending_of, TookOther, IsHeadInput, HasNoJournal}
+use Rattle.nb_run.specs.Init.{charter_with, IsMade, MakesAs, ending_of, TookOther, IsHeadInput, HasNoJournal}
 
 -- an input of a head has no other length
 not_other : (left left' : Option (List ℕ)) (count : ℕ) → IsHeadInput left → TookOther left left' count → ⊥
@@ -64,6 +64,15 @@ stands_for_none charter cap image terms stands = record {
   legal = record { legal = no_entries; each = tt };
   within = omega arith;
 }
+
+-- what is made with a rate or without one has the head that was given, and a rate that its version may have
+pub head_whole : (head : List ℕ) (rate : Option ℕ) → length head ≡ HEAD → length (charter_with head rate).head ≡ HEAD
+head_whole head None whole = whole
+head_whole head (Some rate) whole = whole
+
+pub rate_ruled : (head : List ℕ) (rate : Option ℕ) → IfSome rate (λ r. r ≤ MAX_RATE) → AreVersionAndRate (charter_with head rate).version (charter_with head rate).rate
+rate_ruled head None few = inl (refl, refl)
+rate_ruled head (Some rate) few = inr (refl, few)
 
 pub made_of : {D : Type 0} (tells : DiskTells D) (old new : D) (charter : Charter) (cap : ℕ) → length charter.head ≡ HEAD → AreVersionAndRate charter.version charter.rate → IsCap cap → NoJournal (tells.content old)
     → IfSome (tells.content new) (Stands (front_bytes cap charter) []) → Only (tells.content new) (tells.allowed new) → tells.content new ≡ wrote_at (tells.content old) 0 (front_bytes cap charter ++ 0 ∷ []) → IsMade tells old new charter cap

@@ -27,6 +27,7 @@ use Rattle.nb_turns.specs.declared.mark.Mark.TheVariants.{At, Fault, Worn}
 use Rattle.nb_turns.specs.Turns.{Request, House, State, Answered, decided, last_state, replies}
 use Rattle.nb_turns.specs.Laws.{TurnOfOne, RunOfOnes}
 use Rattle.nb_vault.specs.Rules.{house_of}
+use Rattle.nb_book.specs.Legal.{LegalUnder}
 use Rattle.nb_vault.specs.Vaults.{Chronicled, state_of, entries_in, doubt_in, Keeps}
 use Rattle.nb_run.specs.declared.ending.TheConstants.{CLEAN, SOURCE_FAILED, SINK_FAILED, BAD_INPUT, OUT_OF_MEMORY, FRAME_LIMIT}
 use Rattle.nb_batch.specs.declared.batch.TheConstants.{MOST_FRAMES}
@@ -304,7 +305,7 @@ module _ {D : Type 0} (tells : DiskTells D) where
             (λ earlier. inl (⊎_elim (only_now disk image) (λ now. now) (unwritten.time.each (tells.moment disk) image (omega arith) earlier)))
             (λ here. inr (subst (λ (state : State). StandsInRun opened.origin.charter opened.origin.cap state s.states image) rest here))
             (s.stops.before (tells.moment disk) image unwritten.time.later is);
-        legal = keeps.legal;
+        legal = subst (λ (o : Origin). LegalUnder o.charter.version o.charter.rate (entries_in house ++ doubt_in house)) same keeps.legal;
         within = subst (λ (o : Origin). length (entries_in house ++ doubt_in house) ≤ o.cap) same keeps.within;
         money = keeps.money;
         clean = ends_clean end s.rest after.left (length (flat_map frame (map frame_of s.answered))) s.ends;

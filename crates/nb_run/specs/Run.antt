@@ -11,7 +11,7 @@ use Rattle.nb_frame.specs.Looks.{IsShort}
 use Rattle.nb_frame.specs.declared.stream.TheConstants.{MAX_PIECE}
 use Rattle.nb_units.specs.declared.frames.TheConstants.{HEADER}
 use Rattle.nb_book.specs.declared.entry.Entry.{Entry}
-use Rattle.nb_book.specs.Legal.{Legal}
+use Rattle.nb_book.specs.Legal.{LegalUnder}
 use Rattle.nb_escrow.specs.Head.{head_of}
 use Rattle.nb_journal.specs.Time.{Unwritten}
 use Rattle.nb_vault.specs.declared.vault.opening.VaultFault.{VaultFault}
@@ -132,8 +132,9 @@ pub record Batch {D : Type 0} (tells : DiskTells D) (old new : D) (before after 
   -- a stop at any moment since the start left what might have been left at the start, or what stands so for one of the states
   pub later : tells.moment old ≤ tells.moment new
   pub stops : (image : List ℕ) → tells.left new (tells.moment old) image → tells.allowed old image ⊎ StandsInRun charter cap (at_rest opening) states image
-  -- what is recorded is legal, with what is in doubt too; each order is settled at most once, and money is neither made nor lost
-  pub legal : Legal (last.entries ++ last.doubt)
+  -- what is recorded is legal under the version and the rate of the journal, with what is in doubt too; each order is settled at most once,
+  -- and money is neither made nor lost
+  pub legal : LegalUnder charter.version charter.rate (last.entries ++ last.doubt)
   pub within : length (last.entries ++ last.doubt) ≤ cap
   pub money : IsBalanced last.entries
   -- after status 0 no byte is over and nothing is left of the source

@@ -1,7 +1,9 @@
-ghost use Rattle.std.specs.Prelude.{◌≡◌, ◌≤◌, IfSome};
+ghost use Rattle.std.specs.Prelude.{◌≡◌, ◌≤◌, ◌++◌, ◌∷◌, [], IfSome, OnOk};
 ghost use Rattle.nb_units.specs.declared.limits.TheConstants.{MAX_RATE};
-ghost use Rattle.nb_journal.specs.Making.{SparesJournal};
-ghost use Rattle.nb_run.specs.Init.{MakesAs, HeadGives, CountedAs, ending_of};
+ghost use Rattle.nb_port.specs.Disk.{wrote_at};
+ghost use Rattle.nb_journal.specs.Layout.{front_bytes};
+ghost use Rattle.nb_journal.specs.Making.{InitGives, SparesJournal};
+ghost use Rattle.nb_run.specs.Init.{MakesAs, HeadGives, CountedAs, charter_with, ending_of};
 
 use crate::ending::{BAD_INPUT, CLEAN, DISK_FAILED, Ending, NOT_MADE, SOURCE_FAILED};
 use nb_journal::{HEAD, InitFault, MAX_CAP, init, init2};
@@ -76,16 +78,30 @@ pub fn make_journal<S: Source, D: Disk>(
         HeadRead::Other { bytes } => return InitEnd::BadInput { bytes },
         HeadRead::Failed => return InitEnd::ReadFault,
     };
-    let made = match rate {
-        None => init(disk, &head, cap),
-        Some(rate) => init2(disk, &head, cap, rate),
-    };
-    match made {
+    match make_with(disk, &head, cap, rate) {
         Ok(()) => InitEnd::Made,
         Err(InitFault::Exists { .. }) => InitEnd::Exists,
         Err(InitFault::LookFailed { .. }) => InitEnd::LookFault,
         Err(InitFault::DiskFault { .. }) => InitEnd::DiskFault,
         Err(InitFault::BadCap { .. } | InitFault::BadRate { .. }) => unreachable!(),
+    }
+}
+
+// Makes the journal of this head, in the version with fees where there is a rate.
+fn make_with<D: Disk>(
+    disk: &mut D,
+    head: &[u8; HEAD],
+    cap: u32,
+    rate: Option<u16>,
+) -> Result<(), InitFault>
+    ensures gives { InitGives D.tells disk.old disk.new cap (charter_with head.now rate) result }
+    ensures spares { SparesJournal D.tells disk.old disk.new }
+    ensures bytes { OnOk result (D.tells.content disk.new ≡ wrote_at (D.tells.content disk.old) 0 (front_bytes cap (charter_with head.now rate) ++ 0 ∷ [])) }
+    ensures count { D.tells.faults disk.old ≤ D.tells.faults disk.new }
+{
+    match rate {
+        None => init(disk, head, cap),
+        Some(rate) => init2(disk, head, cap, rate),
     }
 }
 

@@ -5,7 +5,7 @@ use Rattle.nb_port.specs.Tells.{DiskTells}
 use Rattle.nb_port.specs.Faults.{Rose, Backed}
 use Rattle.nb_link.specs.Link.{LinkSeen}
 use Rattle.nb_link.specs.Port.{PortSeen}
-use Rattle.nb_book.specs.Legal.{Legal}
+use Rattle.nb_book.specs.Legal.{LegalUnder}
 use Rattle.nb_turns.specs.declared.line.Line.{Line}
 use Rattle.nb_turns.specs.Lines.{Sound, failures_in, maker_of}
 use Rattle.nb_turn.specs.declared.chronicle.View.{View}
@@ -150,10 +150,11 @@ pub record IsAtRest {D : Type 0} (tells : DiskTells D) (vault : Chronicled D) : 
 pub record AllSessions {D : Type 0} (tells : DiskTells D) (old new : Chronicled D) (olds news : List WorkerSeen) (ends : List WorkerEnd) : Type 0 where
   -- there is one chronicle, the lines of the vault, which is opened as it was
   pub origin : new.origin ≡ old.origin
-  -- its faults are the disk's, its lines adopt what was in doubt, its entries are Legal, and the disk is at rest in its state
+  -- its faults are the disk's, its lines adopt what was in doubt, its entries are Legal under its version and its rate, and the disk is at rest in
+  -- its state
   pub backed : Backed old.origin.faults (failures_in new.lines) (tells.faults new.disk)
   pub sound : Sound new.lines
-  pub legal : Legal (entries_in new ++ doubt_in new)
+  pub legal : LegalUnder new.origin.charter.version new.origin.charter.rate (entries_in new ++ doubt_in new)
   pub at_rest : IsAtRest tells new
   -- it is all that every vault is
   pub keeps : Keeps tells new

@@ -6,7 +6,7 @@ ghost use Rattle.nb_frame.specs.State.{waiting};
 ghost use Rattle.nb_session.specs.Session.{Session, IsTold, around};
 ghost use Rattle.nb_session.specs.Steps.{EndsAt, HasRoom, IsBegun, TurnIs, point};
 ghost use Rattle.nb_session.specs.declared.ended.TheConstants.{MOST_FRAMES};
-ghost use Rattle.nb_session.specs.declared.ended.SessionEnd.TheVariants.{NoMemory};
+ghost use Rattle.nb_session.specs.declared.ended.SessionEnd.TheVariants as ends;
 
 use crate::answering::answer;
 use crate::ended::{MOST_FRAMES, Record, SessionEnd};
@@ -74,7 +74,7 @@ pub fn session<R: Wait, D: Disk + Drop, L: Link, C: Clock, G: Gate>(
     ensures pass { result.0.number ≡ pass.number }
     ensures told { IsTold D.tells pass.number number (around (sees pass) (L.seen link.old) (C.moments clock.old)) (around (sees result.0) (L.seen link.new) (C.moments clock.new)) result.1 }
     // Where there was no memory the link and the clock are as before, and so is what the pass knows.
-    ensures starved { result.1.end ≡ NoMemory → (link.new ≡ link.old) × (clock.new ≡ clock.old) × (sees result.0 ≡ sees pass) }
+    ensures starved { result.1.end ≡ ends.NoMemory → (link.new ≡ link.old) × (clock.new ≡ clock.old) × (sees result.0 ≡ sees pass) }
 {
     let seen_before = pass.seen();
     let Ok(mut work) = Work::new(alloc) else {
@@ -119,7 +119,7 @@ fn serve<R: Wait, D: Disk + Drop, L: Link, C: Clock, G: Gate>(
     ensures desk { IsAt result.0 desk.now }
     ensures pass { result.0.number ≡ pass.number }
     ensures session { Session D.tells pass.number (sees pass) (sees result.0) (L.seen link.old) (L.seen link.new) (C.moments clock.old) (C.moments clock.new) work.new.moments.items work.new.marks.items result.1 }
-    ensures begun { result.1 ≢ NoMemory }
+    ensures begun { result.1 ≢ ends.NoMemory }
 {
     let mut pass = pass;
     let mut piece = [0u8; MAX_PIECE];

@@ -71,7 +71,15 @@ impl<D: Disk> Records<D> {
     {
         let at = u64::from(self.book.len());
         let mut states = ReplyStates::none();
-        let decision = decide_with(&self.book, head, kind, body, moment, &mut states);
+        let decision = decide_with(
+            &self.book,
+            head,
+            kind,
+            body,
+            moment,
+            &mut self.kept,
+            &mut states,
+        );
         self.places.push_reserved(at);
         write_reply_with(&decision.reply, &states, out);
         if let Some(entry) = decision.entry {

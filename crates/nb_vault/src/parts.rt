@@ -171,6 +171,7 @@ impl<D> Parts<D> {
             item: _,
             places: _,
             base: _,
+            kept: _,
         } = records;
         (journal.into_disk(), lines)
     }

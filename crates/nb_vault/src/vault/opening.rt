@@ -8,6 +8,7 @@ use crate::records::{ROOM, Records};
 use crate::restore::{ItemsRead, restore};
 use crate::vault::Vault;
 use nb_book::{Book, Entry, MAX_ITEM_ENTRIES};
+use nb_endorse::KeptStates;
 use nb_escrow::Head;
 use nb_journal::{Journal, MAGIC_BYTES, OpenFault, Opened};
 use nb_port::Disk;
@@ -59,7 +60,7 @@ impl fmt::Display for VaultFault {
 
 impl<D: Disk> Vault<D> {
     /// Opens the vault on a disk: all that was written is made to stay, and its entries are read. Nothing is written. All memory of
-    /// the vault is taken here: for as many entries as its cap says, and for the lines of all turns that may come.
+    /// the vault is taken here: for as many entries as its cap says, for the lines of all turns that may come, and for the states of keys that are kept.
     pub fn open(alloc: Global, disk: D) -> Result<Vault<D>, (VaultFault, D)>
         ensures gives { VaultOpenGives D.tells disk result }
         ensures whole { WholeOpens (D.tells.content disk) result }
@@ -128,6 +129,7 @@ fn restored<D: Disk>(
             item: room.turn.item,
             places: room.turn.places,
             base: 0,
+            kept: room.turn.kept,
         },
         head: keys,
         opening,
@@ -137,12 +139,13 @@ fn restored<D: Disk>(
     })
 }
 
-// The memory of a turn.
+// The memory of a turn, and the states of keys that are kept from one to the next.
 #[derive(Drop)]
 struct TurnRoom {
     group: Vec<Entry>,
     item: Vec<u8>,
     places: Vec<u64>,
+    kept: KeptStates,
 }
 
 impl TurnRoom {
@@ -153,6 +156,7 @@ impl TurnRoom {
             group: Vec::with_capacity(alloc, MAX_ITEM_ENTRIES)?,
             item: Vec::with_capacity(alloc, ROOM as usize)?,
             places: Vec::with_capacity(alloc, MAX_REQUESTS)?,
+            kept: KeptStates::new(alloc)?,
         })
     }
 }

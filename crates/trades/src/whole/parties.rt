@@ -13,7 +13,7 @@ use nb_escrow::{Head, decide};
 use nb_merchant::Merchant;
 use nb_msgs::{Message, REPLY_ROOM, Step, To, write_reply};
 use nb_stall::Stage;
-use nb_units::{AcctId, NoMemory, PartyId, Small};
+use nb_units::{AcctId, FIRST_VERSION, NoMemory, PartyId, Small};
 use nb_wallet::Start;
 use std::alloc::Global;
 
@@ -21,6 +21,8 @@ const HOUSE: Head = Head {
     house: [0x11; 32],
     operator: [0x22; 32],
     index: [0x33; 16],
+    version: FIRST_VERSION,
+    rate: 0,
 };
 
 const CONSUMER: To = To::Consumer(PartyId(1));
@@ -84,7 +86,7 @@ fn opened(alloc: Global) -> Result<Book, NoMemory> {
 
 // An entry that may come next comes next.
 fn record(house: &mut Book, entry: &Entry) {
-    if house.legal(entry) && house.len() < house.cap() {
+    if house.legal(entry, FIRST_VERSION, 0) && house.len() < house.cap() {
         house.apply(entry);
     }
 }

@@ -1,6 +1,7 @@
 use Rattle.std.proofs.Common.{◌≡◌, ◌≢◌, ℕ, ◌<◌, ◌≤◌, ◌^◌, ◌⊎◌, List, [], Option, Some, None, refl, sym, ap, ap₂, subst, arith, inl, inr}
 use Rattle.nb_port.specs.Tells.{DiskTells}
 use Rattle.nb_book.specs.Money.{total}
+use Rattle.nb_journal.specs.Making.{without_fee}
 use Rattle.nb_turns.specs.declared.line.Line.{Line}
 use Rattle.nb_batch.specs.Batch.{Outside}
 use Rattle.nb_play.specs.Drill.{head_of}

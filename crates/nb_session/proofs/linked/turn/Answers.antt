@@ -1,4 +1,4 @@
-use Rattle.std.proofs.Common.{eqb-true, ◌≡◌, ◌×◌, ◌-◌, ℕ, List, length, refl, sym, subst, arith}
+use Rattle.std.proofs.Common.{eqb-true, ◌≡◌, ◌-◌, ℕ, List, length, refl, sym, subst, arith}
 use Rattle.std.specs.Prelude.{min, vec_len}
 use Rattle.std.proofs.lemmas.List.{length-map, nil_from_length}
 use Rattle.nb_turn.specs.Passes.{sees}
