@@ -43,7 +43,9 @@ fn sent_back(alloc: Global, link: &mut MemLink) -> Result<String, NoMemory> {
             Fetched::End(end) => {
                 let end = telling::link_end(alloc, end)?;
                 let sent = telling::sent(sent);
-                return Ok(format!(in alloc; "{count} frames, the last of kind {last}; {end}; {sent}")?);
+                return Ok(format!(in alloc;
+                    "{count} frames, the last of kind {last}; {end}; {sent}"
+                )?);
             }
         }
     }
