@@ -9,7 +9,7 @@ use Rattle.nb_frame.specs.Faults.{placed}
 use Rattle.nb_frame.proofs.Shortness.{short_not_whole, bad_not_whole}
 use Rattle.nb_wire.specs.Reads.{joined}
 use Rattle.nb_wire.specs.Received.{Wire, Received}
-use Rattle.nb_wire.specs.Laws.{ReceivedAll, ReceivedUpToAFault}
+use Rattle.nb_wire.specs.Laws.{ReceivedFirst, ReceivedAll, ReceivedUpToAFault}
 
 -- all bytes of the link are those that were read, and what is left
 bytes_are : (bytes left : List ℕ) (old last : Wire) (frames : List Frame) → old.link.left ≡ Some bytes → last.link.left ≡ Some left → old.held ≡ unfed → Received old last frames
@@ -21,6 +21,9 @@ bytes_are bytes left old last frames tells told begun got =
 
 taken_is : (old last : Wire) (frames : List Frame) → old.held ≡ unfed → Received old last frames → last.held.taken ≡ length (flat_map frame frames)
 taken_is old last frames begun got = omega (arith, got.taken, ap (λ (c : Collected). c.taken) begun)
+
+pub received_first : ReceivedFirst
+received_first bytes left old last frames tells told begun got = (bytes_are bytes left old last frames tells told begun got, got.lawful, taken_is old last frames begun got)
 
 pub received_all : ReceivedAll
 received_all bytes left old new last frames rest tells told begun got ends =

@@ -12,7 +12,13 @@ pub fn sent_in_parts()
     ensures { law.SentInParts }
 {}
 
-/// A law: the frames received up to the end of a link that tells its bytes are all whole frames of these bytes, in order, and as many bytes
+/// A law: the frames received of a link that tells its bytes are the first of these, whenever one looks: what waits follows them, and then what is
+/// left of the link.
+pub fn received_first()
+    ensures { law.ReceivedFirst }
+{}
+
+/// A law: the frames received up to the end of such a link are all whole frames of its bytes, in order, and as many bytes
 /// stand behind the last of them as the end tells.
 pub fn received_all()
     ensures { law.ReceivedAll }
