@@ -12,6 +12,9 @@
 //! however they came.
 //!
 //! Left to others: which frame is wanted of which link, what a frame asks for, and who closes the link.
+//!
+//! Not said: that a call of the link which failed is not tried again, since a call that works may have raised its count too. The stored run of `houses`
+//! shows it, over a link of which each call fails in turn.
 #![tactic(auto)]
 
 pub mod laws;
