@@ -255,8 +255,18 @@ def head(house, operator, index):
     return house + operator + index
 
 
+def wallet_head(id, account, nonce, key):
+    """The head of a wallet's journal."""
+    return struct.pack(">IIQ", id, account, nonce) + key + bytes(32)
+
+
+def stall_head(id, account, key, master):
+    """The head of a stall's journal."""
+    return struct.pack(">IIQ", id, account, 0) + key + master
+
+
 def journal(head, cap, entries, rate=None):
-    """A journal of these entries, one in an item. With a rate it is of the version with fees."""
+    """A journal of these entries, or of other items, one in an item. With a rate it is of the version with fees."""
     items = b"".join(OPEN + sized(entry) for entry in entries)
     magic = b"NBJRNL01" if rate is None else b"NBJRNL02"
     return magic + struct.pack(">I", cap) + head + struct.pack(">HH", rate or 0, 0) + items + CLOSED
@@ -267,24 +277,34 @@ def number(field):
     return int.from_bytes(field, "big")
 
 
+def items(image, gate):
+    """The items of a journal from its first gate on, each with the place of its gate, the place of the gate behind them, and why it goes no
+    further; None where that gate is not open."""
+    found = []
+    while True:
+        if gate >= len(image):
+            return found, gate, "the file ends where a gate should stand"
+        if image[gate : gate + 1] != OPEN:
+            return found, gate, None
+        size = number(image[gate + 1 : gate + 5])
+        item, behind = image[gate + 5 : gate + 5 + size], gate + 5 + size
+        if behind > len(image):
+            return found, gate, "the item behind this gate is cut"
+        found.append((gate, item))
+        gate = behind
+
+
 def walk(image, gate):
     """The entries of a journal from its first gate on, the place of the gate behind them, and why it goes no further; None where that gate is not
     open."""
     entries = []
-    while True:
-        if gate >= len(image):
-            return entries, gate, "the file ends where a gate should stand"
-        if image[gate : gate + 1] != OPEN:
-            return entries, gate, None
-        size = number(image[gate + 1 : gate + 5])
-        item, behind = image[gate + 5 : gate + 5 + size], gate + 5 + size
-        if behind > len(image):
-            return entries, gate, "the item behind this gate is cut"
+    found, behind, fault = items(image, gate)
+    for place, item in found:
         spelled = split(item)
         if spelled is None:
-            return entries, gate, "the item behind this gate holds what is no entry"
+            return entries, place, "the item behind this gate holds what is no entry"
         entries += spelled
-        gate = behind
+    return entries, behind, fault
 
 
 def split(item):
@@ -452,6 +472,38 @@ RECORDS = {
     "goods head": (LONG, EPOID, LONG, LONG, WIDE),
     "payment request": (LONG, text(280)),
 }
+
+# What a wallet keeps behind the kind of an item, and a stall. The first fields of each name the purchase: the consumer's number of it, behind the
+# consumer in a stall.
+WALLET_ITEMS = {
+    1: (LONG, NUMBER, NUMBER, LONG, text(64), text(64)),
+    2: (LONG, WIDE, text(80)),
+    3: (LONG, LONG),
+    4: (LONG, text(280), text(1_000_000)),
+    5: (LONG, Field(135)),
+    6: (LONG, EPOID, LONG, WIDE, LONG, text(1_000_000)),
+    8: (LONG,),
+}
+STALL_ITEMS = {
+    1: (NUMBER, LONG, NUMBER, LONG, WIDE),
+    2: (NUMBER, LONG, EPOID, WIDE),
+    3: (NUMBER, LONG, text(280)),
+    4: (NUMBER, LONG, text(167)),
+}
+
+
+def parted(fields, made):
+    """The fields that bytes are of, and nothing else; None where they are not of this layout."""
+    found, place = [], 0
+    for field in fields:
+        width = field.width
+        if field.text:
+            width, place = number(made[place : place + 4]), place + 4
+            if width > field.width:
+                return None
+        found.append(made[place : place + width])
+        place += width
+    return found if place == len(made) else None
 
 
 def spelled(fields):

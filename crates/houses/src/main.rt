@@ -1,9 +1,10 @@
-//! A program that does with houses what the lines of standard input say, and prints what they do: the trials of `nb_session`, `nb_server` and
-//! `nb_work`, as data. Each line is a word and what it is about; [`House`] says what they do. A line that begins with `#` is printed as it is.
+//! A program that does with houses what the lines of standard input say, and prints what they do: the trials of `nb_wire`, `nb_session`,
+//! `nb_server` and `nb_work`, as data. Each line is a word and what it is about; [`House`] says what they do. A line that begins with `#` is printed as it is.
 //!
 //! It claims nothing: what it prints is compared with what another program wrote.
 #![tactic(auto)]
 
+mod frames;
 mod house;
 mod images;
 mod jobs;
@@ -43,6 +44,7 @@ fn done<R: Threads + Wait + Clock + Sync>(
         [word, rest @ ..] => match *word {
             "#" => Ok(line.to_string(house.alloc())?),
             "session" => house.session(rt, rest),
+            "frames" => house.frames(rest),
             "work" => house.work(rt, rest),
             "serve" => house.serve(rt, rest),
             "image" => house.image(rest),

@@ -5,6 +5,7 @@ use nb_server::How;
 use nb_session::SessionEnd;
 use nb_turns::{Line, Mark};
 use nb_units::NoMemory;
+use nb_wire::{LinkEnd, Sent};
 use std::alloc::Global;
 
 // The most marks and lines that are shown.
@@ -21,6 +22,23 @@ pub(crate) fn end(alloc: Global, end: SessionEnd) -> Result<String, NoMemory> {
         SessionEnd::Spent => "spent".to_string(alloc)?,
         SessionEnd::NoMemory => "no memory".to_string(alloc)?,
     })
+}
+
+// Why no frame comes over a link any more.
+pub(crate) fn link_end(alloc: Global, end: LinkEnd) -> Result<String, NoMemory> {
+    Ok(match end {
+        LinkEnd::Ended { rest } => format!(in alloc; "ended with {rest} left")?,
+        LinkEnd::BadFrame(fault) => bad_frame(alloc, fault)?,
+        LinkEnd::ReadFault => "read fault".to_string(alloc)?,
+    })
+}
+
+// How sending went.
+pub(crate) fn sent(sent: Sent) -> &'static str {
+    match sent {
+        Sent::All => "all sent",
+        Sent::Failed => "write fault",
+    }
 }
 
 fn bad_frame(alloc: Global, fault: FrameFault) -> Result<String, NoMemory> {

@@ -17,12 +17,11 @@ use Rattle.nb_goods.specs.Goods.{part_at}
 use Rattle.nb_goods.specs.declared.limits.TheConstants.{PART_BYTES}
 use Rattle.nb_msgs.specs.declared.lengths.TheConstants.{MAX_SEALED_QUOTE, MAX_SEALED_HEAD}
 use Rattle.nb_units.specs.declared.ids.Price.{Price}
-use Rattle.nb_stall.specs.declared.limits.TheConstants.{QUOTED_ITEM, DELIVERED_ITEM, ENDORSED_ITEM, SETTLED_ITEM, MAX_ITEM}
+use Rattle.nb_stall.specs.declared.limits.TheConstants.{QUOTED_ITEM, DELIVERED_ITEM, ENDORSED_ITEM, SETTLED_ITEM}
 use Rattle.nb_stall.specs.declared.purchase.Purchase.{Purchase}
 use Rattle.nb_stall.specs.declared.stall.Stall.{Stall}
-use Rattle.nb_stall.specs.declared.item.Item.{Item}
 use Rattle.nb_stall.specs.declared.item.Item.TheVariants.{Quoted, Delivered, Endorsed, Settled}
-use Rattle.nb_stall.specs.Spelling.{IsItem, item_bytes}
+use Rattle.nb_stall.specs.Spelling.{item_bytes}
 use Rattle.nb_stall.specs.Laws.{ItemIsShort}
 use Rattle.nb_stall.specs.Messages.{key_of, head_of, endorsement_for}
 

@@ -3,3 +3,4 @@ pub mod Unsealing
 pub mod Noting
 pub mod Serials
 pub mod Lengths
+pub mod Heads

@@ -1,11 +1,11 @@
 -- What opening a ticket gives.
-use Rattle.std.proofs.Common.{◌≡◌, ℕ, List, Result, Ok, Err, codes, refl, sym}
+use Rattle.std.proofs.Common.{◌≡◌, ℕ, List, Result, Ok, Err, codes, refl}
 use Rattle.nb_ticket.specs.declared.ticket.Ticket.{Ticket}
 use Rattle.nb_ticket.specs.declared.ticket.TicketFault.{TicketFault}
 use Rattle.nb_ticket.specs.declared.ticket.TicketFault.TheVariants as ticket
 use Rattle.nb_ticket.specs.Reading.{ticket_of}
 use Rattle.nb_ticket.specs.Opening.{OpensTicket, Admits}
-use Rattle.nb_msgs.specs.Tests.{or_seal, opened}
+use Rattle.nb_msgs.specs.Tests.{or_seal}
 use Rattle.nb_msgs.proofs.Unsealing.{opened_so, no_text}
 use Rattle.nb_stall.specs.declared.stall.Stall.{Stall}
 use Rattle.nb_stall.specs.Tests.{ticket_in}

@@ -1,5 +1,5 @@
 -- What holds of every kept item: spelling and reading are the two sides of one thing.
-use Rattle.std.specs.Prelude.{◌≡◌, ◌≤◌, ℕ, List, [], ◌∷◌, codes, length, Ok}
+use Rattle.std.specs.Prelude.{◌≡◌, ◌≤◌, ℕ, List, [], ◌∷◌, length, Ok}
 use Rattle.nb_units.specs.Frames.{AreBytes}
 use Rattle.nb_stall.specs.declared.limits.TheConstants.{QUOTED_ITEM, DELIVERED_ITEM, ENDORSED_ITEM, SETTLED_ITEM, MAX_ITEM, MAX_PART, LAST_SERIAL}
 use Rattle.nb_stall.specs.declared.item.Item.{Item}

@@ -5,3 +5,4 @@ pub mod Tests
 pub mod Messages
 pub mod Ledger
 pub mod Laws
+pub mod Head

@@ -1,5 +1,6 @@
-//! What holds of every kept item. Each function here does nothing: its contract is the law.
+//! What holds of every kept item and of every head. Each function here does nothing: its contract is the law.
 
+ghost use Rattle.nb_stall.specs.Head as head;
 ghost use Rattle.nb_stall.specs.Laws as law;
 
 /// A law: what was spelled of an item is read as that.
@@ -25,4 +26,14 @@ pub fn item_is_short()
 /// The kinds of items, the longest item and the last serial number, in numbers.
 pub fn limits()
     ensures { law.LimitsAre }
+{}
+
+/// A law: what was spelled of a stall as the head of its journal is read as that stall.
+pub fn head_reads_back()
+    ensures { head.HeadReadsBack }
+{}
+
+/// A law: any head is that of a stall, which is spelled as that head, but for the 8 zeros in it.
+pub fn head_spells_back()
+    ensures { head.HeadSpellsBack }
 {}

@@ -3,6 +3,8 @@
 //! An [`Item`] is what is kept of one step; its bytes stand in `specs/Spelling.antt`, and read field by field in `specs/Reading.antt`. What holds of
 //! all items is proved by the functions of [`laws`].
 //!
+//! A [`Stall`] is who a merchant is. It stands in the 80 bytes of the head of its journal, and any 80 bytes are the head of one (`specs/Head.antt`).
+//!
 //! What the kept items say of a purchase, a [`Sale`], and under which identifiers goods were sealed, stands in `specs/Sales.antt`. [`note`],
 //! [`note_delivery`] and [`delivery_at`] keep both beside the items, so that neither is searched for (`specs/Ledger.antt`).
 //!
@@ -13,6 +15,7 @@
 #![tactic(auto)]
 
 mod delivery;
+mod head;
 mod item;
 pub mod laws;
 mod ledger;

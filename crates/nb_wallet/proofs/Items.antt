@@ -1,31 +1,30 @@
 -- Kept items read back and spell back, one kind after the other.
-use Rattle.std.proofs.Common.{◌≡◌, ℕ, ◌+◌, ◌<◌, ◌≤◌, ◌^◌, ◌⊎◌, inl, inr, Bool, true, false, cond, List, [], ◌∷◌, ◌++◌, length, take, drop, get_or, Ok, Err, Result, refl, sym, ap, subst, ◌∙◌, arith, append_assoc, length-append, take-append-drop}
-use Rattle.std.proofs.lemmas.Bool.{eqb-true, eq-eqb}
+use Rattle.std.proofs.Common.{◌≡◌, ℕ, ◌≤◌, Bool, true, false, cond, List, [], ◌∷◌, ◌++◌, length, take, drop, Ok, Err, Result, refl, sym, ap, subst, ◌∙◌, arith, append_assoc, length-append, take-append-drop}
+use Rattle.std.proofs.lemmas.Bool.{eqb-true}
 use Rattle.std.proofs.lemmas.List.{take_at, drop_at}
-use Rattle.std.specs.Prelude.{◌==◌, IfOk}
+use Rattle.std.specs.Prelude.{◌==◌}
 use Rattle.nb_units.proofs.ByteLists.{AreBytes-drop, AreBytes-take}
 use Rattle.nb_units.proofs.FieldLaws.{byte_stands}
 use Rattle.nb_units.proofs.Rows.{Row, IsRow, ◌&◌, and_row, tested, tested_row, byte, byte_row, number4, number4_row, number8, number8_row, epoid, epoid_row, raw, raw_row, text, text_row, whole, whole_found, whole_reads, ok_is}
 use Rattle.nb_units.specs.declared.epoid.Epoid.{Epoid}
 use Rattle.nb_units.specs.Epoid.{epoid_bytes}
-use Rattle.nb_units.specs.Fields.{◌>>=◌, be4, be8, sized, u8_at, done_at, or_place, allowed}
+use Rattle.nb_units.specs.Fields.{◌>>=◌, be4, be8, sized, u8_at, or_place, allowed}
 use Rattle.nb_units.specs.Frames.{AreBytes}
 use Rattle.nb_body.specs.declared.goods_head.GoodsHead.{GoodsHead}
 use Rattle.nb_epo.specs.declared.order.Order.{Order}
-use Rattle.nb_epo.specs.Spelling.{IsOrder, order_bytes}
+use Rattle.nb_epo.specs.Spelling.{order_bytes}
 use Rattle.nb_epo.specs.Reading.{order_of}
 use Rattle.nb_epo.proofs.Layouts.{order_reads_back, order_spells_back, lengths}
 use Rattle.nb_endorse.specs.declared.receipt.Signed.{Signed}
-use Rattle.nb_endorse.specs.Spelling.{IsSigned, signed_bytes}
+use Rattle.nb_endorse.specs.Spelling.{signed_bytes}
 use Rattle.nb_endorse.specs.Reading.{signed_of}
 use Rattle.nb_endorse.proofs.Receipts.{receipt_reads_back, receipt_spells_back, receipt_is_as_long}
-use Rattle.nb_msgs.specs.declared.fault.BodyFault.{BodyFault}
 use Rattle.nb_wallet.specs.declared.wallet.Start.{Start}
 use Rattle.nb_units.specs.declared.ids.Price.{Price}
 use Rattle.nb_wallet.specs.declared.item.SessionTicket.{SessionTicket}
 use Rattle.nb_wallet.specs.declared.item.Item.{Item}
 use Rattle.nb_wallet.specs.declared.item.Item.TheVariants as item
-use Rattle.nb_wallet.specs.Spelling.{IsItem, item_bytes, started_bytes, granted_item_bytes, wanted_bytes, ordered_front, ordered_bytes, ended_bytes, part_front, part_bytes, forgotten_bytes}
+use Rattle.nb_wallet.specs.Spelling.{IsItem, item_bytes, started_bytes, granted_item_bytes, wanted_bytes, ordered_front, ordered_bytes, ended_bytes, part_front, forgotten_bytes}
 use Rattle.nb_wallet.specs.Reading.{item_of, of_kind, started_of, granted_item_of, wanted_of, ordered_of, order_within, ended_of, receipt_within, from_place, part_of, forgotten_of}
 use Rattle.nb_wallet.specs.Laws.{ItemReadsBack, ItemSpellsBack, OneItem, ItemKindsAre, ItemIsShort}
 

@@ -4,3 +4,4 @@ pub mod Stages
 pub mod Changes
 pub mod Messages
 pub mod Laws
+pub mod Head

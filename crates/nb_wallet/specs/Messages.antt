@@ -1,5 +1,5 @@
 -- What a consumer sends.
-use Rattle.std.specs.Prelude.{ℕ, List, [], ◌++◌, codes, replicate}
+use Rattle.std.specs.Prelude.{ℕ, List, ◌++◌, codes, replicate}
 use Rattle.sha2.specs.Sha256.{sha256}
 use Rattle.nb_units.specs.Fields.{be4, be8}
 use Rattle.nb_units.specs.Epoid.{epoid_bytes}

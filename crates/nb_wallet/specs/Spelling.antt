@@ -8,7 +8,6 @@ use Rattle.nb_units.specs.declared.limits.TheConstants.{MAX_MEMO, MAX_HIDDEN}
 use Rattle.nb_body.specs.declared.limits.TheConstants.{MAX_REQUEST}
 use Rattle.nb_body.specs.declared.goods_head.GoodsHead.{GoodsHead}
 pub use Rattle.nb_body.specs.Spelling.{IsGoodsHead}
-use Rattle.nb_epo.specs.declared.order.Order.{Order}
 use Rattle.nb_epo.specs.Spelling.{IsOrder, order_bytes}
 use Rattle.nb_endorse.specs.declared.receipt.Signed.{Signed}
 use Rattle.nb_endorse.specs.Replies.{ReceiptKeepsRules}

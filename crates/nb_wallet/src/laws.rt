@@ -1,5 +1,6 @@
-//! What holds of every item. Each function here does nothing: its contract is the law.
+//! What holds of every item and of every head. Each function here does nothing: its contract is the law.
 
+ghost use Rattle.nb_wallet.specs.Head as head;
 ghost use Rattle.nb_wallet.specs.Laws as law;
 
 /// A law: what was spelled of an item is read as that item.
@@ -25,4 +26,14 @@ pub fn item_kinds()
 /// A law: no item has more than 1,000,297 bytes.
 pub fn item_is_short()
     ensures { law.ItemIsShort }
+{}
+
+/// A law: what was spelled of a wallet as the head of its journal is read as that wallet.
+pub fn head_reads_back()
+    ensures { head.HeadReadsBack }
+{}
+
+/// A law: any head is that of a wallet, which is spelled as that head, but for the 32 zeros at its end.
+pub fn head_spells_back()
+    ensures { head.HeadSpellsBack }
 {}

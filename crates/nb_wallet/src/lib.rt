@@ -3,6 +3,8 @@
 //! An [`Item`] is what is kept of one step; its bytes stand in `specs/Spelling.antt`, and read field by field in `specs/Reading.antt`. What holds of
 //! all items is proved by the functions of [`laws`].
 //!
+//! A [`Wallet`] is who buys. It stands in the 80 bytes of the head of its journal, and any 80 bytes are the head of one (`specs/Head.antt`).
+//!
 //! A [`Purchase`] is how it was started, how far it has come ([`Stage`]), and the sealed goods that came ([`Held`]). Behind a receipt, a quote, a part,
 //! an order or a status it is at the stage that `specs/Stages.antt` says. Sealed goods come in parts. One copy of them is held, with the state of
 //! their digest, so that no part is hashed twice.
@@ -13,6 +15,7 @@
 //! Left to others: which purchases there are, and what is done at a message.
 #![tactic(auto)]
 
+mod head;
 mod held;
 mod item;
 pub mod laws;

@@ -39,7 +39,12 @@ pub fn open_head(session: &Secret, sealed: &[u8]) -> Result<GoodsHead, Reason>
     ensures { result ≡ opened goods_head_of session.now (codes "m004") sealed.now }
 {
     let mut plain = [0u8; MAX_SEALED_HEAD];
-    let n = unsealed(&KeyState::new(session), &GOODS_HEAD_LABEL, sealed, &mut plain)?;
+    let n = unsealed(
+        &KeyState::new(session),
+        &GOODS_HEAD_LABEL,
+        sealed,
+        &mut plain,
+    )?;
     match GoodsHead::read(plain.split_at(n).0) {
         Ok(head) => Ok(head),
         Err(_) => Err(Reason::Seal),

@@ -12,7 +12,9 @@ use crate::item::{SessionTicket, order_text};
 use crate::wallet::{Start, Wallet};
 use nb_body::{GoodsRequest, PaymentRequest, PriceRequest, StatusQuery};
 use nb_epo::{Hidden, Order, account_digest, hide, sign_order};
-use nb_msgs::{GOODS_REQUEST_LABEL, Message, PAYMENT_LABEL, PRICE_REQUEST_LABEL, STATUS_LABEL, sealed};
+use nb_msgs::{
+    GOODS_REQUEST_LABEL, Message, PAYMENT_LABEL, PRICE_REQUEST_LABEL, STATUS_LABEL, sealed,
+};
 use nb_seal::{KeyState, hmac, sha};
 use nb_ticket::request;
 use nb_units::{Blob, Buffer, Digest, Epoid, NoMemory, Price, Secret};

@@ -1,13 +1,15 @@
 //! A program that does with a consumer and with a merchant what the lines of standard input say, and prints what they do: the trials of `nb_consumer`
-//! and of `nb_merchant`, as data, of the shelves of `nb_price`, and of whole purchases. Each line is a word and what it is about. [`Trade`] says what
-//! those of a consumer do, which are `kept`, `again`, `start`, `hear`, `quiet`, `phase`, `goods`, `seal` and `part`, and those of a merchant, which are
-//! `shelf`, `stall`, `anew`, `consumer`, `house`, `silent`, `stage` and `asker`; `item` and `bytes` are of both. [`shelves`] has `catalogue`, `puts` and `shortage`,
-//! and [`whole`] the line of that name. A line that begins with `#` is printed as it is.
+//! and of `nb_merchant`, as data, of the heads of `nb_wallet` and `nb_stall`, of the shelves of `nb_price`, and of whole purchases. Each line is a word
+//! and what it is about. [`Trade`] says what those of a consumer do, which are `kept`, `again`, `start`, `hear`, `quiet`, `phase`, `goods`, `seal` and
+//! `part`, and those of a merchant, which are `shelf`, `stall`, `anew`, `consumer`, `house`, `silent`, `stage` and `asker`; `item` and `bytes` are of
+//! both. [`heads`] and [`whole`] have the lines of that name, `head` and `whole`, and [`shelves`] has `catalogue`, `puts` and `shortage`. A line that
+//! begins with `#` is printed as it is.
 //!
 //! It claims nothing: what it prints is compared with what another program wrote.
 #![tactic(auto)]
 
 mod bytes;
+mod heads;
 mod shelves;
 mod telling;
 mod trade;
@@ -47,6 +49,7 @@ fn done_by_word(trade: &mut Trade, word: &str, rest: &[&str]) -> Result<String, 
         "puts" => shelves::puts(trade.alloc(), rest),
         "shortage" => shelves::shortage(trade.alloc()),
         "whole" => whole::purchase(trade.alloc(), rest),
+        "head" => heads::head(trade.alloc(), rest),
         _ => done_by_consumer(trade, word, rest),
     }
 }

@@ -1,0 +1,4 @@
+pub mod Reads
+pub mod Received
+pub mod Sent
+pub mod Laws
