@@ -34,11 +34,20 @@ pub const NO_JOURNAL: u8 = 8;
 /// No journal is made: the disk has one, or its cap is 0 or above 1,000,000.
 pub const NOT_MADE: u8 = 9;
 
+/// A purchase is over and was not paid: it was refused, or what was paid for is not what was sealed. No run answers it yet.
+pub const UNPAID: u8 = 10;
+
 /// As many frames were answered as one run answers, 10,000,000.
 pub const FRAME_LIMIT: u8 = 11;
 
+/// A link ended, failed or gave what is no frame, with a purchase that is not over. No run answers it yet.
+pub const LINK_FAILED: u8 = 12;
+
 /// A port failed, with links left.
 pub const PORT_FAILED: u8 = 13;
+
+/// The journal of a buyer or of a seller holds as many items as its cap says, and one more was to be kept. No run answers it yet.
+pub const JOURNAL_FULL: u8 = 14;
 
 /// A status, and the place that it speaks of: 0 where there is none.
 #[derive(Clone, Copy)]
@@ -72,8 +81,8 @@ impl Ending {
     }
 }
 
-/// What is left to do over links, which a run does not have.
-#[derive(Clone, Copy)]
+/// What is left to do over links, which a run does not have. A job may hold memory: it is done once.
+#[derive(Drop)]
 pub enum Job {
     /// `serve JOURNAL ADDRESS WORKERS SESSIONS`: answer the links of so many workers, so many of each.
     Serve {
@@ -85,7 +94,7 @@ pub enum Job {
 }
 
 /// What a run of the program came to.
-#[derive(Clone, Copy)]
+#[derive(Drop)]
 pub enum Outcome {
     /// It is over.
     Done(Ending),

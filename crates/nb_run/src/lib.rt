@@ -17,7 +17,8 @@ mod program;
 mod tally;
 
 pub use ending::{
-    BAD_INPUT, BAD_WORDS, CLEAN, DISK_FAILED, Ending, FRAME_LIMIT, Job, NO_JOURNAL, NOT_MADE,
-    OUT_OF_MEMORY, Outcome, PORT_FAILED, SINK_FAILED, SOURCE_FAILED, statuses,
+    BAD_INPUT, BAD_WORDS, CLEAN, DISK_FAILED, Ending, FRAME_LIMIT, JOURNAL_FULL, Job, LINK_FAILED,
+    NO_JOURNAL, NOT_MADE, OUT_OF_MEMORY, Outcome, PORT_FAILED, SINK_FAILED, SOURCE_FAILED, UNPAID,
+    statuses,
 };
 pub use program::run;
