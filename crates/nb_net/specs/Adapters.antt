@@ -1,5 +1,5 @@
 -- What a link over a socket, and a port over a listener, are seen as.
-use Rattle.std.specs.Prelude.{ℕ, ◌≤◌, ◌+◌, List, Option, None, min}
+use Rattle.std.specs.Prelude.{ℕ, ◌≤◌, ◌+◌, ◌==◌, Bool, false, List, Option, None, Some, min, if◌then◌else◌}
 use Rattle.nb_port.specs.Faults.{last_count}
 use Rattle.nb_link.specs.Link.{LinkSeen}
 use Rattle.nb_link.specs.Port.{PortSeen}
@@ -36,9 +36,20 @@ pub record ListenerPort (A : Type 0) : Type 0 where
   pub out : ℕ
   pub faults : ℕ
 
--- what a port tells: no links, and not whether it listens
-abbrev pub port_over : {A : Type 0} → ListenerPort A → PortSeen
-port_over p = record { left = p.left; out = p.out; faults = p.faults; coming = None; taken = None; listening = None }
+-- what a port tells: no links, and whether its listener listens
+abbrev pub port_over : {A : Type 0} → (A → Bool) → ListenerPort A → PortSeen
+port_over listens p = record {
+  left = p.left;
+  out = p.out;
+  faults = p.faults;
+  coming = None;
+  taken = None;
+  listening = Some (listens p.listener);
+}
+
+-- a listener that was taken for so many links: for none it is closed
+abbrev pub listens_for : ℕ → Bool → Bool
+listens_for links listens = if links == 0 then false else listens
 
 -- each look for a connection that one call may make was made, and gave none that could be set up: so many more were counted
 abbrev pub AllTried : ℕ → ℕ → Type 0

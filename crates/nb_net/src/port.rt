@@ -1,7 +1,7 @@
-ghost use Rattle.std.specs.Prelude.{◌≡◌, ◌⊎◌, ◌≤◌, ◌+◌, None};
+ghost use Rattle.std.specs.Prelude.{◌≡◌, ◌≢◌, ◌⊎◌, ◌≤◌, ◌+◌, None, Some};
 ghost use Rattle.nb_port.specs.Faults.{Rose};
 ghost use Rattle.nb_link.specs.Port.{NextGives};
-ghost use Rattle.nb_net.specs.Adapters.{link_over, port_over, AllTried};
+ghost use Rattle.nb_net.specs.Adapters.{link_over, port_over, listens_for, AllTried};
 ghost use Rattle.nb_link.specs.declared.port.PortOut.TheVariants as outs;
 
 use crate::link::TcpLink;
@@ -12,9 +12,10 @@ use std::marker::Model;
 use std::net::TcpListener;
 
 /// How often one call of a port looks for a connection.
-pub const MAX_TRIES: u32 = 1_000;
+pub const MAX_TRIES: u32 = u32::MAX;
 
-/// A port over a listener, which gives so many links as it was made with.
+/// A port over a listener, which gives so many links as it was made with. Where none is left its listener is closed: it is closed
+/// before the last one is given.
 #[derive(Drop)]
 pub struct TcpPort<A: Listener> {
     listener: A,
@@ -24,30 +25,41 @@ pub struct TcpPort<A: Listener> {
 }
 
 impl<A: Listener> Model for TcpPort<A> {
-    ghost use Rattle.std.specs.Prelude.{◌<◌, ◌+◌, ◌^◌};
+    ghost use Rattle.std.specs.Prelude.{◌≡◌, ◌<◌, ◌+◌, ◌^◌, false};
     ghost use Rattle.nb_net.specs.Adapters.{ListenerPort};
 
     ghost Value = { ListenerPort A };
 
     ghost view = { λ p. record { listener = p.listener; left = p.left; out = p.out; faults = p.faults } };
 
-    ghost invariant = { λ p. p.left + p.out < 2 ^ 32 };
+    ghost invariant = { λ p. record {
+      few : p.left + p.out < 2 ^ 32;
+      closed : p.left ≡ 0 → A.listens p.listener ≡ false;
+    } };
 }
 
 impl TcpPort<StdListener> {
     /// A port over `listener`, which gives `links` links.
     pub fn over(listener: TcpListener, links: u32) -> TcpPort<StdListener>
-        ensures { result ≡ record { listener = record { listener = listener }; left = links; out = 0; faults = 0 } }
+        ensures fresh { (result.left ≡ links) × (result.out ≡ 0) × (result.faults ≡ 0) }
+        ensures over { links ≢ 0 → result.listener ≡ record { listener = Some listener } }
     {
         TcpPort::of(StdListener::over(listener), links)
     }
 }
 
 impl<A: Listener> TcpPort<A> {
-    /// A port over `listener`, which gives `links` links. No call failed.
+    /// A port over `listener`, which gives `links` links. No call failed. For no link the listener is closed.
     pub fn of(listener: A, links: u32) -> TcpPort<A>
-        ensures { result ≡ record { listener = listener; left = links; out = 0; faults = 0 } }
+        ensures fresh { (result.left ≡ links) × (result.out ≡ 0) × (result.faults ≡ 0) }
+        ensures over { links ≢ 0 → result.listener ≡ listener }
+        ensures listens { A.listens result.listener ≡ listens_for links (A.listens listener) }
+        ensures asked { A.asked result.listener ≡ A.asked listener }
     {
+        let mut listener = listener;
+        if links == 0 {
+            listener.close();
+        }
         TcpPort {
             listener,
             left: links,
@@ -63,14 +75,14 @@ where
 {
     type Joined = TcpLink<A::Joined>;
 
-    ghost seen = { λ p. port_over p };
+    ghost seen = { λ p. port_over A.listens p };
 
     fn left(&self) -> u32 {
         self.left
     }
 
     fn next(&mut self) -> PortOut<TcpLink<A::Joined>>
-        ensures gives { NextGives (link_over A.Joined.left A.Joined.sent) (port_over self.old) (port_over self.new) result }
+        ensures gives { NextGives (link_over A.Joined.left A.Joined.sent) (port_over A.listens self.old) (port_over A.listens self.new) result }
         ensures asked { A.asked self.new.listener ≤ A.asked self.old.listener + MAX_TRIES }
         ensures only { result ≡ outs.Failed → A.broken self.new.listener ⊎ AllTried self.old.faults self.new.faults }
         ensures closed { self.old.left ≡ 0 → self.new ≡ self.old }
@@ -82,6 +94,9 @@ where
             Some(link) => {
                 self.left -= 1;
                 self.out += 1;
+                if self.left == 0 {
+                    self.listener.close();
+                }
                 PortOut::Got(link)
             }
             None => PortOut::Failed,
@@ -100,6 +115,7 @@ fn next_link<A: Listener>(listener: &mut A, faults: &mut u64) -> Option<TcpLink<
     ensures asked { A.asked listener.new ≤ A.asked listener.old + MAX_TRIES }
     ensures only { result ≡ None → A.broken listener.new ⊎ AllTried faults.old faults.new }
     ensures count { faults.old ≤ faults.new }
+    ensures listens { A.listens listener.new ≡ A.listens listener.old }
 {
     for _ in 0..MAX_TRIES {
         match listener.accept() {

@@ -1,4 +1,4 @@
-ghost use Rattle.std.specs.Prelude.{◌≡◌, ◌<◌, ◌≤◌, ◌+◌, ℕ, List, Option, length};
+ghost use Rattle.std.specs.Prelude.{◌≡◌, ◌<◌, ◌≤◌, ◌+◌, ℕ, Bool, false, List, Option, length};
 ghost use Rattle.nb_net.specs.Socket.{SocketReadGives, SocketWriteGives, Settings, StaysSet};
 ghost use Rattle.nb_net.specs.declared.socket.SetOut.TheVariants as sets;
 ghost use Rattle.nb_net.specs.declared.socket.AcceptOut.TheVariants as accepts;
@@ -97,13 +97,13 @@ pub trait Socket: Drop {
 pub enum AcceptOut<S> {
     /// A connection.
     Joined(S),
-    /// The peer went away before its connection was given, or the call was interrupted: the next one may give another.
+    /// It failed for a cause of one connection, which is gone, or was interrupted: the next one may give another.
     Aborted,
-    /// It failed.
+    /// It failed for a cause of the listener, or of the system.
     Failed,
 }
 
-/// Where connections come from, by the call of the system that a [`TcpPort`](crate::TcpPort) makes.
+/// Where connections come from, by the calls of the system that a [`TcpPort`](crate::TcpPort) makes, one each.
 pub trait Listener: Drop {
     /// What it gives.
     type Joined: Socket;
@@ -114,8 +114,17 @@ pub trait Listener: Drop {
     /// A call of it failed.
     ghost broken: { Self → Type 0 };
 
+    /// It listens: where it does not, who comes is refused.
+    ghost listens: { Self → Bool };
+
     /// Waits for a connection.
     fn accept(&mut self) -> AcceptOut<Self::Joined>
         ensures asked { asked self.new ≤ asked self.old + 1 }
-        ensures broken { result ≡ accepts.Failed → broken self.new };
+        ensures broken { result ≡ accepts.Failed → broken self.new }
+        ensures listens { listens self.new ≡ listens self.old };
+
+    /// Closes it: who waits is refused, and so is who comes.
+    fn close(&mut self)
+        ensures closed { listens self.new ≡ false }
+        ensures asked { asked self.new ≡ asked self.old };
 }

@@ -1,5 +1,5 @@
-ghost use Rattle.std.specs.Prelude.{◌≡◌, ◌↔◌, ⊤, None, Contains, IsTrue, if◌then◌else◌};
-ghost use Rattle.nb_net.specs.Socket.{passing};
+ghost use Rattle.std.specs.Prelude.{◌≡◌, ⊤, None, Some, if◌then◌else◌};
+ghost use Rattle.nb_net.specs.Socket.{passing, is_among, is_there};
 
 use crate::socket::{AcceptOut, Listener, SetOut, Socket, SocketRead, SocketWrite};
 use std::io;
@@ -69,18 +69,20 @@ impl Socket for StdSocket {
     }
 }
 
-/// A listener of std.
+/// A listener of std, until it is closed.
 #[derive(Drop)]
 pub struct StdListener {
-    listener: TcpListener,
+    listener: Option<TcpListener>,
 }
 
 impl StdListener {
     /// The listener.
     pub fn over(listener: TcpListener) -> StdListener
-        ensures { result ≡ record { listener = listener } }
+        ensures { result ≡ record { listener = Some listener } }
     {
-        StdListener { listener }
+        StdListener {
+            listener: Some(listener),
+        }
     }
 }
 
@@ -91,28 +93,58 @@ impl Listener for StdListener {
 
     ghost broken = { λ _. ⊤ };
 
+    ghost listens = { λ l. is_there l.listener };
+
     fn accept(&mut self) -> AcceptOut<StdSocket> {
-        match self.listener.accept() {
+        let Some(listener) = &self.listener else {
+            return AcceptOut::Failed;
+        };
+        match listener.accept() {
             Ok((stream, _)) => AcceptOut::Joined(StdSocket::over(stream)),
-            Err(error) if passes(error.kind()) => AcceptOut::Aborted,
-            Err(_) => AcceptOut::Failed,
+            Err(error) => match error.raw_os_error() {
+                Some(code) if passes(code.unsigned_abs()) => AcceptOut::Aborted,
+                _ => AcceptOut::Failed,
+            },
         }
+    }
+
+    /// What is dropped is closed.
+    fn close(&mut self) {
+        self.listener = None;
     }
 }
 
+// The errors of a look for a connection that are that connection's, by Linux's numbers; and EINTR.
+const EINTR: u32 = 4;
+const ENONET: u32 = 64;
+const EPROTO: u32 = 71;
+const ENOPROTOOPT: u32 = 92;
+const ENETDOWN: u32 = 100;
+const ENETUNREACH: u32 = 101;
+const ECONNABORTED: u32 = 103;
+const ECONNRESET: u32 = 104;
+const ETIMEDOUT: u32 = 110;
+const EHOSTDOWN: u32 = 112;
+const EHOSTUNREACH: u32 = 113;
+
 // Whether a look for a connection that failed so says nothing of the listener.
-fn passes(kind: io::ErrorKind) -> bool
-    ensures { IsTrue result ↔ Contains passing kind }
+fn passes(code: u32) -> bool
+    ensures { result ≡ is_among code passing }
 {
-    [
-        io::ErrorKind::ConnectionAborted,
-        io::ErrorKind::ConnectionReset,
-        io::ErrorKind::HostUnreachable,
-        io::ErrorKind::NetworkUnreachable,
-        io::ErrorKind::NetworkDown,
-        io::ErrorKind::Interrupted,
-    ]
-    .contains(&kind)
+    matches!(
+        code,
+        EINTR
+            | ENONET
+            | EPROTO
+            | ENOPROTOOPT
+            | ENETDOWN
+            | ENETUNREACH
+            | ECONNABORTED
+            | ECONNRESET
+            | ETIMEDOUT
+            | EHOSTDOWN
+            | EHOSTUNREACH
+    )
 }
 
 // What setting an option gives that worked, or failed.

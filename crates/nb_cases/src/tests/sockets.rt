@@ -117,6 +117,7 @@ struct BusyListener {
     calls: u32,
     broken: u32,
     barren: bool,
+    listens: bool,
     stream: Option<TcpStream>,
 }
 
@@ -128,6 +129,8 @@ impl Listener for BusyListener {
     ghost asked = { λ _. 0 };
 
     ghost broken = { λ _. ⊤ };
+
+    ghost listens = { λ l. l.listens };
 
     fn accept(&mut self) -> AcceptOut<StdSocket> {
         self.calls = self.calls.saturating_add(1);
@@ -142,6 +145,10 @@ impl Listener for BusyListener {
             None => AcceptOut::Failed,
         }
     }
+
+    fn close(&mut self) {
+        self.listens = false;
+    }
 }
 
 // Whether a busy listener's port gives its link, and how many links are left then.
@@ -150,6 +157,7 @@ fn tried(stream: TcpStream, barren: bool, broken: u32) -> (bool, u32) {
         calls: 0,
         broken,
         barren,
+        listens: true,
         stream: Some(stream),
     };
     let mut port = TcpPort::of(listener, 1);
@@ -228,6 +236,8 @@ fn links_carry_bytes_over_the_loopback(rt: HostRuntime) -> Result<(), Fail> {
     port.back(link);
     assert!(rt; ends(&mut dialled));
     assert!(rt; port.left() == 0 && matches!(port.next(), PortOut::Closed));
+    // who comes behind the last link is refused
+    assert!(rt; TcpStream::connect(&rt, address).is_err());
     Ok(())
 }
 
