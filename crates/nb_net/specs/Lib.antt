@@ -1,2 +1,4 @@
 pub mod Socket
+pub mod Waits
 pub mod Adapters
+pub mod Laws

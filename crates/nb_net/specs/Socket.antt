@@ -35,14 +35,22 @@ SocketWriteGives old new piece (writes.Took n) = (n ≤ length piece) × Appends
 SocketWriteGives old new piece writes.Interrupted = Keeps old new
 SocketWriteGives old new piece writes.Failed = Keeps old new
 
--- how a socket is set: that it sends each write at once, and for how many seconds a read and a write may wait
+-- how a socket is set: that it sends each write at once, that it asks a silent peer whether it is there, for how many milliseconds a
+-- write may send no byte; and that it sent its end
 pub record Settings (S : Type 0) : Type 1 where
   pub prompt : S → Type 0
-  pub reads_within : S → ℕ → Type 0
+  pub alive : S → Type 0
   pub writes_within : S → ℕ → Type 0
+  pub shut : S → Type 0
 
 -- what was set of a socket is set of it still
 pub record StaysSet {S : Type 0} (settings : Settings S) (old new : S) : Type 0 where
   pub prompt : settings.prompt old → settings.prompt new
-  pub reads : (seconds : ℕ) → settings.reads_within old seconds → settings.reads_within new seconds
-  pub writes : (seconds : ℕ) → settings.writes_within old seconds → settings.writes_within new seconds
+  pub alive : settings.alive old → settings.alive new
+  pub writes : (millis : ℕ) → settings.writes_within old millis → settings.writes_within new millis
+  pub shut : settings.shut old → settings.shut new
+
+-- what a socket knows of time: the moment that it told last, and until when its last read waited
+pub record Times : Type 0 where
+  pub moment : ℕ
+  pub until : ℕ

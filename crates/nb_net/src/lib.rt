@@ -13,12 +13,16 @@
 //! Left to others: to bind, and to dial.
 #![tactic(auto)]
 
+mod limits;
 mod link;
+mod place;
 mod port;
 mod socket;
 mod std_socket;
 
-pub use link::{IDLE_SECONDS, TcpLink};
+pub use limits::{HOUSE, KEEP_ALIVE, Limits, MAX_DROPPED, PARTY, SPAN, table};
+pub use link::TcpLink;
+pub use place::Place;
 pub use port::{MAX_TRIES, TcpPort};
 pub use socket::{AcceptOut, Listener, SetOut, Socket, SocketRead, SocketWrite};
 pub use std_socket::{StdListener, StdSocket};

@@ -2,9 +2,13 @@ ghost use Rattle.std.specs.Prelude.{◌≡◌, ◌<◌, ◌≤◌, IfOk, IfErr, 
 ghost use Rattle.nb_port.specs.Source.{ReadGives};
 ghost use Rattle.nb_port.specs.Sink.{WriteGives};
 ghost use Rattle.nb_link.specs.Link.{LinkReads, LinkWrites};
-ghost use Rattle.nb_net.specs.Adapters.{IsSet, link_over};
+ghost use Rattle.nb_net.specs.Socket.{StaysSet};
+ghost use Rattle.nb_net.specs.Waits.{bytes_since};
+ghost use Rattle.nb_net.specs.Adapters.{IsSet, IsFresh, Waited, link_over};
 ghost use Rattle.nb_net.specs.declared.socket.SetOut.TheVariants as sets;
 
+use crate::limits::{Limits, PARTY};
+use crate::place::{Place, START};
 use crate::socket::{SetOut, Socket, SocketRead, SocketWrite};
 use crate::std_socket::StdSocket;
 use nb_link::Link;
@@ -12,48 +16,60 @@ use nb_port::{ReadOut, WriteOut};
 use std::marker::Model;
 use std::net::TcpStream;
 
-/// A read or a write of a link that waits for so many seconds fails.
-pub const IDLE_SECONDS: u64 = 10;
-
-/// A link over a socket, which is set to send each write at once, and to wait no longer than [`IDLE_SECONDS`].
+/// A link over a socket, which waits no longer than its limits allow.
 #[derive(Drop)]
 pub struct TcpLink<S: Socket> {
     pub(crate) socket: S,
+    limits: Limits,
+    place: Place,
+    since: Option<u64>,
     pub(crate) read_faults: u64,
     pub(crate) write_faults: u64,
 }
 
 impl<S: Socket> Model for TcpLink<S> {
+    ghost use Rattle.std.specs.Prelude.{◌<◌};
     ghost use Rattle.nb_net.specs.Adapters.{SocketLink, IsSet};
 
     ghost Value = { SocketLink S };
 
-    ghost view = { λ l. record { socket = l.socket; read_faults = l.read_faults; write_faults = l.write_faults } };
+    ghost view = { λ l. record {
+      socket = l.socket;
+      limits = l.limits;
+      place = l.place;
+      since = l.since;
+      read_faults = l.read_faults;
+      write_faults = l.write_faults;
+    } };
 
-    ghost invariant = { λ l. IsSet S.settings l.socket };
+    ghost invariant = { λ l. IsSet S.settings l.limits.write l.socket };
 }
 
 impl TcpLink<StdSocket> {
-    /// A link over a connected stream; None where the stream could not be set.
+    /// A link over a stream that a buyer or a seller dialled; None where the stream could not be set.
     pub fn over(stream: TcpStream) -> Option<TcpLink<StdSocket>>
-        ensures { IfSome result (λ link. (link.read_faults ≡ 0) × (link.write_faults ≡ 0)) }
+        ensures { IfSome result (λ link. IsFresh PARTY link) }
     {
-        TcpLink::of(StdSocket::over(stream)).ok()
+        TcpLink::of(StdSocket::over(stream), PARTY).ok()
     }
 }
 
 impl<S: Socket> TcpLink<S> {
     /// A link over `socket`, of which no call failed. A socket that could not be set comes back, with the bytes that it had.
-    pub fn of(socket: S) -> Result<TcpLink<S>, S>
-        ensures set { IfOk result (λ link. IsSet S.settings link.socket) }
-        ensures faults { IfOk result (λ link. (link.read_faults ≡ 0) × (link.write_faults ≡ 0)) }
+    pub fn of(socket: S, limits: Limits) -> Result<TcpLink<S>, S>
+        requires { 0 < limits.write }
+        ensures set { IfOk result (λ link. IsSet S.settings limits.write link.socket) }
+        ensures fresh { IfOk result (λ link. IsFresh limits link) }
         ensures bytes { IfOk result (λ link. (S.left link.socket ≡ S.left socket) × (S.sent link.socket ≡ S.sent socket)) }
         ensures err { IfErr result (λ s. S.refused s × (S.left s ≡ S.left socket) × (S.sent s ≡ S.sent socket)) }
     {
         let mut socket = socket;
-        match set_up(&mut socket) {
+        match set_up(&mut socket, limits.write) {
             SetOut::Done => Ok(TcpLink {
                 socket,
+                limits,
+                place: START,
+                since: None,
                 read_faults: 0,
                 write_faults: 0,
             }),
@@ -68,23 +84,48 @@ impl<S: Socket> Link for TcpLink<S> {
     fn read(&mut self, buf: &mut [u8]) -> ReadOut
         requires { 0 < length buf.old }
         ensures reads { LinkReads (link_over S.left S.sent self.old) (link_over S.left S.sent self.new) (length buf.old) buf.new result }
-        ensures set { IsSet S.settings self.new.socket }
+        ensures waited { Waited S.times self.old self.new buf.new result }
+        ensures set { IsSet S.settings self.new.limits.write self.new.socket }
     {
-        read_counted(&mut self.socket, &mut self.read_faults, buf)
+        let since = match self.since {
+            Some(since) => since,
+            None => self.socket.now(),
+        };
+        let until = since.saturating_add(self.place.span(self.limits));
+        let out = read_counted(&mut self.socket, &mut self.read_faults, buf, until);
+        self.since = Some(since);
+        if let ReadOut::Bytes(n) = out {
+            let old = self.place;
+            self.place = old.after(&buf[..n]);
+            self.since = since_after(old, self.place, n, since);
+        }
+        out
     }
 
     fn write(&mut self, piece: &[u8]) -> WriteOut
         requires { 0 < length piece.now }
         ensures writes { LinkWrites (link_over S.left S.sent self.old) (link_over S.left S.sent self.new) piece.now result }
-        ensures set { IsSet S.settings self.new.socket }
+        ensures set { IsSet S.settings self.new.limits.write self.new.socket }
     {
         write_counted(&mut self.socket, &mut self.write_faults, piece)
     }
 }
 
+// Since when the next bytes are waited for, behind n bytes: as before where they are of the frame that had begun, and else from the next read on.
+fn since_after(old: Place, new: Place, n: usize, since: u64) -> Option<u64>
+    ensures { result ≡ bytes_since old new n since }
+{
+    if 0 < old.had && new.had == old.had.saturating_add(n as u64) {
+        Some(since)
+    } else {
+        None
+    }
+}
+
 // Sets a socket as that of a link.
-fn set_up<S: Socket>(socket: &mut S) -> SetOut
-    ensures done { result ≡ sets.Done → IsSet S.settings socket.new }
+fn set_up<S: Socket>(socket: &mut S, write: u32) -> SetOut
+    requires { 0 < write }
+    ensures done { result ≡ sets.Done → IsSet S.settings write socket.new }
     ensures refused { result ≡ sets.Failed → S.refused socket.new }
     ensures left { S.left socket.new ≡ S.left socket.old }
     ensures sent { S.sent socket.new ≡ S.sent socket.old }
@@ -93,27 +134,28 @@ fn set_up<S: Socket>(socket: &mut S) -> SetOut
         SetOut::Done => {}
         SetOut::Failed => return SetOut::Failed,
     }
-    match socket.set_read_limit(IDLE_SECONDS) {
+    match socket.set_alive() {
         SetOut::Done => {}
         SetOut::Failed => return SetOut::Failed,
     }
-    match socket.set_write_limit(IDLE_SECONDS) {
+    match socket.set_write_limit(write) {
         SetOut::Done => SetOut::Done,
         SetOut::Failed => SetOut::Failed,
     }
 }
 
-// One read of `socket` that is not interrupted. `faults` counts those that failed.
-fn read_counted<S: Socket>(socket: &mut S, faults: &mut u64, buf: &mut [u8]) -> ReadOut
-    requires some { 0 < length buf.old }
-    requires set { IsSet S.settings socket.old }
+// One read of `socket` that is not interrupted, and waits until a moment. `faults` counts those that failed.
+fn read_counted<S: Socket>(socket: &mut S, faults: &mut u64, buf: &mut [u8], until: u64) -> ReadOut
+    requires { 0 < length buf.old }
     ensures gives { ReadGives faults.old faults.new (S.left socket.old) (S.left socket.new) (length buf.old) buf.new result }
+    ensures until { (S.times socket.new).until ≡ until }
+    ensures moment { (S.times socket.new).moment ≡ (S.times socket.old).moment }
     ensures sent { S.sent socket.new ≡ S.sent socket.old }
-    ensures set { IsSet S.settings socket.new }
+    ensures set { StaysSet S.settings socket.old socket.new }
     ensures count { faults.old ≤ faults.new }
 {
     for _ in 0..u64::MAX {
-        match socket.read(buf) {
+        match socket.read(buf, until) {
             SocketRead::Got(n) => return ReadOut::Bytes(n),
             SocketRead::End => return ReadOut::End,
             SocketRead::Interrupted => *faults = faults.saturating_add(1),
@@ -128,11 +170,11 @@ fn read_counted<S: Socket>(socket: &mut S, faults: &mut u64, buf: &mut [u8]) -> 
 
 // One write to `socket` that is not interrupted. `faults` counts those that failed, or took nothing.
 fn write_counted<S: Socket>(socket: &mut S, faults: &mut u64, piece: &[u8]) -> WriteOut
-    requires some { 0 < length piece.now }
-    requires set { IsSet S.settings socket.old }
+    requires { 0 < length piece.now }
     ensures gives { WriteGives faults.old faults.new (S.sent socket.old) (S.sent socket.new) piece.now result }
     ensures left { S.left socket.new ≡ S.left socket.old }
-    ensures set { IsSet S.settings socket.new }
+    ensures times { S.times socket.new ≡ S.times socket.old }
+    ensures set { StaysSet S.settings socket.old socket.new }
     ensures count { faults.old ≤ faults.new }
 {
     for _ in 0..u64::MAX {

@@ -1,9 +1,10 @@
-ghost use Rattle.std.specs.Prelude.{◌≡◌, ◌≢◌, ◌⊎◌, ◌≤◌, ◌+◌, None, Some};
+ghost use Rattle.std.specs.Prelude.{◌≡◌, ◌≢◌, ◌⊎◌, ◌<◌, ◌≤◌, ◌+◌, IfSome, None, Some};
 ghost use Rattle.nb_port.specs.Faults.{Rose};
 ghost use Rattle.nb_link.specs.Port.{NextGives};
-ghost use Rattle.nb_net.specs.Adapters.{link_over, port_over, listens_for, AllTried};
+ghost use Rattle.nb_net.specs.Adapters.{IsFresh, IfGot, link_over, port_over, listens_for, AllTried};
 ghost use Rattle.nb_link.specs.declared.port.PortOut.TheVariants as outs;
 
+use crate::limits::{HOUSE, Limits};
 use crate::link::TcpLink;
 use crate::socket::{AcceptOut, Listener};
 use crate::std_socket::StdListener;
@@ -19,6 +20,7 @@ pub const MAX_TRIES: u32 = u32::MAX;
 #[derive(Drop)]
 pub struct TcpPort<A: Listener> {
     listener: A,
+    limits: Limits,
     left: u32,
     out: u32,
     faults: u64,
@@ -30,28 +32,30 @@ impl<A: Listener> Model for TcpPort<A> {
 
     ghost Value = { ListenerPort A };
 
-    ghost view = { λ p. record { listener = p.listener; left = p.left; out = p.out; faults = p.faults } };
+    ghost view = { λ p. record { listener = p.listener; limits = p.limits; left = p.left; out = p.out; faults = p.faults } };
 
     ghost invariant = { λ p. record {
       few : p.left + p.out < 2 ^ 32;
       closed : p.left ≡ 0 → A.listens p.listener ≡ false;
+      writes : 0 < p.limits.write;
     } };
 }
 
 impl TcpPort<StdListener> {
-    /// A port over `listener`, which gives `links` links.
+    /// A port of a house over `listener`, which gives `links` links.
     pub fn over(listener: TcpListener, links: u32) -> TcpPort<StdListener>
-        ensures fresh { (result.left ≡ links) × (result.out ≡ 0) × (result.faults ≡ 0) }
+        ensures fresh { (result.limits ≡ HOUSE) × (result.left ≡ links) × (result.out ≡ 0) × (result.faults ≡ 0) }
         ensures over { links ≢ 0 → result.listener ≡ record { listener = Some listener } }
     {
-        TcpPort::of(StdListener::over(listener), links)
+        TcpPort::of(StdListener::over(listener), links, HOUSE)
     }
 }
 
 impl<A: Listener> TcpPort<A> {
-    /// A port over `listener`, which gives `links` links. No call failed. For no link the listener is closed.
-    pub fn of(listener: A, links: u32) -> TcpPort<A>
-        ensures fresh { (result.left ≡ links) × (result.out ≡ 0) × (result.faults ≡ 0) }
+    /// A port over `listener`, which gives `links` links that wait so. No call failed. For no link the listener is closed.
+    pub fn of(listener: A, links: u32, limits: Limits) -> TcpPort<A>
+        requires { 0 < limits.write }
+        ensures fresh { (result.limits ≡ limits) × (result.left ≡ links) × (result.out ≡ 0) × (result.faults ≡ 0) }
         ensures over { links ≢ 0 → result.listener ≡ listener }
         ensures listens { A.listens result.listener ≡ listens_for links (A.listens listener) }
         ensures asked { A.asked result.listener ≡ A.asked listener }
@@ -62,6 +66,7 @@ impl<A: Listener> TcpPort<A> {
         }
         TcpPort {
             listener,
+            limits,
             left: links,
             out: 0,
             faults: 0,
@@ -83,6 +88,8 @@ where
 
     fn next(&mut self) -> PortOut<TcpLink<A::Joined>>
         ensures gives { NextGives (link_over A.Joined.left A.Joined.sent) (port_over A.listens self.old) (port_over A.listens self.new) result }
+        ensures fresh { IfGot result (λ link. IsFresh self.old.limits link) }
+        ensures limits { self.new.limits ≡ self.old.limits }
         ensures asked { A.asked self.new.listener ≤ A.asked self.old.listener + MAX_TRIES }
         ensures only { result ≡ outs.Failed → A.broken self.new.listener ⊎ AllTried self.old.faults self.new.faults }
         ensures closed { self.old.left ≡ 0 → self.new ≡ self.old }
@@ -90,7 +97,7 @@ where
         if self.left == 0 {
             return PortOut::Closed;
         }
-        match next_link(&mut self.listener, &mut self.faults) {
+        match next_link(&mut self.listener, self.limits, &mut self.faults) {
             Some(link) => {
                 self.left -= 1;
                 self.out += 1;
@@ -110,7 +117,13 @@ where
 }
 
 // A link over the next connection that was not aborted and could be set up. `faults` counts what failed, and what was aborted.
-fn next_link<A: Listener>(listener: &mut A, faults: &mut u64) -> Option<TcpLink<A::Joined>>
+fn next_link<A: Listener>(
+    listener: &mut A,
+    limits: Limits,
+    faults: &mut u64,
+) -> Option<TcpLink<A::Joined>>
+    requires { 0 < limits.write }
+    ensures fresh { IfSome result (λ link. IsFresh limits link) }
     ensures none { result ≡ None → Rose faults.old faults.new }
     ensures asked { A.asked listener.new ≤ A.asked listener.old + MAX_TRIES }
     ensures only { result ≡ None → A.broken listener.new ⊎ AllTried faults.old faults.new }
@@ -119,7 +132,7 @@ fn next_link<A: Listener>(listener: &mut A, faults: &mut u64) -> Option<TcpLink<
 {
     for _ in 0..MAX_TRIES {
         match listener.accept() {
-            AcceptOut::Joined(socket) => match TcpLink::of(socket) {
+            AcceptOut::Joined(socket) => match TcpLink::of(socket, limits) {
                 Ok(link) => return Some(link),
                 Err(_) => *faults = faults.saturating_add(1),
             },

@@ -1,5 +1,5 @@
 ghost use Rattle.std.specs.Prelude.{◌≡◌, ◌<◌, ◌≤◌, ◌+◌, ℕ, Bool, false, List, Option, length};
-ghost use Rattle.nb_net.specs.Socket.{SocketReadGives, SocketWriteGives, Settings, StaysSet};
+ghost use Rattle.nb_net.specs.Socket.{SocketReadGives, SocketWriteGives, Settings, StaysSet, Times};
 ghost use Rattle.nb_net.specs.declared.socket.SetOut.TheVariants as sets;
 ghost use Rattle.nb_net.specs.declared.socket.AcceptOut.TheVariants as accepts;
 
@@ -50,10 +50,22 @@ pub trait Socket: Drop {
     /// It could not be set.
     ghost refused: { Self → Type 0 };
 
-    /// Takes the next bytes, at most as many as `buf` holds, to the front of `buf`.
-    fn read(&mut self, buf: &mut [u8]) -> SocketRead
+    /// The moment that it told last, and until when its last read waited.
+    ghost times: { Self → Times };
+
+    /// The moment now, in milliseconds since some start: a clock that never goes back.
+    fn now(&mut self) -> u64
+        ensures told { times self.new ≡ record (times self.old) { moment = result } }
+        ensures left { left self.new ≡ left self.old }
+        ensures sent { sent self.new ≡ sent self.old }
+        ensures set { StaysSet settings self.old self.new };
+
+    /// Takes the next bytes, at most as many as `buf` holds, to the front of `buf`. It waits for them until the moment `until`, and
+    /// fails behind it.
+    fn read(&mut self, buf: &mut [u8], until: u64) -> SocketRead
         requires { 0 < length buf.old }
         ensures gives { SocketReadGives (left self.old) (left self.new) (length buf.old) buf.new result }
+        ensures until { times self.new ≡ record (times self.old) { until = until } }
         ensures sent { sent self.new ≡ sent self.old }
         ensures set { StaysSet settings self.old self.new };
 
@@ -62,6 +74,16 @@ pub trait Socket: Drop {
         requires { 0 < length piece.now }
         ensures gives { SocketWriteGives (sent self.old) (sent self.new) piece.now result }
         ensures left { left self.new ≡ left self.old }
+        ensures times { times self.new ≡ times self.old }
+        ensures set { StaysSet settings self.old self.new };
+
+    /// Sends its end behind all that was sent: no more is sent.
+    fn shut_down(&mut self) -> SetOut
+        ensures done { result ≡ sets.Done → settings.shut self.new }
+        ensures refused { result ≡ sets.Failed → refused self.new }
+        ensures left { left self.new ≡ left self.old }
+        ensures sent { sent self.new ≡ sent self.old }
+        ensures times { times self.new ≡ times self.old }
         ensures set { StaysSet settings self.old self.new };
 
     /// Makes it send each write at once (TCP_NODELAY).
@@ -72,24 +94,23 @@ pub trait Socket: Drop {
         ensures sent { sent self.new ≡ sent self.old }
         ensures set { StaysSet settings self.old self.new };
 
-    /// Makes a read fail that waits for `seconds` seconds.
-    fn set_read_limit(&mut self, seconds: u64) -> SetOut
-        requires { 0 < seconds }
-        ensures done { result ≡ sets.Done → settings.reads_within self.new seconds }
+    /// Makes it ask a peer that is silent whether it is there, and end where no answer comes (SO_KEEPALIVE, as [`KEEP_ALIVE`](crate::KEEP_ALIVE) says).
+    fn set_alive(&mut self) -> SetOut
+        ensures done { result ≡ sets.Done → settings.alive self.new }
         ensures refused { result ≡ sets.Failed → refused self.new }
         ensures left { left self.new ≡ left self.old }
         ensures sent { sent self.new ≡ sent self.old }
-        ensures prompt { settings.prompt self.old → settings.prompt self.new };
+        ensures set { StaysSet settings self.old self.new };
 
-    /// Makes a write fail that waits for `seconds` seconds.
-    fn set_write_limit(&mut self, seconds: u64) -> SetOut
-        requires { 0 < seconds }
-        ensures done { result ≡ sets.Done → settings.writes_within self.new seconds }
+    /// Makes a write fail that sends no byte for so many milliseconds.
+    fn set_write_limit(&mut self, millis: u32) -> SetOut
+        requires { 0 < millis }
+        ensures done { result ≡ sets.Done → settings.writes_within self.new millis }
         ensures refused { result ≡ sets.Failed → refused self.new }
         ensures left { left self.new ≡ left self.old }
         ensures sent { sent self.new ≡ sent self.old }
         ensures prompt { settings.prompt self.old → settings.prompt self.new }
-        ensures reads { (limit : ℕ) → settings.reads_within self.old limit → settings.reads_within self.new limit };
+        ensures alive { settings.alive self.old → settings.alive self.new };
 }
 
 /// What one look for a connection gives.

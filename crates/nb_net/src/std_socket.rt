@@ -1,24 +1,34 @@
 ghost use Rattle.std.specs.Prelude.{◌≡◌, ⊤, None, Some, if◌then◌else◌};
 ghost use Rattle.nb_net.specs.Socket.{passing, is_among, is_there};
 
+use crate::limits::KEEP_ALIVE;
 use crate::socket::{AcceptOut, Listener, SetOut, Socket, SocketRead, SocketWrite};
+use libc::net;
 use std::io;
 use std::io::{Read, Write};
-use std::net::{TcpListener, TcpStream};
+use std::net::{Shutdown, TcpListener, TcpStream};
+use std::os::fd::AsRawFd;
 use std::time::Duration;
 
 /// A connected stream of std.
 #[derive(Drop)]
 pub struct StdSocket {
-    pub(crate) stream: TcpStream,
+    stream: TcpStream,
+    // what it was told last, and asked for
+    moment: u64,
+    until: u64,
 }
 
 impl StdSocket {
     /// The stream.
     pub fn over(stream: TcpStream) -> StdSocket
-        ensures { result ≡ record { stream = stream } }
+        ensures { result.stream ≡ stream }
     {
-        StdSocket { stream }
+        StdSocket {
+            stream,
+            moment: 0,
+            until: 0,
+        }
     }
 }
 
@@ -27,11 +37,23 @@ impl Socket for StdSocket {
 
     ghost sent = { λ _. None };
 
-    ghost settings = { record { prompt = λ _. ⊤; reads_within = λ _ _. ⊤; writes_within = λ _ _. ⊤ } };
+    ghost settings = { record { prompt = λ _. ⊤; alive = λ _. ⊤; writes_within = λ _ _. ⊤; shut = λ _. ⊤ } };
 
     ghost refused = { λ _. ⊤ };
 
-    fn read(&mut self, buf: &mut [u8]) -> SocketRead {
+    ghost times = { λ s. record { moment = s.moment; until = s.until } };
+
+    fn now(&mut self) -> u64 {
+        self.moment = monotonic();
+        self.moment
+    }
+
+    fn read(&mut self, buf: &mut [u8], until: u64) -> SocketRead {
+        self.until = until;
+        let left = Duration::from_millis(until.saturating_sub(monotonic()));
+        if left.is_zero() || self.stream.set_read_timeout(Some(left)).is_err() {
+            return SocketRead::Failed;
+        }
         match self.stream.read(buf) {
             Ok(0) => SocketRead::End,
             Ok(n) => SocketRead::Got(n),
@@ -48,25 +70,51 @@ impl Socket for StdSocket {
         }
     }
 
+    fn shut_down(&mut self) -> SetOut {
+        done_if(self.stream.shutdown(Shutdown::Write).is_ok())
+    }
+
     fn set_prompt(&mut self) -> SetOut {
         done_if(self.stream.set_nodelay(true).is_ok())
     }
 
-    fn set_read_limit(&mut self, seconds: u64) -> SetOut {
-        done_if(
-            self.stream
-                .set_read_timeout(Some(Duration::from_secs(seconds)))
-                .is_ok(),
-        )
+    fn set_alive(&mut self) -> SetOut {
+        let fd = self.stream.as_raw_fd();
+        let [idle, between, tries] = KEEP_ALIVE;
+        let all = unsafe {
+            net::setsockopt(fd, net::IPPROTO_TCP, net::TCP_KEEPIDLE, &number(idle), 4) == 0
+                && net::setsockopt(fd, net::IPPROTO_TCP, net::TCP_KEEPINTVL, &number(between), 4)
+                    == 0
+                && net::setsockopt(fd, net::IPPROTO_TCP, net::TCP_KEEPCNT, &number(tries), 4) == 0
+                && net::setsockopt(fd, net::SOL_SOCKET, net::SO_KEEPALIVE, &number(1), 4) == 0
+        };
+        done_if(all)
     }
 
-    fn set_write_limit(&mut self, seconds: u64) -> SetOut {
-        done_if(
-            self.stream
-                .set_write_timeout(Some(Duration::from_secs(seconds)))
-                .is_ok(),
-        )
+    fn set_write_limit(&mut self, millis: u32) -> SetOut {
+        let limit = Duration::from_millis(u64::from(millis));
+        done_if(self.stream.set_write_timeout(Some(limit)).is_ok())
     }
+}
+
+// The milliseconds of the system's clock that never goes back: the last that there are where it is not told, so that nothing is waited for.
+fn monotonic() -> u64 {
+    let mut time = libc::types::timespec {
+        tv_sec: 0,
+        tv_nsec: 0,
+    };
+    if libc::clock_gettime(libc::CLOCK_MONOTONIC, &mut time) != 0 {
+        return u64::MAX;
+    }
+    let seconds = time.tv_sec.unsigned_abs().saturating_mul(1_000);
+    seconds.saturating_add(time.tv_nsec.unsigned_abs() / 1_000_000)
+}
+
+// A number as the value of an option: an int of C, in the first 4 of 16 bytes.
+fn number(n: u8) -> [u8; 16] {
+    let mut value = [0u8; 16];
+    value[..4].copy_from_slice(&i32::from(n).to_ne_bytes());
+    value
 }
 
 /// A listener of std, until it is closed.
