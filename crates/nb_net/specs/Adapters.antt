@@ -1,6 +1,7 @@
 -- What a link over a socket, and a port over a listener, are seen as.
-use Rattle.std.specs.Prelude.{◌≡◌, ℕ, ◌≤◌, ◌+◌, ◌==◌, Bool, false, List, Option, None, Some, min, if◌then◌else◌}
-use Rattle.nb_port.specs.Faults.{last_count}
+use Rattle.std.specs.Prelude.{◌≡◌, ◌⊎◌, ℕ, ◌≤◌, ◌+◌, ◌==◌, Bool, false, List, Option, None, Some, length, min, if◌then◌else◌}
+use Rattle.std.specs.Io.KnownBytes.{Consumes, IsAtEnd}
+use Rattle.nb_port.specs.Faults.{last_count, Rose}
 use Rattle.nb_link.specs.Link.{LinkSeen}
 use Rattle.nb_link.specs.Port.{PortSeen}
 use Rattle.nb_link.specs.declared.port.PortOut.{PortOut}
@@ -9,6 +10,7 @@ use Rattle.nb_port.specs.declared.source.ReadOut.{ReadOut}
 use Rattle.nb_net.specs.Socket.{Settings, Times}
 use Rattle.nb_net.specs.Waits.{since_or, waits_until, place_behind, since_behind}
 use Rattle.nb_net.specs.declared.limits.Limits.{Limits}
+use Rattle.nb_net.specs.declared.limits.TheConstants.{MAX_DROPPED}
 use Rattle.nb_net.specs.declared.place.Place.{Place}
 use Rattle.nb_net.specs.declared.place.TheConstants.{START}
 use Rattle.nb_net.specs.declared.port.TheConstants.{MAX_TRIES}
@@ -53,6 +55,27 @@ pub record Waited {S : Type 0} (times : S → Times) (old new : SocketLink S) (b
   pub place : new.place ≡ place_behind old.place buf out
   pub goes_on : new.since ≡ since_behind old.place new.place since out
   pub limits : new.limits ≡ old.limits
+
+-- n bytes were taken off what was left
+pub record Took (old new : Option (List ℕ)) (n : ℕ) : Type 0 where
+  pub bytes : List ℕ
+  pub takes : Consumes old new bytes
+  pub count : length bytes ≡ n
+
+-- the rest of a link was read and dropped, until the other side's end, a failure, or so many bytes; `before` and `after` count its failed
+-- reads
+pub record DropsRest (left left' : Option (List ℕ)) (before after : ℕ) : Type 0 where
+  pub dropped : ℕ
+  pub took : Took left left' dropped
+  pub few : dropped ≤ MAX_DROPPED
+  pub why : IsAtEnd left' ⊎ (Rose before after ⊎ (dropped ≡ MAX_DROPPED))
+
+-- a link was ended: its socket was shut down, and then its rest was read and dropped, for no longer than it may; nothing more was sent
+pub record HasEnded {S : Type 0} (rest told : S → Option (List ℕ)) (times : S → Times) (settings : Settings S) (old new : SocketLink S) : Type 0 where
+  pub shut : settings.shut new.socket
+  pub sent : told new.socket ≡ told old.socket
+  pub drops : DropsRest (rest old.socket) (rest new.socket) old.read_faults new.read_faults
+  pub until : (times new.socket).until ≡ min ((times new.socket).moment + old.limits.end) last_count
 
 -- a port: its listener, how long its links wait, how many it may still give, how many were given and not taken back, and how many calls failed
 pub record ListenerPort (A : Type 0) : Type 0 where

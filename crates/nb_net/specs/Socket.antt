@@ -36,7 +36,7 @@ SocketWriteGives old new piece writes.Interrupted = Keeps old new
 SocketWriteGives old new piece writes.Failed = Keeps old new
 
 -- how a socket is set: that it sends each write at once, that it asks a silent peer whether it is there, for how many milliseconds a
--- write may send no byte; and that it sent its end
+-- write may send no byte; and that it was shut down: it sent its end, or its connection was gone
 pub record Settings (S : Type 0) : Type 1 where
   pub prompt : S → Type 0
   pub alive : S → Type 0

@@ -4,10 +4,10 @@ ghost use Rattle.nb_port.specs.Sink.{WriteGives};
 ghost use Rattle.nb_link.specs.Link.{LinkReads, LinkWrites};
 ghost use Rattle.nb_net.specs.Socket.{StaysSet};
 ghost use Rattle.nb_net.specs.Waits.{bytes_since};
-ghost use Rattle.nb_net.specs.Adapters.{IsSet, IsFresh, Waited, link_over};
+ghost use Rattle.nb_net.specs.Adapters.{IsSet, IsFresh, Waited, DropsRest, HasEnded, link_over};
 ghost use Rattle.nb_net.specs.declared.socket.SetOut.TheVariants as sets;
 
-use crate::limits::{Limits, PARTY};
+use crate::limits::{Limits, MAX_DROPPED, PARTY};
 use crate::place::{Place, START};
 use crate::socket::{SetOut, Socket, SocketRead, SocketWrite};
 use crate::std_socket::StdSocket;
@@ -76,6 +76,20 @@ impl<S: Socket> TcpLink<S> {
             SetOut::Failed => Err(socket),
         }
     }
+
+    /// Ends the link: sends its end behind all that was written, and then reads and drops what still comes, until the other side's end,
+    /// a failure, [`Limits::end`] or [`MAX_DROPPED`]. A system that closes a connection with input unread throws away what was written and
+    /// not yet read by the other side.
+    pub fn end(&mut self)
+        ensures ended { HasEnded S.left S.sent S.times S.settings self.old self.new }
+    {
+        self.socket.shut_down();
+        let until = self
+            .socket
+            .now()
+            .saturating_add(u64::from(self.limits.end));
+        drop_rest(&mut self.socket, &mut self.read_faults, until);
+    }
 }
 
 impl<S: Socket> Link for TcpLink<S> {
@@ -141,6 +155,27 @@ fn set_up<S: Socket>(socket: &mut S, write: u32) -> SetOut
     match socket.set_write_limit(write) {
         SetOut::Done => SetOut::Done,
         SetOut::Failed => SetOut::Failed,
+    }
+}
+
+// Reads and drops the rest of a socket that was shut down, until a moment.
+fn drop_rest<S: Socket>(socket: &mut S, faults: &mut u64, until: u64)
+    requires { S.settings.shut socket.old }
+    ensures drops { DropsRest (S.left socket.old) (S.left socket.new) faults.old faults.new }
+    ensures until { (S.times socket.new).until ≡ until }
+    ensures moment { (S.times socket.new).moment ≡ (S.times socket.old).moment }
+    ensures sent { S.sent socket.new ≡ S.sent socket.old }
+    ensures set { StaysSet S.settings socket.old socket.new }
+    ensures count { faults.old ≤ faults.new }
+{
+    let mut buf = [0u8; 16_384];
+    let mut room = MAX_DROPPED;
+    'dropping: while room > 0 {
+        let most = room.min(buf.len());
+        match read_counted(socket, faults, &mut buf[..most], until) {
+            ReadOut::Bytes(n) => room -= n,
+            ReadOut::End | ReadOut::Failed => return,
+        }
     }
 }
 

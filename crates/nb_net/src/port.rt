@@ -1,7 +1,7 @@
 ghost use Rattle.std.specs.Prelude.{◌≡◌, ◌≢◌, ◌⊎◌, ◌<◌, ◌≤◌, ◌+◌, IfSome, None, Some};
 ghost use Rattle.nb_port.specs.Faults.{Rose};
-ghost use Rattle.nb_link.specs.Port.{NextGives};
-ghost use Rattle.nb_net.specs.Adapters.{IsFresh, IfGot, link_over, port_over, listens_for, AllTried};
+ghost use Rattle.nb_link.specs.Port.{NextGives, TakesBack};
+ghost use Rattle.nb_net.specs.Adapters.{SocketLink, HasEnded, IsFresh, IfGot, link_over, port_over, listens_for, AllTried};
 ghost use Rattle.nb_link.specs.declared.port.PortOut.TheVariants as outs;
 
 use crate::limits::{HOUSE, Limits};
@@ -110,8 +110,14 @@ where
         }
     }
 
-    /// The link is let go, which ends its connection.
-    fn back(&mut self, _link: TcpLink<A::Joined>) {
+    /// The link is ended, and then let go.
+    fn back(&mut self, link: TcpLink<A::Joined>)
+        requires { 0 < self.old.out }
+        ensures takes { TakesBack (port_over A.listens self.old) (port_over A.listens self.new) (link_over A.Joined.left A.Joined.sent link) }
+        ensures ended { (last : SocketLink A.Joined) × HasEnded A.Joined.left A.Joined.sent A.Joined.times A.Joined.settings link last }
+    {
+        let mut link = link;
+        link.end();
         self.out -= 1;
     }
 }

@@ -77,13 +77,11 @@ pub trait Socket: Drop {
         ensures times { times self.new ≡ times self.old }
         ensures set { StaysSet settings self.old self.new };
 
-    /// Sends its end behind all that was sent: no more is sent.
-    fn shut_down(&mut self) -> SetOut
-        ensures done { result ≡ sets.Done → settings.shut self.new }
-        ensures refused { result ≡ sets.Failed → refused self.new }
+    /// Sends its end behind all that was sent, unless the connection is gone: no more is sent.
+    fn shut_down(&mut self)
+        ensures shut { settings.shut self.new }
         ensures left { left self.new ≡ left self.old }
         ensures sent { sent self.new ≡ sent self.old }
-        ensures times { times self.new ≡ times self.old }
         ensures set { StaysSet settings self.old self.new };
 
     /// Makes it send each write at once (TCP_NODELAY).

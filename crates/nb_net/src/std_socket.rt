@@ -70,8 +70,8 @@ impl Socket for StdSocket {
         }
     }
 
-    fn shut_down(&mut self) -> SetOut {
-        done_if(self.stream.shutdown(Shutdown::Write).is_ok())
+    fn shut_down(&mut self) {
+        let _ = self.stream.shutdown(Shutdown::Write);
     }
 
     fn set_prompt(&mut self) -> SetOut {
