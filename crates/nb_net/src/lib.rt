@@ -13,6 +13,7 @@
 //! Left to others: to bind, and to dial.
 #![tactic(auto)]
 
+mod dial;
 mod limits;
 mod link;
 mod place;
@@ -20,9 +21,10 @@ mod port;
 mod socket;
 mod std_socket;
 
+pub use dial::DialLink;
 pub use limits::{HOUSE, KEEP_ALIVE, Limits, MAX_DROPPED, PARTY, SPAN, table};
 pub use link::TcpLink;
 pub use place::Place;
 pub use port::{MAX_TRIES, TcpPort};
-pub use socket::{AcceptOut, Listener, SetOut, Socket, SocketRead, SocketWrite};
-pub use std_socket::{StdListener, StdSocket};
+pub use socket::{AcceptOut, DialOut, Dialler, Listener, SetOut, Socket, SocketRead, SocketWrite};
+pub use std_socket::{StdDialler, StdListener, StdSocket};

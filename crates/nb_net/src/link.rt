@@ -1,4 +1,5 @@
-ghost use Rattle.std.specs.Prelude.{◌≡◌, ◌<◌, ◌≤◌, IfOk, IfErr, IfSome, length};
+ghost use Rattle.std.specs.Prelude.{◌≡◌, ◌<◌, ◌≤◌, IfOk, IfErr, IfSome, IsTrue, length};
+ghost use Rattle.nb_port.specs.Faults.{Rose};
 ghost use Rattle.nb_port.specs.Source.{ReadGives};
 ghost use Rattle.nb_port.specs.Sink.{WriteGives};
 ghost use Rattle.nb_link.specs.Link.{LinkReads, LinkWrites};
@@ -20,7 +21,7 @@ use std::net::TcpStream;
 #[derive(Drop)]
 pub struct TcpLink<S: Socket> {
     pub(crate) socket: S,
-    limits: Limits,
+    pub(crate) limits: Limits,
     place: Place,
     since: Option<u64>,
     pub(crate) read_faults: u64,
@@ -92,6 +93,47 @@ impl<S: Socket> TcpLink<S> {
     }
 }
 
+impl<S: Socket> TcpLink<S> {
+    // Whether the other side ended it, seen without waiting.
+    pub(crate) fn has_ended(&mut self) -> bool
+        ensures gone { IsTrue result → S.gone self.new.socket }
+        ensures same { link_over S.left S.sent self.new ≡ link_over S.left S.sent self.old }
+        ensures limits { self.new.limits ≡ self.old.limits }
+    {
+        self.socket.has_ended()
+    }
+
+    // Counts a write that fails without a call of the system.
+    pub(crate) fn count_write(&mut self)
+        ensures rose { Rose self.old.write_faults self.new.write_faults }
+        ensures count { self.old.write_faults ≤ self.new.write_faults }
+        ensures same { self.new ≡ record self.old { write_faults = self.new.write_faults } }
+    {
+        self.write_faults = self.write_faults.saturating_add(1);
+    }
+
+    // Goes on over the socket of a link that is new; its own counts stay.
+    pub(crate) fn go_on_over(&mut self, link: TcpLink<S>)
+        ensures { self.new ≡ record link { read_faults = self.old.read_faults; write_faults = self.old.write_faults } }
+    {
+        let TcpLink {
+            socket,
+            limits,
+            place,
+            since,
+            ..
+        } = link;
+        *self = TcpLink {
+            socket,
+            limits,
+            place,
+            since,
+            read_faults: self.read_faults,
+            write_faults: self.write_faults,
+        };
+    }
+}
+
 impl<S: Socket> Link for TcpLink<S> {
     ghost seen = { λ l. link_over S.left S.sent l };
 
@@ -119,6 +161,7 @@ impl<S: Socket> Link for TcpLink<S> {
     fn write(&mut self, piece: &[u8]) -> WriteOut
         requires { 0 < length piece.now }
         ensures writes { LinkWrites (link_over S.left S.sent self.old) (link_over S.left S.sent self.new) piece.now result }
+        ensures limits { self.new.limits ≡ self.old.limits }
         ensures set { IsSet S.settings self.new.limits.write self.new.socket }
     {
         write_counted(&mut self.socket, &mut self.write_faults, piece)

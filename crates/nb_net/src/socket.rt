@@ -1,4 +1,4 @@
-ghost use Rattle.std.specs.Prelude.{◌≡◌, ◌<◌, ◌≤◌, ◌+◌, ℕ, Bool, false, List, Option, length};
+ghost use Rattle.std.specs.Prelude.{◌≡◌, ◌<◌, ◌≤◌, ◌+◌, ℕ, Bool, false, IsTrue, List, Option, length};
 ghost use Rattle.nb_net.specs.Socket.{SocketReadGives, SocketWriteGives, Settings, StaysSet, Times};
 ghost use Rattle.nb_net.specs.declared.socket.SetOut.TheVariants as sets;
 ghost use Rattle.nb_net.specs.declared.socket.AcceptOut.TheVariants as accepts;
@@ -53,6 +53,9 @@ pub trait Socket: Drop {
     /// The moment that it told last, and until when its last read waited.
     ghost times: { Self → Times };
 
+    /// The other side ended it, or it is gone.
+    ghost gone: { Self → Type 0 };
+
     /// The moment now, in milliseconds since some start: a clock that never goes back.
     fn now(&mut self) -> u64
         ensures told { times self.new ≡ record (times self.old) { moment = result } }
@@ -80,6 +83,13 @@ pub trait Socket: Drop {
     /// Sends its end behind all that was sent, unless the connection is gone: no more is sent.
     fn shut_down(&mut self)
         ensures shut { settings.shut self.new }
+        ensures left { left self.new ≡ left self.old }
+        ensures sent { sent self.new ≡ sent self.old }
+        ensures set { StaysSet settings self.old self.new };
+
+    /// Whether the other side ended it, and no byte is left, or it is gone: seen without waiting.
+    fn has_ended(&mut self) -> bool
+        ensures gone { IsTrue result → gone self.new }
         ensures left { left self.new ≡ left self.old }
         ensures sent { sent self.new ≡ sent self.old }
         ensures set { StaysSet settings self.old self.new };
@@ -146,4 +156,31 @@ pub trait Listener: Drop {
     fn close(&mut self)
         ensures closed { listens self.new ≡ false }
         ensures asked { asked self.new ≡ asked self.old };
+}
+
+/// What a dial gives.
+#[derive(Drop)]
+pub enum DialOut<S> {
+    /// A connection.
+    Joined(S),
+    /// It failed, or waited too long.
+    Failed,
+}
+
+/// Who dials one address, by the call of the system that a [`DialLink`](crate::DialLink) makes.
+pub trait Dialler: Drop {
+    /// What it gives.
+    type Joined: Socket;
+
+    /// How often it dialled; a dialler need not count.
+    ghost dialled: { Self → ℕ };
+
+    /// Its last dial waited for so many milliseconds at most.
+    ghost within: { Self → ℕ → Type 0 };
+
+    /// Dials, and waits for so many milliseconds at most.
+    fn dial(&mut self, millis: u32) -> DialOut<Self::Joined>
+        requires { 0 < millis }
+        ensures dialled { dialled self.new ≤ dialled self.old + 1 }
+        ensures within { within self.new millis };
 }

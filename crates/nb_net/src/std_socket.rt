@@ -2,11 +2,11 @@ ghost use Rattle.std.specs.Prelude.{◌≡◌, ⊤, None, Some, if◌then◌else
 ghost use Rattle.nb_net.specs.Socket.{passing, is_among, is_there};
 
 use crate::limits::KEEP_ALIVE;
-use crate::socket::{AcceptOut, Listener, SetOut, Socket, SocketRead, SocketWrite};
+use crate::socket::{AcceptOut, DialOut, Dialler, Listener, SetOut, Socket, SocketRead, SocketWrite};
 use libc::net;
 use std::io;
 use std::io::{Read, Write};
-use std::net::{Shutdown, TcpListener, TcpStream};
+use std::net::{Net, Shutdown, SocketAddr, TcpListener, TcpStream};
 use std::os::fd::AsRawFd;
 use std::time::Duration;
 
@@ -43,6 +43,8 @@ impl Socket for StdSocket {
 
     ghost times = { λ s. record { moment = s.moment; until = s.until } };
 
+    ghost gone = { λ _. ⊤ };
+
     fn now(&mut self) -> u64 {
         self.moment = monotonic();
         self.moment
@@ -72,6 +74,18 @@ impl Socket for StdSocket {
 
     fn shut_down(&mut self) {
         let _ = self.stream.shutdown(Shutdown::Write);
+    }
+
+    fn has_ended(&mut self) -> bool {
+        let peeked = match self.stream.set_nonblocking(true) {
+            Ok(()) => self.stream.peek(&mut [0u8; 1]),
+            Err(error) => Err(error),
+        };
+        match (peeked, self.stream.set_nonblocking(false)) {
+            (Ok(n), Ok(())) => n == 0,
+            (Err(error), Ok(())) => error.kind() != io::ErrorKind::WouldBlock,
+            (_, Err(_)) => true,
+        }
     }
 
     fn set_prompt(&mut self) -> SetOut {
@@ -159,6 +173,38 @@ impl Listener for StdListener {
     /// What is dropped is closed.
     fn close(&mut self) {
         self.listener = None;
+    }
+}
+
+/// Who dials an address over the network of a runtime.
+#[derive(Drop)]
+pub struct StdDialler<R: Net<Stream = TcpStream> + Drop> {
+    rt: R,
+    address: SocketAddr,
+}
+
+impl<R: Net<Stream = TcpStream> + Drop> StdDialler<R> {
+    /// Who dials this address.
+    pub fn over(rt: R, address: SocketAddr) -> StdDialler<R>
+        ensures { result ≡ record { rt = rt; address = address } }
+    {
+        StdDialler { rt, address }
+    }
+}
+
+impl<R: Net<Stream = TcpStream> + Drop> Dialler for StdDialler<R> {
+    type Joined = StdSocket;
+
+    ghost dialled = { λ _. 0 };
+
+    ghost within = { λ _ _. ⊤ };
+
+    fn dial(&mut self, millis: u32) -> DialOut<StdSocket> {
+        let limit = Duration::from_millis(u64::from(millis));
+        match TcpStream::connect_timeout(&self.rt, &self.address, limit) {
+            Ok(stream) => DialOut::Joined(StdSocket::over(stream)),
+            Err(_) => DialOut::Failed,
+        }
     }
 }
 
