@@ -1,6 +1,6 @@
 -- What a link that dials is seen as, and when it dials anew. An exchange is some writes, and the reads behind them: the first write behind
 -- a read begins the next one.
-use Rattle.std.specs.Prelude.{◌≡◌, ◌⊎◌, ℕ, ◌≤◌, ◌+◌, ◌||◌, Bool, true, false, List, Option, None}
+use Rattle.std.specs.Prelude.{◌≡◌, ◌⊎◌, ℕ, ◌≤◌, ◌+◌, Bool, true, false, List, None}
 use Rattle.nb_port.specs.declared.source.ReadOut.{ReadOut}
 use Rattle.nb_port.specs.declared.source.ReadOut.TheVariants as reads
 use Rattle.nb_port.specs.declared.sink.WriteOut.{WriteOut}

@@ -1,5 +1,5 @@
 -- Where in a frame a link is, by the bytes that it gave so far, and until when it waits for the next ones.
-use Rattle.std.specs.Prelude.{ℕ, ◌+◌, ◌*◌, ◌/◌, ◌%◌, ◌^◌, ◌==◌, ◌&&◌, Bool, true, false, List, [], ◌∷◌, Option, None, Some, min, take, nat_lt, if◌then◌else◌}
+use Rattle.std.specs.Prelude.{ℕ, ◌+◌, ◌*◌, ◌/◌, ◌%◌, ◌^◌, ◌==◌, ◌&&◌, Bool, true, List, [], ◌∷◌, Option, None, Some, min, take, nat_lt, if◌then◌else◌}
 use Rattle.nb_port.specs.Faults.{last_count, one_more}
 use Rattle.nb_units.specs.declared.frames.TheConstants.{HEADER, MAX_BODY}
 use Rattle.nb_port.specs.declared.source.ReadOut.{ReadOut}
@@ -16,6 +16,10 @@ len_with p byte = if nat_lt 3 p.had && nat_lt p.had HEADER then (p.len % (2 ^ 24
 abbrev pub place_at : ℕ → ℕ → Place
 place_at had len =
     if nat_lt had (HEADER + len) then record { heard = true; had = had; len = len } else record { heard = true; had = 0; len = 0 }
+
+-- between two frames, or before the first one where no byte came
+abbrev pub between : Bool → Place
+between heard = record { heard = heard; had = 0; len = 0 }
 
 -- behind one byte more
 abbrev pub place_with : Place → ℕ → Place
@@ -37,6 +41,7 @@ span limits p =
 abbrev pub waits_until : Limits → Place → ℕ → ℕ
 waits_until limits p since = min (since + span limits p) last_count
 
+-- the moment, or now where there is none
 abbrev pub since_or : Option ℕ → ℕ → ℕ
 since_or None now = now
 since_or (Some since) now = since
@@ -46,12 +51,13 @@ since_or (Some since) now = since
 abbrev pub bytes_since : Place → Place → ℕ → ℕ → Option ℕ
 bytes_since old new n since = if nat_lt 0 old.had && (new.had == min (old.had + n) last_count) then Some since else None
 
--- where a link is behind a read that gave this, and since when the next bytes are waited for: where it gave none, all stays
+-- where a link is behind a read that gave this: where it gave no byte, where it was
 abbrev pub place_behind : Place → List ℕ → ReadOut → Place
 place_behind old buf (reads.Bytes n) = place_after old (take n buf)
 place_behind old buf reads.End = old
 place_behind old buf reads.Failed = old
 
+-- since when the next bytes are waited for, behind such a read
 abbrev pub since_behind : Place → Place → ℕ → ReadOut → Option ℕ
 since_behind old new since (reads.Bytes n) = bytes_since old new n since
 since_behind old new since reads.End = Some since

@@ -38,8 +38,11 @@ impl<D: Dialler> DialLink<D> {
     pub fn to(dialler: D, limits: Limits) -> Result<DialLink<D>, D>
         requires dial { 0 < limits.dial }
         requires write { 0 < limits.write }
+        // after Ok: a link of which nothing was read or written
         ensures fresh { IfOk result (λ l. IsFresh limits l.link × (l.speaking ≡ false) × (l.over ≡ false)) }
+        // after Ok: it was dialled once, and the dial waited no longer than it may
         ensures once { IfOk result (λ l. DialsOnce D.dialled D.within limits.dial dialler l.dialler) }
+        // after Err: the same
         ensures failed { IfErr result (λ d. DialsOnce D.dialled D.within limits.dial dialler d) }
     {
         let mut dialler = dialler;
@@ -92,10 +95,15 @@ impl<D: Dialler> Link for DialLink<D> {
 
     fn read(&mut self, buf: &mut [u8]) -> ReadOut
         requires { 0 < length buf.old }
+        // as the trait says; it tells its two counts alone
         ensures reads { LinkReads (dialled_told self.old) (dialled_told self.new) (length buf.old) buf.new result }
+        // it read the link that it has
         ensures link { LinkReads (link_over D.Joined.left D.Joined.sent self.old.link) (link_over D.Joined.left D.Joined.sent self.new.link) (length buf.old) buf.new result }
+        // and waited as that does
         ensures waited { Waited D.Joined.times self.old.link self.new.link buf.new result }
+        // a read never dials
         ensures dialler { self.new.dialler ≡ self.old.dialler }
+        // the exchange has come to its reads; behind an end or a failure the link is over
         ensures exchange { (self.new.speaking ≡ false) × (self.new.over ≡ (ends result || self.old.over)) }
     {
         self.speaking = false;
@@ -108,8 +116,10 @@ impl<D: Dialler> Link for DialLink<D> {
 
     fn write(&mut self, piece: &[u8]) -> WriteOut
         requires { 0 < length piece.now }
+        // as the trait says
         ensures writes { LinkWrites (dialled_told self.old) (dialled_told self.new) piece.now result }
         ensures speaking { self.new.speaking ≡ true }
+        // it wrote over the link that is there; or, first in an exchange over a link that is over, dialled anew; or failed behind such a dial
         ensures dials { WritesOn (link_over D.Joined.left D.Joined.sent) self.old self.new piece.now result ⊎ (DialsAnew (link_over D.Joined.left D.Joined.sent) D.dialled D.within D.Joined.gone self.old self.new piece.now result ⊎ Refuses self.old self.new result) }
     {
         if self.speaking {

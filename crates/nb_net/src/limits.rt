@@ -1,7 +1,5 @@
 //! How long links wait: one table for all of them.
 
-ghost use Rattle.nb_net.specs.Laws as law;
-
 /// How long a link waits, each in milliseconds.
 #[derive(Clone, Copy)]
 pub struct Limits {
@@ -49,11 +47,11 @@ pub const SPAN: u32 = 16_384;
 /// The most bytes that are read and dropped of a link that is given back.
 pub const MAX_DROPPED: usize = 67_108_864;
 
-/// The seconds without a byte behind which TCP asks whether the peer is there, those between two such questions, and how many of them stay
-/// without an answer until the connection is ended.
-pub const KEEP_ALIVE: [u8; 3] = [30, 10, 3];
+/// The seconds without a byte behind which TCP asks whether the peer is there.
+pub const ALIVE_IDLE: u8 = 30;
 
-/// A law: the table in numbers.
-pub fn table()
-    ensures { law.TableIs }
-{}
+/// The seconds between two such questions.
+pub const ALIVE_BETWEEN: u8 = 10;
+
+/// How many of them stay without an answer until the connection is ended.
+pub const ALIVE_TRIES: u8 = 3;

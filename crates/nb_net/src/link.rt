@@ -56,12 +56,15 @@ impl TcpLink<StdSocket> {
 }
 
 impl<S: Socket> TcpLink<S> {
-    /// A link over `socket`, of which no call failed. A socket that could not be set comes back, with the bytes that it had.
+    /// A link over `socket` that waits so, of which no call failed. A socket that could not be set comes back, with the bytes that it had.
     pub fn of(socket: S, limits: Limits) -> Result<TcpLink<S>, S>
         requires { 0 < limits.write }
+        // after Ok: the socket is set as that of a link
         ensures set { IfOk result (λ link. IsSet S.settings limits.write link.socket) }
         ensures fresh { IfOk result (λ link. IsFresh limits link) }
+        // after Ok: the bytes left and sent are those that the socket told before
         ensures bytes { IfOk result (λ link. (S.left link.socket ≡ S.left socket) × (S.sent link.socket ≡ S.sent socket)) }
+        // after Err: the socket comes back with the bytes that it had, and could not be set. Of a socket of std that says nothing
         ensures err { IfErr result (λ s. S.refused s × (S.left s ≡ S.left socket) × (S.sent s ≡ S.sent socket)) }
     {
         let mut socket = socket;
@@ -85,10 +88,7 @@ impl<S: Socket> TcpLink<S> {
         ensures ended { HasEnded S.left S.sent S.times S.settings self.old self.new }
     {
         self.socket.shut_down();
-        let until = self
-            .socket
-            .now()
-            .saturating_add(u64::from(self.limits.end));
+        let until = self.socket.now().saturating_add(u64::from(self.limits.end));
         drop_rest(&mut self.socket, &mut self.read_faults, until);
     }
 }
@@ -139,8 +139,11 @@ impl<S: Socket> Link for TcpLink<S> {
 
     fn read(&mut self, buf: &mut [u8]) -> ReadOut
         requires { 0 < length buf.old }
+        // as the trait says; it tells the bytes that its socket tells
         ensures reads { LinkReads (link_over S.left S.sent self.old) (link_over S.left S.sent self.new) (length buf.old) buf.new result }
+        // its socket waited as long as the limits allow at this place
         ensures waited { Waited S.times self.old self.new buf.new result }
+        // the socket stays set as that of a link
         ensures set { IsSet S.settings self.new.limits.write self.new.socket }
     {
         let since = match self.since {
@@ -160,8 +163,10 @@ impl<S: Socket> Link for TcpLink<S> {
 
     fn write(&mut self, piece: &[u8]) -> WriteOut
         requires { 0 < length piece.now }
+        // as the trait says
         ensures writes { LinkWrites (link_over S.left S.sent self.old) (link_over S.left S.sent self.new) piece.now result }
         ensures limits { self.new.limits ≡ self.old.limits }
+        // the socket stays set as that of a link
         ensures set { IsSet S.settings self.new.limits.write self.new.socket }
     {
         write_counted(&mut self.socket, &mut self.write_faults, piece)

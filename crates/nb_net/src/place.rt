@@ -68,7 +68,8 @@ impl Place {
         } else if self.had == 0 {
             u64::from(limits.between)
         } else {
-            u64::from(limits.frame) + u64::from(limits.more) * u64::from(self.len.min(MAX_BODY) / SPAN)
+            u64::from(limits.frame)
+                + u64::from(limits.more) * u64::from(self.len.min(MAX_BODY) / SPAN)
         }
     }
 }

@@ -44,7 +44,9 @@ impl<A: Listener> Model for TcpPort<A> {
 impl TcpPort<StdListener> {
     /// A port of a house over `listener`, which gives `links` links.
     pub fn over(listener: TcpListener, links: u32) -> TcpPort<StdListener>
+        // the links wait as those of a house
         ensures fresh { (result.limits ≡ HOUSE) × (result.left ≡ links) × (result.out ≡ 0) × (result.faults ≡ 0) }
+        // where it gives some links: over this listener
         ensures over { links ≢ 0 → result.listener ≡ record { listener = Some listener } }
     {
         TcpPort::of(StdListener::over(listener), links, HOUSE)
@@ -55,8 +57,11 @@ impl<A: Listener> TcpPort<A> {
     /// A port over `listener`, which gives `links` links that wait so. No call failed. For no link the listener is closed.
     pub fn of(listener: A, links: u32, limits: Limits) -> TcpPort<A>
         requires { 0 < limits.write }
+        // so many links are left, and none is out
         ensures fresh { (result.limits ≡ limits) × (result.left ≡ links) × (result.out ≡ 0) × (result.faults ≡ 0) }
+        // where it gives some links: over this listener
         ensures over { links ≢ 0 → result.listener ≡ listener }
+        // for no link it is closed
         ensures listens { A.listens result.listener ≡ listens_for links (A.listens listener) }
         ensures asked { A.asked result.listener ≡ A.asked listener }
     {
@@ -87,11 +92,16 @@ where
     }
 
     fn next(&mut self) -> PortOut<TcpLink<A::Joined>>
+        // as the trait says; where it gives the last link the listener is closed
         ensures gives { NextGives (link_over A.Joined.left A.Joined.sent) (port_over A.listens self.old) (port_over A.listens self.new) result }
+        // a link that it gives is one of which nothing was read, and that waits as the port says
         ensures fresh { IfGot result (λ link. IsFresh self.old.limits link) }
         ensures limits { self.new.limits ≡ self.old.limits }
+        // it looked for a connection at most so often
         ensures asked { A.asked self.new.listener ≤ A.asked self.old.listener + MAX_TRIES }
+        // it failed only where the listener did, or where so many looks gave none that could be set up
         ensures only { result ≡ outs.Failed → A.broken self.new.listener ⊎ AllTried self.old.faults self.new.faults }
+        // where no link is left all is as before, and the listener is not asked
         ensures closed { self.old.left ≡ 0 → self.new ≡ self.old }
     {
         if self.left == 0 {
@@ -113,7 +123,9 @@ where
     /// The link is ended, and then let go.
     fn back(&mut self, link: TcpLink<A::Joined>)
         requires { 0 < self.old.out }
+        // as the trait says
         ensures takes { TakesBack (port_over A.listens self.old) (port_over A.listens self.new) (link_over A.Joined.left A.Joined.sent link) }
+        // a link came of this one by being ended: that is the one that is let go
         ensures ended { (last : SocketLink A.Joined) × HasEnded A.Joined.left A.Joined.sent A.Joined.times A.Joined.settings link last }
     {
         let mut link = link;

@@ -61,6 +61,7 @@ pub trait Socket: Drop {
         ensures told { times self.new ≡ record (times self.old) { moment = result } }
         ensures left { left self.new ≡ left self.old }
         ensures sent { sent self.new ≡ sent self.old }
+        // what was set is set still
         ensures set { StaysSet settings self.old self.new };
 
     /// Takes the next bytes, at most as many as `buf` holds, to the front of `buf`. It waits for them until the moment `until`, and
@@ -70,6 +71,7 @@ pub trait Socket: Drop {
         ensures gives { SocketReadGives (left self.old) (left self.new) (length buf.old) buf.new result }
         ensures until { times self.new ≡ record (times self.old) { until = until } }
         ensures sent { sent self.new ≡ sent self.old }
+        // what was set is set still
         ensures set { StaysSet settings self.old self.new };
 
     /// Sends bytes from the front of `piece`, not always all.
@@ -78,6 +80,7 @@ pub trait Socket: Drop {
         ensures gives { SocketWriteGives (sent self.old) (sent self.new) piece.now result }
         ensures left { left self.new ≡ left self.old }
         ensures times { times self.new ≡ times self.old }
+        // what was set is set still
         ensures set { StaysSet settings self.old self.new };
 
     /// Sends its end behind all that was sent, unless the connection is gone: no more is sent.
@@ -85,6 +88,7 @@ pub trait Socket: Drop {
         ensures shut { settings.shut self.new }
         ensures left { left self.new ≡ left self.old }
         ensures sent { sent self.new ≡ sent self.old }
+        // what was set is set still
         ensures set { StaysSet settings self.old self.new };
 
     /// Whether the other side ended it, and no byte is left, or it is gone: seen without waiting.
@@ -92,6 +96,7 @@ pub trait Socket: Drop {
         ensures gone { IsTrue result → gone self.new }
         ensures left { left self.new ≡ left self.old }
         ensures sent { sent self.new ≡ sent self.old }
+        // what was set is set still
         ensures set { StaysSet settings self.old self.new };
 
     /// Makes it send each write at once (TCP_NODELAY).
@@ -100,14 +105,16 @@ pub trait Socket: Drop {
         ensures refused { result ≡ sets.Failed → refused self.new }
         ensures left { left self.new ≡ left self.old }
         ensures sent { sent self.new ≡ sent self.old }
+        // what was set is set still
         ensures set { StaysSet settings self.old self.new };
 
-    /// Makes it ask a peer that is silent whether it is there, and end where no answer comes (SO_KEEPALIVE, as [`KEEP_ALIVE`](crate::KEEP_ALIVE) says).
+    /// Makes it ask a peer that is silent whether it is there, and end where no answer comes (SO_KEEPALIVE, by [`ALIVE_IDLE`](crate::ALIVE_IDLE) and its like).
     fn set_alive(&mut self) -> SetOut
         ensures done { result ≡ sets.Done → settings.alive self.new }
         ensures refused { result ≡ sets.Failed → refused self.new }
         ensures left { left self.new ≡ left self.old }
         ensures sent { sent self.new ≡ sent self.old }
+        // what was set is set still
         ensures set { StaysSet settings self.old self.new };
 
     /// Makes a write fail that sends no byte for so many milliseconds.

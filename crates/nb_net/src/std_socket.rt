@@ -1,8 +1,10 @@
 ghost use Rattle.std.specs.Prelude.{◌≡◌, ⊤, None, Some, if◌then◌else◌};
 ghost use Rattle.nb_net.specs.Socket.{passing, is_among, is_there};
 
-use crate::limits::KEEP_ALIVE;
-use crate::socket::{AcceptOut, DialOut, Dialler, Listener, SetOut, Socket, SocketRead, SocketWrite};
+use crate::limits::{ALIVE_BETWEEN, ALIVE_IDLE, ALIVE_TRIES};
+use crate::socket::{
+    AcceptOut, DialOut, Dialler, Listener, SetOut, Socket, SocketRead, SocketWrite,
+};
 use libc::net;
 use std::io;
 use std::io::{Read, Write};
@@ -94,12 +96,13 @@ impl Socket for StdSocket {
 
     fn set_alive(&mut self) -> SetOut {
         let fd = self.stream.as_raw_fd();
-        let [idle, between, tries] = KEEP_ALIVE;
+        let idle = number(ALIVE_IDLE);
+        let between = number(ALIVE_BETWEEN);
+        let tries = number(ALIVE_TRIES);
         let all = unsafe {
-            net::setsockopt(fd, net::IPPROTO_TCP, net::TCP_KEEPIDLE, &number(idle), 4) == 0
-                && net::setsockopt(fd, net::IPPROTO_TCP, net::TCP_KEEPINTVL, &number(between), 4)
-                    == 0
-                && net::setsockopt(fd, net::IPPROTO_TCP, net::TCP_KEEPCNT, &number(tries), 4) == 0
+            net::setsockopt(fd, net::IPPROTO_TCP, net::TCP_KEEPIDLE, &idle, 4) == 0
+                && net::setsockopt(fd, net::IPPROTO_TCP, net::TCP_KEEPINTVL, &between, 4) == 0
+                && net::setsockopt(fd, net::IPPROTO_TCP, net::TCP_KEEPCNT, &tries, 4) == 0
                 && net::setsockopt(fd, net::SOL_SOCKET, net::SO_KEEPALIVE, &number(1), 4) == 0
         };
         done_if(all)
@@ -210,15 +213,25 @@ impl<R: Net<Stream = TcpStream> + Drop> Dialler for StdDialler<R> {
 
 // The errors of a look for a connection that are that connection's, by Linux's numbers; and EINTR.
 const EINTR: u32 = 4;
+
 const ENONET: u32 = 64;
+
 const EPROTO: u32 = 71;
+
 const ENOPROTOOPT: u32 = 92;
+
 const ENETDOWN: u32 = 100;
+
 const ENETUNREACH: u32 = 101;
+
 const ECONNABORTED: u32 = 103;
+
 const ECONNRESET: u32 = 104;
+
 const ETIMEDOUT: u32 = 110;
+
 const EHOSTDOWN: u32 = 112;
+
 const EHOSTUNREACH: u32 = 113;
 
 // Whether a look for a connection that failed so says nothing of the listener.
