@@ -110,7 +110,7 @@ class Server:
     def dial(self, worker):
         """A link to a worker."""
         self.left[worker] -= 1
-        link = socket.create_connection(("127.0.0.1", self.port + worker), timeout=60)
+        link = socket.create_connection(("127.0.0.1", self.port + worker), timeout=SECONDS)
         link.setsockopt(socket.IPPROTO_TCP, socket.TCP_NODELAY, 1)
         return link
 
