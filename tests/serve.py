@@ -11,6 +11,17 @@ the end. The test holds the program to this:
   others: they are all answered while it is held.
 - The server ends with status 0 when each port has given its links.
 
+A second server is asked by links that do harm, one behind the other on each worker, while the last worker's link is held open. Each reply is
+the one that the entries give, and they stay as they are:
+
+- Of 20,000 frames sent at once all 10,000 that a session answers are replied to, and then the link ends, at a client that reads while it
+  sends. Of 40 frames in front of a megabyte that is none all 40 are replied to.
+- A link that ends its side has each reply. One that sends a frame byte by byte has its reply.
+- A link that is reset within its replies, and one that sends what is no frame without end, take nothing from the one behind it.
+- A port that gave its last link refuses who comes then, while the server goes on.
+
+A third one is asked by 1,000 links at once, each of which is answered.
+
 Then the server is killed behind random numbers of replies, and started again over the same journal. After each kill the entries begin
 with those that were there before, and the reply to each order that was handed out whole, in whatever run, is the one that its entry
 gives.
@@ -22,6 +33,7 @@ import pathlib
 import random
 import signal
 import socket
+import struct
 import subprocess
 import sys
 import tempfile
@@ -38,11 +50,14 @@ HOUSE, OPERATOR, GOODS = (bytes([byte]) * 32 for byte in (0x11, 0x22, 0x77))
 HEAD = formats.head(HOUSE, OPERATOR, bytes([0x33]) * 16)
 CAP, WORKERS, LINKS, CONSUMERS, KILLS = 20000, 4, 8, 6, 20
 
+# The frames that one session answers, and the links of a server that is asked by many at once.
+MOST_FRAMES, CROWD = 10000, 1000
+
 # The orders of a link: to a server that is left alone, and to one that is killed.
 ORDERS, KILL_ORDERS = 40, 20
 
 # In seconds: the whole test, and the wait for a server's replies.
-SECONDS, LONGEST_START = 60, 2
+SECONDS, LONGEST_START = 120, 2
 
 # Ports below those that the system gives out by itself.
 FIRST_PORT, LAST_PORT = 20000, 30000
@@ -95,7 +110,7 @@ class Server:
     def dial(self, worker):
         """A link to a worker."""
         self.left[worker] -= 1
-        link = socket.create_connection(("127.0.0.1", self.port + worker), timeout=30)
+        link = socket.create_connection(("127.0.0.1", self.port + worker), timeout=SECONDS)
         link.setsockopt(socket.IPPROTO_TCP, socket.TCP_NODELAY, 1)
         return link
 
@@ -259,7 +274,7 @@ def serve_well(draw, journal, parties, serials):
     talks, threads = run_links(server, draw, parties, first, serials, ORDERS)
     finish(threads[0] + threads[1])
     for link in harmful[1:]:
-        link.close()
+        let_go(link)
     finish(threads[2] + threads[3] + [flood])
     if server.process.wait() != 0:
         fail(f"the server ended with status {server.process.returncode}")
@@ -273,13 +288,138 @@ def serve_well(draw, journal, parties, serials):
     return len(talks), sum(len(replies) for _, replies in talks), len(entries) - start
 
 
+def let_go(link):
+    """Closes a link, also where a thread writes to it."""
+    try:
+        link.shutdown(socket.SHUT_RDWR)
+    except OSError:
+        pass
+    link.close()
+
+
 def pour(link, frames):
     """Sends frames, and reads no reply."""
     try:
-        link.settimeout(30)
         link.sendall(frames)
     except OSError:
         pass
+
+
+def see_answered(link, sent, wanted, ends=False):
+    """Sends these bytes at once, and reads the replies meanwhile: they are these, and then the link ends."""
+    sender = threading.Thread(target=pour, args=(link, sent))
+    sender.start()
+    if ends:
+        sender.join()
+        link.shutdown(socket.SHUT_WR)
+    count = 0
+    with link, link.makefile("rb") as stream:
+        try:
+            while count < len(wanted) and (reply := take(stream)):
+                if reply != wanted[count]:
+                    fail(f"reply {count} is not the one that the entries give")
+                count += 1
+            if ends and stream.read(1):
+                fail("there are more replies than requests")
+        except OSError as error:
+            fail(f"{count} of {len(wanted)} replies came, and then {error}")
+    if count < len(wanted):
+        fail(f"{count} of {len(wanted)} replies came")
+    sender.join()
+
+
+def reset_within_replies(link, asks, length):
+    """Sends frames, reads a part of a reply, and resets the link."""
+    link.sendall(asks)
+    link.recv(length)
+    link.setsockopt(socket.SOL_SOCKET, socket.SO_LINGER, struct.pack("ii", 1, 0))
+    link.close()
+
+
+def send_without_end(link):
+    """Sends what is no frame until the link is closed."""
+    try:
+        while True:
+            link.sendall(bytes(1 << 16))
+    except OSError:
+        link.close()
+
+
+def drip(link, ask, wanted):
+    """Sends a frame byte by byte, and sees that it is answered."""
+    for at in range(len(ask)):
+        link.sendall(ask[at : at + 1])
+        time.sleep(0.005)
+    see_answered(link, b"", [wanted], ends=True)
+
+
+def is_refused(server, worker):
+    """Whether a worker's port refuses who comes."""
+    try:
+        socket.create_connection(("127.0.0.1", server.port + worker), timeout=5).close()
+    except ConnectionRefusedError:
+        return True
+    return False
+
+
+def serve_harm(draw, journal, parties):
+    """One server that is asked by links that do harm."""
+    entries = read_journal(journal)
+    asker, epoid = parties[0], bytes(16)
+    ask = formats.status(asker.id, asker.key, epoid, 0)
+    told = formats.told(HOUSE, entries, asker.entry()[1:5], epoid)
+    server = Server(journal, draw, 3)
+    held = server.dial(WORKERS - 1)
+    held.sendall(ask)
+
+    def many():
+        see_answered(server.dial(0), ask * (2 * MOST_FRAMES), [told] * MOST_FRAMES)
+        see_answered(server.dial(0), ask * 40 + bytes(1 << 20), [told] * 40)
+        see_answered(server.dial(0), ask * 5, [told] * 5, ends=True)
+        if not is_refused(server, 0):
+            fail("a port that gave its last link takes one more")
+
+    def resets():
+        reset_within_replies(server.dial(1), ask * 1000, len(told) // 2)
+        reset_within_replies(server.dial(1), ask * 40 + bytes(1 << 20), len(told) // 2)
+        see_answered(server.dial(1), ask, [told], ends=True)
+
+    def endless():
+        send_without_end(server.dial(2))
+        drip(server.dial(2), ask, told)
+        see_answered(server.dial(2), ask, [told], ends=True)
+
+    threads = [threading.Thread(target=work) for work in (many, resets, endless)]
+    for thread in threads:
+        thread.start()
+    finish(threads)
+    if server.process.poll() is not None:
+        fail("the server ended while a link was held")
+    see_answered(held, b"", [told], ends=True)
+    for _ in range(2):
+        see_answered(server.dial(WORKERS - 1), ask, [told], ends=True)
+    if server.process.wait() != 0:
+        fail(f"the server ended with status {server.process.returncode}")
+    if read_journal(journal) != entries:
+        fail("the entries have changed, and nothing was asked to be recorded")
+
+
+def serve_crowd(draw, journal, parties):
+    """One server that is asked by many links at once."""
+    entries = read_journal(journal)
+    asker, epoid = parties[0], bytes(16)
+    ask = formats.status(asker.id, asker.key, epoid, 0)
+    told = formats.told(HOUSE, entries, asker.entry()[1:5], epoid)
+    server = Server(journal, draw, CROWD // WORKERS)
+    threads = [
+        threading.Thread(target=lambda worker=place % WORKERS: see_answered(server.dial(worker), ask, [told], ends=True))
+        for place in range(CROWD)
+    ]
+    for thread in threads:
+        thread.start()
+    finish(threads)
+    if server.process.wait() != 0:
+        fail(f"the server ended with status {server.process.returncode}")
 
 
 def wait_for_replies(server, talks, wanted):
@@ -327,6 +467,10 @@ def test(seed, folder):
     parties = make_house(journal)
     links, replies, entries = serve_well(draw, journal, parties, serials)
     print(f"tests/serve: {links} links beside {WORKERS} that do harm, {replies} replies, {entries} orders", flush=True)
+    serve_harm(draw, journal, parties)
+    print(f"tests/serve: all {MOST_FRAMES} replies to 20,000 frames, all 40 in front of a megabyte that is none; a closed port refuses", flush=True)
+    serve_crowd(draw, journal, parties)
+    print(f"tests/serve: {CROWD} links at once, each answered", flush=True)
     within, replies = kill_often(draw, journal, parties, serials)
     print(f"tests/serve: {KILLS} kills, {within} while it was asked; {replies} replies handed out")
     if 2 * within < KILLS:

@@ -1,2 +1,5 @@
 pub mod Socket
+pub mod Waits
 pub mod Adapters
+pub mod Dials
+pub mod Laws

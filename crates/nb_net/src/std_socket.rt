@@ -1,24 +1,36 @@
-ghost use Rattle.std.specs.Prelude.{◌≡◌, ◌↔◌, ⊤, None, Contains, IsTrue, if◌then◌else◌};
-ghost use Rattle.nb_net.specs.Socket.{passing};
+ghost use Rattle.std.specs.Prelude.{◌≡◌, ⊤, None, Some, if◌then◌else◌};
+ghost use Rattle.nb_net.specs.Socket.{passing, is_among, is_there};
 
-use crate::socket::{AcceptOut, Listener, SetOut, Socket, SocketRead, SocketWrite};
+use crate::limits::{ALIVE_BETWEEN, ALIVE_IDLE, ALIVE_TRIES};
+use crate::socket::{
+    AcceptOut, DialOut, Dialler, Listener, SetOut, Socket, SocketRead, SocketWrite,
+};
+use libc::net;
 use std::io;
 use std::io::{Read, Write};
-use std::net::{TcpListener, TcpStream};
+use std::net::{Net, Shutdown, SocketAddr, TcpListener, TcpStream};
+use std::os::fd::AsRawFd;
 use std::time::Duration;
 
 /// A connected stream of std.
 #[derive(Drop)]
 pub struct StdSocket {
-    pub(crate) stream: TcpStream,
+    stream: TcpStream,
+    // what it was told last, and asked for
+    moment: u64,
+    until: u64,
 }
 
 impl StdSocket {
     /// The stream.
     pub fn over(stream: TcpStream) -> StdSocket
-        ensures { result ≡ record { stream = stream } }
+        ensures { result.stream ≡ stream }
     {
-        StdSocket { stream }
+        StdSocket {
+            stream,
+            moment: 0,
+            until: 0,
+        }
     }
 }
 
@@ -27,11 +39,25 @@ impl Socket for StdSocket {
 
     ghost sent = { λ _. None };
 
-    ghost settings = { record { prompt = λ _. ⊤; reads_within = λ _ _. ⊤; writes_within = λ _ _. ⊤ } };
+    ghost settings = { record { prompt = λ _. ⊤; alive = λ _. ⊤; writes_within = λ _ _. ⊤; shut = λ _. ⊤ } };
 
     ghost refused = { λ _. ⊤ };
 
-    fn read(&mut self, buf: &mut [u8]) -> SocketRead {
+    ghost times = { λ s. record { moment = s.moment; until = s.until } };
+
+    ghost gone = { λ _. ⊤ };
+
+    fn now(&mut self) -> u64 {
+        self.moment = monotonic();
+        self.moment
+    }
+
+    fn read(&mut self, buf: &mut [u8], until: u64) -> SocketRead {
+        self.until = until;
+        let left = Duration::from_millis(until.saturating_sub(monotonic()));
+        if left.is_zero() || self.stream.set_read_timeout(Some(left)).is_err() {
+            return SocketRead::Failed;
+        }
         match self.stream.read(buf) {
             Ok(0) => SocketRead::End,
             Ok(n) => SocketRead::Got(n),
@@ -48,39 +74,80 @@ impl Socket for StdSocket {
         }
     }
 
+    fn shut_down(&mut self) {
+        let _ = self.stream.shutdown(Shutdown::Write);
+    }
+
+    fn has_ended(&mut self) -> bool {
+        let peeked = match self.stream.set_nonblocking(true) {
+            Ok(()) => self.stream.peek(&mut [0u8; 1]),
+            Err(error) => Err(error),
+        };
+        match (peeked, self.stream.set_nonblocking(false)) {
+            (Ok(n), Ok(())) => n == 0,
+            (Err(error), Ok(())) => error.kind() != io::ErrorKind::WouldBlock,
+            (_, Err(_)) => true,
+        }
+    }
+
     fn set_prompt(&mut self) -> SetOut {
         done_if(self.stream.set_nodelay(true).is_ok())
     }
 
-    fn set_read_limit(&mut self, seconds: u64) -> SetOut {
-        done_if(
-            self.stream
-                .set_read_timeout(Some(Duration::from_secs(seconds)))
-                .is_ok(),
-        )
+    fn set_alive(&mut self) -> SetOut {
+        let fd = self.stream.as_raw_fd();
+        let idle = number(ALIVE_IDLE);
+        let between = number(ALIVE_BETWEEN);
+        let tries = number(ALIVE_TRIES);
+        let all = unsafe {
+            net::setsockopt(fd, net::IPPROTO_TCP, net::TCP_KEEPIDLE, &idle, 4) == 0
+                && net::setsockopt(fd, net::IPPROTO_TCP, net::TCP_KEEPINTVL, &between, 4) == 0
+                && net::setsockopt(fd, net::IPPROTO_TCP, net::TCP_KEEPCNT, &tries, 4) == 0
+                && net::setsockopt(fd, net::SOL_SOCKET, net::SO_KEEPALIVE, &number(1), 4) == 0
+        };
+        done_if(all)
     }
 
-    fn set_write_limit(&mut self, seconds: u64) -> SetOut {
-        done_if(
-            self.stream
-                .set_write_timeout(Some(Duration::from_secs(seconds)))
-                .is_ok(),
-        )
+    fn set_write_limit(&mut self, millis: u32) -> SetOut {
+        let limit = Duration::from_millis(u64::from(millis));
+        done_if(self.stream.set_write_timeout(Some(limit)).is_ok())
     }
 }
 
-/// A listener of std.
+// The milliseconds of the system's clock that never goes back: the last that there are where it is not told, so that nothing is waited for.
+fn monotonic() -> u64 {
+    let mut time = libc::types::timespec {
+        tv_sec: 0,
+        tv_nsec: 0,
+    };
+    if libc::clock_gettime(libc::CLOCK_MONOTONIC, &mut time) != 0 {
+        return u64::MAX;
+    }
+    let seconds = time.tv_sec.unsigned_abs().saturating_mul(1_000);
+    seconds.saturating_add(time.tv_nsec.unsigned_abs() / 1_000_000)
+}
+
+// A number as the value of an option: an int of C, in the first 4 of 16 bytes.
+fn number(n: u8) -> [u8; 16] {
+    let mut value = [0u8; 16];
+    value[..4].copy_from_slice(&i32::from(n).to_ne_bytes());
+    value
+}
+
+/// A listener of std, until it is closed.
 #[derive(Drop)]
 pub struct StdListener {
-    listener: TcpListener,
+    listener: Option<TcpListener>,
 }
 
 impl StdListener {
     /// The listener.
     pub fn over(listener: TcpListener) -> StdListener
-        ensures { result ≡ record { listener = listener } }
+        ensures { result ≡ record { listener = Some listener } }
     {
-        StdListener { listener }
+        StdListener {
+            listener: Some(listener),
+        }
     }
 }
 
@@ -91,28 +158,100 @@ impl Listener for StdListener {
 
     ghost broken = { λ _. ⊤ };
 
+    ghost listens = { λ l. is_there l.listener };
+
     fn accept(&mut self) -> AcceptOut<StdSocket> {
-        match self.listener.accept() {
+        let Some(listener) = &self.listener else {
+            return AcceptOut::Failed;
+        };
+        match listener.accept() {
             Ok((stream, _)) => AcceptOut::Joined(StdSocket::over(stream)),
-            Err(error) if passes(error.kind()) => AcceptOut::Aborted,
-            Err(_) => AcceptOut::Failed,
+            Err(error) => match error.raw_os_error() {
+                Some(code) if passes(code.unsigned_abs()) => AcceptOut::Aborted,
+                _ => AcceptOut::Failed,
+            },
+        }
+    }
+
+    /// What is dropped is closed.
+    fn close(&mut self) {
+        self.listener = None;
+    }
+}
+
+/// Who dials an address over the network of a runtime.
+#[derive(Drop)]
+pub struct StdDialler<R: Net<Stream = TcpStream> + Drop> {
+    rt: R,
+    address: SocketAddr,
+}
+
+impl<R: Net<Stream = TcpStream> + Drop> StdDialler<R> {
+    /// Who dials this address.
+    pub fn over(rt: R, address: SocketAddr) -> StdDialler<R>
+        ensures { result ≡ record { rt = rt; address = address } }
+    {
+        StdDialler { rt, address }
+    }
+}
+
+impl<R: Net<Stream = TcpStream> + Drop> Dialler for StdDialler<R> {
+    type Joined = StdSocket;
+
+    ghost dialled = { λ _. 0 };
+
+    ghost within = { λ _ _. ⊤ };
+
+    fn dial(&mut self, millis: u32) -> DialOut<StdSocket> {
+        let limit = Duration::from_millis(u64::from(millis));
+        match TcpStream::connect_timeout(&self.rt, &self.address, limit) {
+            Ok(stream) => DialOut::Joined(StdSocket::over(stream)),
+            Err(_) => DialOut::Failed,
         }
     }
 }
 
+// The errors of a look for a connection that are that connection's, by Linux's numbers; and EINTR.
+const EINTR: u32 = 4;
+
+const ENONET: u32 = 64;
+
+const EPROTO: u32 = 71;
+
+const ENOPROTOOPT: u32 = 92;
+
+const ENETDOWN: u32 = 100;
+
+const ENETUNREACH: u32 = 101;
+
+const ECONNABORTED: u32 = 103;
+
+const ECONNRESET: u32 = 104;
+
+const ETIMEDOUT: u32 = 110;
+
+const EHOSTDOWN: u32 = 112;
+
+const EHOSTUNREACH: u32 = 113;
+
 // Whether a look for a connection that failed so says nothing of the listener.
-fn passes(kind: io::ErrorKind) -> bool
-    ensures { IsTrue result ↔ Contains passing kind }
+fn passes(code: u32) -> bool
+    ensures { result ≡ is_among code passing }
 {
-    [
-        io::ErrorKind::ConnectionAborted,
-        io::ErrorKind::ConnectionReset,
-        io::ErrorKind::HostUnreachable,
-        io::ErrorKind::NetworkUnreachable,
-        io::ErrorKind::NetworkDown,
-        io::ErrorKind::Interrupted,
-    ]
-    .contains(&kind)
+    matches!(
+        code,
+        EINTR
+            | ENONET
+            | EPROTO
+            | ENOPROTOOPT
+            | ENETDOWN
+            | ENETUNREACH
+            | ECONNABORTED
+            | ECONNRESET
+            | ETIMEDOUT
+            | EHOSTDOWN
+            | EHOSTUNREACH
+    )
 }
 
 // What setting an option gives that worked, or failed.

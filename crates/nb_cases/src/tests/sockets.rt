@@ -4,13 +4,26 @@ ghost use Rattle.std.specs.Prelude.{◌<◌, IfOk};
 
 use nb_link::{Link, Port, PortOut};
 use nb_net::{
-    AcceptOut, IDLE_SECONDS, Listener, SetOut, Socket, SocketRead, SocketWrite, StdListener,
-    StdSocket, TcpLink, TcpPort,
+    AcceptOut, DialLink, HOUSE, Limits, Listener, PARTY, SetOut, Socket, SocketRead, SocketWrite,
+    StdDialler, StdListener, StdSocket, TcpLink, TcpPort,
 };
 use nb_port::{ReadOut, WriteOut};
+use std::io::{Read, Write};
 use std::net::{Shutdown, SocketAddr, TcpListener, TcpStream};
 use std::test::Fail;
+use std::thread;
 use std::time::Duration;
+
+// No read or write waits for long, and none fails where nothing is waited for.
+const SHORT: Limits = Limits {
+    first: 50,
+    between: 50,
+    frame: 50,
+    more: 0,
+    write: 50,
+    end: 50,
+    dial: 2_000,
+};
 
 // Is interrupted, has two bytes, is at its end, and then fails; takes what it is given in the same way, two bytes at a time, and
 // then nothing. Each option may be set but the one numbered `unset`.
@@ -20,6 +33,7 @@ struct FlakySocket {
     writes: u32,
     options: u32,
     unset: u32,
+    until: u64,
 }
 
 fn flaky_socket(unset: u32) -> FlakySocket {
@@ -28,6 +42,7 @@ fn flaky_socket(unset: u32) -> FlakySocket {
         writes: 0,
         options: 0,
         unset,
+        until: 0,
     }
 }
 
@@ -49,11 +64,20 @@ impl Socket for FlakySocket {
 
     ghost sent = { λ _. None };
 
-    ghost settings = { record { prompt = λ _. ⊤; reads_within = λ _ _. ⊤; writes_within = λ _ _. ⊤ } };
+    ghost settings = { record { prompt = λ _. ⊤; alive = λ _. ⊤; writes_within = λ _ _. ⊤; shut = λ _. ⊤ } };
 
     ghost refused = { λ _. ⊤ };
 
-    fn read(&mut self, buf: &mut [u8]) -> SocketRead {
+    ghost times = { λ s. record { moment = 0; until = s.until } };
+
+    ghost gone = { λ _. ⊤ };
+
+    fn now(&mut self) -> u64 {
+        0
+    }
+
+    fn read(&mut self, buf: &mut [u8], until: u64) -> SocketRead {
+        self.until = until;
         self.reads = self.reads.saturating_add(1);
         match self.reads {
             1 => SocketRead::Interrupted,
@@ -80,18 +104,24 @@ impl Socket for FlakySocket {
         self.set()
     }
 
-    fn set_read_limit(&mut self, _seconds: u64) -> SetOut {
+    fn set_alive(&mut self) -> SetOut {
         self.set()
     }
 
-    fn set_write_limit(&mut self, _seconds: u64) -> SetOut {
+    fn set_write_limit(&mut self, _millis: u32) -> SetOut {
         self.set()
+    }
+
+    fn shut_down(&mut self) {}
+
+    fn has_ended(&mut self) -> bool {
+        false
     }
 }
 
 #[test]
 fn a_link_goes_on_behind_an_interrupted_call(rt: HostRuntime) -> Result<(), Fail> {
-    let mut link = TcpLink::of(flaky_socket(0)).ok().ok_or("no link")?;
+    let mut link = TcpLink::of(flaky_socket(0), HOUSE).ok().ok_or("no link")?;
     let mut buf = [0u8; 4];
     for wanted in [ReadOut::Bytes(2), ReadOut::End, ReadOut::Failed] {
         assert_eq!(rt; link.read(&mut buf), wanted);
@@ -106,7 +136,7 @@ fn a_link_goes_on_behind_an_interrupted_call(rt: HostRuntime) -> Result<(), Fail
 #[test]
 fn there_is_no_link_where_an_option_cannot_be_set(rt: HostRuntime) {
     for unset in 1..4 {
-        assert!(rt; TcpLink::of(flaky_socket(unset)).is_err());
+        assert!(rt; TcpLink::of(flaky_socket(unset), HOUSE).is_err());
     }
 }
 
@@ -117,6 +147,7 @@ struct BusyListener {
     calls: u32,
     broken: u32,
     barren: bool,
+    listens: bool,
     stream: Option<TcpStream>,
 }
 
@@ -128,6 +159,8 @@ impl Listener for BusyListener {
     ghost asked = { λ _. 0 };
 
     ghost broken = { λ _. ⊤ };
+
+    ghost listens = { λ l. l.listens };
 
     fn accept(&mut self) -> AcceptOut<StdSocket> {
         self.calls = self.calls.saturating_add(1);
@@ -142,6 +175,10 @@ impl Listener for BusyListener {
             None => AcceptOut::Failed,
         }
     }
+
+    fn close(&mut self) {
+        self.listens = false;
+    }
 }
 
 // Whether a busy listener's port gives its link, and how many links are left then.
@@ -150,9 +187,10 @@ fn tried(stream: TcpStream, barren: bool, broken: u32) -> (bool, u32) {
         calls: 0,
         broken,
         barren,
+        listens: true,
         stream: Some(stream),
     };
-    let mut port = TcpPort::of(listener, 1);
+    let mut port = TcpPort::of(listener, 1, HOUSE);
     let got = matches!(port.next(), PortOut::Got(_));
     (got, port.left())
 }
@@ -208,10 +246,20 @@ fn next_of(port: &mut TcpPort<StdListener>) -> Result<TcpLink<StdSocket>, Fail>
     }
 }
 
-// Whether the stream of a link sends at once, and waits as long as it may.
+// Whether the stream of a link sends at once, and a write of it waits as long as it may.
 fn is_set(stream: &TcpStream) -> Result<bool, Fail> {
-    let idle = Some(Duration::from_secs(IDLE_SECONDS));
-    Ok(stream.nodelay()? && stream.read_timeout()? == idle && stream.write_timeout()? == idle)
+    let limit = Some(Duration::from_millis(u64::from(PARTY.write)));
+    Ok(stream.nodelay()? && stream.write_timeout()? == limit)
+}
+
+// A port over the loopback for so many links that wait shortly, and its address.
+fn short_port(rt: &HostRuntime, links: u32) -> Result<(TcpPort<StdListener>, SocketAddr), Fail> {
+    let listener = TcpListener::bind(rt, "127.0.0.1:0")?;
+    let address = listener.local_addr()?;
+    Ok((
+        TcpPort::of(StdListener::over(listener), links, SHORT),
+        address,
+    ))
 }
 
 // Bytes go both ways, and a link that is taken back ends its connection. A port that gave its links is closed.
@@ -228,6 +276,8 @@ fn links_carry_bytes_over_the_loopback(rt: HostRuntime) -> Result<(), Fail> {
     port.back(link);
     assert!(rt; ends(&mut dialled));
     assert!(rt; port.left() == 0 && matches!(port.next(), PortOut::Closed));
+    // who comes behind the last link is refused
+    assert!(rt; TcpStream::connect(&rt, address).is_err());
     Ok(())
 }
 
@@ -258,17 +308,95 @@ fn write_fails<L: Link>(link: &mut L) -> bool {
     false
 }
 
-// A peer that sends nothing and never reads: a read and a write wait, and fail. The link waits no longer than 20 milliseconds here.
+// A peer that sends nothing and never reads: a read and a write wait, and fail.
 #[test]
 fn a_peer_is_silent(rt: HostRuntime) -> Result<(), Fail> {
-    let (mut port, address) = port_for(&rt, 1)?;
-    let (mut link, stream) = dial(&rt, address)?;
-    let short = Some(Duration::from_millis(20));
-    stream.set_read_timeout(short)?;
-    stream.set_write_timeout(short)?;
-    let _silent = next_of(&mut port)?;
+    let (mut port, address) = short_port(&rt, 1)?;
+    let _silent = TcpStream::connect(&rt, address)?;
+    let mut link = next_of(&mut port)?;
     assert_eq!(rt; link.read(&mut [0u8; 16]), ReadOut::Failed);
     assert!(rt; write_fails(&mut link));
+    Ok(())
+}
+
+// A peer that is silent between two frames, and one that sends a byte of a frame now and then: the next byte comes too late, though no
+// read waited for long.
+#[test]
+fn a_peer_drips(rt: HostRuntime) -> Result<(), Fail> {
+    let (mut port, address) = short_port(&rt, 2)?;
+    let mut between = TcpStream::connect(&rt, address)?;
+    between.write_all(b"NB\x01\x09\0\0\0\x01?")?;
+    let mut link = next_of(&mut port)?;
+    assert!(rt; reads(&mut link, b"NB\x01\x09\0\0\0\x01?"));
+    assert_eq!(rt; link.read(&mut [0u8; 16]), ReadOut::Failed);
+    let mut within = TcpStream::connect(&rt, address)?;
+    let mut link = next_of(&mut port)?;
+    within.write_all(b"NB\x01")?;
+    assert!(rt; reads(&mut link, b"NB\x01"));
+    within.write_all(b"\x09")?;
+    assert!(rt; reads(&mut link, b"\x09"));
+    thread::sleep(&rt, Duration::from_millis(100));
+    within.write_all(b"\0")?;
+    assert_eq!(rt; link.read(&mut [0u8; 16]), ReadOut::Failed);
+    Ok(())
+}
+
+// What was written arrives where the link goes back with bytes unread, whether the peer ends its side or not.
+#[test]
+fn a_reply_arrives_before_unread_bytes(rt: HostRuntime) -> Result<(), Fail> {
+    let (mut port, address) = short_port(&rt, 2)?;
+    for ends in [true, false] {
+        let mut peer = TcpStream::connect(&rt, address)?;
+        peer.write_all(&[0u8; 50_000])?;
+        if ends {
+            peer.shutdown(Shutdown::Write)?;
+        }
+        let mut link = next_of(&mut port)?;
+        assert_eq!(rt; link.write(b"reply"), WriteOut::Took(5));
+        port.back(link);
+        let mut got = [0u8; 5];
+        peer.read_exact(&mut got)?;
+        assert_eq!(rt; &got, b"reply");
+        assert_eq!(rt; peer.read(&mut got)?, 0);
+    }
+    Ok(())
+}
+
+// A link that dials: dialled once for an exchange, anew for the next one where the other side ended it, between two exchanges or within
+// the last one; and not twice for one.
+#[test]
+fn a_link_dials_anew(rt: HostRuntime) -> Result<(), Fail> {
+    let (mut port, address) = short_port(&rt, 3)?;
+    let dialler = StdDialler::over(rt.clone()?, address);
+    let mut dialled = DialLink::to(dialler, SHORT).ok().ok_or("no link is dialled")?;
+    for _ in 0..2 {
+        assert_eq!(rt; dialled.write(b"ask"), WriteOut::Took(3));
+        let mut link = next_of(&mut port)?;
+        assert!(rt; reads(&mut link, b"ask"));
+        assert_eq!(rt; link.write(b"told"), WriteOut::Took(4));
+        assert!(rt; reads(&mut dialled, b"told"));
+        port.back(link);
+    }
+    assert_eq!(rt; dialled.write(b"ask"), WriteOut::Took(3));
+    let mut link = next_of(&mut port)?;
+    assert!(rt; reads(&mut link, b"ask"));
+    port.back(link);
+    assert!(rt; ends(&mut dialled));
+    // the port gave its links, and is closed
+    for _ in 0..2 {
+        assert_eq!(rt; dialled.write(b"ask"), WriteOut::Failed);
+    }
+    Ok(())
+}
+
+// Where nobody listens no link is dialled.
+#[test]
+fn nobody_is_dialled(rt: HostRuntime) -> Result<(), Fail> {
+    let (mut port, address) = short_port(&rt, 1)?;
+    let _first = TcpStream::connect(&rt, address)?;
+    let _given = next_of(&mut port)?;
+    let dialler = StdDialler::over(rt.clone()?, address);
+    assert!(rt; DialLink::to(dialler, SHORT).is_err());
     Ok(())
 }
 

@@ -1,8 +1,8 @@
 -- Each turn so far raised the count, and took nothing.
-use Rattle.std.proofs.Common.{◌≤◌, ◌+◌, ◌≡◌, min}
+use Rattle.std.proofs.Common.{◌<◌, ◌≤◌, ◌+◌, ◌≡◌, min}
 use Rattle.std.specs.Io.KnownBytes.{Keeps}
 use Rattle.nb_port.specs.Faults.{last_count}
-use Rattle.nb_net.specs.Adapters.{IsSet}
+use Rattle.nb_net.specs.Socket.{StaysSet}
 use Rattle.nb_net.proofs.link.read_counted.Given as goal
 
 abbrev pub invariant-loop : goal.invariant-loop
@@ -11,5 +11,7 @@ invariant-loop g l = record {
   each : min (l.initial.faults + l.counter) last_count ≤ l.faults;
   left : Keeps (g.S.Socket.left l.initial.socket) (g.S.Socket.left l.socket);
   sent : g.S.Socket.sent l.socket ≡ g.S.Socket.sent l.initial.socket;
-  set : IsSet g.S.Socket.settings l.socket;
+  moment : (g.S.Socket.times l.socket).moment ≡ (g.S.Socket.times l.initial.socket).moment;
+  until : 0 < l.counter → (g.S.Socket.times l.socket).until ≡ l.until;
+  set : StaysSet g.S.Socket.settings l.initial.socket l.socket;
 }

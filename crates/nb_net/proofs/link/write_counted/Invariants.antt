@@ -2,7 +2,7 @@
 use Rattle.std.proofs.Common.{◌≤◌, ◌+◌, ◌≡◌, min}
 use Rattle.std.specs.Io.KnownBytes.{Keeps}
 use Rattle.nb_port.specs.Faults.{last_count}
-use Rattle.nb_net.specs.Adapters.{IsSet}
+use Rattle.nb_net.specs.Socket.{StaysSet}
 use Rattle.nb_net.proofs.link.write_counted.Given as goal
 
 abbrev pub invariant-loop : goal.invariant-loop
@@ -11,5 +11,6 @@ invariant-loop g l = record {
   each : min (l.initial.faults + l.counter) last_count ≤ l.faults;
   sent : Keeps (g.S.Socket.sent l.initial.socket) (g.S.Socket.sent l.socket);
   left : g.S.Socket.left l.socket ≡ g.S.Socket.left l.initial.socket;
-  set : IsSet g.S.Socket.settings l.socket;
+  times : g.S.Socket.times l.socket ≡ g.S.Socket.times l.initial.socket;
+  set : StaysSet g.S.Socket.settings l.initial.socket l.socket;
 }
