@@ -30,7 +30,8 @@ use Rattle.nb_port.specs.Faults.{Rose}
 use Rattle.nb_session.specs.declared.ended.TheConstants.{MOST_FRAMES}
 use Rattle.nb_session.specs.declared.ended.SessionEnd.{SessionEnd}
 use Rattle.nb_session.specs.declared.ended.SessionEnd.TheVariants as ends
-use Rattle.nb_session.specs.Session.{Session, TurnsAt, EndsAs, answer_of, frames_in, house_at, joined, marks_in}
+use Rattle.nb_session.specs.Session.{Session, TurnsAt, EndsAs, answer_of, frames_in, house_at, marks_in}
+use Rattle.nb_wire.specs.Reads.{joined}
 use Rattle.nb_session.specs.Laws.{AsManyMarks, LinesTell, Completes, CompletesWithDisk, NoneRose, AnswersEach, IsDecided, EndsBy, EndsExactly, EndsOver, GivesBytes}
 use Rattle.nb_session.proofs.Going.{all_both}
 use Rattle.nb_session.proofs.Ending.{frames_count, marks_count, moments_count}

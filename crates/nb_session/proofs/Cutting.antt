@@ -6,23 +6,8 @@ use Rattle.std.proofs.lemmas.List.{length-append, length-drop, take-append-drop,
 use Rattle.std.proofs.Math.Seq.{take-add}
 use Rattle.nb_port.specs.Faults.{Rose}
 use Rattle.nb_link.specs.Link.{LinkSeen}
-use Rattle.nb_session.specs.Steps.{OnlyWrites, SentPart}
-
-pub rose_from : (a b c : ℕ) → a ≤ b → Rose b c → Rose a c
-rose_from a b c before rose = omega (arith, before, rose)
-
-pub only_more : (a b c : LinkSeen) → OnlyWrites a b → OnlyWrites b c → OnlyWrites a c
-only_more a b c first then = record {
-  left = then.left ∙ first.left;
-  reads = then.reads ∙ first.reads;
-  read_faults = then.read_faults ∙ first.read_faults;
-  count = omega (arith, first.count, then.count);
-}
-
-pub sent_more : (s t u : Option (List ℕ)) (piece rest : List ℕ) (at n : ℕ) → Appends s t (take at piece) → rest ≡ drop at piece → Appends t u (take n rest) → Appends s u (take (at + n) piece)
-sent_more s t u piece rest at n before is more =
-    let P : List ℕ → Type 0 = λ bytes. Appends s u bytes in
-    subst P (ap (λ (xs : List ℕ). take at piece ++ take n xs) is ∙ sym (take-add at n piece)) (Appends-trans s t u (take at piece) (take n rest) before more)
+use Rattle.nb_wire.specs.Sent.{SentPart}
+use Rattle.nb_wire.proofs.Outgoing.{sent_more}
 
 -- a part of one of several replies was sent
 pub sent_part : (s t u : Option (List ℕ)) (replies rest reply : List ℕ) (at n : ℕ) → Appends s t (take at replies) → rest ≡ drop at replies → reply ≡ take n rest → n ≤ length rest → SentPart t u reply → SentPart s u replies

@@ -31,11 +31,13 @@ use Rattle.nb_session.specs.declared.ended.SessionEnd.{SessionEnd}
 use Rattle.nb_session.specs.declared.ended.SessionEnd.TheVariants as ends
 use Rattle.nb_session.specs.declared.gathering.Gathered.{Gathered}
 use Rattle.nb_session.specs.declared.gathering.Gathered.TheVariants as gathered
-use Rattle.nb_session.specs.declared.sending.Sent.TheVariants as sends
-use Rattle.nb_session.specs.Session.{TurnsAt, AnswersAll, AreAnswered, AreLong, EndsAs, EndsRead, Gave, IsLong, IsPrompt, Session, Wrote, frame_of, frames_of, frames_in, house_at, joined, marks_in, moments_in, replies_in, replies_of, requests_in}
-use Rattle.nb_session.specs.Steps.{EndsAt, GathersTo, OnlyReads, Point, TurnIs, Went, WroteAs, house_seen, point}
+use Rattle.nb_wire.specs.declared.sending.Sent.TheVariants as sends
+use Rattle.nb_session.specs.Session.{TurnsAt, AnswersAll, AreAnswered, AreLong, EndsAs, EndsRead, Gave, IsLong, IsPrompt, Session, Wrote, frame_of, frames_of, frames_in, house_at, marks_in, moments_in, replies_in, replies_of, requests_in}
+use Rattle.nb_wire.specs.Reads.{joined}
+use Rattle.nb_session.specs.Steps.{EndsAt, GathersTo, Point, TurnIs, Went, WroteAs, house_seen, point}
+use Rattle.nb_wire.specs.Reads.{OnlyReads}
 use Rattle.nb_session.proofs.Going.{all_both, frames_both, gave_none, one_turn, spelled_both, replies_both, went_both, went_none}
-use Rattle.nb_session.proofs.Cutting.{rose_from}
+use Rattle.nb_wire.proofs.Incoming.{rose_from}
 
 -- ---- lists
 
@@ -241,7 +243,7 @@ module _ {D : Type 0} (tells : DiskTells D) (by : ℕ) (v : View Origin Line) (o
     lawful = tt;
     taken = omega (arith, taken);
     took = reads.took;
-    reads = reads.reads;
+    reads = reads.told;
     asked = gave_none q.clock;
     moments_are = sym (append-nil q.moments);
     marks_are = sym (append-nil q.marks);

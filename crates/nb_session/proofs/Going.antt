@@ -15,7 +15,9 @@ use Rattle.nb_turns.specs.Turns.{Request, House, Answered, answered, marks, repl
 use Rattle.nb_turns.specs.Callers.{Turned, answers_in}
 use Rattle.nb_turn.specs.declared.chronicle.View.{View}
 use Rattle.nb_vault.specs.declared.origin.Origin.{Origin}
-use Rattle.nb_session.specs.Session.{TurnsAt, frame_of, frames_of, moments_of, requests_in, frames_in, moments_in, marks_in, replies_in, replies_of, Gave, joined, readings_of, with_readings}
+use Rattle.nb_session.specs.Session.{TurnsAt, frame_of, frames_of, moments_of, requests_in, frames_in, moments_in, marks_in, replies_in, replies_of, Gave}
+use Rattle.nb_wire.specs.Reads.{joined, with_readings}
+use Rattle.nb_wire.proofs.Incoming.{joined_both, readings_none, readings_both}
 use Rattle.nb_session.specs.Steps.{Point, Went, house_seen}
 
 -- ---- lists of turns
@@ -51,9 +53,6 @@ one_replies house turn = ap replies (append-nil (answered house turn.requests tu
 pub spelled_both : (fs gs : List Frame) → flat_map frame (fs ++ gs) ≡ flat_map frame fs ++ flat_map frame gs
 spelled_both fs gs = flat_map-append frame fs gs
 
-pub joined_both : (pieces more : List (List ℕ)) → joined (pieces ++ more) ≡ joined pieces ++ joined more
-joined_both pieces more = flat_map-append (λ (piece : List ℕ). piece) pieces more
-
 pub all_both : {A : Type 0} (P : A → Type 0) (xs ys : List A) → AllByRecursion P xs → AllByRecursion P ys → AllByRecursion P (xs ++ ys)
 all_both P [] ys all more = more
 all_both P (x ∷ xs) ys all more = (all.0, all_both P xs ys all.1 more)
@@ -69,15 +68,6 @@ gave_both a b None moments more before then = tt
 gave_both a None (Some c) moments more before then = absurd then
 gave_both None (Some b) (Some c) moments more before then = absurd before
 gave_both (Some a) (Some b) (Some c) moments more before then = then ∙ ap (λ (xs : List ℕ). xs ++ more) before ∙ append_assoc a moments more
-
-pub readings_none : (told : Option (List Reading)) → told ≡ with_readings told []
-readings_none None = refl
-readings_none (Some told) = ap Some (sym (append-nil told))
-
-pub readings_both : (told : Option (List Reading)) (pieces more : List (List ℕ)) → with_readings (with_readings told pieces) more ≡ with_readings told (pieces ++ more)
-readings_both None pieces more = refl
-readings_both (Some told) pieces more =
-    ap Some (append_assoc told (readings_of pieces) (readings_of more) ∙ ap (λ (rs : List Reading). told ++ rs) (sym (map-append (λ (piece : List ℕ). let r : Reading = record { asked = 65536; given = length piece } in r) pieces more)))
 
 -- ---- one part after another
 

@@ -33,12 +33,14 @@ use Rattle.nb_vault.specs.Sending.{StandsTold}
 use Rattle.nb_vault.specs.Vaults.{house_in}
 use Rattle.nb_desk.specs.Asks.{Asks, Gives, GoesOnAtLast, turned}
 use Rattle.nb_session.specs.Session.{answer_of, house_at, frames_of, moments_of, requests_in, replies_in, Gave}
-use Rattle.nb_session.specs.Steps.{Point, AnswersTurn, Gathers, GathersTo, LeftToSend, OnlyWrites, SentIs, TurnIs, WroteAs, house_seen}
+use Rattle.nb_session.specs.Steps.{Point, AnswersTurn, Gathers, GathersTo, LeftToSend, TurnIs, WroteAs, house_seen}
+use Rattle.nb_wire.specs.Sent.{OnlyWrites, Sends}
 use Rattle.nb_session.specs.declared.ended.TheConstants.{MOST_FRAMES}
 use Rattle.nb_session.specs.declared.gathering.Gathered.{Gathered}
-use Rattle.nb_session.specs.declared.sending.Sent.{Sent}
-use Rattle.nb_session.specs.declared.sending.Sent.TheVariants as sends
-use Rattle.nb_session.proofs.Going.{readings_none, one_turn, one_marks, one_replies}
+use Rattle.nb_wire.specs.declared.sending.Sent.{Sent}
+use Rattle.nb_wire.specs.declared.sending.Sent.TheVariants as sends
+use Rattle.nb_wire.proofs.Incoming.{readings_none}
+use Rattle.nb_session.proofs.Going.{one_turn, one_marks, one_replies}
 
 -- ---- answering
 
@@ -212,7 +214,7 @@ module _ {D : Type 0} (tells : DiskTells D) (by : ℕ) (p q : Point) (gathered :
 
   -- what was gathered was answered
   pub turn_some : (requests : List Request) (n : ℕ) (out : List ℕ) (sent : Sent) → n ≡ length requests → Gathers p.held q.held p.clock q.clock p.moments q.moments requests
-      → GathersTo q.held n (min (MOST_FRAMES - length p.moments) MAX_REQUESTS) gathered → AnswersTurn tells by p.view q.view requests p.marks q.marks out → SentIs p.link q.link out sent → OnlyWrites p.link q.link → TurnIs tells by p q gathered sent
+      → GathersTo q.held n (min (MOST_FRAMES - length p.moments) MAX_REQUESTS) gathered → AnswersTurn tells by p.view q.view requests p.marks q.marks out → Sends p.link q.link out sent → OnlyWrites p.link q.link → TurnIs tells by p q gathered sent
   turn_some requests n out sent count g to a sent_is only =
       let whole : requests_in (a.turn ∷ []) ≡ requests = one_turn a.turn ∙ a.requests_are in
       let house : House = house_seen p.view.origin in
@@ -240,7 +242,7 @@ module _ {D : Type 0} (tells : DiskTells D) (by : ℕ) (p q : Point) (gathered :
       bytes_are : out ≡ replies_in (house_seen p.view.origin) (a.turn ∷ [])
       bytes_are = a.out_is ∙ sym (one_replies (house_seen p.view.origin) a.turn)
 
-      wrote : (sent : Sent) → SentIs p.link q.link out sent → WroteAs (house_seen p.view.origin) p.link q.link (a.turn ∷ []) sent
+      wrote : (sent : Sent) → Sends p.link q.link out sent → WroteAs (house_seen p.view.origin) p.link q.link (a.turn ∷ []) sent
       wrote sends.All is = subst (λ (bs : List ℕ). Appends p.link.sent q.link.sent bs) bytes_are is
       wrote sends.Failed is = (
         is.0,

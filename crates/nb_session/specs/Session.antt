@@ -5,12 +5,11 @@ use Rattle.std.specs.Io.KnownBytes.{Consumes, Appends, IsAtEnd}
 use Rattle.nb_port.specs.Tells.{DiskTells}
 use Rattle.nb_port.specs.Faults.{Rose}
 use Rattle.nb_link.specs.Link.{LinkSeen}
-use Rattle.nb_link.specs.declared.link.Reading.{Reading}
 use Rattle.nb_units.specs.Frames.{Frame, frame, Partial, front_of, Splits}
 use Rattle.nb_frame.specs.Looks.{IsShort}
 use Rattle.nb_frame.specs.Cuts.{EndsIn}
-use Rattle.nb_frame.specs.declared.stream.TheConstants.{MAX_PIECE}
 use Rattle.nb_frame.specs.declared.stream.Next.TheVariants as next
+use Rattle.nb_wire.specs.Reads.{joined, with_readings}
 use Rattle.nb_escrow.specs.Head.{head_of}
 use Rattle.nb_turns.specs.declared.limits.TheConstants.{MAX_FAULTS, MAX_REQUESTS}
 use Rattle.nb_turns.specs.declared.line.Line.{Line}
@@ -96,19 +95,6 @@ Gave None (Some given) moments = ⊥
 Gave (Some before) (Some given) moments = given ≡ before ++ moments
 
 -- ---- what was read
-
--- the pieces of a stream, joined
-abbrev pub joined : List (List ℕ) → List ℕ
-joined pieces = flat_map (λ (piece : List ℕ). piece) pieces
-
--- the reads that gave them: each asked for as many bytes as a piece has at most
-abbrev pub readings_of : List (List ℕ) → List Reading
-readings_of pieces = map (λ (piece : List ℕ). record { asked = MAX_PIECE; given = length piece }) pieces
-
--- the reads that a link tells, behind these
-abbrev pub with_readings : Option (List Reading) → List (List ℕ) → Option (List Reading)
-with_readings None pieces = None
-with_readings (Some before) pieces = Some (before ++ readings_of pieces)
 
 -- these frames are all whole ones that the first so many pieces have
 pub record EndsRead (pieces : List (List ℕ)) (frames : List Frame) : Type 0 where

@@ -24,17 +24,16 @@ use Rattle.nb_vault.specs.declared.origin.Origin.{Origin}
 use Rattle.nb_vault.specs.Rules.{house_of}
 use Rattle.nb_vault.specs.Sending.{MaySend}
 use Rattle.nb_escrow.specs.Head.{head_of}
-use Rattle.nb_session.specs.Session.{house_at, TurnAt, TurnsAt, frames_of, moments_of, requests_in, frames_in, moments_in, marks_in, replies_in, Gave, joined, with_readings, WroteShort}
+use Rattle.nb_session.specs.Session.{house_at, TurnAt, TurnsAt, frames_of, moments_of, requests_in, frames_in, moments_in, marks_in, replies_in, Gave, WroteShort}
+use Rattle.nb_wire.specs.Reads.{joined, with_readings}
 use Rattle.nb_session.specs.declared.ended.TheConstants.{MOST_FRAMES}
 use Rattle.nb_session.specs.declared.ended.SessionEnd.{SessionEnd}
 use Rattle.nb_session.specs.declared.ended.SessionEnd.TheVariants.{Clean, Cut}
 use Rattle.nb_session.specs.declared.gathering.Gathered.{Gathered}
 use Rattle.nb_session.specs.declared.gathering.Gathered.TheVariants as gathered
 use Rattle.nb_session.specs.declared.linked.Work.{Work}
-use Rattle.nb_session.specs.declared.reading.ReadOn.{ReadOn}
-use Rattle.nb_session.specs.declared.reading.ReadOn.TheVariants as reads
-use Rattle.nb_session.specs.declared.sending.Sent.{Sent}
-use Rattle.nb_session.specs.declared.sending.Sent.TheVariants as sends
+use Rattle.nb_wire.specs.declared.sending.Sent.{Sent}
+use Rattle.nb_wire.specs.declared.sending.Sent.TheVariants as sends
 
 -- the house that a pass asks. A pass always has an origin
 abbrev pub house_seen : Option Origin → House
@@ -75,38 +74,6 @@ pub record LeftToSend {D : Type 0} (tells : DiskTells D) (by : ℕ) (w : View Or
   pub turn : Turned
   pub at_desk : TurnAt tells by v w turn
   pub may_send : MaySend tells at_desk.asks.new replies
-
--- a part of the replies was sent, from their front, and not all of them
-pub record SentPart (sent sent' : Option (List ℕ)) (bytes : List ℕ) : Type 0 where
-  pub count : ℕ
-  pub less : count < length bytes
-  pub appends : Appends sent sent' (take count bytes)
-
-abbrev pub SentIs : LinkSeen → LinkSeen → List ℕ → Sent → Type 0
-SentIs old new bytes sends.All = Appends old.sent new.sent bytes
-SentIs old new bytes sends.Failed = Rose old.write_faults new.write_faults × SentPart old.sent new.sent bytes
-
--- nothing but writes
-pub record OnlyWrites (old new : LinkSeen) : Type 0 where
-  pub left : new.left ≡ old.left
-  pub reads : new.reads ≡ old.reads
-  pub read_faults : new.read_faults ≡ old.read_faults
-  pub count : old.write_faults ≤ new.write_faults
-
--- ---- reading
-
--- nothing but reads, by which these pieces were read
-pub record OnlyReads (old new : LinkSeen) (pieces : List (List ℕ)) : Type 0 where
-  pub took : Consumes old.left new.left (joined pieces)
-  pub reads : new.reads ≡ with_readings old.reads pieces
-  pub sent : new.sent ≡ old.sent
-  pub write_faults : new.write_faults ≡ old.write_faults
-  pub count : old.read_faults ≤ new.read_faults
-
-abbrev pub ReadIs : LinkSeen → LinkSeen → Collected → Collected → ReadOn → Type 0
-ReadIs old new held held' reads.Fed = (piece : List ℕ) × (0 < length piece) × (length piece ≤ MAX_PIECE) × OnlyReads old new (piece ∷ []) × (held' ≡ fed held piece)
-ReadIs old new held held' reads.Ended = OnlyReads old new [] × IsAtEnd new.left × (held' ≡ held)
-ReadIs old new held held' reads.Failed = OnlyReads old new [] × Rose old.read_faults new.read_faults × (held' ≡ held)
 
 -- ---- the way of a session
 

@@ -23,7 +23,6 @@ mod ended;
 mod gathering;
 pub mod laws;
 mod linked;
-mod reading;
 mod sending;
 
 pub use ended::{MOST_FRAMES, Record, SessionEnd};

@@ -11,8 +11,7 @@ ghost use Rattle.nb_session.specs.declared.ended.SessionEnd.TheVariants as ends;
 use crate::answering::answer;
 use crate::ended::{MOST_FRAMES, Record, SessionEnd};
 use crate::gathering::{Gathered, gather};
-use crate::reading::{ReadOn, read_on};
-use crate::sending::{Sent, send_replies};
+use crate::sending::send_replies;
 use nb_desk::{Desk, Pass};
 use nb_frame::{Frames, MAX_PIECE};
 use nb_link::{Gate, Link, Point};
@@ -21,6 +20,7 @@ use nb_port::{Clock, Disk};
 use nb_turns::{MAX_REQUESTS, Mark};
 use nb_units::NoMemory;
 use nb_vault::AskAt;
+use nb_wire::{ReadOn, Sent, read_on};
 use std::alloc::Global;
 use std::sync::Wait;
 

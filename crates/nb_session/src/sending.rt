@@ -1,24 +1,19 @@
 ghost use Rattle.std.specs.Prelude.{◌≤◌, ◌<◌, length};
 ghost use Rattle.nb_turn.specs.Passes.{sees};
-ghost use Rattle.nb_session.specs.Steps.{LeftToSend, OnlyWrites, SentIs};
+ghost use Rattle.nb_wire.specs.Sent.{OnlyWrites, Sends};
+ghost use Rattle.nb_session.specs.Steps.{LeftToSend};
 
 use nb_desk::Pass;
 use nb_link::Link;
-use nb_port::{Disk, WriteOut};
+use nb_port::Disk;
 use nb_units::frames::HEADER;
-
-/// How sending went.
-#[derive(Clone, Copy)]
-pub enum Sent {
-    All,
-    Failed,
-}
+use nb_wire::{Sent, send};
 
 /// Sends the replies of the last turn of `pass`. What they tell of is recorded in the house that it left, and each image that a stop may leave
 /// stands for the entries of that house, unless the turn did not decide.
 pub fn send_replies<D: Disk, L: Link>(_pass: &Pass<D>, link: &mut L, replies: &[u8]) -> Sent
     requires durable { LeftToSend D.tells _pass.now.number (sees _pass.now) replies.now }
-    ensures sent { SentIs (L.seen link.old) (L.seen link.new) replies.now result }
+    ensures sent { Sends (L.seen link.old) (L.seen link.new) replies.now result }
     ensures only { OnlyWrites (L.seen link.old) (L.seen link.new) }
 {
     send_each(link, replies)
@@ -26,7 +21,7 @@ pub fn send_replies<D: Disk, L: Link>(_pass: &Pass<D>, link: &mut L, replies: &[
 
 // Sends replies that stand one behind another, each by writes of its own.
 fn send_each<L: Link>(link: &mut L, replies: &[u8]) -> Sent
-    ensures sent { SentIs (L.seen link.old) (L.seen link.new) replies.now result }
+    ensures sent { Sends (L.seen link.old) (L.seen link.new) replies.now result }
     ensures only { OnlyWrites (L.seen link.old) (L.seen link.new) }
 {
     let mut at = 0;
@@ -36,21 +31,6 @@ fn send_each<L: Link>(link: &mut L, replies: &[u8]) -> Sent
         match send(link, reply) {
             Sent::All => at += reply.len(),
             Sent::Failed => return Sent::Failed,
-        }
-    }
-    Sent::All
-}
-
-// Sends all of a reply, in as many writes as the link wants.
-fn send<L: Link>(link: &mut L, reply: &[u8]) -> Sent
-    ensures sent { SentIs (L.seen link.old) (L.seen link.new) reply.now result }
-    ensures only { OnlyWrites (L.seen link.old) (L.seen link.new) }
-{
-    let mut at = 0;
-    'sending: while at < reply.len() {
-        match link.write(reply.split_at(at).1) {
-            WriteOut::Took(n) => at += n,
-            WriteOut::Failed => return Sent::Failed,
         }
     }
     Sent::All

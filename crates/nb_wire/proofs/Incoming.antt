@@ -25,11 +25,11 @@ all_both : {A : Type 0} (P : A → Type 0) (xs ys : List A) → AllByRecursion P
 all_both P [] ys all more = more
 all_both P (x ∷ xs) ys all more = (all.0, all_both P xs ys all.1 more)
 
-readings_none : (told : Option (List Reading)) → told ≡ with_readings told []
+pub readings_none : (told : Option (List Reading)) → told ≡ with_readings told []
 readings_none None = refl
 readings_none (Some told) = ap Some (sym (append-nil told))
 
-readings_both : (told : Option (List Reading)) (pieces more : List (List ℕ)) → with_readings (with_readings told pieces) more ≡ with_readings told (pieces ++ more)
+pub readings_both : (told : Option (List Reading)) (pieces more : List (List ℕ)) → with_readings (with_readings told pieces) more ≡ with_readings told (pieces ++ more)
 readings_both None pieces more = refl
 readings_both (Some told) pieces more =
     ap Some (append_assoc told (readings_of pieces) (readings_of more) ∙ ap (λ (rs : List Reading). told ++ rs) (sym (map-append (λ (piece : List ℕ). let r : Reading = record { asked = 65536; given = length piece } in r) pieces more)))

@@ -5,11 +5,11 @@ use Rattle.nb_frame.specs.Looks.{IsShort}
 use Rattle.nb_turn.specs.Passes.{sees}
 use Rattle.nb_units.specs.Frames.{front_of}
 use Rattle.nb_session.specs.declared.gathering.Gathered.{Gathered}
-use Rattle.nb_session.specs.declared.sending.Sent.{Sent}
+use Rattle.nb_wire.specs.declared.sending.Sent.{Sent}
 use Rattle.nb_session.specs.Steps.{Point, TurnIs, point}
 use Rattle.nb_session.proofs.Ending.{as_many_marks, ended_at, ended_bad, ended_fault, ended_short, ended_spent, few_bad, few_more, few_taken, ran_fed, ran_kept, ran_none, ran_turn}
 use Rattle.nb_session.proofs.Ending.{Ran, begin}
-use Rattle.nb_session.proofs.Cutting.{rose_from}
+use Rattle.nb_wire.proofs.Incoming.{rose_from}
 use Rattle.nb_session.proofs.linked.serve.Goals as goal
 
 pub serving-init : goal.serving-init

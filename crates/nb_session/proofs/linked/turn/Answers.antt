@@ -6,7 +6,8 @@ use Rattle.nb_vault.specs.declared.answer.AskAt.{AskAt}
 use Rattle.nb_vault.specs.Asking.{request_at, requests_of}
 use Rattle.nb_turns.specs.declared.limits.TheConstants.{MAX_REQUESTS}
 use Rattle.nb_session.specs.declared.ended.TheConstants.{MOST_FRAMES}
-use Rattle.nb_session.specs.Steps.{AnswersTurn, GathersTo, LeftToSend, SentIs, point}
+use Rattle.nb_session.specs.Steps.{AnswersTurn, GathersTo, LeftToSend, point}
+use Rattle.nb_wire.specs.Sent.{Sends}
 use Rattle.nb_session.proofs.Turning.{left_to_send, turn_none, turn_some}
 use Rattle.nb_session.proofs.linked.turn.Goals as goal
 
@@ -30,7 +31,7 @@ returns-clause-turn g c =
     c.gather-gathered.result (requests_of c.gather-gathered.new.frames.held c.gather-gathered.new.asks.items) (length c.gather-gathered.new.asks.items) c.answer-pass.new.out.items c.send_replies-sent.result
     (sym (length-map c.gather-gathered.new.asks.items (λ (ask : AskAt). request_at c.gather-gathered.new.frames.held ask)))
     c.gather-gathered.ensures.gathers (subst (λ (m : ℕ). GathersTo c.gather-gathered.new.frames (length c.gather-gathered.new.asks.items) m c.gather-gathered.result) most c.gather-gathered.ensures.to)
-    answers (subst (λ (bs : List ℕ). SentIs (g.L.Link.seen c.args.link.now) (g.L.Link.seen c.send_replies-sent.new.link) bs c.send_replies-sent.result) c.as_slice-2.ensures.value c.send_replies-sent.ensures.sent) c.send_replies-sent.ensures.only
+    answers (subst (λ (bs : List ℕ). Sends (g.L.Link.seen c.args.link.now) (g.L.Link.seen c.send_replies-sent.new.link) bs c.send_replies-sent.result) c.as_slice-2.ensures.value c.send_replies-sent.ensures.sent) c.send_replies-sent.ensures.only
 
 pub send_replies-sent-requires : goal.send_replies-sent-requires
 send_replies-sent-requires g c =

@@ -1,4 +1,5 @@
-use Rattle.nb_session.proofs.Cutting.{rose_from, sent_part}
+use Rattle.nb_wire.proofs.Incoming.{rose_from}
+use Rattle.nb_session.proofs.Cutting.{sent_part}
 use Rattle.nb_session.proofs.sending.send_each.Goals as goal
 
 pub returns-in-Failed-clause-sent : goal.returns-in-Failed-clause-sent

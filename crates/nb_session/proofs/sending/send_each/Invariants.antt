@@ -1,6 +1,6 @@
 use Rattle.std.proofs.Common.{◌-◌, ◌≤◌, length, take}
 use Rattle.std.specs.Io.KnownBytes.{Appends}
-use Rattle.nb_session.specs.Steps.{OnlyWrites}
+use Rattle.nb_wire.specs.Sent.{OnlyWrites}
 use Rattle.nb_session.proofs.sending.send_each.Given as goal
 
 -- what was sent so far are the replies up to here
