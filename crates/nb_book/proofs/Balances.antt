@@ -1,17 +1,20 @@
 -- Single balances over a Legal list.
-use Rattle.std.proofs.Common.{◌≡◌, ◌≢◌, ℕ, zero, suc, ◌+◌, ◌≤◌, Bool, true, false, cond, List, [], ◌∷◌, arith, refl, sym, ap, subst}
+use Rattle.std.proofs.Common.{◌≡◌, ◌≢◌, ℕ, zero, suc, ◌+◌, ◌≤◌, Bool, true, false, cond, List, [], ◌∷◌, length, Option, None, Some, arith, refl, sym, ap, ap₂, ◌∙◌, subst}
 use Rattle.std.proofs.lemmas.Bool.{eqb-true, false_from_ne_true}
 use Rattle.std.proofs.lemmas.List.Sums.{sum_by-cons}
 use Rattle.std.specs.Prelude.{◌==◌}
 use Rattle.std.specs.List.{sum_by, count_by}
-use Rattle.std.specs.Option.{IsNone}
+use Rattle.std.specs.Option.{IsNone, option_or}
 use Rattle.nb_units.specs.declared.ids.AcctId.{AcctId}
+use Rattle.nb_units.specs.declared.ids.PartyId.{PartyId}
 use Rattle.nb_book.specs.declared.entry.Entry.{Entry}
-use Rattle.nb_book.specs.declared.entry.Entry.TheVariants.{Enrol}
+use Rattle.nb_book.specs.declared.entry.Entry.TheVariants.{Enrol, Fund, Paid, Charged, Refused}
 use Rattle.nb_book.specs.Searches.{holder_at, holder_in}
 use Rattle.nb_book.specs.Money.{house_account, balance, debits, total, fees, accounts}
-use Rattle.nb_book.specs.Legal.{Legal}
+use Rattle.nb_book.specs.Legal.{Legal, LegalAfter}
 use Rattle.nb_book.specs.Laws.{opens}
+use Rattle.nb_book.proofs.Growing.{along}
+use Rattle.nb_book.proofs.Indexing.{first_push}
 use Rattle.nb_book.proofs.Counting.{one_if, count_by-none, tests_holder}
 use Rattle.nb_book.proofs.Summing.{balances_make_total, credits-none, sum_by-nothing}
 
@@ -23,6 +26,19 @@ balance-none H legal a party none =
 -- in the house's account are the fees
 pub house_has_fees : (H : List Entry) → balance H house_account ≡ fees H
 house_has_fees H = let nothing : debits H house_account ≡ 0 = sum_by-nothing H in omega (arith, nothing)
+
+-- one more legal entry opens no account 0
+opens_none : (H : List Entry) (at : ℕ) (e : Entry) → LegalAfter H e → holder_at house_account at e ≡ None
+opens_none H at (Enrol who role acct nonce key) legal = ap (λ (b : Bool). cond b (Some who) None) (false_from_ne_true (acct.0 == 0) (λ is. legal.1 (eqb-true acct.0 0 is)))
+opens_none H at (Fund acct amount reference) legal = refl
+opens_none H at (Paid digest epoid consumer merchant product price cacct macct moment key) legal = refl
+opens_none H at (Charged digest epoid consumer merchant product price fee cacct macct moment key) legal = refl
+opens_none H at (Refused digest epoid consumer merchant product price code a b moment) legal = refl
+
+-- nobody holds the house's account
+pub held_by_nobody : (H : List Entry) → Legal H → IsNone (holder_in H house_account)
+held_by_nobody H legal = subst (λ (o : Option PartyId). IsNone o) (sym (along (λ (L : List Entry). holder_in L house_account ≡ None) refl
+    (λ L e front next none. first_push (holder_at house_account) 0 L e ∙ ap₂ (λ (o p : Option PartyId). option_or o p) none (opens_none L (length L) e next)) H legal)) refl
 
 -- the house kept no more than it took in
 pub fees_le_total : (H : List Entry) → Legal H → fees H ≤ total H

@@ -59,9 +59,17 @@ UnheldIsEmpty = (H : List Entry) → Legal H → (a : AcctId) → a.0 ≢ 0 → 
 abbrev pub HouseHasFees : Type 0
 HouseHasFees = (H : List Entry) → balance H house_account ≡ fees H
 
+-- and nobody holds that account
+abbrev pub HouseHeldByNobody : Type 0
+HouseHeldByNobody = (H : List Entry) → Legal H → IsNone (holder_in H house_account)
+
 -- a fee is at most its price
 abbrev pub FeeWithinPrice : Type 0
 FeeWithinPrice = (rate : ℕ) (price : Price) → rate ≤ MAX_RATE → fee_at rate price ≤ price.0
+
+-- what a payment leaves of its price, and the fee, are the price
+abbrev pub RestAndFeeArePrice : Type 0
+RestAndFeeArePrice = (rate : ℕ) (price : Price) → rate ≤ MAX_RATE → (price.0 - fee_at rate price) + fee_at rate price ≡ price.0
 
 -- one more entry adds to each account what it brings, and takes what it takes
 abbrev pub BalanceAfter : Type 0

@@ -42,9 +42,15 @@ pub fn house_has_fees()
     ensures { law.HouseHasFees }
 {}
 
-/// A fee is at most its price.
+/// Nobody holds account 0.
+pub fn house_held_by_nobody()
+    ensures { law.HouseHeldByNobody }
+{}
+
+/// A fee is at most its price, and what it leaves of the price is the rest.
 pub fn fee_within_price()
-    ensures { law.FeeWithinPrice }
+    ensures most { law.FeeWithinPrice }
+    ensures rest { law.RestAndFeeArePrice }
 {}
 
 /// An entry changes each balance by what it brings to the account and what it takes from it.

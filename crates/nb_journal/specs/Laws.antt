@@ -5,7 +5,7 @@ use Rattle.nb_units.specs.Fields.{be2, be4}
 use Rattle.nb_units.specs.Frames.{AreBytes}
 use Rattle.nb_units.specs.declared.charter.Charter.{Charter}
 use Rattle.nb_units.specs.declared.limits.TheConstants.{HEAD, MAX_CAP, FIRST_VERSION, FEE_VERSION}
-use Rattle.nb_journal.specs.declared.limits.TheConstants.{FRONT, MAX_ITEM}
+use Rattle.nb_journal.specs.declared.limits.TheConstants.{EMPTY, FRONT, MAX_IMAGE, MAX_ITEM}
 use Rattle.nb_journal.specs.Layout.{magic, front_bytes, AreTerms, IsItem, item_bytes}
 use Rattle.nb_journal.specs.Reading.{Holds, IsDamaged, IsUnborn}
 use Rattle.nb_journal.specs.Stands.{Stands}
@@ -49,7 +49,8 @@ FrontLayout = (cap : ℕ) (charter : Charter) → AreTerms cap charter → (leng
     × (charter.version ≡ FIRST_VERSION → front_bytes cap charter ≡ magic FIRST_VERSION ++ (be4 cap ++ (charter.head ++ replicate 4 0)))
     × (charter.version ≡ FEE_VERSION → front_bytes cap charter ≡ magic FEE_VERSION ++ (be4 cap ++ (charter.head ++ (be2 charter.rate ++ replicate 2 0))))
 
--- the layout in numbers: a front of 96 bytes, a head of 80, and an item of at most 2,097,152 that takes five more than its own
+-- the layout in numbers: a front of 96 bytes, a head of 80, 97 bytes without an item, an item of at most 2,097,152 that takes five more than its
+-- own, and at most 268,435,456 bytes of an image that is laid
 abbrev pub JournalLayout : Type 0
-JournalLayout = (magic FIRST_VERSION ≡ codes "NBJRNL01") × (magic FEE_VERSION ≡ codes "NBJRNL02") × (FRONT ≡ 96) × (HEAD ≡ 80) × (MAX_ITEM ≡ 2097152) × (MAX_CAP ≡ 1000000) × FrontLayout
+JournalLayout = (magic FIRST_VERSION ≡ codes "NBJRNL01") × (magic FEE_VERSION ≡ codes "NBJRNL02") × (FRONT ≡ 96) × (HEAD ≡ 80) × (EMPTY ≡ 97) × (MAX_ITEM ≡ 2097152) × (MAX_IMAGE ≡ 268435456) × (MAX_CAP ≡ 1000000) × FrontLayout
     × ((item : List ℕ) → (item_bytes item ≡ 0xA5 ∷ be4 (length item) ++ item) × (length (item_bytes item) ≡ 5 + length item))

@@ -61,6 +61,10 @@ abbrev pub VaultOpenGives : {D : Type 0} → DiskTells D → D → Result (Chron
 VaultOpenGives tells disk (Ok v) = VaultOpensAs tells disk v
 VaultOpenGives tells disk (Err e) = VaultOpenFails tells disk e.1 e.0
 
+-- the most bytes of an item, in numbers
+abbrev pub ItemRoomIs : Type 0
+ItemRoomIs = ROOM ≡ 4000
+
 -- what comes of a content that stands for these entries: they are opened, or the disk failed, or there was no memory
 abbrev pub OpensWhole : {D : Type 0} → Charter → ℕ → List Entry → Result (Chronicled D) (VaultFault × D) → Type 0
 OpensWhole charter cap entries (Ok v) = (v.origin.charter ≡ charter) × (v.origin.cap ≡ cap) × (v.origin.entries ≡ entries)

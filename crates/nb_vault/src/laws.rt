@@ -2,7 +2,7 @@
 
 ghost use Rattle.nb_vault.specs.Gates.{OneGate};
 ghost use Rattle.nb_vault.specs.Holdings.{OneList};
-ghost use Rattle.nb_vault.specs.Opens.{WholeIsGood};
+ghost use Rattle.nb_vault.specs.Opens.{ItemRoomIs, WholeIsGood};
 ghost use Rattle.nb_vault.specs.Paying.{PayableIsPaid};
 ghost use Rattle.nb_vault.specs.Rules.{HousesAreLawful, HousesRecordOf};
 ghost use Rattle.nb_vault.specs.Vaults.{LinesFit};
@@ -36,6 +36,11 @@ pub fn houses_are_lawful()
 /// that are in doubt then and one for the fault.
 pub fn lines_fit<D: Disk>()
     ensures { LinesFit D.tells }
+{}
+
+/// The most bytes of an item that a vault keeps: 32 entries of at most 125 bytes.
+pub fn item_room()
+    ensures { ItemRoomIs }
 {}
 
 /// One gate opens all entries of a turn, or none of them: each image that a stop leaves at any moment of it stands for the entries

@@ -14,6 +14,8 @@ returns c = (
   refl,
   refl,
   refl,
+  refl,
+  refl,
   λ cap charter are. (front_length cap charter are, first_layout cap charter are, fee_layout cap charter),
   λ item. (refl, omega (arith, item_length item)),
 )
