@@ -12,7 +12,7 @@ use Rattle.nb_vault.specs.declared.origin.Origin.{Origin}
 use Rattle.nb_session.specs.declared.ended.Record.{Record}
 use Rattle.nb_session.specs.Session.{IsTold, around}
 use Rattle.nb_session.proofs.Completing.{lines_tell}
-use Rattle.nb_session.proofs.Cutting.{rose_from}
+use Rattle.nb_wire.proofs.Incoming.{rose_from}
 use Rattle.nb_server.specs.Served.{WorkerSeen, Sessioned, links_given, links_taken, with_given, with_taken}
 use Rattle.nb_server.specs.Steps.{Sessions, HasServed, IsOwn}
 
