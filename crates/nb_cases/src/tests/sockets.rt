@@ -14,15 +14,26 @@ use std::test::Fail;
 use std::thread;
 use std::time::Duration;
 
-// No read or write waits for long, and none fails where nothing is waited for.
+// No read or write waits for long.
 const SHORT: Limits = Limits {
-    first: 50,
-    between: 50,
-    frame: 50,
+    first: 200,
+    between: 200,
+    frame: 200,
     more: 0,
-    write: 50,
-    end: 50,
-    dial: 2_000,
+    write: 200,
+    end: 500,
+    dial: 5_000,
+};
+
+// Nothing is late but the end of a link.
+const PATIENT: Limits = Limits {
+    first: 60_000,
+    between: 60_000,
+    frame: 60_000,
+    more: 0,
+    write: 60_000,
+    end: 500,
+    dial: 60_000,
 };
 
 // Is interrupted, has two bytes, is at its end, and then fails; takes what it is given in the same way, two bytes at a time, and
@@ -252,12 +263,18 @@ fn is_set(stream: &TcpStream) -> Result<bool, Fail> {
     Ok(stream.nodelay()? && stream.write_timeout()? == limit)
 }
 
-// A port over the loopback for so many links that wait shortly, and its address.
-fn short_port(rt: &HostRuntime, links: u32) -> Result<(TcpPort<StdListener>, SocketAddr), Fail> {
+// A port over the loopback for so many links that wait so, and its address.
+fn port_with(
+    rt: &HostRuntime,
+    links: u32,
+    limits: Limits,
+) -> Result<(TcpPort<StdListener>, SocketAddr), Fail>
+    requires { 0 < limits.write }
+{
     let listener = TcpListener::bind(rt, "127.0.0.1:0")?;
     let address = listener.local_addr()?;
     Ok((
-        TcpPort::of(StdListener::over(listener), links, SHORT),
+        TcpPort::of(StdListener::over(listener), links, limits),
         address,
     ))
 }
@@ -311,7 +328,7 @@ fn write_fails<L: Link>(link: &mut L) -> bool {
 // A peer that sends nothing and never reads: a read and a write wait, and fail.
 #[test]
 fn a_peer_is_silent(rt: HostRuntime) -> Result<(), Fail> {
-    let (mut port, address) = short_port(&rt, 1)?;
+    let (mut port, address) = port_with(&rt, 1, SHORT)?;
     let _silent = TcpStream::connect(&rt, address)?;
     let mut link = next_of(&mut port)?;
     assert_eq!(rt; link.read(&mut [0u8; 16]), ReadOut::Failed);
@@ -323,7 +340,7 @@ fn a_peer_is_silent(rt: HostRuntime) -> Result<(), Fail> {
 // read waited for long.
 #[test]
 fn a_peer_drips(rt: HostRuntime) -> Result<(), Fail> {
-    let (mut port, address) = short_port(&rt, 2)?;
+    let (mut port, address) = port_with(&rt, 2, SHORT)?;
     let mut between = TcpStream::connect(&rt, address)?;
     between.write_all(b"NB\x01\x09\0\0\0\x01?")?;
     let mut link = next_of(&mut port)?;
@@ -335,7 +352,7 @@ fn a_peer_drips(rt: HostRuntime) -> Result<(), Fail> {
     assert!(rt; reads(&mut link, b"NB\x01"));
     within.write_all(b"\x09")?;
     assert!(rt; reads(&mut link, b"\x09"));
-    thread::sleep(&rt, Duration::from_millis(100));
+    thread::sleep(&rt, Duration::from_millis(400));
     within.write_all(b"\0")?;
     assert_eq!(rt; link.read(&mut [0u8; 16]), ReadOut::Failed);
     Ok(())
@@ -344,7 +361,7 @@ fn a_peer_drips(rt: HostRuntime) -> Result<(), Fail> {
 // What was written arrives where the link goes back with bytes unread, whether the peer ends its side or not.
 #[test]
 fn a_reply_arrives_before_unread_bytes(rt: HostRuntime) -> Result<(), Fail> {
-    let (mut port, address) = short_port(&rt, 2)?;
+    let (mut port, address) = port_with(&rt, 2, PATIENT)?;
     for ends in [true, false] {
         let mut peer = TcpStream::connect(&rt, address)?;
         peer.write_all(&[0u8; 50_000])?;
@@ -366,9 +383,11 @@ fn a_reply_arrives_before_unread_bytes(rt: HostRuntime) -> Result<(), Fail> {
 // the last one; and not twice for one.
 #[test]
 fn a_link_dials_anew(rt: HostRuntime) -> Result<(), Fail> {
-    let (mut port, address) = short_port(&rt, 3)?;
+    let (mut port, address) = port_with(&rt, 4, PATIENT)?;
     let dialler = StdDialler::over(rt.clone()?, address);
-    let mut dialled = DialLink::to(dialler, SHORT).ok().ok_or("no link is dialled")?;
+    let mut dialled = DialLink::to(dialler, PATIENT)
+        .ok()
+        .ok_or("no link is dialled")?;
     for _ in 0..2 {
         assert_eq!(rt; dialled.write(b"ask"), WriteOut::Took(3));
         let mut link = next_of(&mut port)?;
@@ -382,6 +401,15 @@ fn a_link_dials_anew(rt: HostRuntime) -> Result<(), Fail> {
     assert!(rt; reads(&mut link, b"ask"));
     port.back(link);
     assert!(rt; ends(&mut dialled));
+    // it ends while the exchange is written: nothing is dialled within it
+    assert_eq!(rt; dialled.write(b"ask"), WriteOut::Took(3));
+    let mut link = next_of(&mut port)?;
+    assert!(rt; reads(&mut link, b"ask"));
+    port.back(link);
+    for _ in 0..100 {
+        let _ = dialled.write(b"more");
+    }
+    assert!(rt; !matches!(dialled.read(&mut [0u8; 16]), ReadOut::Bytes(_)));
     // the port gave its links, and is closed
     for _ in 0..2 {
         assert_eq!(rt; dialled.write(b"ask"), WriteOut::Failed);
@@ -392,11 +420,11 @@ fn a_link_dials_anew(rt: HostRuntime) -> Result<(), Fail> {
 // Where nobody listens no link is dialled.
 #[test]
 fn nobody_is_dialled(rt: HostRuntime) -> Result<(), Fail> {
-    let (mut port, address) = short_port(&rt, 1)?;
+    let (mut port, address) = port_with(&rt, 1, PATIENT)?;
     let _first = TcpStream::connect(&rt, address)?;
     let _given = next_of(&mut port)?;
     let dialler = StdDialler::over(rt.clone()?, address);
-    assert!(rt; DialLink::to(dialler, SHORT).is_err());
+    assert!(rt; DialLink::to(dialler, PATIENT).is_err());
     Ok(())
 }
 
