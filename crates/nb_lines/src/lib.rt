@@ -3,12 +3,10 @@
 //! Left to others: what a line does. No contract is on these functions, and none cites them: what the programs print is compared with what other programs wrote.
 #![tactic(auto)]
 
-mod bytes;
 mod images;
 mod told;
 mod words;
 
-pub use bytes::{shown, shown_up_to, spelled};
 pub use images::image;
 pub use told::Told;
-pub use words::{number, numbers, unclear};
+pub use words::{number, numbers, spelled};
