@@ -19,12 +19,22 @@ use std::io::Read;
 /// made is the number of bytes of all replies.
 pub fn run(rt: &HostRuntime, name: &str, turn: usize) -> anyhow::Result<usize> {
     let mut vault = opened(rt, name)?;
+    let told = answer_given(rt, &mut vault, turn);
+    drop(vault);
+    told
+}
+
+fn answer_given(
+    rt: &HostRuntime,
+    vault: &mut Vault<FileDisk<StdFile>>,
+    turn: usize,
+) -> anyhow::Result<usize> {
     let bytes = given(rt)?;
     let asks = asks_now(rt, &bytes)?;
     if turn == 0 {
-        answer_each(rt.alloc(), &mut vault, &bytes, asks.as_slice())
+        answer_each(rt.alloc(), vault, &bytes, asks.as_slice())
     } else {
-        answer_turns(rt.alloc(), &mut vault, &bytes, asks.as_slice(), turn)
+        answer_turns(rt.alloc(), vault, &bytes, asks.as_slice(), turn)
     }
 }
 

@@ -1,6 +1,6 @@
 // Requests asked of a desk over a journal in a file, by one thread or by several at once, up to 32 of them in a turn.
 
-ghost use Rattle.std.specs.Prelude.{◌≡◌, ◌<◌, [], IfSome};
+ghost use Rattle.std.specs.Prelude.{◌<◌, IfSome};
 ghost use Rattle.nb_desk.specs.Desks.{IsAt};
 
 use crate::answering::{are_within, asks_now, given, opened};
@@ -10,7 +10,7 @@ use nb_msgs::REPLY_ROOM;
 use nb_port::Disk;
 use nb_system::{FileDisk, StdFile};
 use nb_turns::MAX_REQUESTS;
-use nb_vault::{AskAt, Vault};
+use nb_vault::AskAt;
 use std::alloc::Global;
 use std::sync::Wait;
 use std::thread::{Threads, join};
@@ -38,75 +38,92 @@ pub fn run<R: Threads + Wait + Sync>(
     if turn == 0 {
         return Err(anyhow!("a turn has from 1 to 32 requests"));
     }
-    let vault = opened(rt, name)?;
+    match Desk::open(rt.alloc(), opened(rt, name)?).ok() {
+        Some((mut desk, pass)) => {
+            let told = ask_given(rt, many, &mut desk, pass, turn, threads);
+            drop(desk);
+            told
+        }
+        None => Err(anyhow!("the memory is used up")),
+    }
+}
+
+// Asks a desk for what the frames on standard input ask.
+fn ask_given<R: Threads + Wait + Sync>(
+    rt: &HostRuntime,
+    many: &R,
+    desk: &mut Desk<FileDisk<StdFile>>,
+    pass: Pass<FileDisk<StdFile>>,
+    turn: usize,
+    threads: u32,
+) -> anyhow::Result<usize>
+    requires at { IsAt pass desk.old }
+    requires turn { 0 < turn }
+{
     let bytes = given(rt)?;
     let asks = asks_now(rt, &bytes)?;
-    match ask_over(
-        many,
-        rt.alloc(),
-        vault,
-        &bytes,
-        asks.as_slice(),
+    let part = Part {
+        bytes: &bytes,
+        asks: asks.as_slice(),
         turn,
-        threads,
-    ) {
+    };
+    match ask_in_order(many, rt.alloc(), desk, pass, part, threads) {
         Some(told) => Ok(told),
         None => Err(anyhow!("the disk failed, or the memory is used up")),
     }
 }
 
-// Asks a desk over the vault, for what stands before the orders, and then for the orders by so many threads.
-fn ask_over<R: Threads + Wait + Sync>(
+// Asks for what stands before the orders, and then for the orders by so many threads.
+fn ask_in_order<R: Threads + Wait + Sync, D: Disk + Drop + Send>(
     rt: &R,
     alloc: Global,
-    vault: Vault<FileDisk<StdFile>>,
-    bytes: &[u8],
-    asks: &[AskAt],
-    turn: usize,
+    desk: &mut Desk<D>,
+    pass: Pass<D>,
+    part: Part<'_>,
     threads: u32,
 ) -> Option<usize>
-    requires new { vault.lines ≡ [] }
-    requires turn { 0 < turn }
+    requires at { IsAt pass desk.old }
+    requires turn { 0 < part.turn }
 {
-    let (desk, pass) = Desk::open(alloc, vault).ok()?;
-    let (front, orders) = asks.split_at(asks.len().min(BEFORE));
-    let before = Part {
+    let (bytes, turn) = (part.bytes, part.turn);
+    let (front, orders) = part.asks.split_at(part.asks.len().min(BEFORE));
+    let front = Part {
         bytes,
         asks: front,
         turn,
     };
-    let (pass, front) = ask_part(rt, alloc, &desk, pass, before)?;
-    let part = Part {
+    let orders = Part {
         bytes,
         asks: orders,
         turn,
     };
-    let told = ask_by(rt, alloc, desk, pass, part, threads)?;
-    Some(front.saturating_add(told))
+    let (pass, before) = ask_part(rt, alloc, desk, pass, front)?;
+    let told = ask_by(rt, alloc, desk, pass, orders, threads)?;
+    Some(before.saturating_add(told))
 }
 
 // Asks for a part by so many threads: 1, 2 or 4.
-fn ask_by<R: Threads + Wait + Sync>(
+fn ask_by<R: Threads + Wait + Sync, D: Disk + Drop + Send>(
     rt: &R,
     alloc: Global,
-    mut desk: Desk<FileDisk<StdFile>>,
-    pass: Pass<FileDisk<StdFile>>,
+    desk: &mut Desk<D>,
+    pass: Pass<D>,
     part: Part<'_>,
     threads: u32,
 ) -> Option<usize>
-    requires at { IsAt pass desk }
+    requires at { IsAt pass desk.old }
     requires turn { 0 < part.turn }
 {
     if threads == 1 {
-        return ask_whole(rt, alloc, &desk, pass, part);
+        return ask_whole(rt, alloc, desk, pass, part);
     }
     let (first, second) = desk.split(pass, 1).ok()?;
     if threads == 2 {
-        return ask_by_two(rt, alloc, &desk, first, second, part);
+        return ask_by_two(rt, alloc, desk, first, second, part);
     }
     let near = desk.split(first, 2).ok()?;
     let far = desk.split(second, 3).ok()?;
-    ask_by_four(rt, alloc, &desk, near, far, part)
+    ask_by_four(rt, alloc, desk, near, far, part)
 }
 
 // Four threads ask for a quarter of a part each.

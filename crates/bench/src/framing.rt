@@ -36,6 +36,12 @@ fn framed(alloc: Global, size: u32, step: usize, times: u32) -> Result<Made, NoM
         return Ok(Made::Unknown);
     }
     let stream = stream_of(alloc, size)?;
+    Made::number(alloc, sum_of(alloc, &stream, step, times)?)
+}
+
+fn sum_of(alloc: Global, stream: &[u8], step: usize, times: u32) -> Result<u64, NoMemory>
+    requires { step ≤ MAX_PIECE }
+{
     let mut frames = Frames::new(alloc).map_err(|_| NoMemory)?;
     let mut at = 0;
     let mut given = 0;
@@ -61,7 +67,7 @@ fn framed(alloc: Global, size: u32, step: usize, times: u32) -> Result<Made, NoM
             Next::Bad(_) => break 'reading,
         }
     }
-    Ok(Made::Bytes(Vec::from_slice(alloc, &sum.to_be_bytes())?))
+    Ok(sum)
 }
 
 // Frames of all kinds in turn, whose bodies are a pattern of so many bytes; the last byte of each is its number.

@@ -43,7 +43,7 @@ fn looked_up(alloc: Global, size: u32, times: u32) -> Result<Made, NoMemory> {
         sum = sum.wrapping_mul(31).wrapping_add(u64::from(found));
         number = found.wrapping_add(STRIDE) % size;
     }
-    Ok(Made::Bytes(Vec::from_slice(alloc, &sum.to_be_bytes())?))
+    Made::number(alloc, sum)
 }
 
 // An index with so many puts, for twice as many slots.

@@ -53,6 +53,13 @@ pub enum Made {
     Unknown,
 }
 
+impl Made {
+    /// A number in 8 bytes, the highest first.
+    pub fn number(alloc: Global, number: u64) -> Result<Made, NoMemory> {
+        Ok(Made::Bytes(Vec::from_slice(alloc, &number.to_be_bytes())?))
+    }
+}
+
 fn main(rt: HostRuntime) -> anyhow::Result<ExitCode> {
     let words: Vec<String> = env::args(&rt)?.skip(1).collect(rt.alloc())?;
     do_words(&rt, &rt, words.as_slice())
@@ -129,11 +136,19 @@ fn do_line<R: Threads + Wait + Sync>(
 // Does what each line of standard input says, and prints the line and the digest of what it made.
 fn do_rows<R: Threads + Wait + Sync>(rt: &HostRuntime, threads: &R) -> anyhow::Result<()> {
     for line in rt.lines(rt.alloc()) {
-        let line = line?;
-        let made = row_of(threads, rt.alloc(), line.as_str())?;
-        let made = made.as_deref().unwrap_or("no such row");
-        println!(rt; "{line}: {made}")?;
+        do_row(rt, threads, line?.as_str())?;
     }
+    Ok(())
+}
+
+fn do_row<R: Threads + Wait + Sync>(
+    rt: &HostRuntime,
+    threads: &R,
+    line: &str,
+) -> anyhow::Result<()> {
+    let made = row_of(threads, rt.alloc(), line)?;
+    let made = made.as_deref().unwrap_or("no such row");
+    println!(rt; "{line}: {made}")?;
     Ok(())
 }
 

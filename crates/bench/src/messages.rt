@@ -36,14 +36,20 @@ fn message_of(alloc: Global, size: u32) -> Result<Message, NoMemory> {
 // The frame that was written last, and behind it the number.
 fn written(alloc: Global, size: u32, times: u32) -> Result<Made, NoMemory> {
     let message = message_of(alloc, size)?;
+    let made = write_often(alloc, &message, times);
+    drop(message);
+    made
+}
+
+fn write_often(alloc: Global, message: &Message, times: u32) -> Result<Made, NoMemory> {
     let mut frame = Vec::new(alloc);
     let mut made = 0;
     for _ in 0..times {
-        if !is_lawful(&message) {
+        if !is_lawful(message) {
             return Ok(Made::Unknown);
         }
         frame.clear();
-        write_message(&message, &mut frame).map_err(|_| NoMemory)?;
+        write_message(message, &mut frame).map_err(|_| NoMemory)?;
         made = mixed(made, frame.as_slice());
     }
     frame
@@ -62,7 +68,7 @@ fn read(alloc: Global, size: u32, times: u32) -> Result<Made, NoMemory> {
     }
     let (front, _) = frame.as_slice().split_at(frame.len() - 8);
     match read_often(alloc, front.split_at(HEADER).1, times)? {
-        Some(made) => Ok(Made::Bytes(Vec::from_slice(alloc, &made.to_be_bytes())?)),
+        Some(made) => Made::number(alloc, made),
         None => Ok(Made::Unknown),
     }
 }

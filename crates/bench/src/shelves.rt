@@ -38,7 +38,7 @@ fn told(alloc: Global, size: u32, times: u32) -> Result<Made, NoMemory> {
         sum = sum.wrapping_mul(31).wrapping_add(price);
         id = STRIDE.wrapping_add(id) % size;
     }
-    Ok(Made::Bytes(Vec::from_slice(alloc, &sum.to_be_bytes())?))
+    Made::number(alloc, sum)
 }
 
 // The price of a product of the shelf, which is read for it.

@@ -1,7 +1,7 @@
 // Turns: each of so many threads takes and gives back a number so many times, and adds one to it each time. Beside it the same
 // under a mutex of std.
 
-ghost use Rattle.std.specs.Prelude.{◌≡◌, [], Some};
+ghost use Rattle.std.specs.Prelude.{◌≡◌, [], Some, IfSome};
 ghost use Rattle.nb_turn.specs.Passes.{Belongs, held_sees, IsOf};
 
 use crate::Made;
@@ -141,86 +141,56 @@ fn turns<R: Threads + Wait + Sync>(
     threads: u32,
     times: u32,
 ) -> Result<Made, NoMemory> {
-    let Ok((turn, pass)) = Turn::open(alloc, Counter { count: 0 }) else {
+    let Ok((mut turn, pass)) = Turn::open(alloc, Counter { count: 0 }) else {
         return Err(NoMemory);
     };
-    if threads == 1 {
-        let pass = take_turns(rt, &turn, pass, times);
-        return ended(rt, alloc, turn, pass);
+    match take_by(rt, &mut turn, pass, threads, times) {
+        Some(pass) => Made::number(alloc, turn.close(rt, pass).count),
+        None => Ok(Made::Unknown),
     }
-    turns_of_many(rt, alloc, turn, pass, threads, times)
 }
 
-// Two threads take turns, or four.
-fn turns_of_many<R: Threads + Wait + Sync>(
+// So many threads take turns, and their passes are joined.
+fn take_by<R: Threads + Wait + Sync>(
     rt: &R,
-    alloc: Global,
-    mut turn: Turn<Counter>,
+    turn: &mut Turn<Counter>,
     pass: Pass<Counter>,
     threads: u32,
     times: u32,
-) -> Result<Made, NoMemory>
-    requires { Belongs pass turn }
+) -> Option<Pass<Counter>>
+    requires { Belongs pass turn.old }
+    ensures { IfSome result (λ p. Belongs p turn.new) }
 {
-    let Ok((first, second)) = turn.split(pass, 1) else {
-        return Ok(Made::Unknown);
-    };
-    if threads == 2 {
-        let (first, second) = take_by_two(rt, &turn, first, second, times);
-        return joined(rt, alloc, turn, first, second);
+    if threads == 1 {
+        return Some(take_turns(rt, turn, pass, times));
     }
-    turns_of_four(rt, alloc, turn, first, second, times)
+    let (first, second) = turn.split(pass, 1).ok()?;
+    let (first, second) = if threads == 2 {
+        take_by_two(rt, turn, first, second, times)
+    } else {
+        take_by_pairs(rt, turn, first, second, times)?
+    };
+    Some(turn.join(first, second))
 }
 
 // Four threads take turns, each of two with another one.
-fn turns_of_four<R: Threads + Wait + Sync>(
+fn take_by_pairs<R: Threads + Wait + Sync>(
     rt: &R,
-    alloc: Global,
-    mut turn: Turn<Counter>,
+    turn: &mut Turn<Counter>,
     first: Pass<Counter>,
     second: Pass<Counter>,
     times: u32,
-) -> Result<Made, NoMemory>
-    requires first { Belongs first turn }
-    requires second { Belongs second turn }
+) -> Option<(Pass<Counter>, Pass<Counter>)>
+    requires first { Belongs first turn.old }
+    requires second { Belongs second turn.old }
+    ensures { IfSome result (λ r. Belongs r.0 turn.new × Belongs r.1 turn.new) }
 {
-    let Ok(near) = turn.split(first, 2) else {
-        return Ok(Made::Unknown);
-    };
-    let Ok(far) = turn.split(second, 3) else {
-        return Ok(Made::Unknown);
-    };
-    let (near, far) = take_by_four(rt, &turn, near, far, times);
+    let near = turn.split(first, 2).ok()?;
+    let far = turn.split(second, 3).ok()?;
+    let (near, far) = take_by_four(rt, turn, near, far, times);
     let first = turn.join(near.0, near.1);
     let second = turn.join(far.0, far.1);
-    joined(rt, alloc, turn, first, second)
-}
-
-// What is made where two passes are left.
-fn joined<R: Wait>(
-    rt: &R,
-    alloc: Global,
-    mut turn: Turn<Counter>,
-    first: Pass<Counter>,
-    second: Pass<Counter>,
-) -> Result<Made, NoMemory>
-    requires first { Belongs first turn }
-    requires second { Belongs second turn }
-{
-    let pass = turn.join(first, second);
-    ended(rt, alloc, turn, pass)
-}
-
-// What is made where one pass is left.
-fn ended<R: Wait>(
-    rt: &R,
-    alloc: Global,
-    turn: Turn<Counter>,
-    pass: Pass<Counter>,
-) -> Result<Made, NoMemory>
-    requires { Belongs pass turn }
-{
-    counted(alloc, turn.close(rt, pass).count)
+    Some((first, second))
 }
 
 fn lock_often<R: Wait>(rt: &R, count: &Mutex<u64>, times: u32) {
@@ -257,10 +227,5 @@ fn locks<R: Threads + Wait + Sync>(
             );
         }
     }
-    counted(alloc, count.into_inner())
-}
-
-// The count in 8 bytes, the highest first.
-fn counted(alloc: Global, count: u64) -> Result<Made, NoMemory> {
-    Ok(Made::Bytes(Vec::from_slice(alloc, &count.to_be_bytes())?))
+    Made::number(alloc, count.into_inner())
 }

@@ -28,34 +28,55 @@ pub enum Made {
     Unknown,
 }
 
+impl Made {
+    /// A number in 8 bytes, the highest first.
+    pub fn number(alloc: Global, number: u64) -> Result<Made, NoMemory> {
+        Ok(Made::Bytes(Vec::from_slice(alloc, &number.to_be_bytes())?))
+    }
+}
+
 fn main(rt: HostRuntime) -> anyhow::Result<ExitCode> {
     let words: Vec<String> = env::args(&rt)?.skip(1).collect(rt.alloc())?;
-    if words.len() == 1 && words[0].as_str() == "rows" {
-        do_rows(&rt)?;
-        return Ok(ExitCode::SUCCESS);
-    }
     do_words(&rt, words.as_slice())
 }
 
-// Does what the words say, and prints the digest of what it made.
 fn do_words(rt: &HostRuntime, words: &[String]) -> anyhow::Result<ExitCode> {
-    let line = line_of(rt.alloc(), words).map_err(|_| anyhow!("out of memory"))?;
-    let Some(line) = line else {
-        eprintln!(rt; "{USAGE}")?;
-        return Ok(ExitCode::from(BAD_WORDS));
-    };
-    println!(rt; "{line}")?;
+    match words {
+        [word] if word.as_str() == "rows" => do_rows(rt)?,
+        _ => return do_row(rt, words),
+    }
     Ok(ExitCode::SUCCESS)
+}
+
+// Does what the words say, and prints the digest of what it made.
+fn do_row(rt: &HostRuntime, words: &[String]) -> anyhow::Result<ExitCode> {
+    match line_of(rt.alloc(), words) {
+        Ok(Some(line)) => {
+            println!(rt; "{line}")?;
+            Ok(ExitCode::SUCCESS)
+        }
+        Ok(None) => {
+            eprintln!(rt; "{USAGE}")?;
+            Ok(ExitCode::from(BAD_WORDS))
+        }
+        Err(_) => Err(anyhow!("out of memory")),
+    }
 }
 
 // Does what each line of standard input says, and prints the line and the digest of what it made.
 fn do_rows(rt: &HostRuntime) -> anyhow::Result<()> {
     for line in rt.lines(rt.alloc()) {
-        let line = line?;
-        let made = row_of(rt.alloc(), line.as_str()).map_err(|_| anyhow!("out of memory"))?;
-        let made = made.as_deref().unwrap_or("no such row");
-        println!(rt; "{line}: {made}")?;
+        do_line(rt, line?.as_str())?;
     }
+    Ok(())
+}
+
+fn do_line(rt: &HostRuntime, line: &str) -> anyhow::Result<()> {
+    let Ok(made) = row_of(rt.alloc(), line) else {
+        return Err(anyhow!("out of memory"));
+    };
+    let made = made.as_deref().unwrap_or("no such row");
+    println!(rt; "{line}: {made}")?;
     Ok(())
 }
 

@@ -56,31 +56,33 @@ fn start_of(number: u32) -> Start
     }
 }
 
-// A consumer that has started so many purchases, numbered from 0 on.
-fn consumer_of(alloc: Global, size: u32) -> Result<Consumer, NoMemory> {
-    let wallet = Wallet {
-        id: CONSUMER,
-        acct: AcctId(1),
-        nonce: 7,
-        key: KEY,
-    };
-    let mut consumer = Consumer::new(alloc, wallet);
-    for number in 0..size {
-        let _ = consumer.start(&start_of(number)).map_err(|_| NoMemory)?;
-    }
-    Ok(consumer)
-}
+const WALLET: Wallet = Wallet {
+    id: CONSUMER,
+    acct: AcctId(1),
+    nonce: 7,
+    key: KEY,
+};
 
 // What is made is a sum over all steps, in their order.
 fn asked_again(alloc: Global, size: u32, times: u32) -> Result<Made, NoMemory> {
-    let mut consumer = consumer_of(alloc, size)?;
+    let mut consumer = Consumer::new(alloc, WALLET);
+    match sum_asked(&mut consumer, size, times) {
+        Ok(sum) => Made::number(alloc, sum),
+        Err(_) => Err(NoMemory),
+    }
+}
+
+// The sum over all steps of a consumer that first starts so many purchases, numbered from 0 on.
+fn sum_asked(consumer: &mut Consumer, size: u32, times: u32) -> Result<u64, nb_units::NoMemory> {
+    for number in 0..size {
+        drop(consumer.start(&start_of(number))?);
+    }
     let middle = u64::from(size / 2);
     let mut sum = 0;
     for _ in 0..times {
-        let step = consumer.quiet(middle).map_err(|_| NoMemory)?;
-        sum = mixed(sum, &step);
+        sum = mixed(sum, consumer.quiet(middle)?);
     }
-    Ok(Made::Bytes(Vec::from_slice(alloc, &sum.to_be_bytes())?))
+    Ok(sum)
 }
 
 // The ticket of all purchases, and the key that it brings.
@@ -100,52 +102,68 @@ fn pass() -> SessionTicket
 }
 
 // How a consumer asks for the price of the purchase of this number.
-fn price_asked(alloc: Global, number: u32) -> Result<Message, NoMemory>
+fn price_asked(alloc: Global, number: u32) -> Result<Message, nb_units::NoMemory>
     ensures { IfOk result MessageKeepsRules }
 {
-    price_request(alloc, &pass(), &start_of(number)).map_err(|_| NoMemory)
+    price_request(alloc, &pass(), &start_of(number))
 }
 
-// A merchant that has quoted the price of so many purchases, numbered from 0 on.
-fn merchant_of(alloc: Global, size: u32) -> Result<Option<Merchant>, NoMemory> {
-    let stall = Stall {
-        id: MERCHANT,
-        acct: AcctId(2),
-        key: KEY,
-        master: KEY,
-    };
-    let Ok(catalogue) = Catalogue::read(alloc, SHELF) else {
-        return Ok(None);
-    };
-    let mut merchant = Merchant::new(alloc, stall, catalogue);
-    for number in 0..size {
-        let message = price_asked(alloc, number)?;
-        let _ = merchant
-            .on_consumer(&message, MOMENT)
-            .map_err(|_| NoMemory)?;
-    }
-    Ok(Some(merchant))
-}
+const STALL: Stall = Stall {
+    id: MERCHANT,
+    acct: AcctId(2),
+    key: KEY,
+    master: KEY,
+};
 
 // What is made is a sum over all steps, in their order.
 fn told_again(alloc: Global, size: u32, times: u32) -> Result<Made, NoMemory> {
-    let Some(mut merchant) = merchant_of(alloc, size)? else {
+    let Ok(catalogue) = Catalogue::read(alloc, SHELF) else {
         return Ok(Made::Unknown);
     };
+    let mut merchant = Merchant::new(alloc, STALL, catalogue);
+    match sum_told(alloc, &mut merchant, size, times) {
+        Ok(sum) => Made::number(alloc, sum),
+        Err(_) => Err(NoMemory),
+    }
+}
+
+// The sum over all steps of a merchant that first quotes the price of so many purchases, numbered from 0 on.
+fn sum_told(
+    alloc: Global,
+    merchant: &mut Merchant,
+    size: u32,
+    times: u32,
+) -> Result<u64, nb_units::NoMemory> {
+    for number in 0..size {
+        quote(alloc, merchant, number)?;
+    }
     let message = price_asked(alloc, size / 2)?;
+    let sum = sum_of(merchant, &message, times);
+    drop(message);
+    sum
+}
+
+fn quote(alloc: Global, merchant: &mut Merchant, number: u32) -> Result<(), nb_units::NoMemory> {
+    let message = price_asked(alloc, number)?;
+    let step = merchant.on_consumer(&message, MOMENT);
+    drop(message);
+    drop(step?);
+    Ok(())
+}
+
+fn sum_of(merchant: &mut Merchant, message: &Message, times: u32) -> Result<u64, nb_units::NoMemory>
+    requires { MessageKeepsRules message.now }
+{
     let mut sum = 0;
     for _ in 0..times {
-        let step = merchant
-            .on_consumer(&message, MOMENT)
-            .map_err(|_| NoMemory)?;
-        sum = mixed(sum, &step);
+        sum = mixed(sum, merchant.on_consumer(message, MOMENT)?);
     }
-    Ok(Made::Bytes(Vec::from_slice(alloc, &sum.to_be_bytes())?))
+    Ok(sum)
 }
 
 // The next number, of the last byte of what is sent.
-fn mixed(number: u64, step: &Step) -> u64 {
-    let last = match step {
+fn mixed(number: u64, step: Step) -> u64 {
+    let last = match &step {
         Step::Move {
             message: Message::TicketAsk(ask),
             ..
@@ -156,6 +174,7 @@ fn mixed(number: u64, step: &Step) -> u64 {
         } => sealed.as_slice().last().copied(),
         _ => None,
     };
+    drop(step);
     number
         .wrapping_mul(31)
         .wrapping_add(u64::from(last.unwrap_or(0)))

@@ -6,7 +6,8 @@ ghost use Rattle.nb_book.specs.Legal.{LegalAfter};
 use crate::entries::{entry_of, epoid_of, in_words};
 use crate::trial::Trial;
 use crate::words::Words;
-use nb_book::{Book, Entry, MAX_CAP};
+use nb_book::{Account, Book, Entry, MAX_CAP, Party};
+use nb_lines::Told;
 use nb_units::{AcctId, FEE_VERSION, FIRST_VERSION, MAX_RATE, NoMemory, PartyId};
 use std::alloc::Global;
 
@@ -15,34 +16,54 @@ const KEY: [u8; 16] = [0; 16];
 
 impl Trial {
     /// `book CAP [RATE]`: a book without entries, of a journal with this rate or of one without fees. `next ENTRY`: whether it may come next.
-    /// `apply ENTRY`: it comes next. `undo`: the last one is taken off. `party ID`, `account ID`, `reference HEX`, `order MERCHANT MOMENT SERIAL`: what
-    /// the book has of it. `counts`: its cap, its money and its entries. `fees`: what the house kept.
-    pub fn of_book(&mut self, word: &str, words: &[&str]) -> Result<String, NoMemory> {
-        let mut words = Words::new(words);
-        let alloc = self.alloc;
+    /// `apply ENTRY`: it comes next. `undo`: the last one is taken off.
+    pub fn of_book(&mut self, told: &mut Told, word: &str, words: &[&str]) -> Result<(), NoMemory> {
         if word == "book" {
-            self.book = made(alloc, words.number())?;
-            self.rate = words.rate();
-            return Ok(String::new(alloc));
+            return self.begin(&mut Words::new(words));
         }
         let rate = self.rate;
         match &mut self.book {
-            Some(book) => match word {
-                "apply" => apply(alloc, book, rate, &mut words),
-                "next" => next(alloc, book, rate, &mut words),
-                "undo" => undo(alloc, book),
-                _ => asked(alloc, book, word, &mut words),
-            },
-            None => nb_lines::unclear(alloc),
+            Some(book) => {
+                change(told, book, rate, word, &mut Words::new(words));
+                Ok(())
+            }
+            None => told.unclear(),
+        }
+    }
+
+    fn begin(&mut self, words: &mut Words) -> Result<(), NoMemory> {
+        let cap = words.number();
+        self.rate = words.rate();
+        self.book = made(self.alloc, cap)?;
+        Ok(())
+    }
+
+    /// `party ID`, `account ID`, `reference HEX`, `order MERCHANT MOMENT SERIAL`: what the book has of it. `counts`: its cap, its
+    /// money and its entries. `fees`: what the house kept.
+    pub fn asked(&self, told: &mut Told, word: &str, words: &[&str]) -> Result<(), NoMemory> {
+        match &self.book {
+            Some(book) => {
+                look_up(told, book, word, &mut Words::new(words));
+                Ok(())
+            }
+            None => told.unclear(),
         }
     }
 }
 
 // A book of a cap, where one may have it.
-fn made(alloc: Global, cap: Option<u32>) -> Result<Option<Book>, NoMemory> {
-    match cap {
-        Some(cap) if 1 <= cap && cap <= MAX_CAP => Ok(Some(Book::new(alloc, cap, &KEY)?)),
-        _ => Ok(None),
+fn made(alloc: Global, cap: u32) -> Result<Option<Book>, NoMemory> {
+    if cap < 1 || cap > MAX_CAP {
+        return Ok(None);
+    }
+    Ok(Some(Book::new(alloc, cap, &KEY)?))
+}
+
+fn change(told: &mut Told, book: &mut Book, rate: Option<u16>, word: &str, words: &mut Words) {
+    match word {
+        "apply" => apply(told, book, rate, entry_of(words)),
+        "next" => next(told, book, rate, entry_of(words)),
+        _ => undo(told, book),
     }
 }
 
@@ -56,107 +77,108 @@ fn legal(book: &Book, entry: &Entry, rate: Option<u16>) -> bool
     }
 }
 
-fn apply(
-    alloc: Global,
-    book: &mut Book,
-    rate: Option<u16>,
-    words: &mut Words,
-) -> Result<String, NoMemory> {
-    let Some(entry) = entry_of(words) else {
-        return nb_lines::unclear(alloc);
+fn apply(told: &mut Told, book: &mut Book, rate: Option<u16>, entry: Option<Entry>) {
+    let Some(entry) = entry else {
+        told.text("no such line");
+        return;
     };
     if !legal(book, &entry, rate) {
-        return Ok("not next".to_string(alloc)?);
+        told.text("not next");
+    } else if book.len() >= book.cap() {
+        told.text("full");
+    } else {
+        book.apply(&entry);
+        told.show("", &book.len()).text(" entries");
     }
-    if book.len() >= book.cap() {
-        return Ok("full".to_string(alloc)?);
-    }
-    book.apply(&entry);
-    Ok(format!(in alloc; "{} entries", book.len())?)
 }
 
-fn undo(alloc: Global, book: &mut Book) -> Result<String, NoMemory> {
+fn undo(told: &mut Told, book: &mut Book) {
     if book.len() < 1 {
-        return Ok("empty".to_string(alloc)?);
-    }
-    book.undo();
-    Ok(format!(in alloc; "{} entries", book.len())?)
-}
-
-// What a look-up gives.
-fn asked(alloc: Global, book: &Book, word: &str, words: &mut Words) -> Result<String, NoMemory> {
-    let told = match word {
-        "party" => party(alloc, book, words)?,
-        "account" => account(alloc, book, words)?,
-        "reference" => reference(alloc, book, words)?,
-        "order" => order(alloc, book, words)?,
-        "fees" => Some(format!(in alloc; "{}", book.fees())?),
-        _ => Some(format!(in alloc;
-            "cap {}, {} in all, {} entries",
-            book.cap(),
-            book.total(),
-            book.len()
-        )?),
-    };
-    match told {
-        Some(told) => Ok(told),
-        None => Ok("none".to_string(alloc)?),
+        told.text("empty");
+    } else {
+        book.undo();
+        told.show("", &book.len()).text(" entries");
     }
 }
 
-fn next(
-    alloc: Global,
-    book: &Book,
-    rate: Option<u16>,
-    words: &mut Words,
-) -> Result<String, NoMemory> {
-    let told = match entry_of(words) {
+fn next(told: &mut Told, book: &Book, rate: Option<u16>, entry: Option<Entry>) {
+    told.text(match entry {
         Some(entry) if legal(book, &entry, rate) => "next",
         Some(_) => "not next",
         None => "none",
+    });
+}
+
+// What a look-up gives.
+fn look_up(told: &mut Told, book: &Book, word: &str, words: &mut Words) {
+    match word {
+        "party" | "account" => look_up_number(told, book, word, words),
+        "reference" => reference(told, book, words),
+        "order" => order(told, book, words),
+        "fees" => {
+            told.show("", &book.fees());
+        }
+        _ => {
+            told.show("cap ", &book.cap())
+                .show(", ", &book.total())
+                .show(" in all, ", &book.len())
+                .text(" entries");
+        }
+    }
+}
+
+fn look_up_number(told: &mut Told, book: &Book, word: &str, words: &mut Words) {
+    let number = words.number();
+    if words.some_bad() {
+        told.text("none");
+    } else if word == "party" {
+        party(told, book.party(PartyId(number)));
+    } else {
+        account(told, book.account(AcctId(number)));
+    }
+}
+
+fn party(told: &mut Told, party: Option<Party>) {
+    match party {
+        Some(party) => told
+            .show("at ", &party.at)
+            .show(": role ", &party.role)
+            .show(", account ", &party.acct.0)
+            .show(", nonce ", &party.nonce)
+            .hex(", key ", &party.key),
+        None => told.text("none"),
     };
-    Ok(told.to_string(alloc)?)
 }
 
-fn party(alloc: Global, book: &Book, words: &mut Words) -> Result<Option<String>, NoMemory> {
-    match words.number().and_then(|id| book.party(PartyId(id))) {
-        Some(party) => {
-            let key = hex::encode(alloc, party.key)?;
-            Ok(Some(format!(in alloc;
-                "at {}: role {}, account {}, nonce {}, key {key}",
-                party.at, party.role, party.acct.0, party.nonce
-            )?))
+fn account(told: &mut Told, account: Option<Account>) {
+    match account {
+        Some(account) => told
+            .show("of party ", &account.party.0)
+            .show(": ", &account.balance),
+        None => told.text("none"),
+    };
+}
+
+fn reference(told: &mut Told, book: &Book, words: &mut Words) {
+    let reference = words.sixteen();
+    match book.reference(&reference) {
+        Some(funded) if !words.some_bad() => told
+            .show("at ", &funded.at)
+            .show(": account ", &funded.acct.0)
+            .show(", ", &funded.amount),
+        _ => told.text("none"),
+    };
+}
+
+fn order(told: &mut Told, book: &Book, words: &mut Words) {
+    let epoid = epoid_of(words);
+    match book.order(&epoid) {
+        Some(kept) if !words.some_bad() => {
+            told.show("at ", &kept.at).text(": ");
+            in_words(told, &kept.entry);
         }
-        None => Ok(None),
-    }
-}
-
-fn account(alloc: Global, book: &Book, words: &mut Words) -> Result<Option<String>, NoMemory> {
-    match words.number().and_then(|id| book.account(AcctId(id))) {
-        Some(account) => Ok(Some(format!(in alloc;
-            "of party {}: {}",
-            account.party.0, account.balance
-        )?)),
-        None => Ok(None),
-    }
-}
-
-fn reference(alloc: Global, book: &Book, words: &mut Words) -> Result<Option<String>, NoMemory> {
-    match words.sixteen().and_then(|r| book.reference(&r)) {
-        Some(funded) => Ok(Some(format!(in alloc;
-            "at {}: account {}, {}",
-            funded.at, funded.acct.0, funded.amount
-        )?)),
-        None => Ok(None),
-    }
-}
-
-fn order(alloc: Global, book: &Book, words: &mut Words) -> Result<Option<String>, NoMemory> {
-    match epoid_of(words).and_then(|epoid| book.order(&epoid)) {
-        Some(kept) => {
-            let entry = in_words(alloc, &kept.entry)?;
-            Ok(Some(format!(in alloc; "at {}: {entry}", kept.at)?))
+        _ => {
+            told.text("none");
         }
-        None => Ok(None),
     }
 }

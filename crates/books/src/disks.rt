@@ -2,9 +2,9 @@
 
 use crate::quiet::QuietDisk;
 use crate::trial::Trial;
+use nb_lines::Told;
 use nb_port::{Disk, DiskOut, DiskRead, MemDisk};
 use nb_units::NoMemory;
-use std::alloc::Global;
 
 // The most bytes that a call reads or writes.
 const MOST: usize = 1000;
@@ -16,87 +16,92 @@ impl Trial {
     /// `disk CALL..`: a disk that holds the content, and of which the calls of `fails` fail, goes through these calls: `sync`, `PLACE+HEX`, which
     /// writes bytes, and `PLACE?COUNT`, which reads so many. It prints what each gave and what the disk has then. `images MOMENT FILL..`: what a
     /// stop at a moment leaves of it.
-    pub fn of_disk(&mut self, word: &str, words: &[&str]) -> Result<String, NoMemory> {
+    pub fn of_disk(&mut self, told: &mut Told, word: &str, words: &[&str]) -> Result<(), NoMemory> {
         if word == "images" {
-            return self.images(words);
+            return self.images(told, words);
         }
-        let alloc = self.alloc;
-        let disk = MemDisk::new(alloc, &self.content, &self.fails)?;
-        let mut quiet = QuietDisk::over(disk);
-        let mut told = String::new(alloc);
-        for word in words {
-            let said = call(alloc, &mut quiet, *word)?;
-            told.push_str(said.as_str())?;
-            told.push_str(", ")?;
+        self.disk = Some(QuietDisk::over(MemDisk::new(self.alloc, &self.content, &self.fails)?));
+        match &mut self.disk {
+            Some(disk) => calls(told, disk, words),
+            None => Ok(()),
         }
-        let has = nb_lines::shown(alloc, quiet.disk.content())?;
-        let (calls, faults) = (quiet.disk.calls(), quiet.fault_count());
-        self.disk = Some(quiet);
-        Ok(format!(in alloc; "{told}{calls} calls, {faults} failed; {has}")?)
     }
 
-    fn images(&self, words: &[&str]) -> Result<String, NoMemory> {
-        let alloc = self.alloc;
-        let (Some(quiet), [moment, fills @ ..]) = (&self.disk, words) else {
-            return nb_lines::unclear(alloc);
-        };
-        let moment = nb_lines::number(*moment);
-        let mut told = format!(in alloc; "{moment}:")?;
-        for fill in fills {
-            let image = match nb_lines::image(alloc, &quiet.disk, moment, *fill)? {
-                Some(image) => nb_lines::shown(alloc, image.as_slice())?,
-                None => "none".to_string(alloc)?,
-            };
-            told.push_str(" ")?;
-            told.push_str(image.as_str())?;
+    fn images(&self, told: &mut Told, words: &[&str]) -> Result<(), NoMemory> {
+        match (&self.disk, words) {
+            (Some(quiet), [moment, fills @ ..]) => {
+                images(told, &quiet.disk, nb_lines::number(*moment), fills)
+            }
+            _ => told.unclear(),
         }
-        Ok(told)
     }
 }
 
+fn images(told: &mut Told, disk: &MemDisk, moment: u64, fills: &[&str]) -> Result<(), NoMemory> {
+    told.show("", &moment).text(":");
+    for fill in fills {
+        match nb_lines::image(told.alloc(), disk, moment, *fill)? {
+            Some(image) => told.bytes(" ", image.as_slice()),
+            None => told.text(" none"),
+        };
+    }
+    Ok(())
+}
+
+// Calls of the disk, and what it has then.
+fn calls(told: &mut Told, disk: &mut QuietDisk, words: &[&str]) -> Result<(), NoMemory> {
+    for word in words {
+        call(told, disk, *word)?;
+        told.text(", ");
+    }
+    told.show("", &disk.disk.calls())
+        .show(" calls, ", &disk.fault_count())
+        .bytes(" failed; ", disk.disk.content());
+    Ok(())
+}
+
 // A call of the disk, and what it gave.
-fn call(alloc: Global, disk: &mut QuietDisk, word: &str) -> Result<String, NoMemory> {
+fn call(told: &mut Told, disk: &mut QuietDisk, word: &str) -> Result<(), NoMemory> {
     if word == "sync" {
-        return out(alloc, disk.sync());
+        out(told, disk.sync());
+        return Ok(());
     }
     if let Some((place, bytes)) = word.split_once('+') {
-        let bytes = nb_lines::spelled(alloc, bytes);
-        return written(alloc, disk, place, &bytes);
+        return written(told, disk, place, &nb_lines::spelled(told.alloc(), bytes));
     }
     match word.split_once('?') {
-        Some((place, count)) => read(alloc, disk, place, count),
-        None => nb_lines::unclear(alloc),
+        Some((place, count)) => read(told, disk, place, count),
+        None => told.unclear(),
     }
 }
 
 fn written(
-    alloc: Global,
+    told: &mut Told,
     disk: &mut QuietDisk,
     place: &str,
     bytes: &[u8],
-) -> Result<String, NoMemory> {
-    let place = place.parse::<u32>().unwrap_or(0);
+) -> Result<(), NoMemory> {
     if bytes.len() > MOST {
-        return nb_lines::unclear(alloc);
+        return told.unclear();
     }
-    out(alloc, disk.write(u64::from(place), bytes))
+    let place = place.parse::<u32>().unwrap_or(0);
+    out(told, disk.write(u64::from(place), bytes));
+    Ok(())
 }
 
-fn out(alloc: Global, out: DiskOut) -> Result<String, NoMemory> {
-    match out {
-        DiskOut::Done => Ok("done".to_string(alloc)?),
-        DiskOut::Failed => Ok("failed".to_string(alloc)?),
-    }
+fn out(told: &mut Told, out: DiskOut) {
+    told.text(match out {
+        DiskOut::Done => "done",
+        DiskOut::Failed => "failed",
+    });
 }
 
-fn read(alloc: Global, disk: &mut QuietDisk, place: &str, count: &str) -> Result<String, NoMemory> {
+fn read(told: &mut Told, disk: &mut QuietDisk, place: &str, count: &str) -> Result<(), NoMemory> {
     let count = (nb_lines::number(count) as usize).min(MOST);
-    let mut buffer = vec![in alloc; BEFORE; count]?;
+    let mut buffer = vec![in told.alloc(); BEFORE; count]?;
     match disk.read(nb_lines::number(place), &mut buffer) {
-        DiskRead::Got(n) => {
-            let there = nb_lines::shown(alloc, &buffer)?;
-            Ok(format!(in alloc; "{n}: {there}")?)
-        }
-        DiskRead::Failed => Ok("failed".to_string(alloc)?),
-    }
+        DiskRead::Got(n) => told.show("", &n).bytes(": ", &buffer),
+        DiskRead::Failed => told.text("failed"),
+    };
+    Ok(())
 }

@@ -6,46 +6,52 @@ ghost use Rattle.nb_book.specs.Spelling.{EntryKeepsRules};
 use crate::trial::Trial;
 use crate::words::Words;
 use nb_book::{CONSUMER, Entry, MERCHANT, read_entry};
+use nb_lines::Told;
 use nb_units::{AcctId, Cut, Epoid, NoMemory, PartyId, Price, is_reason};
-use std::alloc::Global;
 
 impl Trial {
     /// `read HEX`: the entries that stand one behind the other, each with its place, and the place where the next one fails. `write ENTRY`:
     /// the bytes of one.
-    pub fn of_entries(&self, word: &str, words: &[&str]) -> Result<String, NoMemory> {
+    pub fn of_entries(&self, told: &mut Told, word: &str, words: &[&str]) -> Result<(), NoMemory> {
         let mut words = Words::new(words);
         if word == "read" {
-            return match words.bytes(self.alloc) {
-                Some(bytes) => read(self.alloc, &bytes),
-                None => nb_lines::unclear(self.alloc),
-            };
+            let bytes = words.bytes(self.alloc);
+            if words.some_bad() {
+                return told.unclear();
+            }
+            read(told, &bytes);
+        } else {
+            write(told, entry_of(&mut words));
         }
-        match entry_of(&mut words).and_then(spelled_one) {
-            Some(entry) => Ok(hex::encode(self.alloc, entry.spelled().as_slice())?),
-            None => Ok("no entry".to_string(self.alloc)?),
-        }
+        Ok(())
     }
 }
 
 // The entries that stand in these bytes.
-fn read(alloc: Global, bytes: &[u8]) -> Result<String, NoMemory> {
+fn read(told: &mut Told, bytes: &[u8]) {
     let mut cut = Cut::new(bytes);
-    let mut told = String::new(alloc);
     // an entry has bytes, so that one fails by then
     for _ in 0..bytes.len() + 1 {
         let place = cut.place();
         match read_entry(&mut cut) {
             Ok(entry) => {
-                let line = format!(in alloc; "{place}: {}\n", in_words(alloc, &entry)?)?;
-                told.push_str(line.as_str())?;
+                told.show("", &place).text(": ");
+                in_words(told, &entry);
+                told.text("\n");
             }
             Err(fault) => {
-                told.push_str(format!(in alloc; "no entry at {}", fault.place)?.as_str())?;
-                break;
+                told.show("no entry at ", &fault.place);
+                return;
             }
         }
     }
-    Ok(told)
+}
+
+fn write(told: &mut Told, entry: Option<Entry>) {
+    match entry.and_then(spelled_one) {
+        Some(entry) => told.hex("", entry.spelled().as_slice()),
+        None => told.text("no entry"),
+    };
 }
 
 // An entry whose role or code has a spelling.
@@ -61,124 +67,140 @@ fn spelled_one(entry: Entry) -> Option<Entry>
 
 /// The entry that these words tell.
 pub fn entry_of(words: &mut Words) -> Option<Entry> {
-    match words.word()? {
+    let entry = match words.word() {
         "enrol" => enrolment(words),
-        "fund" => Some(Entry::Fund {
-            acct: AcctId(words.number()?),
-            amount: words.wide()?,
-            reference: words.sixteen()?,
-        }),
+        "fund" => fund(words),
         "paid" => payment(words),
         "charged" => charge(words),
         "refused" => refusal(words),
-        _ => None,
+        _ => return None,
+    };
+    if words.some_bad() { None } else { Some(entry) }
+}
+
+fn enrolment(words: &mut Words) -> Entry {
+    Entry::Enrol {
+        id: PartyId(words.number()),
+        role: words.byte(),
+        acct: AcctId(words.number()),
+        nonce: words.wide(),
+        key: words.key(),
     }
 }
 
-fn enrolment(words: &mut Words) -> Option<Entry> {
-    Some(Entry::Enrol {
-        id: PartyId(words.number()?),
-        role: words.byte()?,
-        acct: AcctId(words.number()?),
-        nonce: words.wide()?,
-        key: words.key()?,
-    })
+fn fund(words: &mut Words) -> Entry {
+    Entry::Fund {
+        acct: AcctId(words.number()),
+        amount: words.wide(),
+        reference: words.sixteen(),
+    }
 }
 
 /// The identifier that these words tell: its merchant, its moment and its serial number.
-pub fn epoid_of(words: &mut Words) -> Option<Epoid> {
-    Some(Epoid {
-        merchant: PartyId(words.number()?),
-        moment: words.wide()?,
-        serial: words.number()?,
-    })
-}
-
-fn payment(words: &mut Words) -> Option<Entry> {
-    Some(Entry::Paid {
-        digest: words.key()?,
-        epoid: epoid_of(words)?,
-        consumer: PartyId(words.number()?),
-        merchant: PartyId(words.number()?),
-        product: words.number()?,
-        price: Price(words.wide()?),
-        cacct: AcctId(words.number()?),
-        macct: AcctId(words.number()?),
-        moment: words.wide()?,
-        key: words.key()?,
-    })
-}
-
-fn charge(words: &mut Words) -> Option<Entry> {
-    Some(Entry::Charged {
-        digest: words.key()?,
-        epoid: epoid_of(words)?,
-        consumer: PartyId(words.number()?),
-        merchant: PartyId(words.number()?),
-        product: words.number()?,
-        price: Price(words.wide()?),
-        fee: words.wide()?,
-        cacct: AcctId(words.number()?),
-        macct: AcctId(words.number()?),
-        moment: words.wide()?,
-        key: words.key()?,
-    })
-}
-
-fn refusal(words: &mut Words) -> Option<Entry> {
-    Some(Entry::Refused {
-        digest: words.key()?,
-        epoid: epoid_of(words)?,
-        consumer: PartyId(words.number()?),
-        merchant: PartyId(words.number()?),
-        product: words.number()?,
-        price: Price(words.wide()?),
-        code: words.byte()?,
-        a: words.wide()?,
-        b: words.wide()?,
-        moment: words.wide()?,
-    })
-}
-
-// The identifier of an order, in words.
-fn named(alloc: Global, epoid: &Epoid) -> Result<String, NoMemory> {
-    let Epoid {
-        merchant,
-        moment,
-        serial,
-    } = *epoid;
-    Ok(format!(in alloc; "{} {moment} {serial}", merchant.0)?)
-}
-
-/// An entry, in words.
-pub fn in_words(alloc: Global, entry: &Entry) -> Result<String, NoMemory> {
-    match entry {
-        Entry::Enrol {
-            id,
-            role,
-            acct,
-            nonce,
-            key,
-        } => {
-            let key = hex::encode(alloc, key)?;
-            Ok(format!(in alloc; "enrol {} {role} {} {nonce} {key}", id.0, acct.0)?)
-        }
-        Entry::Fund {
-            acct,
-            amount,
-            reference,
-        } => {
-            let reference = hex::encode(alloc, reference)?;
-            Ok(format!(in alloc; "fund {} {amount} {reference}", acct.0)?)
-        }
-        Entry::Paid { .. } => paid(alloc, entry),
-        Entry::Charged { .. } => charged(alloc, entry),
-        Entry::Refused { .. } => refused(alloc, entry),
+pub fn epoid_of(words: &mut Words) -> Epoid {
+    Epoid {
+        merchant: PartyId(words.number()),
+        moment: words.wide(),
+        serial: words.number(),
     }
 }
 
-fn paid(alloc: Global, entry: &Entry) -> Result<String, NoMemory> {
-    let Entry::Paid {
+fn payment(words: &mut Words) -> Entry {
+    Entry::Paid {
+        digest: words.key(),
+        epoid: epoid_of(words),
+        consumer: PartyId(words.number()),
+        merchant: PartyId(words.number()),
+        product: words.number(),
+        price: Price(words.wide()),
+        cacct: AcctId(words.number()),
+        macct: AcctId(words.number()),
+        moment: words.wide(),
+        key: words.key(),
+    }
+}
+
+fn charge(words: &mut Words) -> Entry {
+    Entry::Charged {
+        digest: words.key(),
+        epoid: epoid_of(words),
+        consumer: PartyId(words.number()),
+        merchant: PartyId(words.number()),
+        product: words.number(),
+        price: Price(words.wide()),
+        fee: words.wide(),
+        cacct: AcctId(words.number()),
+        macct: AcctId(words.number()),
+        moment: words.wide(),
+        key: words.key(),
+    }
+}
+
+fn refusal(words: &mut Words) -> Entry {
+    Entry::Refused {
+        digest: words.key(),
+        epoid: epoid_of(words),
+        consumer: PartyId(words.number()),
+        merchant: PartyId(words.number()),
+        product: words.number(),
+        price: Price(words.wide()),
+        code: words.byte(),
+        a: words.wide(),
+        b: words.wide(),
+        moment: words.wide(),
+    }
+}
+
+/// Tells an entry, in words.
+pub fn in_words(told: &mut Told, entry: &Entry) {
+    match entry {
+        Entry::Enrol { .. } => enrolled(told, entry),
+        Entry::Fund { .. } => funded(told, entry),
+        Entry::Paid { .. } => paid(told, entry),
+        Entry::Charged { .. } => charged(told, entry),
+        Entry::Refused { .. } => refused(told, entry),
+    }
+}
+
+fn enrolled(told: &mut Told, entry: &Entry) {
+    if let Entry::Enrol {
+        id,
+        role,
+        acct,
+        nonce,
+        key,
+    } = entry
+    {
+        told.show("enrol ", &id.0)
+            .show(" ", role)
+            .show(" ", &acct.0)
+            .show(" ", nonce)
+            .hex(" ", key);
+    }
+}
+
+fn funded(told: &mut Told, entry: &Entry) {
+    if let Entry::Fund {
+        acct,
+        amount,
+        reference,
+    } = entry
+    {
+        told.show("fund ", &acct.0)
+            .show(" ", amount)
+            .hex(" ", reference);
+    }
+}
+
+fn named(told: &mut Told, digest: &[u8; 32], epoid: &Epoid) {
+    told.hex(" ", digest)
+        .show(" ", &epoid.merchant.0)
+        .show(" ", &epoid.moment)
+        .show(" ", &epoid.serial);
+}
+
+fn paid(told: &mut Told, entry: &Entry) {
+    if let Entry::Paid {
         digest,
         epoid,
         consumer,
@@ -189,24 +211,22 @@ fn paid(alloc: Global, entry: &Entry) -> Result<String, NoMemory> {
         macct,
         moment,
         key,
-    } = *entry
-    else {
-        return nb_lines::unclear(alloc);
-    };
-    let (digest, key) = (hex::encode(alloc, digest)?, hex::encode(alloc, key)?);
-    let (name, parties) = (
-        named(alloc, &epoid)?,
-        format!(in alloc; "{} {}", consumer.0, merchant.0)?,
-    );
-    let accounts = format!(in alloc; "{} {}", cacct.0, macct.0)?;
-    Ok(format!(in alloc;
-        "paid {digest} {name} {parties} {product} {} {accounts} {moment} {key}",
-        price.0
-    )?)
+    } = entry
+    {
+        named(told.text("paid"), digest, epoid);
+        told.show(" ", &consumer.0)
+            .show(" ", &merchant.0)
+            .show(" ", product)
+            .show(" ", &price.0)
+            .show(" ", &cacct.0)
+            .show(" ", &macct.0)
+            .show(" ", moment)
+            .hex(" ", key);
+    }
 }
 
-fn charged(alloc: Global, entry: &Entry) -> Result<String, NoMemory> {
-    let Entry::Charged {
+fn charged(told: &mut Told, entry: &Entry) {
+    if let Entry::Charged {
         digest,
         epoid,
         consumer,
@@ -218,26 +238,23 @@ fn charged(alloc: Global, entry: &Entry) -> Result<String, NoMemory> {
         macct,
         moment,
         key,
-    } = *entry
-    else {
-        return nb_lines::unclear(alloc);
-    };
-    let (digest, key) = (hex::encode(alloc, digest)?, hex::encode(alloc, key)?);
-    let (name, parties) = (
-        named(alloc, &epoid)?,
-        format!(in alloc; "{} {}", consumer.0, merchant.0)?,
-    );
-    let (money, accounts) = (
-        format!(in alloc; "{} {fee}", price.0)?,
-        format!(in alloc; "{} {}", cacct.0, macct.0)?,
-    );
-    Ok(format!(in alloc;
-        "charged {digest} {name} {parties} {product} {money} {accounts} {moment} {key}"
-    )?)
+    } = entry
+    {
+        named(told.text("charged"), digest, epoid);
+        told.show(" ", &consumer.0)
+            .show(" ", &merchant.0)
+            .show(" ", product)
+            .show(" ", &price.0)
+            .show(" ", fee)
+            .show(" ", &cacct.0)
+            .show(" ", &macct.0)
+            .show(" ", moment)
+            .hex(" ", key);
+    }
 }
 
-fn refused(alloc: Global, entry: &Entry) -> Result<String, NoMemory> {
-    let Entry::Refused {
+fn refused(told: &mut Told, entry: &Entry) {
+    if let Entry::Refused {
         digest,
         epoid,
         consumer,
@@ -248,17 +265,16 @@ fn refused(alloc: Global, entry: &Entry) -> Result<String, NoMemory> {
         a,
         b,
         moment,
-    } = *entry
-    else {
-        return nb_lines::unclear(alloc);
-    };
-    let digest = hex::encode(alloc, digest)?;
-    let (name, parties) = (
-        named(alloc, &epoid)?,
-        format!(in alloc; "{} {}", consumer.0, merchant.0)?,
-    );
-    Ok(format!(in alloc;
-        "refused {digest} {name} {parties} {product} {} {code} {a} {b} {moment}",
-        price.0
-    )?)
+    } = entry
+    {
+        named(told.text("refused"), digest, epoid);
+        told.show(" ", &consumer.0)
+            .show(" ", &merchant.0)
+            .show(" ", product)
+            .show(" ", &price.0)
+            .show(" ", code)
+            .show(" ", a)
+            .show(" ", b)
+            .show(" ", moment);
+    }
 }

@@ -5,6 +5,7 @@ ghost use Rattle.std.specs.Prelude.{◌≡◌};
 use crate::trial::Trial;
 use crate::words::Words;
 use nb_index::{FixedIndex, MAX_SLOTS};
+use nb_lines::Told;
 use nb_units::NoMemory;
 use std::alloc::Global;
 use std::marker::Model;
@@ -64,26 +65,32 @@ impl Slotted {
 impl Trial {
     /// `index SLOTS BYTE`: an index without numbers, whose key is 16 times this byte. `put KEY NUMBER`: a number under a key that has none. `try KEY
     /// NUMBER`: the same, and it is taken off again. `find KEY`: the number under a key. Each prints how many numbers there are then.
-    pub fn of_index(&mut self, word: &str, words: &[&str]) -> Result<String, NoMemory> {
-        let alloc = self.alloc;
+    pub fn of_index(
+        &mut self,
+        told: &mut Told,
+        word: &str,
+        words: &[&str],
+    ) -> Result<(), NoMemory> {
         let mut words = Words::new(words);
         if word == "index" {
-            self.index = made(alloc, words.number(), words.byte())?;
-            return Ok(String::new(alloc));
+            self.index = made(self.alloc, &mut words)?;
+            return Ok(());
         }
-        match (&mut self.index, words.sixteen()) {
-            (Some(index), Some(key)) => told(alloc, index, word, &key, words.number()),
-            _ => nb_lines::unclear(alloc),
+        let key = words.sixteen();
+        match &mut self.index {
+            Some(index) if !words.some_bad() => {
+                tell(told, index, word, &key, words.number());
+                Ok(())
+            }
+            _ => told.unclear(),
         }
     }
 }
 
 // An index of so many slots, where one may have them.
-fn made(alloc: Global, slots: Option<u32>, byte: Option<u8>) -> Result<Option<Slotted>, NoMemory> {
-    let (Some(slots), Some(byte)) = (slots, byte) else {
-        return Ok(None);
-    };
-    if slots < 2 || MAX_SLOTS < slots {
+fn made(alloc: Global, words: &mut Words) -> Result<Option<Slotted>, NoMemory> {
+    let (slots, byte) = (words.number(), words.byte());
+    if words.some_bad() || slots < 2 || MAX_SLOTS < slots {
         return Ok(None);
     }
     match FixedIndex::new(alloc, slots, &[byte; 16]) {
@@ -92,30 +99,22 @@ fn made(alloc: Global, slots: Option<u32>, byte: Option<u8>) -> Result<Option<Sl
     }
 }
 
-fn told(
-    alloc: Global,
-    index: &mut Slotted,
-    word: &str,
-    key: &[u8; 16],
-    number: Option<u32>,
-) -> Result<String, NoMemory> {
-    let number = number.unwrap_or(0);
-    let told = match word {
-        "put" => put(alloc, index.put(key, number))?,
-        "try" => found(alloc, index.put_off(key, number))?,
-        _ => found(alloc, index.index.find(key))?,
-    };
-    Ok(format!(in alloc; "{told}, {} in all", index.index.used())?)
-}
-
-fn put(alloc: Global, was_put: bool) -> Result<String, NoMemory> {
-    let told = if was_put { "put" } else { "not put" };
-    Ok(told.to_string(alloc)?)
-}
-
-fn found(alloc: Global, number: Option<u32>) -> Result<String, NoMemory> {
-    match number {
-        Some(number) => Ok(format!(in alloc; "{number}")?),
-        None => Ok("none".to_string(alloc)?),
+fn tell(told: &mut Told, index: &mut Slotted, word: &str, key: &[u8; 16], number: u32) {
+    match word {
+        "put" => put(told, index.put(key, number)),
+        "try" => found(told, index.put_off(key, number)),
+        _ => found(told, index.index.find(key)),
     }
+    told.show(", ", &index.index.used()).text(" in all");
+}
+
+fn put(told: &mut Told, was_put: bool) {
+    told.text(if was_put { "put" } else { "not put" });
+}
+
+fn found(told: &mut Told, number: Option<u32>) {
+    match number {
+        Some(number) => told.show("", &number),
+        None => told.text("none"),
+    };
 }

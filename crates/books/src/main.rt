@@ -17,39 +17,61 @@ mod words;
 
 use crate::trial::Trial;
 use anyhow::anyhow;
+use nb_lines::Told;
 use nb_units::NoMemory;
 
 fn main(rt: HostRuntime) -> anyhow::Result<()> {
     let mut trial = Trial::new(rt.alloc());
+    let ended = do_lines(&rt, &mut trial);
+    drop(trial);
+    ended
+}
+
+// Does what each line says.
+fn do_lines(rt: &HostRuntime, trial: &mut Trial) -> anyhow::Result<()> {
     for line in rt.lines(rt.alloc()) {
-        let told = done(&mut trial, line?.as_str()).map_err(|_| anyhow!("out of memory"))?;
-        if !told.is_empty() {
-            println!(rt; "{told}")?;
-        }
+        do_line(rt, trial, line?.as_str())?;
     }
     Ok(())
 }
 
-// What is done at a line; nothing where it is empty.
-fn done(trial: &mut Trial, line: &str) -> Result<String, NoMemory> {
-    let words: Vec<&str> = line.split_whitespace().collect(trial.alloc())?;
+// Does what a line says, and prints what is told of it; nothing where the line is empty.
+fn do_line(rt: &HostRuntime, trial: &mut Trial, line: &str) -> anyhow::Result<()> {
+    let mut told = Told::new(rt.alloc());
+    if done(trial, &mut told, line).is_err() || told.done().is_err() {
+        return Err(anyhow!("out of memory"));
+    }
+    let told = told.as_str();
+    if !told.is_empty() {
+        println!(rt; "{told}")?;
+    }
+    Ok(())
+}
+
+fn done(trial: &mut Trial, told: &mut Told, line: &str) -> Result<(), NoMemory> {
+    let words: Vec<&str> = line.split_whitespace().collect(told.alloc())?;
     match words.as_slice() {
-        [] => Ok(String::new(trial.alloc())),
-        ["#", ..] => Ok(line.to_string(trial.alloc())?),
-        [word, rest @ ..] => match *word {
-            "book"
-            | "next"
-            | "apply"
-            | "undo"
-            | "party"
-            | "account"
-            | "reference"
-            | "order"
-            | "counts" => trial.of_book(*word, rest),
-            "read" | "write" => trial.of_entries(*word, rest),
-            "index" | "put" | "try" | "find" => trial.of_index(*word, rest),
-            "disk" | "images" => trial.of_disk(*word, rest),
-            _ => trial.of_journal(*word, rest),
-        },
+        [] => Ok(()),
+        ["#", ..] => told.text(line).done(),
+        [word, rest @ ..] => done_by_word(trial, told, *word, rest),
+    }
+}
+
+// Does what a line of this first word says, by the words behind it.
+fn done_by_word(
+    trial: &mut Trial,
+    told: &mut Told,
+    word: &str,
+    words: &[&str],
+) -> Result<(), NoMemory> {
+    match word {
+        "book" | "next" | "apply" | "undo" => trial.of_book(told, word, words),
+        "party" | "account" | "reference" | "order" | "counts" | "fees" => {
+            trial.asked(told, word, words)
+        }
+        "read" | "write" => trial.of_entries(told, word, words),
+        "index" | "put" | "try" | "find" => trial.of_index(told, word, words),
+        "disk" | "images" => trial.of_disk(told, word, words),
+        _ => trial.of_journal(told, word, words),
     }
 }

@@ -31,9 +31,4 @@ impl Trial {
             disk: None,
         }
     }
-
-    /// Where memory comes from.
-    pub fn alloc(&self) -> Global {
-        self.alloc
-    }
 }

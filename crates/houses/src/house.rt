@@ -2,6 +2,7 @@ ghost use Rattle.std.specs.Prelude.{◌≤◌, vec_len};
 
 use crate::servers::Came;
 use crate::sessions::Left;
+use nb_lines::Told;
 use nb_link::{MemLink, MemPort};
 use nb_port::{MemClock, MemDisk};
 use nb_server::Worker;
@@ -51,42 +52,32 @@ impl House {
         }
     }
 
-    /// Where memory comes from.
-    pub fn alloc(&self) -> Global {
-        self.alloc
-    }
-
-    /// Nothing to print.
-    pub fn nothing(&self) -> Result<String, NoMemory> {
-        Ok(String::new(self.alloc))
-    }
-
     /// `journal HEX`: the next houses begin with this journal.
-    pub fn journal(&mut self, words: &[&str]) -> Result<String, NoMemory> {
-        self.journal = match words {
-            [] => Vec::new(self.alloc),
-            [text] => nb_lines::spelled(self.alloc, *text),
-            _ => return nb_lines::unclear(self.alloc),
-        };
+    pub fn journal(&mut self, told: &mut Told, words: &[&str]) -> Result<(), NoMemory> {
+        if words.len() > 1 {
+            return told.unclear();
+        }
+        let text = words.first().copied().unwrap_or("");
+        self.journal = nb_lines::spelled(self.alloc, text);
         let disk = MemDisk::new(self.alloc, &self.journal, &[])?;
         self.opening = opening_calls(self.alloc, disk);
-        self.nothing()
+        Ok(())
     }
 
     /// `disk CALL..`: the calls of their disks that fail, counted behind those of opening.
-    pub fn disk_fails(&mut self, words: &[&str]) -> Result<String, NoMemory> {
+    pub fn disk_fails(&mut self, words: &[&str]) -> Result<(), NoMemory> {
         self.fails.clear();
         for word in words {
             let call = nb_lines::number(*word);
             self.fails.push(self.opening.saturating_add(call))?;
         }
-        self.nothing()
+        Ok(())
     }
 
     /// `opening CALL..`: the calls of their disks that fail, counted from the first.
-    pub fn opening_fails(&mut self, words: &[&str]) -> Result<String, NoMemory> {
+    pub fn opening_fails(&mut self, words: &[&str]) -> Result<(), NoMemory> {
         self.fails = nb_lines::numbers(self.alloc, words, 0)?;
-        self.nothing()
+        Ok(())
     }
 
     /// A disk with the journal.
@@ -95,16 +86,16 @@ impl House {
     }
 
     /// `send COUNT HEX`: the peer of the next link sends these bytes so many times, behind what it sends already.
-    pub fn send(&mut self, words: &[&str]) -> Result<String, NoMemory> {
+    pub fn send(&mut self, told: &mut Told, words: &[&str]) -> Result<(), NoMemory> {
         let [count, text] = words else {
-            return nb_lines::unclear(self.alloc);
+            return told.unclear();
         };
         let bytes = nb_lines::spelled(self.alloc, *text);
         let count = nb_lines::number(*count).min(MOST as u64);
         for _ in 0..count {
             self.piece.extend_from_slice(&bytes)?;
         }
-        self.nothing()
+        Ok(())
     }
 
     /// The next link, of which one read gives at most so many bytes, and of which these calls fail.
@@ -116,25 +107,25 @@ impl House {
     }
 
     /// `link STEP`: the next worker has one link more.
-    pub fn link(&mut self, words: &[&str]) -> Result<String, NoMemory> {
+    pub fn link(&mut self, told: &mut Told, words: &[&str]) -> Result<(), NoMemory> {
         let [step] = words else {
-            return nb_lines::unclear(self.alloc);
+            return told.unclear();
         };
         let link = self.next_link(*step, &[])?;
         self.links.push(link)?;
-        self.nothing()
+        Ok(())
     }
 
     /// `worker CALL..`: the next server has one worker more, over these links; these calls of its port fail.
-    pub fn worker(&mut self, words: &[&str]) -> Result<String, NoMemory> {
+    pub fn worker(&mut self, told: &mut Told, words: &[&str]) -> Result<(), NoMemory> {
         let fails = nb_lines::numbers(self.alloc, words, 0)?;
         let links = std::mem::replace(&mut self.links, Vec::new(self.alloc));
         if links.len() > MOST_LINKS {
-            return nb_lines::unclear(self.alloc);
+            return told.unclear();
         }
         let worker = worker_of(self.alloc, links, &fails)?;
         self.workers.push(worker)?;
-        self.nothing()
+        Ok(())
     }
 }
 

@@ -1,28 +1,28 @@
 // What the disk of the last session holds, and what a stop leaves of it.
 
 use crate::house::House;
+use nb_lines::Told;
 use nb_port::MemDisk;
 use nb_units::{Blob, NoMemory};
 use nb_vault::Vault;
-use std::alloc::Global;
 
 impl House {
     /// `calls`: how many calls of the disk were made behind those of opening.
-    pub fn calls(&self) -> Result<String, NoMemory> {
+    pub fn calls(&self, told: &mut Told) -> Result<(), NoMemory> {
         match &self.left {
             Some(left) => {
                 let calls = left.disk.calls().saturating_sub(self.opening);
-                Ok(format!(in self.alloc; "{calls} calls")?)
+                told.show("", &calls).text(" calls").done()
             }
-            None => nb_lines::unclear(self.alloc),
+            None => told.unclear(),
         }
     }
 
     /// `content`: what the disk holds.
-    pub fn content(&self) -> Result<String, NoMemory> {
+    pub fn content(&self, told: &mut Told) -> Result<(), NoMemory> {
         match &self.left {
-            Some(left) => nb_lines::shown(self.alloc, left.disk.content()),
-            None => nb_lines::unclear(self.alloc),
+            Some(left) => told.bytes("", left.disk.content()).done(),
+            None => told.unclear(),
         }
     }
 
@@ -39,27 +39,31 @@ impl House {
     }
 
     /// `image STEP FILL`: what a stop leaves.
-    pub fn image(&self, words: &[&str]) -> Result<String, NoMemory> {
+    pub fn image(&self, told: &mut Told, words: &[&str]) -> Result<(), NoMemory> {
         match self.image_at(words)? {
-            Some(image) => nb_lines::shown(self.alloc, image.as_slice()),
-            None => nb_lines::unclear(self.alloc),
+            Some(image) => told.bytes("", image.as_slice()).done(),
+            None => told.unclear(),
         }
     }
 
     /// `entries STEP FILL`: how many entries a vault has that is opened on it.
-    pub fn entries(&self, words: &[&str]) -> Result<String, NoMemory> {
+    pub fn entries(&self, told: &mut Told, words: &[&str]) -> Result<(), NoMemory> {
         match self.image_at(words)? {
-            Some(image) => opened(self.alloc, image.as_slice()),
-            None => nb_lines::unclear(self.alloc),
+            Some(image) => opened(told, image.as_slice()),
+            None => told.unclear(),
         }
     }
 }
 
 // How many entries a journal has.
-fn opened(alloc: Global, content: &[u8]) -> Result<String, NoMemory> {
-    let disk = MemDisk::new(alloc, content, &[])?;
-    match Vault::open(alloc, disk) {
-        Ok(vault) => Ok(format!(in alloc; "{} entries", vault.entries())?),
-        Err(_) => nb_lines::unclear(alloc),
+fn opened(told: &mut Told, content: &[u8]) -> Result<(), NoMemory> {
+    let disk = MemDisk::new(told.alloc(), content, &[])?;
+    match Vault::open(told.alloc(), disk).ok() {
+        Some(vault) => {
+            told.show("", &vault.entries()).text(" entries");
+            drop(vault);
+            told.done()
+        }
+        None => told.unclear(),
     }
 }

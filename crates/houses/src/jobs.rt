@@ -1,13 +1,18 @@
 // A server's job, from its disk to its status.
 
+ghost use Rattle.std.specs.Prelude.{◌≤◌, vec_len};
+ghost use Rattle.nb_server.specs.declared.server.TheConstants.{MAX_WORKERS};
+
 use crate::house::House;
 use crate::servers::{Came, ended};
-use nb_link::{MemLink, OpenGate};
-use nb_port::MemSink;
+use nb_lines::Told;
+use nb_link::{MemLink, MemPort, OpenGate};
+use nb_port::{MemClock, MemDisk, MemSink};
 use nb_run::Job;
-use nb_server::MAX_WORKERS;
+use nb_server::{MAX_WORKERS, Worker};
 use nb_units::NoMemory;
 use nb_work::{Dials, work};
+use std::mem;
 use std::sync::Wait;
 use std::thread::Threads;
 
@@ -17,44 +22,60 @@ impl House {
     pub fn work<R: Threads + Wait + Sync>(
         &mut self,
         rt: &R,
+        told: &mut Told,
         words: &[&str],
-    ) -> Result<String, NoMemory> {
-        let alloc = self.alloc;
-        let [sessions] = words else {
-            return nb_lines::unclear(alloc);
-        };
+    ) -> Result<(), NoMemory> {
         let count = self.workers.len();
-        if count < 1 || count > MAX_WORKERS {
-            return nb_lines::unclear(alloc);
-        }
-        let workers = std::mem::replace(&mut self.workers, Vec::new(alloc));
-        let job = Job::Serve {
-            workers: count as u32,
-            sessions: nb_lines::number(*sessions).min(u64::from(u32::MAX)) as u32,
+        let [sessions] = words else {
+            return told.unclear();
         };
-        let mut sink = MemSink::new(alloc, &[])?;
-        let dials = Dials::<MemLink>::none();
-        let worked = work(
-            rt,
-            alloc,
-            job,
-            self.disk()?,
-            workers,
-            dials,
-            &OpenGate,
-            &mut sink,
-        );
-        let (status, place) = (worked.ending.status, worked.ending.place);
-        let lines = worked.lines.len();
-        let mut told = format!(in alloc; "status {status} at {place}, {lines} lines")?;
-        for end in &worked.ends {
-            told.push_str(ended(alloc, end)?.as_str())?;
+        if count < 1 || count > MAX_WORKERS {
+            return told.unclear();
         }
-        self.came = Some(Came {
-            lines: worked.lines,
-            workers: worked.workers,
-            ends: worked.ends,
-        });
-        Ok(told)
+        let sessions = nb_lines::number(*sessions).min(u64::from(u32::MAX)) as u32;
+        let disk = self.disk()?;
+        let workers = mem::replace(&mut self.workers, Vec::new(self.alloc));
+        let came = came_of(rt, told, disk, workers, sessions)?;
+        drop(mem::replace(&mut self.came, Some(came)));
+        Ok(())
     }
+}
+
+// Does the job, and tells how it ended.
+fn came_of<R: Threads + Wait + Sync>(
+    rt: &R,
+    told: &mut Told,
+    disk: MemDisk,
+    workers: Vec<Worker<MemPort, MemClock>>,
+    sessions: u32,
+) -> Result<Came, NoMemory>
+    requires some { 1 ≤ vec_len workers }
+    requires most { vec_len workers ≤ MAX_WORKERS }
+{
+    let job = Job::Serve {
+        workers: workers.len() as u32,
+        sessions,
+    };
+    let mut sink = MemSink::new(told.alloc(), &[])?;
+    let dials = Dials::<MemLink>::none();
+    let worked = work(
+        rt,
+        told.alloc(),
+        job,
+        disk,
+        workers,
+        dials,
+        &OpenGate,
+        &mut sink,
+    );
+    told.show("status ", &worked.ending.status)
+        .show(" at ", &worked.ending.place)
+        .show(", ", &worked.lines.len())
+        .text(" lines");
+    ended(told, &worked.ends);
+    Ok(Came {
+        lines: worked.lines,
+        workers: worked.workers,
+        ends: worked.ends,
+    })
 }

@@ -16,6 +16,7 @@ mod watch;
 
 use crate::house::House;
 use anyhow::anyhow;
+use nb_lines::Told;
 use nb_units::NoMemory;
 use std::sync::Wait;
 use std::thread::Threads;
@@ -23,63 +24,102 @@ use std::time::Clock;
 
 fn main(rt: HostRuntime) -> anyhow::Result<()> {
     let mut house = House::new(rt.alloc());
+    let ended = do_lines(&rt, &rt, &mut house);
+    drop(house);
+    ended
+}
+
+// Does what each line says, with the threads that `many` starts.
+fn do_lines<R: Threads + Wait + Clock + Sync>(
+    rt: &HostRuntime,
+    many: &R,
+    house: &mut House,
+) -> anyhow::Result<()> {
     for line in rt.lines(rt.alloc()) {
-        let told = done(&rt, &mut house, line?.as_str()).map_err(|_| anyhow!("out of memory"))?;
-        if !told.is_empty() {
-            println!(rt; "{told}")?;
-        }
+        do_line(rt, many, house, line?.as_str())?;
     }
     Ok(())
 }
 
-// What is done at a line; nothing where it is empty.
+// Does what a line says, and prints what is told of it; nothing where the line is empty.
+fn do_line<R: Threads + Wait + Clock + Sync>(
+    rt: &HostRuntime,
+    many: &R,
+    house: &mut House,
+    line: &str,
+) -> anyhow::Result<()> {
+    let mut told = Told::new(rt.alloc());
+    if done(many, house, &mut told, line).is_err() || told.done().is_err() {
+        return Err(anyhow!("out of memory"));
+    }
+    let told = told.as_str();
+    if !told.is_empty() {
+        println!(rt; "{told}")?;
+    }
+    Ok(())
+}
+
 fn done<R: Threads + Wait + Clock + Sync>(
     rt: &R,
     house: &mut House,
+    told: &mut Told,
     line: &str,
-) -> Result<String, NoMemory> {
-    let words: Vec<&str> = line.split_whitespace().collect(house.alloc())?;
+) -> Result<(), NoMemory> {
+    let words: Vec<&str> = line.split_whitespace().collect(told.alloc())?;
     match words.as_slice() {
-        [] => Ok(String::new(house.alloc())),
-        [word, rest @ ..] => match *word {
-            "#" => Ok(line.to_string(house.alloc())?),
-            "session" => house.session(rt, rest),
-            "frames" => house.frames(rest),
-            "work" => house.work(rt, rest),
-            "serve" => house.serve(rt, rest),
-            "image" => house.image(rest),
-            "entries" => house.entries(rest),
-            "stand" => house.stand(rest),
-            "lines" | "calls" | "content" | "passes" | "sent" | "made" => told(house, *word, rest),
-            _ => set(house, *word, rest),
-        },
+        [] => Ok(()),
+        ["#", ..] => told.text(line).done(),
+        [word, rest @ ..] => done_by_word(rt, house, told, *word, rest),
+    }
+}
+
+// Does what a line of this first word says, by the words behind it.
+fn done_by_word<R: Threads + Wait + Clock + Sync>(
+    rt: &R,
+    house: &mut House,
+    told: &mut Told,
+    word: &str,
+    words: &[&str],
+) -> Result<(), NoMemory> {
+    match word {
+        "session" => house.session(rt, told, words),
+        "frames" => house.frames(told, words),
+        "work" => house.work(rt, told, words),
+        "serve" => house.serve(rt, told, words),
+        "image" => house.image(told, words),
+        "entries" => house.entries(told, words),
+        "stand" => house.stand(told, words),
+        "lines" | "calls" | "content" | "passes" | "sent" | "made" => left(
+            house, told, word, words,
+        ),
+        _ => set(house, told, word, words),
     }
 }
 
 // What the next house is made of.
-fn set(house: &mut House, word: &str, rest: &[&str]) -> Result<String, NoMemory> {
+fn set(house: &mut House, told: &mut Told, word: &str, words: &[&str]) -> Result<(), NoMemory> {
     match word {
-        "journal" => house.journal(rest),
-        "disk" => house.disk_fails(rest),
-        "opening" => house.opening_fails(rest),
-        "send" => house.send(rest),
-        "link" => house.link(rest),
-        "worker" => house.worker(rest),
-        _ => nb_lines::unclear(house.alloc()),
+        "journal" => house.journal(told, words),
+        "disk" => house.disk_fails(words),
+        "opening" => house.opening_fails(words),
+        "send" => house.send(told, words),
+        "link" => house.link(told, words),
+        "worker" => house.worker(told, words),
+        _ => told.unclear(),
     }
 }
 
 // What came of the last one.
-fn told(house: &House, word: &str, rest: &[&str]) -> Result<String, NoMemory> {
-    if !rest.is_empty() {
-        return nb_lines::unclear(house.alloc());
+fn left(house: &House, told: &mut Told, word: &str, words: &[&str]) -> Result<(), NoMemory> {
+    if !words.is_empty() {
+        return told.unclear();
     }
     match word {
-        "lines" => house.lines(),
-        "calls" => house.calls(),
-        "content" => house.content(),
-        "passes" => house.passes(),
-        "sent" => house.sent(),
-        _ => house.made(),
+        "lines" => house.lines(told),
+        "calls" => house.calls(told),
+        "content" => house.content(told),
+        "passes" => house.passes(told),
+        "sent" => house.sent(told),
+        _ => house.made(told),
     }
 }

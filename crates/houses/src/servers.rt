@@ -2,6 +2,7 @@
 
 use crate::house::House;
 use crate::telling;
+use nb_lines::Told;
 use nb_link::{Gate, MemPort, Point, Port};
 use nb_port::{MemClock, MemDisk};
 use nb_server::{MAX_WORKERS, Worker, WorkerEnd, serve_all};
@@ -9,6 +10,7 @@ use nb_turns::Line;
 use nb_units::NoMemory;
 use nb_vault::Vault;
 use std::alloc::Global;
+use std::mem;
 use std::sync::Wait;
 use std::sync::atomic::{AtomicU64, Ordering};
 use std::thread::{self, Threads};
@@ -53,13 +55,10 @@ impl<'a, R: Clock> Hall<'a, R> {
         self.spent.store(1, Ordering::SeqCst);
     }
 
-    fn passed(&self, alloc: Global) -> Result<String, NoMemory> {
-        let workers = self.workers.load(Ordering::SeqCst);
-        let sessions = self.sessions.load(Ordering::SeqCst);
-        let spent = self.spent.load(Ordering::SeqCst);
-        Ok(format!(in alloc;
-            "passed by workers {workers} and sessions {sessions}, waited in vain {spent}"
-        )?)
+    fn passed(&self, told: &mut Told) {
+        told.show("passed by workers ", &self.workers.load(Ordering::SeqCst))
+            .show(" and sessions ", &self.sessions.load(Ordering::SeqCst))
+            .show(", waited in vain ", &self.spent.load(Ordering::SeqCst));
     }
 }
 
@@ -94,54 +93,63 @@ impl House {
     pub fn serve<R: Threads + Wait + Clock + Sync>(
         &mut self,
         rt: &R,
+        told: &mut Told,
         words: &[&str],
-    ) -> Result<String, NoMemory> {
+    ) -> Result<(), NoMemory> {
         let [hold] = words else {
-            return nb_lines::unclear(self.alloc);
+            return told.unclear();
         };
-        let holds = *hold == "hold";
-        let workers = std::mem::replace(&mut self.workers, Vec::new(self.alloc));
-        let gate = Hall::new(rt, holds);
-        self.came = serve_links(rt, self.alloc, self.disk()?, workers, &gate);
-        let mut told = gate.passed(self.alloc)?;
-        if let Some(came) = &self.came {
-            for end in &came.ends {
-                told.push_str(ended(self.alloc, end)?.as_str())?;
-            }
-        }
-        Ok(told)
+        let disk = self.disk()?;
+        let workers = mem::replace(&mut self.workers, Vec::new(self.alloc));
+        let came = served(rt, told, disk, workers, *hold == "hold");
+        drop(mem::replace(&mut self.came, came));
+        told.done()
     }
 
     /// `made`: how many lines each worker made, and how many there are.
-    pub fn made(&self) -> Result<String, NoMemory> {
-        let mut told = String::new(self.alloc);
+    pub fn made(&self, told: &mut Told) -> Result<(), NoMemory> {
         if let Some(came) = &self.came {
-            told.push_str(format!(in self.alloc; "{} lines:", came.lines.len())?.as_str())?;
+            told.show("", &came.lines.len()).text(" lines:");
             for end in &came.ends {
-                let made = came
-                    .lines
-                    .iter()
-                    .filter(|line| line.by() == end.pass)
-                    .count();
-                told.push_str(format!(in self.alloc; " {made}")?.as_str())?;
+                told.show(" ", &made_by(&came.lines, end.pass));
             }
         }
-        Ok(told)
+        told.done()
     }
 
     /// `sent`: how many links of each worker of the last server are left, and what each of the others was sent.
-    pub fn sent(&self) -> Result<String, NoMemory> {
-        let mut told = String::new(self.alloc);
+    pub fn sent(&self, told: &mut Told) -> Result<(), NoMemory> {
         if let Some(came) = &self.came {
+            let mut between = "";
             for worker in &came.workers {
-                if !told.is_empty() {
-                    told.push_str("\n")?;
-                }
-                told.push_str(sent_by(self.alloc, &worker.port)?.as_str())?;
+                sent_by(told.text(between), &worker.port);
+                between = "\n";
             }
         }
-        Ok(told)
+        told.done()
     }
+}
+
+// How many of the lines this pass made.
+fn made_by(lines: &[Line], pass: u64) -> usize {
+    lines.iter().filter(|line| line.by() == pass).count()
+}
+
+// Serves the links of these workers, and tells who passed the gate and how the sessions ended.
+fn served<R: Threads + Wait + Clock + Sync>(
+    rt: &R,
+    told: &mut Told,
+    disk: MemDisk,
+    workers: Vec<Worker<MemPort, MemClock>>,
+    holds: bool,
+) -> Option<Came> {
+    let gate = Hall::new(rt, holds);
+    let came = serve_links(rt, told.alloc(), disk, workers, &gate);
+    gate.passed(told);
+    if let Some(came) = &came {
+        ended(told, &came.ends);
+    }
+    came
 }
 
 // Serves the links of these workers against a vault that is opened over the disk.
@@ -156,41 +164,34 @@ fn serve_links<R: Threads + Wait + Sync, G: Gate>(
     if count == 0 || count > MAX_WORKERS {
         return None;
     }
-    let Ok(vault) = Vault::open(alloc, disk) else {
-        return None;
-    };
-    match serve_all(rt, alloc, vault, workers, gate) {
-        Ok(served) => {
-            let (_disk, lines) = served.vault.into_parts();
-            Some(Came {
-                lines,
-                workers: served.workers,
-                ends: served.ends,
-            })
+    let vault = Vault::open(alloc, disk).ok()?;
+    let served = serve_all(rt, alloc, vault, workers, gate).ok()?;
+    Some(Came {
+        lines: served.vault.into_parts().1,
+        workers: served.workers,
+        ends: served.ends,
+    })
+}
+
+// Why each worker stopped, and how each of its sessions ended.
+pub(crate) fn ended(told: &mut Told, ends: &[WorkerEnd]) {
+    for end in ends {
+        told.show("\nworker ", &end.worker)
+            .show(" by pass ", &end.pass)
+            .text(": ")
+            .text(telling::how(end.how));
+        for record in &end.records {
+            telling::end(told.show("; ", &record.number).text(" "), record.end).show(
+                " of ",
+                &record.marks.len(),
+            );
         }
-        Err(_) => None,
     }
 }
 
-// Why a worker stopped, and how each of its sessions ended.
-pub(crate) fn ended(alloc: Global, end: &WorkerEnd) -> Result<String, NoMemory> {
-    let how = telling::how(end.how);
-    let (worker, pass) = (end.worker, end.pass);
-    let mut told = format!(in alloc; "\nworker {worker} by pass {pass}: {how}")?;
-    for record in &end.records {
-        let ended = telling::end(alloc, record.end)?;
-        let (number, count) = (record.number, record.marks.len());
-        let one = format!(in alloc; "; {number} {ended} of {count}")?;
-        told.push_str(one.as_str())?;
-    }
-    Ok(told)
-}
-
-fn sent_by(alloc: Global, port: &MemPort) -> Result<String, NoMemory> {
-    let mut told = format!(in alloc; "{} left:", port.left())?;
+fn sent_by(told: &mut Told, port: &MemPort) {
+    told.show("", &port.left()).text(" left:");
     for link in port.done() {
-        told.push_str(" ")?;
-        told.push_str(nb_lines::shown(alloc, link.sent())?.as_str())?;
+        told.bytes(" ", link.sent());
     }
-    Ok(told)
 }

@@ -7,12 +7,15 @@ use crate::house::{House, MOMENT};
 use crate::telling;
 use crate::watch::{Passes, Passing, SeenLink, Watch};
 use nb_desk::{Desk, Pass};
+use nb_lines::Told;
+use nb_link::MemLink;
 use nb_port::{MemClock, MemDisk};
 use nb_session::{Record, session};
 use nb_turns::Line;
 use nb_units::NoMemory;
 use nb_vault::Vault;
 use std::alloc::Global;
+use std::mem;
 use std::sync::Wait;
 use std::sync::atomic::{AtomicU64, Ordering};
 
@@ -35,73 +38,91 @@ pub struct Left {
 impl House {
     /// `session STEP CALL..`: a session over a link whose peer sent what was given to it, of which one read gives at most so many bytes,
     /// and of which these calls fail.
-    pub fn session<R: Wait>(&mut self, rt: &R, words: &[&str]) -> Result<String, NoMemory> {
+    pub fn session<R: Wait>(
+        &mut self,
+        rt: &R,
+        told: &mut Told,
+        words: &[&str],
+    ) -> Result<(), NoMemory> {
         let [step, calls @ ..] = words else {
-            return nb_lines::unclear(self.alloc);
+            return told.unclear();
         };
         let fails = nb_lines::numbers(self.alloc, calls, 0)?;
-        let watch = Watch::new();
-        let mut link = SeenLink {
-            link: self.next_link(*step, &fails)?,
-            watch: &watch,
-        };
-        self.left = serve_link(rt, self.alloc, self.disk()?, &mut link, &watch)?;
-        match &self.left {
-            Some(left) => told(self.alloc, &left.record, &link, &watch),
-            None => nb_lines::unclear(self.alloc),
-        }
+        let link = self.next_link(*step, &fails)?;
+        let left = left_of(rt, told, self.disk()?, link)?;
+        let is_left = left.is_some();
+        drop(mem::replace(&mut self.left, left));
+        if is_left { told.done() } else { told.unclear() }
     }
 
     /// `lines`: the last lines of the last session's vault.
-    pub fn lines(&self) -> Result<String, NoMemory> {
+    pub fn lines(&self, told: &mut Told) -> Result<(), NoMemory> {
         match &self.left {
-            Some(left) => telling::lines(self.alloc, &left.lines),
-            None => nb_lines::unclear(self.alloc),
+            Some(left) => {
+                telling::lines(told, &left.lines);
+                told.done()
+            }
+            None => told.unclear(),
         }
     }
+}
+
+// Serves a link at a desk over a disk, and tells what the session did.
+fn left_of<R: Wait>(
+    rt: &R,
+    told: &mut Told,
+    disk: MemDisk,
+    link: MemLink,
+) -> Result<Option<Left>, NoMemory> {
+    let watch = Watch::new();
+    let mut link = SeenLink {
+        link,
+        watch: &watch,
+    };
+    let left = serve_link(rt, told.alloc(), disk, &mut link, &watch);
+    if let Ok(Some(left)) = &left {
+        tell(told, &left.record, link.link.sent(), &watch);
+    }
+    drop(link);
+    left
 }
 
 impl House {
     /// `passes`: of each point of the gate, as which passes of all points it was passed in the last session, from 0 on, and behind how many
     /// writes; of both those below 64.
-    pub fn passes(&self) -> Result<String, NoMemory> {
-        let Some(left) = &self.left else {
-            return nb_lines::unclear(self.alloc);
-        };
-        let before = all_passes(self.alloc, left.before)?;
-        let behind = all_passes(self.alloc, left.behind)?;
-        Ok(format!(in self.alloc; "before{before}; behind{behind}")?)
+    pub fn passes(&self, told: &mut Told) -> Result<(), NoMemory> {
+        match &self.left {
+            Some(left) => {
+                all_passes(told.text("before"), left.before);
+                all_passes(told.text("; behind"), left.behind);
+                told.done()
+            }
+            None => told.unclear(),
+        }
     }
 }
 
-fn all_passes(alloc: Global, passes: Passes) -> Result<String, NoMemory> {
-    let orders = numbers_in(alloc, passes.orders)?;
-    let writes = numbers_in(alloc, passes.writes)?;
-    Ok(format!(in alloc; "{orders} with{writes} writes")?)
+fn all_passes(told: &mut Told, passes: Passes) {
+    numbers_in(told, passes.orders);
+    numbers_in(told.text(" with"), passes.writes);
+    told.text(" writes");
 }
 
 // The numbers whose bits are set.
-fn numbers_in(alloc: Global, word: u64) -> Result<String, NoMemory> {
-    let mut told = String::new(alloc);
+fn numbers_in(told: &mut Told, word: u64) {
     for number in 0..64u64 {
         if word >> number & 1 == 1 {
-            told.push_str(format!(in alloc; " {number}")?.as_str())?;
+            told.show(" ", &number);
         }
     }
-    Ok(told)
 }
 
 // Opens a desk over a journal.
 fn desk_over(alloc: Global, disk: MemDisk) -> Option<(Desk<MemDisk>, Pass<MemDisk>)>
     ensures { IfSome result (λ r. IsAt r.1 r.0) }
 {
-    let Ok(vault) = Vault::open(alloc, disk) else {
-        return None;
-    };
-    match Desk::open(alloc, vault) {
-        Ok(opened) => Some(opened),
-        Err(_) => None,
-    }
+    let vault = Vault::open(alloc, disk).ok()?;
+    Desk::open(alloc, vault).ok()
 }
 
 // Serves a link at a desk over a disk.
@@ -142,32 +163,24 @@ fn serve_at<'a, R: Wait>(
 }
 
 // What a session did, in words.
-fn told<'a>(
-    alloc: Global,
-    record: &Record,
-    link: &SeenLink<'a>,
-    watch: &Watch,
-) -> Result<String, NoMemory> {
-    let mut told = ended(alloc, record)?;
-    told.push_str(telling::marks(alloc, &record.marks)?.as_str())?;
-    told.push_str(written(alloc, link.link.sent(), watch)?.as_str())?;
-    told.push_str(passed(alloc, watch)?.as_str())?;
-    Ok(told)
+fn tell(told: &mut Told, record: &Record, sent: &[u8], watch: &Watch) {
+    ended(told, record);
+    telling::marks(told, &record.marks);
+    told.show("\n", &count(&watch.writes))
+        .bytes(" writes: ", sent)
+        .text("\n");
+    passed(told, watch);
 }
 
-fn ended(alloc: Global, record: &Record) -> Result<String, NoMemory> {
-    let end = telling::end(alloc, record.end)?;
-    let (before, after) = (record.seen_before, record.seen_after);
-    let number = record.number;
+fn ended(told: &mut Told, record: &Record) {
     let moment = record.moments.first().copied().unwrap_or(0);
     let count = record.moments.iter().filter(|one| **one == moment).count();
-    Ok(format!(in alloc; "{number}: {end}, lines {before} to {after}, {count} at {moment}\n")?)
-}
-
-fn written(alloc: Global, sent: &[u8], watch: &Watch) -> Result<String, NoMemory> {
-    let sent = nb_lines::shown(alloc, sent)?;
-    let writes = count(&watch.writes);
-    Ok(format!(in alloc; "\n{writes} writes: {sent}\n")?)
+    telling::end(told.show("", &record.number).text(": "), record.end)
+        .show(", lines ", &record.seen_before)
+        .show(" to ", &record.seen_after)
+        .show(", ", &count)
+        .show(" at ", &moment)
+        .text("\n");
 }
 
 fn count(word: &AtomicU64) -> u64 {
@@ -175,16 +188,19 @@ fn count(word: &AtomicU64) -> u64 {
 }
 
 // What the gate saw: how often each point was passed, and the last pass of each.
-fn passed(alloc: Global, watch: &Watch) -> Result<String, NoMemory> {
+fn passed(told: &mut Told, watch: &Watch) {
     let turns = count(&watch.before_turns);
     let replies = count(&watch.passed).saturating_sub(turns);
-    let before = passing(alloc, &watch.before_turn)?;
-    let after = passing(alloc, &watch.after_reply)?;
-    Ok(format!(in alloc; "{turns} before{before}; {replies} behind{after}")?)
+    passing(told.show("", &turns).text(" before"), &watch.before_turn);
+    passing(
+        told.show("; ", &replies).text(" behind"),
+        &watch.after_reply,
+    );
 }
 
-fn passing(alloc: Global, passing: &Passing) -> Result<String, NoMemory> {
-    let (worker, session) = (count(&passing.worker), count(&passing.session));
-    let (order, writes) = (count(&passing.order), count(&passing.writes));
-    Ok(format!(in alloc; " {worker} {session} {order} {writes}")?)
+fn passing(told: &mut Told, passing: &Passing) {
+    told.show(" ", &count(&passing.worker))
+        .show(" ", &count(&passing.session))
+        .show(" ", &count(&passing.order))
+        .show(" ", &count(&passing.writes));
 }

@@ -4,6 +4,7 @@
 use crate::house::House;
 use crate::servers::Came;
 use nb_book::Entry;
+use nb_lines::Told;
 use nb_link::MemLink;
 use nb_session::Record;
 use nb_turns::{Line, Mark};
@@ -15,7 +16,7 @@ const ACCOUNT: AcctId = AcctId(1);
 
 // What the lines tell.
 #[derive(Drop)]
-struct Told {
+struct Stood {
     // The entries that are kept.
     entries: Vec<Entry>,
     // The faults, each with who asked.
@@ -36,41 +37,40 @@ struct Counts {
 impl House {
     /// `stand BEFORE`: of each reply of the last server whether its fund stands at the place that it tells, behind so many entries of the
     /// journal, or its fault is told under its worker's number.
-    pub fn stand(&self, words: &[&str]) -> Result<String, NoMemory> {
+    pub fn stand(&self, told: &mut Told, words: &[&str]) -> Result<(), NoMemory> {
         match (&self.came, words) {
-            (Some(came), [before]) => {
-                let told = told_by(self.alloc, &came.lines, came.ends.len() as u64)?;
-                let counts = counted(came, &told, nb_lines::number(*before));
-                summed(self.alloc, counts, told.foreign)
-            }
-            _ => nb_lines::unclear(self.alloc),
+            (Some(came), [before]) => summed(told, came, nb_lines::number(*before)),
+            _ => told.unclear(),
         }
     }
 }
 
-fn summed(alloc: Global, counts: Counts, foreign: u64) -> Result<String, NoMemory> {
-    let all = counts.placed.saturating_add(counts.failed);
-    let (some_placed, some_failed) = (counts.placed > 0, counts.failed > 0);
-    let fallen = counts.fallen;
-    Ok(format!(in alloc;
-        "{all} replies stand, {fallen} do not; a place was told: {some_placed}, a fault: {some_failed}; {foreign} lines of others"
-    )?)
+fn summed(told: &mut Told, came: &Came, before: u64) -> Result<(), NoMemory> {
+    let stood = stood_in(told.alloc(), &came.lines, came.ends.len() as u64)?;
+    let counts = counted(came, &stood, before);
+    told.show("", &counts.placed.saturating_add(counts.failed))
+        .show(" replies stand, ", &counts.fallen)
+        .show(" do not; a place was told: ", &(counts.placed > 0))
+        .show(", a fault: ", &(counts.failed > 0))
+        .show("; ", &stood.foreign)
+        .text(" lines of others")
+        .done()
 }
 
-fn told_by(alloc: Global, lines: &[Line], workers: u64) -> Result<Told, NoMemory> {
-    let mut told = Told {
+fn stood_in(alloc: Global, lines: &[Line], workers: u64) -> Result<Stood, NoMemory> {
+    let mut stood = Stood {
         entries: Vec::new(alloc),
         faults: Vec::new(alloc),
         workers,
         foreign: 0,
     };
     for line in lines {
-        told.take(line)?;
+        stood.take(line)?;
     }
-    Ok(told)
+    Ok(stood)
 }
 
-impl Told {
+impl Stood {
     fn take(&mut self, line: &Line) -> Result<(), NoMemory> {
         self.see(line.by() < self.workers);
         match *line {
@@ -135,7 +135,7 @@ fn fund(frame: [u8; 3]) -> Entry {
 }
 
 // Holds what each link was told against the lines.
-fn counted(came: &Came, told: &Told, before: u64) -> Counts {
+fn counted(came: &Came, stood: &Stood, before: u64) -> Counts {
     let mut counts = Counts {
         placed: 0,
         failed: 0,
@@ -145,7 +145,7 @@ fn counted(came: &Came, told: &Told, before: u64) -> Counts {
     for (worker, end) in came.workers.iter().zip(came.ends.as_slice()) {
         let mut link_number = 0u8;
         for (link, record) in worker.port.done().iter().zip(end.records.as_slice()) {
-            counts.count(told, before, [number, link_number, 0], link, record);
+            counts.count(stood, before, [number, link_number, 0], link, record);
             link_number = link_number.saturating_add(1);
         }
         number = number.saturating_add(1);
@@ -155,13 +155,20 @@ fn counted(came: &Came, told: &Told, before: u64) -> Counts {
 
 impl Counts {
     // Counts the replies of a link, each of which says what its mark says.
-    fn count(&mut self, told: &Told, before: u64, first: [u8; 3], link: &MemLink, record: &Record) {
+    fn count(
+        &mut self,
+        stood: &Stood,
+        before: u64,
+        first: [u8; 3],
+        link: &MemLink,
+        record: &Record,
+    ) {
         let mut rest = link.sent();
         let mut frame = first;
         for mark in &record.marks {
             match first_told(rest) {
                 Some((said, more)) => {
-                    self.add(said, said == *mark && told.has(said, before, frame));
+                    self.add(said, said == *mark && stood.has(said, before, frame));
                     rest = more;
                 }
                 None => self.add(*mark, false),

@@ -1,36 +1,35 @@
 // What a house does, in words.
 
 use nb_frame::FrameFault;
+use nb_lines::Told;
 use nb_server::How;
 use nb_session::SessionEnd;
 use nb_turns::{Line, Mark};
-use nb_units::NoMemory;
 use nb_wire::{LinkEnd, Sent};
-use std::alloc::Global;
 
 // The most marks and lines that are shown.
 const LAST: usize = 9;
 
 // How a session ended.
-pub(crate) fn end(alloc: Global, end: SessionEnd) -> Result<String, NoMemory> {
-    Ok(match end {
-        SessionEnd::Clean => "clean".to_string(alloc)?,
-        SessionEnd::Cut { place } => format!(in alloc; "cut at {place}")?,
-        SessionEnd::BadFrame(fault) => bad_frame(alloc, fault)?,
-        SessionEnd::ReadFault => "read fault".to_string(alloc)?,
-        SessionEnd::WriteFault => "write fault".to_string(alloc)?,
-        SessionEnd::Spent => "spent".to_string(alloc)?,
-        SessionEnd::NoMemory => "no memory".to_string(alloc)?,
-    })
+pub(crate) fn end(told: &mut Told, end: SessionEnd) -> &mut Told {
+    match end {
+        SessionEnd::Clean => told.text("clean"),
+        SessionEnd::Cut { place } => told.show("cut at ", &place),
+        SessionEnd::BadFrame(fault) => bad_frame(told, fault),
+        SessionEnd::ReadFault => told.text("read fault"),
+        SessionEnd::WriteFault => told.text("write fault"),
+        SessionEnd::Spent => told.text("spent"),
+        SessionEnd::NoMemory => told.text("no memory"),
+    }
 }
 
 // Why no frame comes over a link any more.
-pub(crate) fn link_end(alloc: Global, end: LinkEnd) -> Result<String, NoMemory> {
-    Ok(match end {
-        LinkEnd::Ended { rest } => format!(in alloc; "ended with {rest} left")?,
-        LinkEnd::BadFrame(fault) => bad_frame(alloc, fault)?,
-        LinkEnd::ReadFault => "read fault".to_string(alloc)?,
-    })
+pub(crate) fn link_end(told: &mut Told, end: LinkEnd) -> &mut Told {
+    match end {
+        LinkEnd::Ended { rest } => told.show("ended with ", &rest).text(" left"),
+        LinkEnd::BadFrame(fault) => bad_frame(told, fault),
+        LinkEnd::ReadFault => told.text("read fault"),
+    }
 }
 
 // How sending went.
@@ -41,17 +40,17 @@ pub(crate) fn sent(sent: Sent) -> &'static str {
     }
 }
 
-fn bad_frame(alloc: Global, fault: FrameFault) -> Result<String, NoMemory> {
-    Ok(match fault {
+fn bad_frame(told: &mut Told, fault: FrameFault) -> &mut Told {
+    match fault {
         FrameFault::BadMagic { place, found } => {
-            format!(in alloc; "bad magic {found} at {place}")?
+            told.show("bad magic ", &found).show(" at ", &place)
         }
         FrameFault::BadVersion { place, found } => {
-            format!(in alloc; "bad version {found} at {place}")?
+            told.show("bad version ", &found).show(" at ", &place)
         }
-        FrameFault::BadKind { place, found } => format!(in alloc; "bad kind {found} at {place}")?,
-        FrameFault::TooLong { place, len } => format!(in alloc; "too long {len} at {place}")?,
-    })
+        FrameFault::BadKind { place, found } => told.show("bad kind ", &found).show(" at ", &place),
+        FrameFault::TooLong { place, len } => told.show("too long ", &len).show(" at ", &place),
+    }
 }
 
 // Why a worker stopped.
@@ -63,21 +62,20 @@ pub(crate) fn how(how: How) -> &'static str {
     }
 }
 
-fn mark(alloc: Global, mark: Mark) -> Result<String, NoMemory> {
-    Ok(match mark {
-        Mark::At(place) => format!(in alloc; " {place}")?,
-        Mark::Fault { before, after } => format!(in alloc; " fault {before}-{after}")?,
-        Mark::Worn => " worn".to_string(alloc)?,
-    })
+fn mark(told: &mut Told, mark: Mark) {
+    match mark {
+        Mark::At(place) => told.show(" ", &place),
+        Mark::Fault { before, after } => told.show(" fault ", &before).show("-", &after),
+        Mark::Worn => told.text(" worn"),
+    };
 }
 
 // The last marks of a session.
-pub(crate) fn marks(alloc: Global, marks: &[Mark]) -> Result<String, NoMemory> {
-    let mut told = format!(in alloc; "{} marks:", marks.len())?;
+pub(crate) fn marks(told: &mut Told, marks: &[Mark]) {
+    told.show("", &marks.len()).text(" marks:");
     for one in marks.iter().skip(marks.len().saturating_sub(LAST)) {
-        told.push_str(mark(alloc, *one)?.as_str())?;
+        mark(told, *one);
     }
-    Ok(told)
 }
 
 fn kind(line: &Line) -> &'static str {
@@ -90,11 +88,12 @@ fn kind(line: &Line) -> &'static str {
 }
 
 // The last lines of a vault: what each tells of, its turn, and who asked.
-pub(crate) fn lines(alloc: Global, lines: &[Line]) -> Result<String, NoMemory> {
-    let mut told = format!(in alloc; "{} lines:", lines.len())?;
+pub(crate) fn lines(told: &mut Told, lines: &[Line]) {
+    told.show("", &lines.len()).text(" lines:");
     for line in lines.iter().skip(lines.len().saturating_sub(LAST)) {
-        let one = format!(in alloc; " {} {} by {}", kind(line), line.turn(), line.by())?;
-        told.push_str(one.as_str())?;
+        told.text(" ")
+            .text(kind(line))
+            .show(" ", &line.turn())
+            .show(" by ", &line.by());
     }
-    Ok(told)
 }

@@ -3,6 +3,7 @@
 ghost use Rattle.std.specs.Prelude.{◌≤◌, length, IfOk};
 
 use crate::telling;
+use nb_lines::Told;
 use nb_units::{Buffer, Cut, CutFault, Epoid, NoMemory, Pen, allow, is_reason, room};
 use std::alloc::Global;
 
@@ -23,14 +24,15 @@ struct FiveFields<'a> {
 
 /// `row BYTES`: a byte, a number of 4 bytes, one of 8, an identifier and a text of at most 64 bytes, and whether a pen and a buffer spell them so;
 /// or the first field that does not stand there.
-pub fn row(alloc: Global, words: &[&str]) -> Result<String, NoMemory> {
+pub fn row(told: &mut Told, words: &[&str]) -> Result<(), NoMemory> {
+    let alloc = told.alloc();
     let [bytes] = words else {
-        return nb_lines::unclear(alloc);
+        return told.unclear();
     };
     let bytes = nb_lines::spelled(alloc, *bytes);
     match read(&bytes) {
-        Ok(row) => told(alloc, &row, &bytes),
-        Err(fault) => telling::fault(alloc, &fault),
+        Ok(row) => tell(told, &row, &bytes),
+        Err(fault) => telling::fault(told, &fault),
     }
 }
 
@@ -53,13 +55,16 @@ fn read(bytes: &[u8]) -> Result<FiveFields, CutFault>
     })
 }
 
-fn told(alloc: Global, row: &FiveFields, bytes: &[u8]) -> Result<String, NoMemory>
+fn tell(told: &mut Told, row: &FiveFields, bytes: &[u8]) -> Result<(), NoMemory>
     requires { length row.now.text.now ≤ 64 }
 {
     let fields = (row.byte, row.short, row.long, row.epoid, row.text);
-    let by_pen = penned(alloc, row)?.as_slice() == bytes;
+    let by_pen = penned(told.alloc(), row)?.as_slice() == bytes;
     let by_buffer = buffered(row).as_slice() == bytes;
-    Ok(format!(in alloc; "{fields:?}; spelled so: {by_pen}, {by_buffer}")?)
+    told.debug("", &fields)
+        .show("; spelled so: ", &by_pen)
+        .show(", ", &by_buffer)
+        .done()
 }
 
 fn penned(alloc: Global, row: &FiveFields) -> Result<Vec<u8>, NoMemory>
@@ -89,13 +94,13 @@ fn buffered(row: &FiveFields) -> Buffer
 }
 
 /// `reason CODE PLACE`: whether a field at the place may have the code of a reason.
-pub fn reason(alloc: Global, words: &[&str]) -> Result<String, NoMemory> {
+pub fn reason(told: &mut Told, words: &[&str]) -> Result<(), NoMemory> {
     let [code, place] = words else {
-        return nb_lines::unclear(alloc);
+        return told.unclear();
     };
     let code = code.parse::<u8>().unwrap_or(0);
     match allow(is_reason(code), telling::short(*place) as usize) {
-        Ok(()) => Ok("allowed".to_string(alloc)?),
-        Err(fault) => telling::fault(alloc, &fault),
+        Ok(()) => told.text("allowed").done(),
+        Err(fault) => telling::fault(told, &fault),
     }
 }

@@ -10,6 +10,7 @@ use nb_goods::{
     MAX_GOODS, MAX_SEALED, OpenGoods, PART_BYTES, Parts, checksum, goods_key, open_goods,
     open_parts, parts, sealed,
 };
+use nb_lines::Told;
 use nb_units::{Blob, NoMemory, PartyId, Secret};
 use std::alloc::Global;
 
@@ -37,64 +38,52 @@ impl Shelf {
         }
     }
 
-    /// Where memory comes from.
-    pub fn alloc(&self) -> Global {
-        self.alloc
-    }
-
     /// `parts KEY GOODS LENGTH PART..`: the parts of a sale of goods, which are kept; their number and length, and the digests of these.
-    pub fn sale(&mut self, words: &[&str]) -> Result<String, NoMemory> {
+    pub fn sale(&mut self, told: &mut Told, words: &[&str]) -> Result<(), NoMemory> {
         let [key, pattern, length, shown @ ..] = words else {
-            return nb_lines::unclear(self.alloc);
+            return told.unclear();
         };
         let goods = patterned(self.alloc, *pattern, *length)?;
         if goods.len() > MAX_GOODS {
-            return nb_lines::unclear(self.alloc);
+            return told.unclear();
         }
         self.key = telling::key(self.alloc, *key);
-        let made = parts(&self.key, &goods);
-        let cut = cut(self.alloc, &made, &goods)?;
-        self.others = std::mem::replace(&mut self.parts, cut);
-        let front = sale_told(self.alloc, &made, &self.parts)?;
-        self.digests(front, shown)
+        self.cut(told, &goods)?;
+        digests(told, &self.parts, shown)
     }
 
-    // The digests of these parts, behind what was told.
-    fn digests(&self, mut told: String, numbers: &[&str]) -> Result<String, NoMemory> {
-        for number in numbers {
-            if let Some(part) = self.parts.get(telling::short(*number) as usize) {
-                let digest = hex::encode(self.alloc, checksum(part.as_slice()))?;
-                let one = format!(in self.alloc; "; {number}: {digest}")?;
-                told.push_str(one.as_str())?;
-            }
-        }
-        Ok(told)
+    // Cuts goods into parts, and keeps those that there were.
+    fn cut(&mut self, told: &mut Told, goods: &[u8]) -> Result<(), NoMemory>
+        requires { length goods.now ≤ MAX_GOODS }
+    {
+        let made = parts(&self.key, goods);
+        let cut = cut(self.alloc, &made, goods)?;
+        sale_told(told, &made, &cut);
+        self.others = std::mem::replace(&mut self.parts, cut);
+        Ok(())
     }
 
     /// `all`: what the parts of the last sale open to.
-    pub fn all(&self, words: &[&str]) -> Result<String, NoMemory> {
-        if !words.is_empty() || !fit(&self.parts) {
-            return nb_lines::unclear(self.alloc);
+    pub fn all(&self, told: &mut Told, words: &[&str]) -> Result<(), NoMemory> {
+        if words.is_empty() {
+            open_as_parts(told, &self.key, &self.parts)
+        } else {
+            told.unclear()
         }
-        opened(self.alloc, open_parts(self.alloc, &self.key, &self.parts))
     }
 
     /// `came PIECE..`: what pieces of the parts open to, as parts and joined, and their digests.
-    pub fn came(&self, words: &[&str]) -> Result<String, NoMemory> {
+    pub fn came(&self, told: &mut Told, words: &[&str]) -> Result<(), NoMemory> {
         let mut pieces = Vec::new(self.alloc);
-        let mut bytes = Vec::new(self.alloc);
         for word in words {
-            let piece = self.piece(*word)?;
-            bytes.extend_from_slice(&piece)?;
-            pieces.push(Blob::from_vec(piece))?;
+            pieces.push(Blob::from_vec(self.piece(*word)?))?;
         }
-        if !fit(&pieces) || bytes.len() > MAX_SEALED {
-            return nb_lines::unclear(self.alloc);
+        if !fit(&pieces) {
+            return told.unclear();
         }
-        let parts = opened(self.alloc, open_parts(self.alloc, &self.key, &pieces))?;
-        let joined = opened(self.alloc, open_goods(self.alloc, &self.key, &bytes))?;
-        let told = format!(in self.alloc; "parts: {parts}; joined: {joined}")?;
-        digested(self.alloc, told, &pieces)
+        open_as_parts(told.text("parts: "), &self.key, &pieces)?;
+        open_joined(told.text("; joined: "), &self.key, &pieces)?;
+        digested(told, &pieces)
     }
 
     // The piece of a word `PART`, `PART-LENGTH` of which so many bytes are left, or `PART~PLACE` of which the last bit of a byte is
@@ -105,6 +94,41 @@ impl Shelf {
             None => piece(self.alloc, &self.parts, word),
         }
     }
+}
+
+// The digests of the parts of these numbers.
+fn digests(told: &mut Told, parts: &[Blob], numbers: &[&str]) -> Result<(), NoMemory> {
+    for number in numbers {
+        if let Some(part) = parts.get(telling::short(*number) as usize) {
+            told.show("; ", number)
+                .hex(": ", &checksum(part.as_slice()));
+        }
+    }
+    told.done()
+}
+
+// What parts open to.
+fn open_as_parts(told: &mut Told, key: &Secret, parts: &[Blob]) -> Result<(), NoMemory> {
+    if !fit(parts) {
+        return told.unclear();
+    }
+    opened(told, open_parts(told.alloc(), key, parts))
+}
+
+// What parts open to that are joined.
+fn open_joined(told: &mut Told, key: &Secret, parts: &[Blob]) -> Result<(), NoMemory> {
+    let mut bytes = Vec::new(told.alloc());
+    for part in parts {
+        bytes.extend_from_slice(part.as_slice())?;
+    }
+    open_whole(told, key, &bytes)
+}
+
+fn open_whole(told: &mut Told, key: &Secret, sealed: &[u8]) -> Result<(), NoMemory> {
+    if sealed.len() > MAX_SEALED {
+        return told.unclear();
+    }
+    opened(told, open_goods(told.alloc(), key, sealed))
 }
 
 fn piece(alloc: Global, parts: &[Blob], word: &str) -> Result<Vec<u8>, NoMemory> {
@@ -176,37 +200,37 @@ fn fit(parts: &[Blob]) -> bool
     true
 }
 
-fn sale_told(alloc: Global, made: &Parts, parts: &[Blob]) -> Result<String, NoMemory> {
-    let checksum = hex::encode(alloc, made.checksum())?;
-    let (total, count) = (made.total(), parts.len());
+fn sale_told(told: &mut Told, made: &Parts, parts: &[Blob]) {
     let last = match parts.last() {
         Some(part) => part.as_slice().len(),
         None => 0,
     };
-    Ok(format!(in alloc; "{total} bytes, {count} parts, the last of {last}; checksum {checksum}")?)
+    told.show("", &made.total())
+        .show(" bytes, ", &parts.len())
+        .show(" parts, the last of ", &last)
+        .hex("; checksum ", &made.checksum());
 }
 
-// The digests of pieces, behind what was told.
-fn digested(alloc: Global, mut told: String, pieces: &[Blob]) -> Result<String, NoMemory> {
+// The digests of pieces.
+fn digested(told: &mut Told, pieces: &[Blob]) -> Result<(), NoMemory> {
     for piece in pieces {
-        let digest = hex::encode(alloc, checksum(piece.as_slice()))?;
-        let one = format!(in alloc; "; {digest}")?;
-        told.push_str(one.as_str())?;
+        told.hex("; ", &checksum(piece.as_slice()));
     }
-    Ok(told)
+    told.done()
 }
 
-fn opened(alloc: Global, opened: Result<Blob, OpenGoods>) -> Result<String, NoMemory> {
+fn opened(told: &mut Told, opened: Result<Blob, OpenGoods>) -> Result<(), NoMemory> {
     match opened {
-        Ok(goods) => nb_lines::shown(alloc, goods.as_slice()),
-        Err(fault) => telling::fault(alloc, &fault),
+        Ok(goods) => told.bytes("", goods.as_slice()).done(),
+        Err(fault) => telling::fault(told, &fault),
     }
 }
 
 /// `goods-key MASTER MERCHANT SERIAL`: the key of a sale.
-pub fn key(alloc: Global, words: &[&str]) -> Result<String, NoMemory> {
+pub fn key(told: &mut Told, words: &[&str]) -> Result<(), NoMemory> {
+    let alloc = told.alloc();
     let [master, merchant, serial] = words else {
-        return nb_lines::unclear(alloc);
+        return told.unclear();
     };
     let merchant = PartyId(telling::short(*merchant));
     let key = goods_key(
@@ -214,29 +238,23 @@ pub fn key(alloc: Global, words: &[&str]) -> Result<String, NoMemory> {
         merchant,
         telling::short(*serial),
     );
-    nb_lines::shown(alloc, &key)
+    told.bytes("", &key).done()
 }
 
 /// `seal-goods KEY GOODS LENGTH`: goods, sealed as a whole, and what that opens to.
-pub fn seal(alloc: Global, words: &[&str]) -> Result<String, NoMemory> {
+pub fn seal(told: &mut Told, words: &[&str]) -> Result<(), NoMemory> {
+    let alloc = told.alloc();
     let [key, pattern, length] = words else {
-        return nb_lines::unclear(alloc);
+        return told.unclear();
     };
     let goods = patterned(alloc, *pattern, *length)?;
     if goods.len() > MAX_GOODS {
-        return nb_lines::unclear(alloc);
+        return told.unclear();
     }
     let key = telling::key(alloc, *key);
     let sealed = sealed(alloc, &key, &goods)?;
-    let digest = hex::encode(alloc, checksum(sealed.as_slice()))?;
-    let shown = nb_lines::shown(alloc, sealed.as_slice())?;
-    let opened = again(alloc, &key, sealed.as_slice())?;
-    Ok(format!(in alloc; "{shown}; checksum {digest}; opens to {opened}")?)
-}
-
-fn again(alloc: Global, key: &Secret, sealed: &[u8]) -> Result<String, NoMemory> {
-    if sealed.len() > MAX_SEALED {
-        return nb_lines::unclear(alloc);
-    }
-    opened(alloc, open_goods(alloc, key, sealed))
+    told.bytes("", sealed.as_slice())
+        .hex("; checksum ", &checksum(sealed.as_slice()))
+        .text("; opens to ");
+    open_whole(told, &key, sealed.as_slice())
 }

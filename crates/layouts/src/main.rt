@@ -21,107 +21,126 @@ mod tickets;
 
 use crate::goods::Shelf;
 use anyhow::anyhow;
+use nb_lines::Told;
 use nb_units::NoMemory;
-use std::alloc::Global;
 
 fn main(rt: HostRuntime) -> anyhow::Result<()> {
     let mut shelf = Shelf::new(rt.alloc());
+    let ended = do_lines(&rt, &mut shelf);
+    drop(shelf);
+    ended
+}
+
+// Does what each line says.
+fn do_lines(rt: &HostRuntime, shelf: &mut Shelf) -> anyhow::Result<()> {
     for line in rt.lines(rt.alloc()) {
-        let told = done(&mut shelf, line?.as_str()).map_err(|_| anyhow!("out of memory"))?;
-        if !told.is_empty() {
-            println!(rt; "{told}")?;
-        }
+        do_line(rt, shelf, line?.as_str())?;
     }
     Ok(())
 }
 
-// What comes of a line; nothing where it is empty.
-fn done(shelf: &mut Shelf, line: &str) -> Result<String, NoMemory> {
-    let alloc = shelf.alloc();
-    let words: Vec<&str> = line.split_whitespace().collect(alloc)?;
+// Does what a line says, and prints what is told of it; nothing where the line is empty.
+fn do_line(rt: &HostRuntime, shelf: &mut Shelf, line: &str) -> anyhow::Result<()> {
+    let mut told = Told::new(rt.alloc());
+    if done(shelf, &mut told, line).is_err() || told.done().is_err() {
+        return Err(anyhow!("out of memory"));
+    }
+    let told = told.as_str();
+    if !told.is_empty() {
+        println!(rt; "{told}")?;
+    }
+    Ok(())
+}
+
+fn done(shelf: &mut Shelf, told: &mut Told, line: &str) -> Result<(), NoMemory> {
+    let words: Vec<&str> = line.split_whitespace().collect(told.alloc())?;
     match words.as_slice() {
-        [] => Ok(String::new(alloc)),
-        ["#", ..] => Ok(line.to_string(alloc)?),
-        [word, rest @ ..] => done_with(shelf, *word, rest),
+        [] => Ok(()),
+        ["#", ..] => told.text(line).done(),
+        [word, rest @ ..] => done_with(shelf, told, *word, rest),
     }
 }
 
 // What comes of a line about goods.
-fn done_with(shelf: &mut Shelf, word: &str, words: &[&str]) -> Result<String, NoMemory> {
-    let alloc = shelf.alloc();
+fn done_with(
+    shelf: &mut Shelf,
+    told: &mut Told,
+    word: &str,
+    words: &[&str],
+) -> Result<(), NoMemory> {
     match word {
-        "parts" => shelf.sale(words),
-        "all" => shelf.all(words),
-        "came" => shelf.came(words),
-        "goods-key" => goods::key(alloc, words),
-        "seal-goods" => goods::seal(alloc, words),
-        _ => done_spelled(alloc, word, words),
+        "parts" => shelf.sale(told, words),
+        "all" => shelf.all(told, words),
+        "came" => shelf.came(told, words),
+        "goods-key" => goods::key(told, words),
+        "seal-goods" => goods::seal(told, words),
+        _ => done_spelled(told, word, words),
     }
 }
 
 // What comes of a line about what bytes spell.
-fn done_spelled(alloc: Global, word: &str, words: &[&str]) -> Result<String, NoMemory> {
+fn done_spelled(told: &mut Told, word: &str, words: &[&str]) -> Result<(), NoMemory> {
     match word {
-        "read" => places::whole(alloc, words),
-        "cut" => places::cuts(alloc, words),
-        "long" => places::long(alloc, words),
-        "sevens" => places::sevens(alloc, words),
-        "no-memory" => places::no_memory(alloc, words),
-        "row" => fields::row(alloc, words),
-        "reason" => fields::reason(alloc, words),
-        _ => done_signed(alloc, word, words),
+        "read" => places::whole(told, words),
+        "cut" => places::cuts(told, words),
+        "long" => places::long(told, words),
+        "sevens" => places::sevens(told, words),
+        "no-memory" => places::no_memory(told, words),
+        "row" => fields::row(told, words),
+        "reason" => fields::reason(told, words),
+        _ => done_signed(told, word, words),
     }
 }
 
 // What comes of a line about what is signed or sealed.
-fn done_signed(alloc: Global, word: &str, words: &[&str]) -> Result<String, NoMemory> {
+fn done_signed(told: &mut Told, word: &str, words: &[&str]) -> Result<(), NoMemory> {
     match word {
-        "sign-receipt" => signed::sign(alloc, words),
-        "sign-order" => signed::sign_anew(alloc, words),
-        "ask" => signed::ask(alloc, words),
-        "asked" => signed::asked(alloc, words),
-        "endorse" => sealed::endorse(alloc, words),
-        "open-endorsement" => sealed::open_endorsement(alloc, words),
-        "seal-receipt" => sealed::seal_receipt(alloc, words),
-        "open-receipt" => sealed::open_receipt(alloc, words),
-        "hide" => sealed::hidden(alloc, words),
-        "reveal" => sealed::revealed(alloc, words),
-        "account" => sealed::account(alloc, words),
-        _ => done_told(alloc, word, words),
+        "sign-receipt" => signed::sign(told, words),
+        "sign-order" => signed::sign_anew(told, words),
+        "ask" => signed::ask(told, words),
+        "asked" => signed::asked(told, words),
+        "endorse" => sealed::endorse(told, words),
+        "open-endorsement" => sealed::open_endorsement(told, words),
+        "seal-receipt" => sealed::seal_receipt(told, words),
+        "open-receipt" => sealed::open_receipt(told, words),
+        "hide" => sealed::hidden(told, words),
+        "reveal" => sealed::revealed(told, words),
+        "account" => sealed::account(told, words),
+        _ => done_told(told, word, words),
     }
 }
 
 // What comes of a line about a ticket or a reply.
-fn done_told(alloc: Global, word: &str, words: &[&str]) -> Result<String, NoMemory> {
+fn done_told(told: &mut Told, word: &str, words: &[&str]) -> Result<(), NoMemory> {
     match word {
-        "session" => tickets::session(alloc, words),
-        "until" => tickets::last_second(alloc, words),
-        "ticket" => tickets::ticket(alloc, words),
-        "open-ticket" => tickets::opened(alloc, words),
-        "grant" => tickets::granted(alloc, words),
-        "open-grant" => tickets::opened_grant(alloc, words),
-        "reply-result" => replies::result(alloc, words),
-        "reply-status" => replies::status(alloc, words),
-        "reply-grant" => replies::grant(alloc, words),
-        "reply-done" => replies::done(alloc, words),
-        "reply-refused" => replies::refused(alloc, words),
-        _ => done_below(alloc, word, words),
+        "session" => tickets::session(told, words),
+        "until" => tickets::last_second(told, words),
+        "ticket" => tickets::ticket(told, words),
+        "open-ticket" => tickets::opened(told, words),
+        "grant" => tickets::granted(told, words),
+        "open-grant" => tickets::opened_grant(told, words),
+        "reply-result" => replies::result(told, words),
+        "reply-status" => replies::status(told, words),
+        "reply-grant" => replies::grant(told, words),
+        "reply-done" => replies::done(told, words),
+        "reply-refused" => replies::refused(told, words),
+        _ => done_below(told, word, words),
     }
 }
 
 // What comes of a line about a code, a seal or a drill.
-fn done_below(alloc: Global, word: &str, words: &[&str]) -> Result<String, NoMemory> {
+fn done_below(told: &mut Told, word: &str, words: &[&str]) -> Result<(), NoMemory> {
     match word {
-        "digest" => codes::digest(alloc, words),
-        "code" => codes::code(alloc, words),
-        "keystream" => codes::keystream(alloc, words),
-        "seal" => codes::sealed(alloc, words),
-        "unseal" => codes::unsealed(alloc, words),
-        "number" => drills::number(alloc, words),
-        "draw" => drills::drawn(alloc, words),
-        "drill-head" => drills::head(alloc, words),
-        "drill-frame" => drills::frame(alloc, words),
-        "drill" => drills::whole(alloc, words),
-        _ => nb_lines::unclear(alloc),
+        "digest" => codes::digest(told, words),
+        "code" => codes::code(told, words),
+        "keystream" => codes::keystream(told, words),
+        "seal" => codes::sealed(told, words),
+        "unseal" => codes::unsealed(told, words),
+        "number" => drills::number(told, words),
+        "draw" => drills::drawn(told, words),
+        "drill-head" => drills::head(told, words),
+        "drill-frame" => drills::frame(told, words),
+        "drill" => drills::whole(told, words),
+        _ => told.unclear(),
     }
 }

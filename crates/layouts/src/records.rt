@@ -1,73 +1,83 @@
 // Records that need no key, read and spelled again.
 
+use crate::signed;
 use crate::telling::back;
 use nb_body::{
     EndorsedOrder, Enrolment, Funding, GoodsHead, GoodsRequest, PaymentRequest, PriceRequest,
     Quote, StatusQuery,
 };
+use nb_lines::Told;
 use nb_msgs::BodyFault;
-use std::alloc::Global;
 
-/// The record of this name that the bytes spell, in words; `None` where there is none of the name.
-pub fn read(alloc: Global, name: &str, bytes: &[u8]) -> Option<Result<String, BodyFault>> {
+/// The record of this name, or the message of this kind, that the bytes spell, in words.
+pub fn read(told: &mut Told, name: &str, bytes: &[u8]) -> Result<(), BodyFault> {
     match name {
-        "endorsed-order" => Some(endorsed_order(alloc, bytes)),
-        "status-query" => Some(status_query(alloc, bytes)),
-        "enrolment" => Some(enrolment(alloc, bytes)),
-        "funding" => Some(funding(alloc, bytes)),
-        "price-request" => Some(price_request(alloc, bytes)),
-        "quote" => Some(quote(alloc, bytes)),
-        "goods-request" => Some(goods_request(alloc, bytes)),
-        "goods-head" => Some(goods_head(alloc, bytes)),
-        "payment-request" => Some(payment_request(alloc, bytes)),
-        _ => None,
+        "endorsed-order" => endorsed_order(told, bytes),
+        "status-query" => status_query(told, bytes),
+        "enrolment" => enrolment(told, bytes),
+        "funding" => funding(told, bytes),
+        "price-request" => price_request(told, bytes),
+        "quote" => quote(told, bytes),
+        "goods-request" => goods_request(told, bytes),
+        "goods-head" => goods_head(told, bytes),
+        "payment-request" => payment_request(told, bytes),
+        _ => signed::read(told, name, bytes),
     }
 }
 
-fn endorsed_order(alloc: Global, bytes: &[u8]) -> Result<String, BodyFault> {
+fn endorsed_order(told: &mut Told, bytes: &[u8]) -> Result<(), BodyFault> {
     let read = EndorsedOrder::read(bytes)?;
     let fields = (read.merchant, read.sealed.as_slice());
-    Ok(back(alloc, &fields, read.spelled().as_slice() == bytes)?)
+    back(told, &fields, read.spelled().as_slice() == bytes);
+    Ok(())
 }
 
-fn status_query(alloc: Global, bytes: &[u8]) -> Result<String, BodyFault> {
+fn status_query(told: &mut Told, bytes: &[u8]) -> Result<(), BodyFault> {
     let read = StatusQuery::read(bytes)?;
-    Ok(back(alloc, &read, read.spelled().as_slice() == bytes)?)
+    back(told, &read, read.spelled().as_slice() == bytes);
+    Ok(())
 }
 
-fn enrolment(alloc: Global, bytes: &[u8]) -> Result<String, BodyFault> {
+fn enrolment(told: &mut Told, bytes: &[u8]) -> Result<(), BodyFault> {
     let read = Enrolment::read(bytes)?;
-    Ok(back(alloc, &read, read.spelled().as_slice() == bytes)?)
+    back(told, &read, read.spelled().as_slice() == bytes);
+    Ok(())
 }
 
-fn funding(alloc: Global, bytes: &[u8]) -> Result<String, BodyFault> {
+fn funding(told: &mut Told, bytes: &[u8]) -> Result<(), BodyFault> {
     let read = Funding::read(bytes)?;
-    Ok(back(alloc, &read, read.spelled().as_slice() == bytes)?)
+    back(told, &read, read.spelled().as_slice() == bytes);
+    Ok(())
 }
 
-fn price_request(alloc: Global, bytes: &[u8]) -> Result<String, BodyFault> {
+fn price_request(told: &mut Told, bytes: &[u8]) -> Result<(), BodyFault> {
     let read = PriceRequest::read(bytes)?;
     let fields = (read.transaction, read.product, read.request.as_slice());
-    Ok(back(alloc, &fields, read.spelled().as_slice() == bytes)?)
+    back(told, &fields, read.spelled().as_slice() == bytes);
+    Ok(())
 }
 
-fn quote(alloc: Global, bytes: &[u8]) -> Result<String, BodyFault> {
+fn quote(told: &mut Told, bytes: &[u8]) -> Result<(), BodyFault> {
     let read = Quote::read(bytes)?;
-    Ok(back(alloc, &read, read.spelled().as_slice() == bytes)?)
+    back(told, &read, read.spelled().as_slice() == bytes);
+    Ok(())
 }
 
-fn goods_request(alloc: Global, bytes: &[u8]) -> Result<String, BodyFault> {
+fn goods_request(told: &mut Told, bytes: &[u8]) -> Result<(), BodyFault> {
     let read = GoodsRequest::read(bytes)?;
-    Ok(back(alloc, &read, read.spelled().as_slice() == bytes)?)
+    back(told, &read, read.spelled().as_slice() == bytes);
+    Ok(())
 }
 
-fn goods_head(alloc: Global, bytes: &[u8]) -> Result<String, BodyFault> {
+fn goods_head(told: &mut Told, bytes: &[u8]) -> Result<(), BodyFault> {
     let read = GoodsHead::read(bytes)?;
-    Ok(back(alloc, &read, read.spelled().as_slice() == bytes)?)
+    back(told, &read, read.spelled().as_slice() == bytes);
+    Ok(())
 }
 
-fn payment_request(alloc: Global, bytes: &[u8]) -> Result<String, BodyFault> {
+fn payment_request(told: &mut Told, bytes: &[u8]) -> Result<(), BodyFault> {
     let read = PaymentRequest::read(bytes)?;
     let fields = (read.transaction, read.order.as_slice());
-    Ok(back(alloc, &fields, read.spelled().as_slice() == bytes)?)
+    back(told, &fields, read.spelled().as_slice() == bytes);
+    Ok(())
 }

@@ -5,6 +5,7 @@ ghost use Rattle.nb_endorse.specs.Replies.{HasLawfulReceipts};
 use crate::signed::lawful;
 use crate::telling;
 use nb_endorse::{Refusal, Reply, ReplyKeys};
+use nb_lines::Told;
 use nb_msgs::{REPLY_ROOM, write_reply};
 use nb_units::{AcctId, Epoid, NoMemory, PartyId, room};
 use std::alloc::Global;
@@ -29,73 +30,77 @@ fn keys(alloc: Global, word: &str) -> ReplyKeys {
     }
 }
 
-fn written(alloc: Global, reply: &Reply, keys: &ReplyKeys) -> Result<String, NoMemory>
+fn written(told: &mut Told, reply: &Reply, keys: &ReplyKeys) -> Result<(), NoMemory>
     requires { HasLawfulReceipts reply.now }
 {
-    let mut frame = Vec::new(alloc);
+    let mut frame = Vec::new(told.alloc());
     room(&mut frame, REPLY_ROOM)?;
     write_reply(reply, keys, &mut frame);
-    Ok(hex::encode(alloc, frame.as_slice())?)
+    told.hex("", frame.as_slice()).done()
 }
 
 /// `reply-result KEYS RECEIPT RECEIPT`: the result of an order, with the merchant's receipt and the consumer's.
-pub fn result(alloc: Global, words: &[&str]) -> Result<String, NoMemory> {
+pub fn result(told: &mut Told, words: &[&str]) -> Result<(), NoMemory> {
+    let alloc = told.alloc();
     let [word, merchant, consumer] = words else {
-        return nb_lines::unclear(alloc);
+        return told.unclear();
     };
     let merchant = lawful(&nb_lines::spelled(alloc, *merchant));
     let consumer = lawful(&nb_lines::spelled(alloc, *consumer));
     let (Ok(merchant), Ok(consumer)) = (merchant, consumer) else {
-        return nb_lines::unclear(alloc);
+        return told.unclear();
     };
     let reply = Reply::Result {
         merchant: merchant.receipt,
         consumer: consumer.receipt,
     };
-    written(alloc, &reply, &keys(alloc, *word))
+    written(told, &reply, &keys(alloc, *word))
 }
 
 /// `reply-status KEYS PLACE EPOID RECEIPT`: the status of an order, with the receipt of who asks. `reply-status KEYS PLACE EPOID`: that of an
 /// order of which nothing is told.
-pub fn status(alloc: Global, words: &[&str]) -> Result<String, NoMemory> {
+pub fn status(told: &mut Told, words: &[&str]) -> Result<(), NoMemory> {
     match words {
-        [word, place, name, receipt] => some_status(alloc, *word, *place, *name, *receipt),
-        [word, place, name] => no_status(alloc, *word, *place, *name),
-        _ => nb_lines::unclear(alloc),
+        [word, place, name, receipt] => some_status(told, *word, *place, *name, *receipt),
+        [word, place, name] => no_status(told, *word, *place, *name),
+        _ => told.unclear(),
     }
 }
 
 fn some_status(
-    alloc: Global,
+    told: &mut Told,
     word: &str,
     place: &str,
     name: &str,
     receipt: &str,
-) -> Result<String, NoMemory> {
+) -> Result<(), NoMemory> {
+    let alloc = told.alloc();
     let Ok(signed) = lawful(&nb_lines::spelled(alloc, receipt)) else {
-        return nb_lines::unclear(alloc);
+        return told.unclear();
     };
     let reply = Reply::Status {
         place: nb_lines::number(place),
         epoid: epoid(alloc, name),
         receipt: Some(signed.receipt),
     };
-    written(alloc, &reply, &keys(alloc, word))
+    written(told, &reply, &keys(alloc, word))
 }
 
-fn no_status(alloc: Global, word: &str, place: &str, name: &str) -> Result<String, NoMemory> {
+fn no_status(told: &mut Told, word: &str, place: &str, name: &str) -> Result<(), NoMemory> {
+    let alloc = told.alloc();
     let reply = Reply::Status {
         place: nb_lines::number(place),
         epoid: epoid(alloc, name),
         receipt: None,
     };
-    written(alloc, &reply, &keys(alloc, word))
+    written(told, &reply, &keys(alloc, word))
 }
 
 /// `reply-grant KEYS CONSUMER MERCHANT NONCE UNTIL SESSION`: the grant of a ticket.
-pub fn grant(alloc: Global, words: &[&str]) -> Result<String, NoMemory> {
+pub fn grant(told: &mut Told, words: &[&str]) -> Result<(), NoMemory> {
+    let alloc = told.alloc();
     let [word, consumer, merchant, nonce, until, session] = words else {
-        return nb_lines::unclear(alloc);
+        return told.unclear();
     };
     let reply = Reply::Grant {
         consumer: PartyId(telling::short(*consumer)),
@@ -104,28 +109,28 @@ pub fn grant(alloc: Global, words: &[&str]) -> Result<String, NoMemory> {
         until: nb_lines::number(*until),
         session: telling::key(alloc, *session),
     };
-    written(alloc, &reply, &keys(alloc, *word))
+    written(told, &reply, &keys(alloc, *word))
 }
 
 /// `reply-done ACCOUNT AT BALANCE`: that an entry stands.
-pub fn done(alloc: Global, words: &[&str]) -> Result<String, NoMemory> {
+pub fn done(told: &mut Told, words: &[&str]) -> Result<(), NoMemory> {
     let [account, at, balance] = words else {
-        return nb_lines::unclear(alloc);
+        return told.unclear();
     };
     let reply = Reply::Done {
         acct: AcctId(telling::short(*account)),
         at: nb_lines::number(*at),
         balance: nb_lines::number(*balance),
     };
-    written(alloc, &reply, &ReplyKeys::none())
+    written(told, &reply, &ReplyKeys::none())
 }
 
 /// `reply-refused CODE A B`: a refusal that shows two numbers.
-pub fn refused(alloc: Global, words: &[&str]) -> Result<String, NoMemory> {
+pub fn refused(told: &mut Told, words: &[&str]) -> Result<(), NoMemory> {
     let [code, a, b] = words else {
-        return nb_lines::unclear(alloc);
+        return told.unclear();
     };
     let code = code.parse::<u8>().unwrap_or(0);
     let refusal = Refusal::of(code, nb_lines::number(*a), nb_lines::number(*b));
-    written(alloc, &Reply::Refused(refusal), &ReplyKeys::none())
+    written(told, &Reply::Refused(refusal), &ReplyKeys::none())
 }

@@ -1,5 +1,6 @@
 // Words of a line, and what is told.
 
+use nb_lines::Told;
 use nb_units::{NoMemory, Secret};
 use std::alloc::Global;
 use std::fmt::{Debug, Display};
@@ -23,19 +24,20 @@ pub(crate) fn short(word: &str) -> u32 {
 }
 
 // A text, or of a long one the number of its bytes and their digest.
-pub(crate) fn clipped(alloc: Global, told: String) -> Result<String, NoMemory> {
-    if told.len() <= TOLD {
-        return Ok(told);
+pub(crate) fn clipped(told: &mut Told, text: &str) -> Result<(), NoMemory> {
+    if text.len() <= TOLD {
+        told.text(text).done()
+    } else {
+        told.bytes_up_to("", text.as_bytes(), 0).done()
     }
-    nb_lines::shown_up_to(alloc, told.as_bytes(), 0)
 }
 
 // What was read, and whether it is spelled as it was.
-pub(crate) fn back<T: Debug>(alloc: Global, read: &T, is_same: bool) -> Result<String, NoMemory> {
-    Ok(format!(in alloc; "{read:?}; spelled so: {is_same}")?)
+pub(crate) fn back<T: Debug>(told: &mut Told, read: &T, is_same: bool) {
+    told.debug("", read).show("; spelled so: ", &is_same);
 }
 
 // A fault in words, and what it shows.
-pub(crate) fn fault<F: Debug + Display>(alloc: Global, fault: &F) -> Result<String, NoMemory> {
-    Ok(format!(in alloc; "{fault}: {fault:?}")?)
+pub(crate) fn fault<F: Debug + Display>(told: &mut Told, fault: &F) -> Result<(), NoMemory> {
+    told.show("", fault).debug(": ", fault).done()
 }

@@ -1,11 +1,6 @@
 use nb_units::NoMemory;
 use std::alloc::Global;
 
-/// What is printed of a line that says nothing that can be done.
-pub fn unclear(alloc: Global) -> Result<String, NoMemory> {
-    Ok("no such line".to_string(alloc)?)
-}
-
 /// The number of at most 64 bits that a word is in decimal, or 0.
 pub fn number(word: &str) -> u64 {
     word.parse::<u64>().unwrap_or(0)
@@ -18,4 +13,12 @@ pub fn numbers(alloc: Global, words: &[&str], from: usize) -> Result<Vec<u64>, N
         numbers.push(number(*word))?;
     }
     Ok(numbers)
+}
+
+/// The bytes that a word spells in hexadecimal; none where it spells none.
+pub fn spelled(alloc: Global, word: &str) -> Vec<u8> {
+    match hex::decode(alloc, word) {
+        Ok(bytes) => bytes,
+        Err(_) => Vec::new(alloc),
+    }
 }

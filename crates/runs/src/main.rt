@@ -15,82 +15,100 @@ mod trial;
 
 use crate::trial::Trial;
 use anyhow::anyhow;
+use nb_lines::Told;
 use nb_units::NoMemory;
 
 fn main(rt: HostRuntime) -> anyhow::Result<()> {
     let mut trial = Trial::new(rt.alloc());
+    let ended = do_lines(&rt, &mut trial);
+    drop(trial);
+    ended
+}
+
+// Does what each line says.
+fn do_lines(rt: &HostRuntime, trial: &mut Trial) -> anyhow::Result<()> {
     for line in rt.lines(rt.alloc()) {
-        let told = done(&mut trial, line?.as_str()).map_err(|_| anyhow!("out of memory"))?;
-        if !told.is_empty() {
-            println!(rt; "{told}")?;
-        }
+        do_line(rt, trial, line?.as_str())?;
     }
     Ok(())
 }
 
-// What is done at a line; nothing where it is empty.
-fn done(trial: &mut Trial, line: &str) -> Result<String, NoMemory> {
-    let words: Vec<&str> = line.split_whitespace().collect(trial.alloc())?;
+// Does what a line says, and prints what is told of it; nothing where the line is empty.
+fn do_line(rt: &HostRuntime, trial: &mut Trial, line: &str) -> anyhow::Result<()> {
+    let mut told = Told::new(rt.alloc());
+    if done(trial, &mut told, line).is_err() || told.done().is_err() {
+        return Err(anyhow!("out of memory"));
+    }
+    let told = told.as_str();
+    if !told.is_empty() {
+        println!(rt; "{told}")?;
+    }
+    Ok(())
+}
+
+fn done(trial: &mut Trial, told: &mut Told, line: &str) -> Result<(), NoMemory> {
+    let words: Vec<&str> = line.split_whitespace().collect(told.alloc())?;
     match words.as_slice() {
-        [] => Ok(String::new(trial.alloc())),
-        [word, rest @ ..] => match *word {
-            "#" => Ok(line.to_string(trial.alloc())?),
-            "run" => trial.run(rest),
-            "disk" | "device" => shown(trial, *word, rest),
-            "image" => trial.image(rest),
-            _ => set(trial, *word, rest),
-        },
+        [] => Ok(()),
+        ["#", ..] => told.text(line).done(),
+        [word, rest @ ..] => done_by_word(trial, told, *word, rest),
     }
 }
 
-// What the last run left.
-fn shown(trial: &Trial, word: &str, rest: &[&str]) -> Result<String, NoMemory> {
-    if !rest.is_empty() {
-        return nb_lines::unclear(trial.alloc());
-    }
+// Does what a line of this first word says, by the words behind it.
+fn done_by_word(
+    trial: &mut Trial,
+    told: &mut Told,
+    word: &str,
+    words: &[&str],
+) -> Result<(), NoMemory> {
     match word {
-        "disk" => trial.disk(),
-        _ => trial.device(),
-    }
-}
-
-// What the next runs are given.
-fn set(trial: &mut Trial, word: &str, rest: &[&str]) -> Result<String, NoMemory> {
-    match word {
-        "journal" => trial.journal(rest),
-        "input" => trial.input(rest),
-        "more" => trial.more(rest),
-        "clock" => trial.clock(rest),
-        "fails" => trial.fails(rest),
-        "file" => trial.file(rest),
-        "cut" | "step" | "sink" => set_to(trial, word, rest),
-        _ => go_on(trial, word, rest),
+        "run" => trial.run(told, words),
+        "image" => trial.image(told, words),
+        "journal" => trial.journal(told, words),
+        "input" => trial.input(told, words),
+        "more" => trial.more(told, words),
+        "clock" => trial.clock(words),
+        "fails" => trial.fails(told, words),
+        "file" => trial.file(told, words),
+        "cut" | "step" | "sink" => set(trial, told, word, words),
+        _ => go_on(trial, told, word, words),
     }
 }
 
 // What is set to one word.
-fn set_to(trial: &mut Trial, word: &str, rest: &[&str]) -> Result<String, NoMemory> {
-    let [value] = rest else {
-        return nb_lines::unclear(trial.alloc());
+fn set(trial: &mut Trial, told: &mut Told, word: &str, words: &[&str]) -> Result<(), NoMemory> {
+    let [value] = words else {
+        return told.unclear();
     };
     match word {
         "cut" => trial.cut(*value),
         "step" => trial.step(*value),
-        _ => trial.sink(*value),
+        _ => trial.sink(told, *value),
     }
 }
 
-// How the next runs go on from the last one.
-fn go_on(trial: &mut Trial, word: &str, rest: &[&str]) -> Result<String, NoMemory> {
-    if !rest.is_empty() {
-        return nb_lines::unclear(trial.alloc());
+// What the last run left, and how the next runs go on from it.
+fn go_on(trial: &mut Trial, told: &mut Told, word: &str, words: &[&str]) -> Result<(), NoMemory> {
+    if !words.is_empty() {
+        return told.unclear();
     }
     match word {
-        "again" => trial.again(),
+        "disk" => trial.disk(told),
+        "device" => trial.device(told),
+        "again" => trial.again(told),
+        _ => go_on_over(trial, told, word),
+    }
+}
+
+// Over which disk the next runs go.
+fn go_on_over(trial: &mut Trial, told: &mut Told, word: &str) -> Result<(), NoMemory> {
+    match word {
         "hold" => trial.hold(),
         "restart" => trial.restart(),
         "interrupt" => trial.interrupt(),
         "memory" => trial.memory(),
-        _ => nb_lines::unclear(trial.alloc()),
+        _ => return told.unclear(),
     }
+    Ok(())
 }

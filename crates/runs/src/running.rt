@@ -2,13 +2,15 @@
 
 use crate::kernel::Kernel;
 use crate::ports::{CountedSource, PacedSink};
-use crate::telling;
+use crate::telling::{self, SHOWN};
 use crate::trial::Trial;
+use nb_lines::Told;
 use nb_port::{Disk, MemClock, MemDisk, MemSink, MemSource};
 use nb_run::{Outcome, run};
 use nb_system::FileDisk;
 use nb_units::NoMemory;
 use std::alloc::Global;
+use std::mem;
 
 // What a run reads from, writes to and asks for the time.
 #[derive(Drop)]
@@ -20,7 +22,7 @@ struct Ports {
 
 impl Trial {
     /// `run WORD..`: how the program ends on these words, how often the source is read, and what is sent.
-    pub fn run(&mut self, words: &[&str]) -> Result<String, NoMemory> {
+    pub fn run(&mut self, told: &mut Told, words: &[&str]) -> Result<(), NoMemory> {
         let alloc = self.alloc();
         let words = telling::words(alloc, words)?;
         let mut ports = self.ports()?;
@@ -28,7 +30,8 @@ impl Trial {
             Some(kernel) => self.outcome_over(&words, &mut ports, kernel),
             None => self.outcome_in_memory(&words, &mut ports)?,
         };
-        told(alloc, outcome, &ports)
+        tell(told, outcome, &ports);
+        Ok(())
     }
 
     // What the program comes to over a file, which is kept.
@@ -46,7 +49,7 @@ impl Trial {
     ) -> Result<Outcome, NoMemory> {
         let disk = MemDisk::new(self.alloc(), &self.content, &self.disk_fails)?;
         let (outcome, disk) = outcome_on(self.alloc(), words, ports, disk);
-        self.left = Some(disk);
+        drop(mem::replace(&mut self.left, Some(disk)));
         Ok(outcome)
     }
 
@@ -81,9 +84,8 @@ fn outcome_on<D: Disk + Drop>(
     )
 }
 
-fn told(alloc: Global, outcome: Outcome, ports: &Ports) -> Result<String, NoMemory> {
-    let outcome = telling::outcome(alloc, outcome)?;
-    let reads = ports.source.reads;
-    let sent = telling::shown(alloc, ports.sink.to.sent())?;
-    Ok(format!(in alloc; "{outcome}, {reads} reads: {sent}")?)
+fn tell(told: &mut Told, outcome: Outcome, ports: &Ports) {
+    telling::outcome(told, outcome);
+    told.show(", ", &ports.source.reads)
+        .bytes_up_to(" reads: ", ports.sink.to.sent(), SHOWN);
 }

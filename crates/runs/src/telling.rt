@@ -1,11 +1,12 @@
 // What a run does, in words.
 
+use nb_lines::Told;
 use nb_run::{Ending, Job, Outcome};
 use nb_units::NoMemory;
 use std::alloc::Global;
 
 // The most bytes that are shown.
-const SHOWN: usize = 64;
+pub(crate) const SHOWN: usize = 64;
 
 // Words, as a program is given them.
 pub(crate) fn words(alloc: Global, words: &[&str]) -> Result<Vec<String>, NoMemory> {
@@ -28,17 +29,15 @@ fn given_as(alloc: Global, word: &str) -> Result<String, NoMemory> {
     Ok(given)
 }
 
-// Bytes, or of many their number and their digest.
-pub(crate) fn shown(alloc: Global, bytes: &[u8]) -> Result<String, NoMemory> {
-    nb_lines::shown_up_to(alloc, bytes, SHOWN)
-}
-
 // How a run ended, or the work that it leaves.
-pub(crate) fn outcome(alloc: Global, outcome: Outcome) -> Result<String, NoMemory> {
-    Ok(match outcome {
-        Outcome::Done(Ending { status, place }) => format!(in alloc; "status {status} at {place}")?,
-        Outcome::Work(Job::Serve { workers, sessions }) => {
-            format!(in alloc; "{workers} workers are to serve {sessions} sessions each")?
+pub(crate) fn outcome(told: &mut Told, outcome: Outcome) {
+    match outcome {
+        Outcome::Done(Ending { status, place }) => {
+            told.show("status ", &status).show(" at ", &place)
         }
-    })
+        Outcome::Work(Job::Serve { workers, sessions }) => told
+            .show("", &workers)
+            .show(" workers are to serve ", &sessions)
+            .text(" sessions each"),
+    };
 }

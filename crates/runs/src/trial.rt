@@ -1,7 +1,9 @@
 use crate::kernel::Kernel;
+use nb_lines::Told;
 use nb_port::MemDisk;
 use nb_units::NoMemory;
 use std::alloc::Global;
+use std::mem;
 
 // The most times that a line gives bytes, and the most bytes of one read.
 const MOST_TIMES: u64 = 10_000;
@@ -57,102 +59,96 @@ impl Trial {
         self.alloc
     }
 
-    /// Nothing to print.
-    pub fn nothing(&self) -> Result<String, NoMemory> {
-        Ok(String::new(self.alloc))
-    }
-
     /// `journal HEX`: the disks of the next runs begin with these bytes.
-    pub fn journal(&mut self, words: &[&str]) -> Result<String, NoMemory> {
-        self.journal = match words {
-            [] => Vec::new(self.alloc),
-            [text] => nb_lines::spelled(self.alloc, *text),
-            _ => return nb_lines::unclear(self.alloc),
-        };
+    pub fn journal(&mut self, told: &mut Told, words: &[&str]) -> Result<(), NoMemory> {
+        if words.len() > 1 {
+            return told.unclear();
+        }
+        let text = words.first().copied().unwrap_or("");
+        self.journal = nb_lines::spelled(self.alloc, text);
         self.content = self.journal.clone()?;
-        self.nothing()
+        Ok(())
     }
 
     /// `cut LEN`: they begin with so many of the journal's bytes.
-    pub fn cut(&mut self, len: &str) -> Result<String, NoMemory> {
+    pub fn cut(&mut self, len: &str) -> Result<(), NoMemory> {
         let len = nb_lines::number(len).min(self.journal.len() as u64) as usize;
         let (front, _) = self.journal.as_slice().split_at(len);
         self.content = Vec::from_slice(self.alloc, front)?;
-        self.nothing()
+        Ok(())
     }
 
     /// `again`: they begin with what the last run left.
-    pub fn again(&mut self) -> Result<String, NoMemory> {
+    pub fn again(&mut self, told: &mut Told) -> Result<(), NoMemory> {
         match &self.left {
             Some(disk) => {
                 self.content = Vec::from_slice(self.alloc, disk.content())?;
-                self.nothing()
+                Ok(())
             }
-            None => nb_lines::unclear(self.alloc),
+            None => told.unclear(),
         }
     }
 
     /// `hold`: the disk that the last run left is held from now on, for the images of it, and is the last run's no more.
-    pub fn hold(&mut self) -> Result<String, NoMemory> {
-        self.held = self.left.take();
-        self.nothing()
+    pub fn hold(&mut self) {
+        let left = self.left.take();
+        drop(mem::replace(&mut self.held, left));
     }
 
     /// `input COUNT HEX`: the sources of the next runs give these bytes so many times, and nothing where none stand there.
-    pub fn input(&mut self, words: &[&str]) -> Result<String, NoMemory> {
+    pub fn input(&mut self, told: &mut Told, words: &[&str]) -> Result<(), NoMemory> {
         self.input.clear();
         match words {
-            [] => self.nothing(),
-            _ => self.more(words),
+            [] => Ok(()),
+            _ => self.more(told, words),
         }
     }
 
     /// `more COUNT HEX`: behind what they give already they give these bytes so many times.
-    pub fn more(&mut self, words: &[&str]) -> Result<String, NoMemory> {
+    pub fn more(&mut self, told: &mut Told, words: &[&str]) -> Result<(), NoMemory> {
         let [count, text] = words else {
-            return nb_lines::unclear(self.alloc);
+            return told.unclear();
         };
         let bytes = nb_lines::spelled(self.alloc, *text);
         for _ in 0..nb_lines::number(*count).min(MOST_TIMES) {
             self.input.extend_from_slice(&bytes)?;
         }
-        self.nothing()
+        Ok(())
     }
 
     /// `step COUNT`: one read of them gives at most so many bytes.
-    pub fn step(&mut self, step: &str) -> Result<String, NoMemory> {
+    pub fn step(&mut self, step: &str) -> Result<(), NoMemory> {
         self.step = nb_lines::number(step).min(MOST_READ) as usize;
-        self.nothing()
+        Ok(())
     }
 
     /// `clock MOMENT..`: the clocks give these moments, and then the last one again.
-    pub fn clock(&mut self, words: &[&str]) -> Result<String, NoMemory> {
+    pub fn clock(&mut self, words: &[&str]) -> Result<(), NoMemory> {
         self.moments = nb_lines::numbers(self.alloc, words, 0)?;
-        self.nothing()
+        Ok(())
     }
 
     /// `fails WHAT CALL..`: these calls of the disk, the source or the sink fail.
-    pub fn fails(&mut self, words: &[&str]) -> Result<String, NoMemory> {
+    pub fn fails(&mut self, told: &mut Told, words: &[&str]) -> Result<(), NoMemory> {
         let [what, numbers @ ..] = words else {
-            return nb_lines::unclear(self.alloc);
+            return told.unclear();
         };
         let calls = nb_lines::numbers(self.alloc, numbers, 0)?;
         match *what {
             "disk" => self.disk_fails = calls,
             "source" => self.source_fails = calls,
             "sink" => self.sink_fails = calls,
-            _ => return nb_lines::unclear(self.alloc),
+            _ => return told.unclear(),
         }
-        self.nothing()
+        Ok(())
     }
 
     /// `sink slow` or `sink whole`: a write to the sinks takes one byte, or all.
-    pub fn sink(&mut self, how: &str) -> Result<String, NoMemory> {
-        match how {
-            "slow" => self.slow = true,
-            "whole" => self.slow = false,
-            _ => return nb_lines::unclear(self.alloc),
+    pub fn sink(&mut self, told: &mut Told, how: &str) -> Result<(), NoMemory> {
+        if how != "slow" && how != "whole" {
+            return told.unclear();
         }
-        self.nothing()
+        self.slow = how == "slow";
+        Ok(())
     }
 }

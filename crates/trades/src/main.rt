@@ -17,70 +17,106 @@ mod whole;
 
 use crate::trade::Trade;
 use anyhow::anyhow;
+use nb_lines::Told;
 use nb_units::NoMemory;
 
 fn main(rt: HostRuntime) -> anyhow::Result<()> {
-    let mut trade = Trade::new(rt.alloc()).map_err(|_| anyhow!("out of memory"))?;
-    for line in rt.lines(rt.alloc()) {
-        let told = done(&mut trade, line?.as_str()).map_err(|_| anyhow!("out of memory"))?;
-        if !told.is_empty() {
-            println!(rt; "{told}")?;
+    match Trade::new(rt.alloc()) {
+        Ok(mut trade) => {
+            let ended = do_lines(&rt, &mut trade);
+            drop(trade);
+            ended
         }
+        Err(_) => Err(anyhow!("out of memory")),
+    }
+}
+
+// Does what each line says.
+fn do_lines(rt: &HostRuntime, trade: &mut Trade) -> anyhow::Result<()> {
+    for line in rt.lines(rt.alloc()) {
+        do_line(rt, trade, line?.as_str())?;
     }
     Ok(())
 }
 
-// What is done at a line; nothing where it is empty.
-fn done(trade: &mut Trade, line: &str) -> Result<String, NoMemory> {
-    let words: Vec<&str> = line.split_whitespace().collect(trade.alloc())?;
+// Does what a line says, and prints what is told of it; nothing where the line is empty.
+fn do_line(rt: &HostRuntime, trade: &mut Trade, line: &str) -> anyhow::Result<()> {
+    let mut told = Told::new(rt.alloc());
+    if done(trade, &mut told, line).is_err() || told.done().is_err() {
+        return Err(anyhow!("out of memory"));
+    }
+    let told = told.as_str();
+    if !told.is_empty() {
+        println!(rt; "{told}")?;
+    }
+    Ok(())
+}
+
+fn done(trade: &mut Trade, told: &mut Told, line: &str) -> Result<(), NoMemory> {
+    let words: Vec<&str> = line.split_whitespace().collect(told.alloc())?;
     match words.as_slice() {
-        [] => Ok(String::new(trade.alloc())),
-        ["#", ..] => Ok(line.to_string(trade.alloc())?),
-        [word, rest @ ..] => done_by_word(trade, *word, rest),
+        [] => Ok(()),
+        ["#", ..] => told.text(line).done(),
+        [word, rest @ ..] => done_by_word(trade, told, *word, rest),
     }
 }
 
 // What is done at a line of this first word, by the words behind it.
-fn done_by_word(trade: &mut Trade, word: &str, rest: &[&str]) -> Result<String, NoMemory> {
+fn done_by_word(
+    trade: &mut Trade,
+    told: &mut Told,
+    word: &str,
+    words: &[&str],
+) -> Result<(), NoMemory> {
     match word {
-        "item" => trade.item(rest),
-        "bytes" => trade.bytes(),
-        "catalogue" => shelves::catalogue(trade.alloc(), rest),
-        "puts" => shelves::puts(trade.alloc(), rest),
-        "shortage" => shelves::shortage(trade.alloc()),
-        "whole" => whole::purchase(trade.alloc(), rest),
-        "head" => heads::head(trade.alloc(), rest),
-        _ => done_by_consumer(trade, word, rest),
+        "item" => trade.item(told, words),
+        "bytes" => trade.bytes(told),
+        "catalogue" => shelves::catalogue(told, words),
+        "puts" => shelves::puts(told, words),
+        "shortage" => shelves::shortage(told),
+        "whole" => whole::purchase(told, words),
+        "head" => heads::head(told, words),
+        _ => done_by_consumer(trade, told, word, words),
     }
 }
 
 // What is done at a line of a consumer.
-fn done_by_consumer(trade: &mut Trade, word: &str, rest: &[&str]) -> Result<String, NoMemory> {
+fn done_by_consumer(
+    trade: &mut Trade,
+    told: &mut Told,
+    word: &str,
+    words: &[&str],
+) -> Result<(), NoMemory> {
     match word {
-        "kept" => trade.kept(rest),
-        "again" => trade.again(),
-        "start" => trade.start(rest),
-        "hear" => trade.hear(rest),
-        "quiet" => trade.quiet(rest),
-        "phase" => trade.phase(rest),
-        "goods" => trade.goods(rest),
-        "seal" => trade.seal(rest),
-        "part" => trade.part(rest),
-        _ => done_by_merchant(trade, word, rest),
+        "kept" => trade.kept(told, words),
+        "again" => trade.again(told),
+        "start" => trade.start(told, words),
+        "hear" => trade.hear(told, words),
+        "quiet" => trade.quiet(told, words),
+        "phase" => trade.phase(told, words),
+        "goods" => trade.goods(told, words),
+        "seal" => trade.seal(told, words),
+        "part" => trade.part(told, words),
+        _ => done_by_merchant(trade, told, word, words),
     }
 }
 
 // What is done at a line of a merchant.
-fn done_by_merchant(trade: &mut Trade, word: &str, rest: &[&str]) -> Result<String, NoMemory> {
+fn done_by_merchant(
+    trade: &mut Trade,
+    told: &mut Told,
+    word: &str,
+    words: &[&str],
+) -> Result<(), NoMemory> {
     match word {
-        "shelf" => trade.shelf(rest),
-        "stall" => trade.stall(rest),
-        "anew" => trade.anew(rest),
-        "consumer" => trade.consumer_says(rest),
-        "house" => trade.house_says(rest),
-        "silent" => trade.silent(rest),
-        "stage" => trade.stage(rest),
-        "asker" => trade.asker(rest),
-        _ => nb_lines::unclear(trade.alloc()),
+        "shelf" => trade.shelf(words),
+        "stall" => trade.stall(told, words),
+        "anew" => trade.anew(told, words),
+        "consumer" => trade.consumer_says(told, words),
+        "house" => trade.house_says(told, words),
+        "silent" => trade.silent(told, words),
+        "stage" => trade.stage(told, words),
+        "asker" => trade.asker(told, words),
+        _ => told.unclear(),
     }
 }

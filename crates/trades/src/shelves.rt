@@ -1,44 +1,48 @@
 //! What shelves tell.
 
+use nb_lines::Told;
 use nb_price::{Catalogue, MAX_SHELF, PutFault, ShelfFault};
 use nb_units::{NoMemory, Price};
 use std::alloc::Global;
 
 /// `catalogue SHELF NUMBER..`: a shelf is read, which these bytes are in hexadecimal. It tells its fault, or the price and the goods of each product
 /// of these numbers, and what a copy of the catalogue tells of them.
-pub(crate) fn catalogue(alloc: Global, words: &[&str]) -> Result<String, NoMemory> {
+pub(crate) fn catalogue(told: &mut Told, words: &[&str]) -> Result<(), NoMemory> {
     let [shelf, numbers @ ..] = words else {
-        return nb_lines::unclear(alloc);
+        return told.unclear();
     };
-    match read(alloc, &nb_lines::spelled(alloc, *shelf)) {
-        Ok(catalogue) => both(alloc, &catalogue, numbers),
-        Err(why) => fault(alloc, why),
+    let shelf = nb_lines::spelled(told.alloc(), *shelf);
+    match read(told.alloc(), &shelf) {
+        Ok(catalogue) => both(told, &catalogue, numbers),
+        Err(why) => fault(told, why),
     }
 }
 
 /// `puts NUMBER PRICE GOODS..`: products are put into a catalogue one after the other, their goods in hexadecimal. It tells what came of each, and
 /// what the catalogue then has of its number.
-pub(crate) fn puts(alloc: Global, words: &[&str]) -> Result<String, NoMemory> {
-    let mut catalogue = Catalogue::new(alloc);
-    let mut told = String::new(alloc);
-    for product in words.chunks(3) {
-        told.push_str(put(alloc, &mut catalogue, product)?.as_str())?;
+pub(crate) fn puts(told: &mut Told, words: &[&str]) -> Result<(), NoMemory> {
+    let mut catalogue = Catalogue::new(told.alloc());
+    for words in words.chunks(3) {
+        if let [number, price, goods] = words {
+            let goods = nb_lines::spelled(told.alloc(), *goods);
+            put(
+                told,
+                &mut catalogue,
+                *number,
+                nb_lines::number(*price),
+                goods,
+            );
+        }
     }
-    Ok(told)
+    told.done()
 }
 
-// What came of one of them, and what the catalogue then has of its number.
-fn put(alloc: Global, catalogue: &mut Catalogue, product: &[&str]) -> Result<String, NoMemory> {
-    let [number, price, goods] = product else {
-        return nb_lines::unclear(alloc);
-    };
-    let put = catalogue.put(
-        number.parse::<u32>().unwrap_or(0),
-        Price(nb_lines::number(*price)),
-        nb_lines::spelled(alloc, *goods),
-    );
-    let has = products(alloc, catalogue, &[*number])?;
-    Ok(format!(in alloc; "{}:{has} ", came_of(put))?)
+fn put(told: &mut Told, catalogue: &mut Catalogue, number: &str, price: u64, goods: Vec<u8>) {
+    let id = number.parse::<u32>().unwrap_or(0);
+    let put = catalogue.put(id, Price(price), goods);
+    told.text(came_of(put)).text(":");
+    product(told, catalogue, number);
+    told.text(" ");
 }
 
 // What came of a product that was put into a catalogue, in words.
@@ -53,8 +57,8 @@ fn came_of(put: Result<(), PutFault>) -> &'static str {
 }
 
 /// `shortage`: what is told where there is no memory for a shelf's goods.
-pub(crate) fn shortage(alloc: Global) -> Result<String, NoMemory> {
-    fault(alloc, ShelfFault::NoMemory)
+pub(crate) fn shortage(told: &mut Told) -> Result<(), NoMemory> {
+    fault(told, ShelfFault::NoMemory)
 }
 
 // The catalogue of a shelf.
@@ -66,43 +70,40 @@ pub(crate) fn read(alloc: Global, shelf: &[u8]) -> Result<Catalogue, ShelfFault>
 }
 
 // A fault, and its words.
-pub(crate) fn fault(alloc: Global, fault: ShelfFault) -> Result<String, NoMemory> {
-    let words = fault.to_string(alloc)?;
-    Ok(match fault {
-        ShelfFault::BadItem { item } => format!(in alloc; "bad item {item}: {words}")?,
-        ShelfFault::Twice { item, id } => format!(in alloc; "item {item}, {id} again: {words}")?,
-        ShelfFault::NoMemory => words,
-    })
+pub(crate) fn fault(told: &mut Told, fault: ShelfFault) -> Result<(), NoMemory> {
+    match fault {
+        ShelfFault::BadItem { item } => told.show("bad item ", &item).text(": "),
+        ShelfFault::Twice { item, id } => {
+            told.show("item ", &item).show(", ", &id).text(" again: ")
+        }
+        ShelfFault::NoMemory => told.text(""),
+    };
+    told.show("", &fault).done()
 }
 
 // What a catalogue tells of these products, and what its copy does.
-fn both(alloc: Global, catalogue: &Catalogue, numbers: &[&str]) -> Result<String, NoMemory> {
-    let read = products(alloc, catalogue, numbers)?;
-    let copied = products(alloc, &catalogue.copy()?, numbers)?;
-    Ok(format!(in alloc; "read{read}\ncopy{copied}")?)
+fn both(told: &mut Told, catalogue: &Catalogue, numbers: &[&str]) -> Result<(), NoMemory> {
+    products(told.text("read"), catalogue, numbers);
+    products(told.text("\ncopy"), &catalogue.copy()?, numbers);
+    told.done()
 }
 
-fn products(alloc: Global, catalogue: &Catalogue, numbers: &[&str]) -> Result<String, NoMemory> {
-    let mut told = String::new(alloc);
+fn products(told: &mut Told, catalogue: &Catalogue, numbers: &[&str]) {
     for number in numbers {
-        let number = number.parse::<u32>().unwrap_or(0);
-        let price = price(alloc, catalogue, number)?;
-        let goods = goods(alloc, catalogue, number)?;
-        told.push_str(format!(in alloc; " {number}: {price}, {goods};")?.as_str())?;
+        product(told, catalogue, *number);
     }
-    Ok(told)
 }
 
-fn price(alloc: Global, catalogue: &Catalogue, number: u32) -> Result<String, NoMemory> {
-    Ok(match catalogue.quote(number) {
-        Ok(Price(price)) => format!(in alloc; "price {price}")?,
-        Err(none) => none.to_string(alloc)?,
-    })
-}
-
-fn goods(alloc: Global, catalogue: &Catalogue, number: u32) -> Result<String, NoMemory> {
+fn product(told: &mut Told, catalogue: &Catalogue, number: &str) {
+    let number = number.parse::<u32>().unwrap_or(0);
+    told.show(" ", &number).text(": ");
+    match catalogue.quote(number) {
+        Ok(Price(price)) => told.show("price ", &price),
+        Err(none) => told.show("", &none),
+    };
     match catalogue.goods(number) {
-        Some(goods) => nb_lines::shown(alloc, goods),
-        None => Ok("no goods".to_string(alloc)?),
-    }
+        Some(goods) => told.bytes(", ", goods),
+        None => told.text(", no goods"),
+    };
+    told.text(";");
 }

@@ -3,107 +3,96 @@
 ghost use Rattle.nb_msgs.specs.Bodies.{MessageKeepsRules};
 
 use nb_consumer::Phase;
+use nb_lines::Told;
 use nb_msgs::{End, Message, Reason, RestartFault, To, write_message};
 use nb_stall::Stage;
 use nb_units::{Blob, NoMemory, PartyId};
 use std::alloc::Global;
 
-// The kind of an item or a message.
-fn kind(alloc: Global, byte: u8) -> Result<String, NoMemory> {
-    Ok(hex::encode(alloc, [byte])?)
-}
-
 // Why a message is ignored.
-pub(crate) fn why(alloc: Global, reason: Reason) -> Result<String, NoMemory> {
-    Ok(match reason {
-        Reason::Unknown => "ignored: unknown".to_string(alloc)?,
-        Reason::State => "ignored: state".to_string(alloc)?,
-        Reason::Seal => "ignored: seal".to_string(alloc)?,
-        Reason::Kind => "ignored: kind".to_string(alloc)?,
-        Reason::Spent => "ignored: spent".to_string(alloc)?,
-        Reason::Field(number) => format!(in alloc; "ignored: field {number}")?,
-        Reason::Refused(code) => format!(in alloc; "ignored: refused {code}")?,
-    })
+pub(crate) fn why(told: &mut Told, reason: Reason) -> &mut Told {
+    match reason {
+        Reason::Unknown => told.text("ignored: unknown"),
+        Reason::State => told.text("ignored: state"),
+        Reason::Seal => told.text("ignored: seal"),
+        Reason::Kind => told.text("ignored: kind"),
+        Reason::Spent => told.text("ignored: spent"),
+        Reason::Field(number) => told.show("ignored: field ", &number),
+        Reason::Refused(code) => told.show("ignored: refused ", &code),
+    }
 }
 
 // How a purchase ends.
-pub(crate) fn end(alloc: Global, end: &End) -> Result<String, NoMemory> {
-    Ok(match end {
-        End::Paid(goods) => format!(in alloc; "paid: {} bytes", goods.as_slice().len())?,
-        End::Refused(code) => format!(in alloc; "refused: {code}")?,
-        End::Foul => "foul".to_string(alloc)?,
-    })
+pub(crate) fn end(told: &mut Told, end: &End) {
+    match end {
+        End::Paid(goods) => told.show("paid: ", &goods.as_slice().len()).text(" bytes"),
+        End::Refused(code) => told.show("refused: ", code),
+        End::Foul => told.text("foul"),
+    };
 }
 
 // How far a purchase has come.
-pub(crate) fn phase(alloc: Global, phase: Option<Phase>) -> Result<String, NoMemory> {
-    Ok(match phase {
-        None => "none".to_string(alloc)?,
-        Some(Phase::Ticketing) => "ticketing".to_string(alloc)?,
-        Some(Phase::Asked) => "asked".to_string(alloc)?,
-        Some(Phase::Wanted) => "wanted".to_string(alloc)?,
-        Some(Phase::Ordered) => "ordered".to_string(alloc)?,
-        Some(Phase::Paid { len }) => format!(in alloc; "paid: {len} bytes")?,
-        Some(Phase::Refused { code }) => format!(in alloc; "refused: {code}")?,
-        Some(Phase::Foul) => "foul".to_string(alloc)?,
-    })
+pub(crate) fn phase(told: &mut Told, phase: Option<Phase>) -> &mut Told {
+    match phase {
+        None => told.text("none"),
+        Some(Phase::Ticketing) => told.text("ticketing"),
+        Some(Phase::Asked) => told.text("asked"),
+        Some(Phase::Wanted) => told.text("wanted"),
+        Some(Phase::Ordered) => told.text("ordered"),
+        Some(Phase::Paid { len }) => told.show("paid: ", &len).text(" bytes"),
+        Some(Phase::Refused { code }) => told.show("refused: ", &code),
+        Some(Phase::Foul) => told.text("foul"),
+    }
 }
 
 // The goods of a purchase, by their number of bytes and their digest where they are long.
-pub(crate) fn goods(alloc: Global, goods: &Option<Blob>) -> Result<String, NoMemory> {
+pub(crate) fn goods<'a>(told: &'a mut Told, goods: &Option<Blob>) -> &'a mut Told {
     match goods {
-        Some(goods) => {
-            let goods = nb_lines::shown(alloc, goods.as_slice())?;
-            Ok(format!(in alloc; "goods {goods}")?)
-        }
-        None => Ok("no goods".to_string(alloc)?),
+        Some(goods) => told.bytes("goods ", goods.as_slice()),
+        None => told.text("no goods"),
     }
 }
 
 // The kind of the item that is kept, and that of the message that is sent.
-pub(crate) fn moved(alloc: Global, kept: &[u8], message: &Message) -> Result<String, NoMemory> {
-    let sent = kind(alloc, message.kind())?;
-    match kept.first() {
-        Some(byte) => {
-            let item = kind(alloc, *byte)?;
-            Ok(format!(in alloc; "keeps {item}, sends {sent}")?)
-        }
-        None => Ok(format!(in alloc; "sends {sent}")?),
+pub(crate) fn moved(told: &mut Told, kept: &[u8], message: &Message) {
+    if let Some(kind) = kept.first() {
+        told.hex("keeps ", &[*kind]).text(", ");
     }
+    told.hex("sends ", &[message.kind()]);
 }
 
 // Whom that is for.
-pub(crate) fn sent(alloc: Global, moved: &str, to: To) -> Result<String, NoMemory> {
-    Ok(match to {
-        To::Server => format!(in alloc; "{moved} to the house")?,
-        To::Merchant(PartyId(number)) => format!(in alloc; "{moved} to merchant {number}")?,
-        To::Consumer(PartyId(number)) => format!(in alloc; "{moved} to consumer {number}")?,
-    })
+pub(crate) fn sent(told: &mut Told, to: To) -> &mut Told {
+    match to {
+        To::Server => told.text(" to the house"),
+        To::Merchant(PartyId(number)) => told.show(" to merchant ", &number),
+        To::Consumer(PartyId(number)) => told.show(" to consumer ", &number),
+    }
 }
 
 // How far a merchant's purchase has come.
-pub(crate) fn stage(alloc: Global, stage: Option<Stage>) -> Result<String, NoMemory> {
-    Ok(match stage {
-        None => "none".to_string(alloc)?,
-        Some(Stage::Quoted) => "quoted".to_string(alloc)?,
-        Some(Stage::Delivered) => "delivered".to_string(alloc)?,
-        Some(Stage::Endorsed) => "endorsed".to_string(alloc)?,
-        Some(Stage::Settled) => "settled".to_string(alloc)?,
+pub(crate) fn stage(told: &mut Told, stage: Option<Stage>) -> &mut Told {
+    told.text(match stage {
+        None => "none",
+        Some(Stage::Quoted) => "quoted",
+        Some(Stage::Delivered) => "delivered",
+        Some(Stage::Endorsed) => "endorsed",
+        Some(Stage::Settled) => "settled",
     })
 }
 
 // Whose ticket a message shows.
-pub(crate) fn asker(alloc: Global, asker: Option<PartyId>) -> Result<String, NoMemory> {
-    Ok(match asker {
-        None => "nobody".to_string(alloc)?,
-        Some(PartyId(number)) => format!(in alloc; "consumer {number}")?,
-    })
+pub(crate) fn asker(told: &mut Told, asker: Option<PartyId>) -> &mut Told {
+    match asker {
+        None => told.text("nobody"),
+        Some(PartyId(number)) => told.show("consumer ", &number),
+    }
 }
 
 // Why items are not started with.
-pub(crate) fn fault(alloc: Global, fault: RestartFault) -> Result<String, NoMemory> {
+pub(crate) fn fault(told: &mut Told, fault: RestartFault) -> Result<(), NoMemory> {
     match fault {
-        RestartFault::BadItem { item } => Ok(format!(in alloc; "bad item {item}")?),
+        RestartFault::BadItem { item } => told.show("bad item ", &item).done(),
         RestartFault::NoMemory => Err(NoMemory),
     }
 }

@@ -1,3 +1,4 @@
+ghost use Rattle.std.specs.Prelude.{IfOk};
 ghost use Rattle.nb_consumer.specs.Deeds.{StepKeepsRules};
 ghost use Rattle.nb_msgs.specs.Bodies.{MessageKeepsRules};
 
@@ -5,11 +6,13 @@ pub(crate) mod selling;
 
 use crate::{bytes, telling};
 use nb_consumer::Consumer;
+use nb_lines::Told;
 use nb_merchant::Merchant;
 use nb_msgs::{Message, Step};
 use nb_units::{AcctId, Blob, NoMemory, PartyId};
 use nb_wallet::Wallet;
 use std::alloc::Global;
+use std::mem;
 
 pub(crate) const WALLET: Wallet = Wallet {
     id: PartyId(1),
@@ -52,23 +55,14 @@ impl Trade {
         })
     }
 
-    /// Where memory comes from.
-    pub fn alloc(&self) -> Global {
-        self.alloc
-    }
-
-    fn nothing(&self) -> Result<String, NoMemory> {
-        Ok(String::new(self.alloc))
-    }
-
     /// `item HEX`: this item has the next number, from 0 on.
-    pub fn item(&mut self, words: &[&str]) -> Result<String, NoMemory> {
+    pub fn item(&mut self, told: &mut Told, words: &[&str]) -> Result<(), NoMemory> {
         let [text] = words else {
-            return nb_lines::unclear(self.alloc);
+            return told.unclear();
         };
         let item = Blob::from_vec(nb_lines::spelled(self.alloc, *text));
         self.known.push(item)?;
-        self.nothing()
+        Ok(())
     }
 
     // The item of a number, or the one that a longer word spells.
@@ -84,60 +78,70 @@ impl Trade {
     }
 
     /// `kept ITEM..`: a consumer starts with these items, each a number or spelled.
-    pub fn kept(&mut self, words: &[&str]) -> Result<String, NoMemory> {
+    pub fn kept(&mut self, told: &mut Told, words: &[&str]) -> Result<(), NoMemory> {
         self.items.clear();
         for word in words {
             let item = self.named(*word)?;
             self.items.push(item)?;
         }
-        self.again()
+        self.again(told)
     }
 
     /// `again`: the consumer starts again with all items that it kept.
-    pub fn again(&mut self) -> Result<String, NoMemory> {
+    pub fn again(&mut self, told: &mut Told) -> Result<(), NoMemory> {
         if self.items.len() > 100 {
-            return nb_lines::unclear(self.alloc);
+            return told.unclear();
         }
         match Consumer::restart(self.alloc, WALLET, &self.items) {
             Ok(consumer) => {
-                self.consumer = consumer;
-                self.nothing()
+                drop(mem::replace(&mut self.consumer, consumer));
+                Ok(())
             }
-            Err(fault) => telling::fault(self.alloc, fault),
+            Err(fault) => telling::fault(told, fault),
         }
     }
 
     // Remembers what a step keeps and sends, and tells it.
-    fn did(&mut self, step: &Step) -> Result<String, NoMemory>
+    fn did(&mut self, told: &mut Told, step: Result<Step, NoMemory>) -> Result<(), NoMemory>
+        requires { IfOk step StepKeepsRules }
+    {
+        let step = step?;
+        let done = self.remember(told, &step);
+        drop(step);
+        done
+    }
+
+    fn remember(&mut self, told: &mut Told, step: &Step) -> Result<(), NoMemory>
         requires { StepKeepsRules step.now }
     {
         match step {
             Step::Move { keep, message, .. } => {
                 self.keep(keep)?;
-                self.moved(message)
+                self.moved(told, message)
             }
             Step::Ended { keep, end } => {
-                self.keep_item(keep)?;
-                self.sent = Vec::new(self.alloc);
-                telling::end(self.alloc, end)
+                self.sent.clear();
+                telling::end(told, end);
+                self.keep_item(keep)
             }
-            Step::Ignored(why) => telling::why(self.alloc, *why),
+            Step::Ignored(why) => telling::why(told, *why).done(),
         }
     }
 
     // Remembers what a step sends, and tells it with what it keeps.
-    fn moved(&mut self, message: &Message) -> Result<String, NoMemory>
+    fn moved(&mut self, told: &mut Told, message: &Message) -> Result<(), NoMemory>
         requires { MessageKeepsRules message.now }
     {
+        telling::moved(told, &self.kept, message);
         self.sent = telling::frame(self.alloc, message)?;
-        telling::moved(self.alloc, &self.kept, message)
+        Ok(())
     }
 
     fn keep(&mut self, keep: &Option<Blob>) -> Result<(), NoMemory> {
         match keep {
             Some(item) => self.keep_item(item),
             None => {
-                self.kept = Vec::new(self.alloc);
+                self.kept.clear();
                 Ok(())
             }
         }
@@ -150,89 +154,93 @@ impl Trade {
     }
 
     /// `start NUMBER LIMIT`: a purchase starts.
-    pub fn start(&mut self, words: &[&str]) -> Result<String, NoMemory> {
+    pub fn start(&mut self, told: &mut Told, words: &[&str]) -> Result<(), NoMemory> {
         let [number, limit] = words else {
-            return nb_lines::unclear(self.alloc);
+            return told.unclear();
         };
         let wish = bytes::wish(nb_lines::number(*number), nb_lines::number(*limit));
-        let step = self.consumer.start(&wish)?;
-        self.did(&step)
+        let step = self.consumer.start(&wish);
+        self.did(told, step)
     }
 
     /// `hear KIND BODY`: a message comes.
-    pub fn hear(&mut self, words: &[&str]) -> Result<String, NoMemory> {
+    pub fn hear(&mut self, told: &mut Told, words: &[&str]) -> Result<(), NoMemory> {
         let [kind, body] = words else {
-            return nb_lines::unclear(self.alloc);
+            return told.unclear();
         };
         let kind = bytes::first(self.alloc, *kind);
-        self.hear_body(kind, &nb_lines::spelled(self.alloc, *body))
+        self.hear_body(told, kind, &nb_lines::spelled(self.alloc, *body))
     }
 
-    fn hear_body(&mut self, kind: u8, body: &[u8]) -> Result<String, NoMemory> {
+    fn hear_body(&mut self, told: &mut Told, kind: u8, body: &[u8]) -> Result<(), NoMemory> {
         match bytes::message(self.alloc, kind, body) {
-            Some(message) => self.hear_message(&message),
-            None => nb_lines::unclear(self.alloc),
+            Some(message) => {
+                let done = self.hear_message(told, &message);
+                drop(message);
+                done
+            }
+            None => told.unclear(),
         }
     }
 
-    fn hear_message(&mut self, message: &Message) -> Result<String, NoMemory>
+    fn hear_message(&mut self, told: &mut Told, message: &Message) -> Result<(), NoMemory>
         requires { MessageKeepsRules message.now }
     {
-        let step = self.consumer.on(message)?;
-        self.did(&step)
+        let step = self.consumer.on(message);
+        self.did(told, step)
     }
 
     /// `quiet NUMBER`: nothing was heard of a purchase for long.
-    pub fn quiet(&mut self, words: &[&str]) -> Result<String, NoMemory> {
+    pub fn quiet(&mut self, told: &mut Told, words: &[&str]) -> Result<(), NoMemory> {
         let [number] = words else {
-            return nb_lines::unclear(self.alloc);
+            return told.unclear();
         };
-        let step = self.consumer.quiet(nb_lines::number(*number))?;
-        self.did(&step)
+        let step = self.consumer.quiet(nb_lines::number(*number));
+        self.did(told, step)
     }
 
     /// `phase NUMBER`: how far a purchase has come.
-    pub fn phase(&self, words: &[&str]) -> Result<String, NoMemory> {
+    pub fn phase(&self, told: &mut Told, words: &[&str]) -> Result<(), NoMemory> {
         let [number] = words else {
-            return nb_lines::unclear(self.alloc);
+            return told.unclear();
         };
-        telling::phase(self.alloc, self.consumer.state(nb_lines::number(*number)))
+        telling::phase(told, self.consumer.state(nb_lines::number(*number))).done()
     }
 
     /// `goods NUMBER`: the goods of a purchase, by their number of bytes and their digest.
-    pub fn goods(&self, words: &[&str]) -> Result<String, NoMemory> {
+    pub fn goods(&self, told: &mut Told, words: &[&str]) -> Result<(), NoMemory> {
         let [number] = words else {
-            return nb_lines::unclear(self.alloc);
+            return told.unclear();
         };
         let goods = self.consumer.goods(nb_lines::number(*number))?;
-        telling::goods(self.alloc, &goods)
+        telling::goods(told, &goods).done()
     }
 
     /// `bytes`: the item that the last step kept, and the frame that it sent.
-    pub fn bytes(&self) -> Result<String, NoMemory> {
-        let kept = nb_lines::shown(self.alloc, &self.kept)?;
-        let sent = nb_lines::shown(self.alloc, &self.sent)?;
-        Ok(format!(in self.alloc; "kept {kept}\nsent {sent}")?)
+    pub fn bytes(&self, told: &mut Told) -> Result<(), NoMemory> {
+        told.bytes("kept ", &self.kept)
+            .bytes("\nsent ", &self.sent)
+            .done()
     }
 
     /// `seal BYTES`: so many bytes of goods, which count up, are sealed for purchase 1. They are told by their number and their digest.
-    pub fn seal(&mut self, words: &[&str]) -> Result<String, NoMemory> {
+    pub fn seal(&mut self, told: &mut Told, words: &[&str]) -> Result<(), NoMemory> {
         let [len] = words else {
-            return nb_lines::unclear(self.alloc);
+            return told.unclear();
         };
         let goods = bytes::counting(self.alloc, nb_lines::number(*len))?;
         self.goods = bytes::seal_up(self.alloc, &goods)?;
-        nb_lines::shown(self.alloc, self.goods.as_slice())
+        told.bytes("", self.goods.as_slice()).done()
     }
 
     /// `part HEAD FROM TO BENT`: a part of these goods comes, under this sealed head, with the last bit of one of its bytes turned.
-    pub fn part(&mut self, words: &[&str]) -> Result<String, NoMemory> {
+    pub fn part(&mut self, told: &mut Told, words: &[&str]) -> Result<(), NoMemory> {
         let [head, from, to, bent] = words else {
-            return nb_lines::unclear(self.alloc);
+            return told.unclear();
         };
         let part = self.piece(*from, *to, *bent)?;
         let body = bytes::goods_body(self.alloc, &nb_lines::spelled(self.alloc, *head), &part)?;
-        self.hear_body(0x04, &body)
+        self.hear_body(told, 0x04, &body)
     }
 
     // The bytes of the sealed goods from one place to another.

@@ -3,88 +3,81 @@
 use crate::batch::{Batch, are_within};
 use crate::house::House;
 use crate::names::Request;
-use crate::telling::Said;
-use nb_desk::AskedAll;
+use crate::telling;
+use nb_desk::{Asked, AskedAll};
+use nb_lines::Told;
 use nb_msgs::REPLY_ROOM;
 use nb_port::MemDisk;
 use nb_turns::MAX_REQUESTS;
 use nb_units::NoMemory;
 use nb_vault::{Answer, AnswerAll, Vault};
-use std::alloc::Global;
 
 impl House {
     /// `ask BY NAME`: asks for one request, in the name of this number.
-    pub fn ask(&mut self, words: &[&str]) -> Result<String, NoMemory> {
+    pub fn ask(&mut self, told: &mut Told, words: &[&str]) -> Result<(), NoMemory> {
         let [by, name] = words else {
-            return nb_lines::unclear(self.alloc);
+            return told.unclear();
         };
         match (&mut self.vault, self.names.request(*name)) {
             (Some(vault), Some(request)) => {
-                let said = answer(self.alloc, vault, nb_lines::number(*by), request)?;
-                let told = said.told(self.alloc)?;
-                self.with_lines(told)
+                answer(told, vault, nb_lines::number(*by), request)?;
+                self.tell_lines(told)
             }
-            _ => nb_lines::unclear(self.alloc),
+            _ => told.unclear(),
         }
     }
 
     /// `turn BY NAME..`: asks for several requests in one turn.
-    pub fn turn(&mut self, words: &[&str]) -> Result<String, NoMemory> {
-        let [by, names @ ..] = words else {
-            return nb_lines::unclear(self.alloc);
-        };
-        let batch = Batch::of(self.alloc, &self.names, names)?;
-        let Some(vault) = &mut self.vault else {
-            return nb_lines::unclear(self.alloc);
-        };
-        match answer_all(self.alloc, vault, nb_lines::number(*by), &batch)? {
-            Some(said) => {
-                let told = said.told(self.alloc)?;
-                self.with_lines(told)
+    pub fn turn(&mut self, told: &mut Told, words: &[&str]) -> Result<(), NoMemory> {
+        match (&mut self.vault, words) {
+            (Some(vault), [by, names @ ..]) => {
+                let batch = Batch::of(self.alloc, &self.names, names)?;
+                if !answer_all(told, vault, nb_lines::number(*by), &batch)? {
+                    return told.unclear();
+                }
             }
-            None => nb_lines::unclear(self.alloc),
+            _ => return told.unclear(),
         }
+        self.tell_lines(told)
     }
 }
 
 fn answer(
-    alloc: Global,
+    told: &mut Told,
     vault: &mut Vault<MemDisk>,
     by: u64,
     request: &Request,
-) -> Result<Said, NoMemory> {
-    let mut ats = Vec::new(alloc);
-    let mut out = Vec::with_capacity(alloc, REPLY_ROOM)?;
+) -> Result<(), NoMemory> {
+    let mut out = Vec::with_capacity(told.alloc(), REPLY_ROOM)?;
     let answer = vault.answer(by, request.kind(), request.body(), request.moment, &mut out);
     let asked = match answer {
-        Answer::Answered { at } => {
-            ats.push(at)?;
-            AskedAll::Served
-        }
-        Answer::DiskFault { before, after } => AskedAll::DiskFault { before, after },
-        Answer::Worn { faults } => AskedAll::Worn { faults },
+        Answer::Answered { at } => Asked::Served { at },
+        Answer::DiskFault { before, after } => Asked::DiskFault { before, after },
+        Answer::Worn { faults } => Asked::Worn { faults },
     };
-    Ok(Said { asked, ats, out })
+    telling::asked(told, asked, &out);
+    Ok(())
 }
 
-// None where these are not from 1 to 32 requests.
+// Whether something was asked, which it is where these are from 1 to 32 requests.
 fn answer_all(
-    alloc: Global,
+    told: &mut Told,
     vault: &mut Vault<MemDisk>,
     by: u64,
     batch: &Batch,
-) -> Result<Option<Said>, NoMemory> {
-    let mut ats = Vec::with_capacity(alloc, MAX_REQUESTS)?;
-    let mut out = Vec::with_capacity(alloc, REPLY_ROOM * MAX_REQUESTS)?;
+) -> Result<bool, NoMemory> {
     let (bytes, asks) = (batch.bytes.as_slice(), batch.asks.as_slice());
     if asks.is_empty() || asks.len() > MAX_REQUESTS || !are_within(bytes, asks) {
-        return Ok(None);
+        return Ok(false);
     }
+    let mut ats = Vec::with_capacity(told.alloc(), MAX_REQUESTS)?;
+    let mut out = Vec::with_capacity(told.alloc(), REPLY_ROOM * MAX_REQUESTS)?;
     let answer = vault.answer_all(by, bytes, asks, &mut ats, &mut out);
     let asked = match answer {
         AnswerAll::Answered => AskedAll::Served,
         AnswerAll::DiskFault { before, after } => AskedAll::DiskFault { before, after },
         AnswerAll::Worn { faults } => AskedAll::Worn { faults },
     };
-    Ok(Some(Said { asked, ats, out }))
+    telling::asked_all(told, asked, &ats, &out);
+    Ok(true)
 }

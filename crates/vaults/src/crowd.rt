@@ -1,6 +1,6 @@
 // Four threads that ask one desk.
 
-ghost use Rattle.std.specs.Prelude.{IfSome};
+ghost use Rattle.std.specs.Prelude.{IfOk, IfSome};
 ghost use Rattle.nb_desk.specs.Desks.{IsAt};
 
 use crate::callers::{ask_by_two, two_more};
@@ -9,6 +9,7 @@ use crate::house::House;
 use crate::names::Request;
 use nb_book::Entry;
 use nb_desk::{Desk, Pass};
+use nb_lines::Told;
 use nb_port::MemDisk;
 use nb_turns::Line;
 use nb_units::NoMemory;
@@ -25,13 +26,24 @@ const FIRST_FUND: u64 = 151;
 
 const FUND_BYTES: u64 = 34;
 
+// The places that two callers were told.
+type Places = (Option<Vec<u64>>, Option<Vec<u64>>);
+
+// What callers were told.
+#[derive(Drop)]
+struct Replies {
+    // What the first pass was told before them, and behind them all.
+    first: Told,
+    last: Told,
+    // Those of the callers 1 and 2, and 3 and 4.
+    low: Places,
+    high: Places,
+}
+
 // What came of a crowd.
 #[derive(Drop)]
 struct Crowd {
-    // Each caller's places, by its number from 1 on.
-    places: Vec<Option<Vec<u64>>>,
-    // What the first pass was told before them, and behind them all.
-    replies: [String; 2],
+    replies: Replies,
     disk: MemDisk,
     lines: Vec<Line>,
 }
@@ -42,70 +54,112 @@ impl House {
     pub fn crowd<R: Threads + Wait + Sync>(
         &self,
         rt: &R,
+        told: &mut Told,
         words: &[&str],
-    ) -> Result<String, NoMemory> {
+    ) -> Result<(), NoMemory> {
         let [name, times] = words else {
-            return nb_lines::unclear(self.alloc);
+            return told.unclear();
         };
         let times = nb_lines::number(*times).min(MOST_TIMES) as u32;
-        let Some(request) = self.names.request(*name) else {
-            return nb_lines::unclear(self.alloc);
-        };
-        let crowd = match desk_over(self.alloc, self.next_disk()?) {
-            Some((desk, pass)) => gather(rt, self.alloc, desk, pass, request, times)?,
-            None => None,
-        };
-        match crowd {
-            Some(crowd) => told(self.alloc, &crowd),
-            None => nb_lines::unclear(self.alloc),
+        match self.names.request(*name) {
+            Some(request) => come(rt, told, self.next_disk()?, request, times),
+            None => told.unclear(),
         }
+    }
+}
+
+fn come<R: Threads + Wait + Sync>(
+    rt: &R,
+    told: &mut Told,
+    disk: MemDisk,
+    request: &Request,
+    times: u32,
+) -> Result<(), NoMemory> {
+    match gather(rt, told.alloc(), disk, request, times)? {
+        Some(crowd) => tell(told, &crowd),
+        None => told.unclear(),
     }
 }
 
 fn gather<R: Threads + Wait + Sync>(
     rt: &R,
     alloc: Global,
-    desk: Desk<MemDisk>,
+    disk: MemDisk,
+    request: &Request,
+    times: u32,
+) -> Result<Option<Crowd>, NoMemory> {
+    let Some((mut desk, pass)) = desk_over(alloc, disk) else {
+        return Ok(None);
+    };
+    match ask_before_and_behind(rt, alloc, &mut desk, pass, request, times)? {
+        Some((pass, replies)) => {
+            let (disk, lines) = desk.close(rt, pass).into_parts();
+            Ok(Some(Crowd {
+                replies,
+                disk,
+                lines,
+            }))
+        }
+        None => Ok(None),
+    }
+}
+
+fn ask_before_and_behind<R: Threads + Wait + Sync>(
+    rt: &R,
+    alloc: Global,
+    desk: &mut Desk<MemDisk>,
     pass: Pass<MemDisk>,
     request: &Request,
     times: u32,
-) -> Result<Option<Crowd>, NoMemory>
-    requires { IsAt pass desk }
+) -> Result<Option<(Pass<MemDisk>, Replies)>, NoMemory>
+    requires { IsAt pass desk.old }
+    ensures { IfOk result (λ o. IfSome o (λ r. IsAt r.0 desk.new)) }
 {
-    let mut desk = desk;
-    let (pass, first) = ask_one(rt, alloc, &desk, pass, request, false)?;
-    let Some((pass, low)) = two_more(&mut desk, pass, 1) else {
+    let (mut first, mut last) = (Told::new(alloc), Told::new(alloc));
+    let pass = ask_one(rt, &mut first, desk, pass, request, false)?;
+    let Some((pass, (low, high))) = ask_by_four(rt, alloc, desk, pass, times) else {
         return Ok(None);
     };
-    let Some((pass, high)) = two_more(&mut desk, pass, 3) else {
-        return Ok(None);
+    let pass = ask_one(rt, &mut last, desk, pass, request, false)?;
+    let replies = Replies {
+        first,
+        last,
+        low,
+        high,
     };
-    let places = ask_by_four(rt, alloc, &desk, low, high, times)?;
-    let (pass, last) = ask_one(rt, alloc, &desk, pass, request, false)?;
-    let replies = [first.told(alloc)?, last.told(alloc)?];
-    let (disk, lines) = desk.close(rt, pass).into_parts();
-    Ok(Some(Crowd {
-        places,
-        replies,
-        disk,
-        lines,
-    }))
+    Ok(Some((pass, replies)))
 }
 
+// Four callers ask at once.
 fn ask_by_four<R: Threads + Wait + Sync>(
+    rt: &R,
+    alloc: Global,
+    desk: &mut Desk<MemDisk>,
+    pass: Pass<MemDisk>,
+    times: u32,
+) -> Option<(Pass<MemDisk>, (Places, Places))>
+    requires { IsAt pass desk.old }
+    ensures { IfSome result (λ r. IsAt r.0 desk.new) }
+{
+    let (pass, low) = two_more(desk, pass, 1)?;
+    let (pass, high) = two_more(desk, pass, 3)?;
+    Some((pass, ask_at_once(rt, alloc, desk, low, high, times)))
+}
+
+fn ask_at_once<R: Threads + Wait + Sync>(
     rt: &R,
     alloc: Global,
     desk: &Desk<MemDisk>,
     low: (Pass<MemDisk>, Pass<MemDisk>),
     high: (Pass<MemDisk>, Pass<MemDisk>),
     times: u32,
-) -> Result<Vec<Option<Vec<u64>>>, NoMemory>
+) -> (Places, Places)
     requires first { IsAt low.0 desk.now }
     requires second { IsAt low.1 desk.now }
     requires third { IsAt high.0 desk.now }
     requires fourth { IsAt high.1 desk.now }
 {
-    let (left, right) = join(
+    join(
         rt,
         || -> (Option<Vec<u64>>, Option<Vec<u64>>)
             requires first { IsAt low.0 desk.now }
@@ -115,33 +169,40 @@ fn ask_by_four<R: Threads + Wait + Sync>(
             requires first { IsAt high.0 desk.now }
             requires second { IsAt high.1 desk.now }
         { ask_by_two(rt, alloc, desk, high, 3, times) },
-    );
-    let mut places = Vec::new(alloc);
-    places.push(left.0)?;
-    places.push(left.1)?;
-    places.push(right.0)?;
-    places.push(right.1)?;
-    Ok(places)
+    )
 }
 
 // The replies; and of each caller the entries that its own lines committed, one behind the other, and the items at the places that it was told.
-fn told(alloc: Global, crowd: &Crowd) -> Result<String, NoMemory> {
-    let [first, last] = &crowd.replies;
-    let mut told = format!(in alloc; "{first}\n{} lines; {last}", crowd.lines.len())?;
-    let mut by = 0u64;
-    for places in &crowd.places {
-        by = by.saturating_add(1);
-        let made = nb_lines::shown(alloc, &committed_by(alloc, &crowd.lines, by)?)?;
-        let items = match places {
-            Some(places) => items_at(alloc, crowd.disk.content(), places)?,
-            None => Vec::new(alloc),
-        };
-        let items = nb_lines::shown(alloc, &items)?;
-        told.push_str(format!(in alloc;
-            "\ncaller {by}: committed {made}; told {items}"
-        )?.as_str())?;
+fn tell(told: &mut Told, crowd: &Crowd) -> Result<(), NoMemory> {
+    told.text(crowd.replies.first.as_str())
+        .show("\n", &crowd.lines.len())
+        .text(" lines; ")
+        .text(crowd.replies.last.as_str());
+    tell_caller(told, crowd, 1, &crowd.replies.low.0)?;
+    tell_caller(told, crowd, 2, &crowd.replies.low.1)?;
+    tell_caller(told, crowd, 3, &crowd.replies.high.0)?;
+    tell_caller(told, crowd, 4, &crowd.replies.high.1)
+}
+
+fn tell_caller(
+    told: &mut Told,
+    crowd: &Crowd,
+    by: u64,
+    places: &Option<Vec<u64>>,
+) -> Result<(), NoMemory> {
+    let committed = committed_by(told.alloc(), &crowd.lines, by)?;
+    told.show("\ncaller ", &by)
+        .bytes(": committed ", &committed)
+        .text("; told ");
+    match places {
+        Some(places) => tell_items(told, crowd.disk.content(), places),
+        None => told.bytes("", &[]).done(),
     }
-    Ok(told)
+}
+
+fn tell_items(told: &mut Told, content: &[u8], places: &[u64]) -> Result<(), NoMemory> {
+    let items = items_at(told.alloc(), content, places)?;
+    told.bytes("", &items).done()
 }
 
 // The funds that the lines of a caller committed, in the order of these lines.

@@ -6,8 +6,9 @@ ghost use Rattle.nb_desk.specs.Desks.{IsAt};
 use crate::batch::{Batch, are_within};
 use crate::house::House;
 use crate::names::{Names, Request};
-use crate::telling::Said;
-use nb_desk::{Asked, AskedAll, Desk, Pass, SplitFault};
+use crate::telling;
+use nb_desk::{Desk, Pass, SplitFault};
+use nb_lines::Told;
 use nb_msgs::REPLY_ROOM;
 use nb_port::{Disk, MemDisk};
 use nb_turn::MAX_PASSES;
@@ -21,17 +22,30 @@ impl House {
     /// `desk / STEP / STEP ..`: a desk over the next disk, whose first pass takes these steps: `ask NAME`, `try NAME`, `all NAME..`,
     /// `tries NAME..`, `split NUMBER`, which splits a pass off and joins it, and `drop NUMBER`, which splits one off and drops it. The vault that
     /// comes out is open then.
-    pub fn desk<R: Wait>(&mut self, rt: &R, line: &str) -> Result<String, NoMemory> {
-        match desk_over(self.alloc, self.next_disk()?) {
-            Some((desk, pass)) => {
-                let steps: Vec<&str> = line.split('/').collect(self.alloc)?;
-                let (told, vault) = take_steps(rt, self.alloc, &self.names, desk, pass, &steps)?;
-                self.vault = Some(vault);
-                self.lines = 0;
-                self.with_lines(told)
+    pub fn desk<R: Wait>(&mut self, rt: &R, told: &mut Told, line: &str) -> Result<(), NoMemory> {
+        let disk = self.next_disk()?;
+        match vault_behind(rt, told, &self.names, disk, line)? {
+            Some(vault) => {
+                self.hold(Some(vault));
+                self.tell_lines(told)
             }
-            None => nb_lines::unclear(self.alloc),
+            None => told.unclear(),
         }
+    }
+}
+
+// The vault that comes out of a desk over a disk whose first pass took the steps of a line.
+fn vault_behind<R: Wait>(
+    rt: &R,
+    told: &mut Told,
+    names: &Names,
+    disk: MemDisk,
+    line: &str,
+) -> Result<Option<Vault<MemDisk>>, NoMemory> {
+    let steps: Vec<&str> = line.split('/').collect(told.alloc())?;
+    match desk_over(told.alloc(), disk) {
+        Some((desk, pass)) => Ok(Some(take_steps(rt, told, names, desk, pass, &steps)?)),
+        None => Ok(None),
     }
 }
 
@@ -39,209 +53,215 @@ impl House {
 pub(crate) fn desk_over<D: Disk + Drop>(alloc: Global, disk: D) -> Option<(Desk<D>, Pass<D>)>
     ensures { IfSome result (λ r. IsAt r.1 r.0) }
 {
-    let Ok(vault) = Vault::open(alloc, disk) else {
-        return None;
-    };
-    match Desk::open(alloc, vault) {
-        Ok(opened) => Some(opened),
-        Err(_) => None,
-    }
+    let vault = Vault::open(alloc, disk).ok()?;
+    Desk::open(alloc, vault).ok()
 }
 
 fn take_steps<R: Wait>(
     rt: &R,
-    alloc: Global,
+    told: &mut Told,
     names: &Names,
     desk: Desk<MemDisk>,
     pass: Pass<MemDisk>,
     steps: &[&str],
-) -> Result<(String, Vault<MemDisk>), NoMemory>
+) -> Result<Vault<MemDisk>, NoMemory>
     requires { IsAt pass desk }
 {
-    let mut told = String::new(alloc);
     let mut desk = desk;
     let mut pass = pass;
     for step in steps {
-        let words: Vec<&str> = step.split_whitespace().collect(alloc)?;
-        let (next, text) = take_step(rt, alloc, names, &mut desk, pass, &words)?;
-        pass = next;
-        told.push_str(text.as_str())?;
+        pass = take_step(rt, told, names, &mut desk, pass, *step)?;
     }
-    told.push_str(format!(in alloc; "{} lines seen", pass.seen())?.as_str())?;
-    Ok((told, desk.close(rt, pass)))
+    told.show("", &pass.seen()).text(" lines seen");
+    Ok(desk.close(rt, pass))
 }
 
 fn take_step<R: Wait>(
     rt: &R,
-    alloc: Global,
+    told: &mut Told,
     names: &Names,
     desk: &mut Desk<MemDisk>,
     pass: Pass<MemDisk>,
-    words: &[&str],
-) -> Result<(Pass<MemDisk>, String), NoMemory>
+    step: &str,
+) -> Result<Pass<MemDisk>, NoMemory>
     requires { IsAt pass desk.old }
-    ensures { IfOk result (λ r. IsAt r.0 desk.new) }
+    ensures { IfOk result (λ p. IsAt p desk.new) }
 {
-    match words {
-        [] => Ok((pass, nb_lines::unclear(alloc)?)),
+    let words: Vec<&str> = step.split_whitespace().collect(told.alloc())?;
+    match words.as_slice() {
+        [] => {
+            told.text("no such line");
+            Ok(pass)
+        }
         [word, rest @ ..] => match *word {
-            "desk" => Ok((pass, String::new(alloc))),
-            "split" => split_off(alloc, desk, pass, rest, true),
-            "drop" => split_off(alloc, desk, pass, rest, false),
-            _ => {
-                let (pass, said) = ask_by(rt, alloc, names, desk, pass, *word, rest)?;
-                Ok((pass, format!(in alloc; "{}\n", told(alloc, said)?)?))
-            }
+            "desk" => Ok(pass),
+            "split" | "drop" => split_off(told, desk, pass, rest, *word == "split"),
+            _ => ask_by(rt, told, names, desk, pass, *word, rest),
         },
     }
 }
 
 // Splits a pass of a number off, and joins it again or drops it.
 fn split_off(
-    alloc: Global,
+    told: &mut Told,
     desk: &mut Desk<MemDisk>,
     pass: Pass<MemDisk>,
     words: &[&str],
     joins: bool,
-) -> Result<(Pass<MemDisk>, String), NoMemory>
+) -> Result<Pass<MemDisk>, NoMemory>
     requires { IsAt pass desk.old }
-    ensures { IfOk result (λ r. IsAt r.0 desk.new) }
+    ensures { IfOk result (λ p. IsAt p desk.new) }
 {
-    let [number] = words else {
-        return Ok((pass, nb_lines::unclear(alloc)?));
+    let number = match words {
+        [number] => nb_lines::number(*number),
+        _ => MAX_PASSES,
     };
-    let number = nb_lines::number(*number);
     if number >= MAX_PASSES {
-        return Ok((pass, nb_lines::unclear(alloc)?));
+        told.text("no such line");
+        return Ok(pass);
     }
     match desk.split(pass, number) {
         Ok((first, second)) => {
-            let told = format!(in alloc; "pass {}\n", second.number())?;
-            if joins {
-                return Ok((desk.join(first, second), told));
-            }
-            drop(second);
-            Ok((first, told))
+            told.show("pass ", &second.number()).text("\n");
+            Ok(rejoined(desk, first, second, joins))
         }
         Err((SplitFault::Taken { word }, pass)) => {
-            Ok((pass, format!(in alloc; "taken {word}\n")?))
+            told.show("taken ", &word).text("\n");
+            Ok(pass)
         }
         Err((SplitFault::NoMemory, _)) => Err(NoMemory),
     }
 }
 
-/// How a turn was answered, where something was asked.
-pub(crate) fn told(alloc: Global, said: Option<Said>) -> Result<String, NoMemory> {
-    match said {
-        Some(said) => said.told(alloc),
-        None => nb_lines::unclear(alloc),
+fn rejoined(
+    desk: &mut Desk<MemDisk>,
+    first: Pass<MemDisk>,
+    second: Pass<MemDisk>,
+    joins: bool,
+) -> Pass<MemDisk>
+    requires first { IsAt first desk.old }
+    requires second { IsAt second desk.old }
+    ensures { IsAt result desk.new }
+{
+    if joins {
+        desk.join(first, second)
+    } else {
+        drop(second);
+        first
     }
 }
 
 // Asks in one of the four ways; nothing is asked where the word is none of them.
 fn ask_by<R: Wait>(
     rt: &R,
-    alloc: Global,
+    told: &mut Told,
     names: &Names,
     desk: &Desk<MemDisk>,
     pass: Pass<MemDisk>,
     word: &str,
     named: &[&str],
-) -> Result<(Pass<MemDisk>, Option<Said>), NoMemory>
+) -> Result<Pass<MemDisk>, NoMemory>
     requires { IsAt pass desk.now }
-    ensures { IfOk result (λ r. IsAt r.0 desk.now) }
+    ensures { IfOk result (λ p. IsAt p desk.now) }
 {
-    match (word, named) {
-        ("ask", [name]) => ask_named(rt, alloc, names, desk, pass, *name, false),
-        ("try", [name]) => ask_named(rt, alloc, names, desk, pass, *name, true),
-        ("all" | "tries", _) => {
-            let batch = Batch::of(alloc, names, named)?;
-            ask_all(rt, alloc, desk, pass, &batch, word == "tries")
+    let pass = match word {
+        "ask" | "try" => ask_named(rt, told, names, desk, pass, named, word == "try")?,
+        "all" | "tries" => ask_several(rt, told, names, desk, pass, named, word == "tries")?,
+        _ => {
+            told.text("no such line");
+            pass
         }
-        _ => Ok((pass, None)),
-    }
+    };
+    told.text("\n");
+    Ok(pass)
 }
 
 // Asks for the request of this name; nothing is asked where there is none.
 fn ask_named<R: Wait>(
     rt: &R,
-    alloc: Global,
+    told: &mut Told,
     names: &Names,
     desk: &Desk<MemDisk>,
     pass: Pass<MemDisk>,
-    name: &str,
+    named: &[&str],
     tries: bool,
-) -> Result<(Pass<MemDisk>, Option<Said>), NoMemory>
+) -> Result<Pass<MemDisk>, NoMemory>
     requires { IsAt pass desk.now }
-    ensures { IfOk result (λ r. IsAt r.0 desk.now) }
+    ensures { IfOk result (λ p. IsAt p desk.now) }
 {
-    match names.request(name) {
-        Some(request) => {
-            let (pass, said) = ask_one(rt, alloc, desk, pass, request, tries)?;
-            Ok((pass, Some(said)))
-        }
-        None => Ok((pass, None)),
+    if let [name] = named
+        && let Some(request) = names.request(*name)
+    {
+        return ask_one(rt, told, desk, pass, request, tries);
     }
+    told.text("no such line");
+    Ok(pass)
 }
 
 /// Asks for one request, or tries to.
 pub(crate) fn ask_one<R: Wait, D: Disk + Drop>(
     rt: &R,
-    alloc: Global,
+    told: &mut Told,
     desk: &Desk<D>,
     pass: Pass<D>,
     request: &Request,
     tries: bool,
-) -> Result<(Pass<D>, Said), NoMemory>
+) -> Result<Pass<D>, NoMemory>
     requires { IsAt pass desk.now }
-    ensures { IfOk result (λ r. IsAt r.0 desk.now) }
+    ensures { IfOk result (λ p. IsAt p desk.now) }
 {
     let (kind, moment) = (request.kind(), request.moment);
-    let mut out = Vec::with_capacity(alloc, REPLY_ROOM)?;
+    let mut out = Vec::with_capacity(told.alloc(), REPLY_ROOM)?;
     let (pass, asked) = if tries {
         desk.try_ask(pass, kind, request.body(), moment, &mut out)
     } else {
         desk.ask(rt, pass, kind, request.body(), moment, &mut out)
     };
-    Ok((pass, said_one(alloc, asked, out)?))
+    telling::asked(told, asked, &out);
+    Ok(pass)
 }
 
-fn said_one(alloc: Global, asked: Asked, out: Vec<u8>) -> Result<Said, NoMemory> {
-    let mut ats = Vec::new(alloc);
-    let asked = match asked {
-        Asked::Served { at } => {
-            ats.push(at)?;
-            AskedAll::Served
-        }
-        Asked::Busy { word } => AskedAll::Busy { word },
-        Asked::DiskFault { before, after } => AskedAll::DiskFault { before, after },
-        Asked::Worn { faults } => AskedAll::Worn { faults },
-    };
-    Ok(Said { asked, ats, out })
+// Asks for the requests of these names in one turn.
+fn ask_several<R: Wait>(
+    rt: &R,
+    told: &mut Told,
+    names: &Names,
+    desk: &Desk<MemDisk>,
+    pass: Pass<MemDisk>,
+    named: &[&str],
+    tries: bool,
+) -> Result<Pass<MemDisk>, NoMemory>
+    requires { IsAt pass desk.now }
+    ensures { IfOk result (λ p. IsAt p desk.now) }
+{
+    let batch = Batch::of(told.alloc(), names, named)?;
+    ask_all(rt, told, desk, pass, &batch, tries)
 }
 
 // Asks for several requests, or tries to; nothing is asked where these are not from 1 to 32.
 fn ask_all<R: Wait>(
     rt: &R,
-    alloc: Global,
+    told: &mut Told,
     desk: &Desk<MemDisk>,
     pass: Pass<MemDisk>,
     batch: &Batch,
     tries: bool,
-) -> Result<(Pass<MemDisk>, Option<Said>), NoMemory>
+) -> Result<Pass<MemDisk>, NoMemory>
     requires { IsAt pass desk.now }
-    ensures { IfOk result (λ r. IsAt r.0 desk.now) }
+    ensures { IfOk result (λ p. IsAt p desk.now) }
 {
     let (bytes, asks) = (batch.bytes.as_slice(), batch.asks.as_slice());
     if asks.is_empty() || asks.len() > MAX_REQUESTS || !are_within(bytes, asks) {
-        return Ok((pass, None));
+        told.text("no such line");
+        return Ok(pass);
     }
-    let mut ats = Vec::with_capacity(alloc, MAX_REQUESTS)?;
-    let mut out = Vec::with_capacity(alloc, REPLY_ROOM * MAX_REQUESTS)?;
+    let mut ats = Vec::with_capacity(told.alloc(), MAX_REQUESTS)?;
+    let mut out = Vec::with_capacity(told.alloc(), REPLY_ROOM * MAX_REQUESTS)?;
     let (pass, asked) = if tries {
         desk.try_ask_all(pass, bytes, asks, &mut ats, &mut out)
     } else {
         desk.ask_all(rt, pass, bytes, asks, &mut ats, &mut out)
     };
-    Ok((pass, Some(Said { asked, ats, out })))
+    telling::asked_all(told, asked, &ats, &out);
+    Ok(pass)
 }

@@ -1,9 +1,11 @@
 use crate::names::Names;
 use crate::telling;
+use nb_lines::Told;
 use nb_port::MemDisk;
 use nb_units::NoMemory;
 use nb_vault::Vault;
 use std::alloc::Global;
+use std::mem;
 
 /// What the next vaults are opened on, the one that is open, and the disk of the one that was closed last.
 #[derive(Drop)]
@@ -32,52 +34,41 @@ impl House {
         }
     }
 
-    /// Where memory comes from.
-    pub fn alloc(&self) -> Global {
-        self.alloc
-    }
-
-    /// Nothing to print.
-    pub fn nothing(&self) -> Result<String, NoMemory> {
-        Ok(String::new(self.alloc))
-    }
-
     /// `request NAME MOMENT HEX`: a request, which is asked at this moment, has a name.
-    pub fn request(&mut self, words: &[&str]) -> Result<String, NoMemory> {
+    pub fn request(&mut self, told: &mut Told, words: &[&str]) -> Result<(), NoMemory> {
         let [name, moment, text] = words else {
-            return nb_lines::unclear(self.alloc);
+            return told.unclear();
         };
         let moment = nb_lines::number(*moment);
-        self.names.add_request(self.alloc, *name, moment, *text)?;
-        self.nothing()
+        self.names.add_request(self.alloc, *name, moment, *text)
     }
 
     /// `entry NAME HEX`: an entry has a name.
-    pub fn entry(&mut self, words: &[&str]) -> Result<String, NoMemory> {
+    pub fn entry(&mut self, told: &mut Told, words: &[&str]) -> Result<(), NoMemory> {
         let [name, text] = words else {
-            return nb_lines::unclear(self.alloc);
+            return told.unclear();
         };
         if self.names.add_entry(self.alloc, *name, *text)? {
-            self.nothing()
+            Ok(())
         } else {
-            nb_lines::unclear(self.alloc)
+            told.unclear()
         }
     }
 
     /// `journal HEX`: the next disks have this content.
-    pub fn journal(&mut self, words: &[&str]) -> Result<String, NoMemory> {
-        self.journal = match words {
-            [] => Vec::new(self.alloc),
-            [text] => nb_lines::spelled(self.alloc, *text),
-            _ => return nb_lines::unclear(self.alloc),
-        };
-        self.nothing()
+    pub fn journal(&mut self, told: &mut Told, words: &[&str]) -> Result<(), NoMemory> {
+        if words.len() > 1 {
+            return told.unclear();
+        }
+        let text = words.first().copied().unwrap_or("");
+        self.journal = nb_lines::spelled(self.alloc, text);
+        Ok(())
     }
 
     /// `disk CALL..`: the calls of the next disks that fail, from 1 on.
-    pub fn disk_fails(&mut self, words: &[&str]) -> Result<String, NoMemory> {
+    pub fn disk_fails(&mut self, words: &[&str]) -> Result<(), NoMemory> {
         self.fails = nb_lines::numbers(self.alloc, words, 0)?;
-        self.nothing()
+        Ok(())
     }
 
     /// A disk with the journal.
@@ -86,49 +77,68 @@ impl House {
     }
 
     /// `open`: opens a vault, and tells how many entries it has, or why there is none.
-    pub fn open(&mut self) -> Result<String, NoMemory> {
-        self.lines = 0;
-        match Vault::open(self.alloc, self.next_disk()?) {
-            Ok(vault) => {
-                let told = format!(in self.alloc; "{} entries", vault.entries())?;
-                self.vault = Some(vault);
-                Ok(told)
-            }
-            Err((fault, _)) => {
-                self.vault = None;
-                telling::fault(self.alloc, fault)
-            }
-        }
+    pub fn open(&mut self, told: &mut Told) -> Result<(), NoMemory> {
+        let disk = self.next_disk()?;
+        self.hold(opened(told, disk));
+        Ok(())
     }
 
-    /// Adds to what is told the lines of the vault since those that were told.
-    pub fn with_lines(&mut self, told: String) -> Result<String, NoMemory> {
-        let mut told = told;
-        let Some(vault) = &self.vault else {
-            return Ok(told);
-        };
-        let mut count = self.lines;
-        for number in self.lines..u64::MAX {
-            let Some(line) = vault.line(number) else {
-                break;
-            };
-            told.push_str(telling::line(self.alloc, &self.names, &line)?.as_str())?;
-            count = number + 1;
+    /// This vault is open from now on, and none of its lines was told.
+    pub fn hold(&mut self, vault: Option<Vault<MemDisk>>) {
+        self.lines = 0;
+        drop(mem::replace(&mut self.vault, vault));
+    }
+
+    /// Tells the lines of the vault since those that were told.
+    pub fn tell_lines(&mut self, told: &mut Told) -> Result<(), NoMemory> {
+        if let Some(vault) = &self.vault {
+            self.lines = lines_from(told, &self.names, vault, self.lines);
         }
-        self.lines = count;
-        Ok(told)
+        told.done()
     }
 
     /// `close`: ends the vault, and tells how many lines it had, how many calls of its disk were made, and what that holds.
-    pub fn close(&mut self) -> Result<String, NoMemory> {
-        match std::mem::replace(&mut self.vault, None) {
+    pub fn close(&mut self, told: &mut Told) -> Result<(), NoMemory> {
+        match mem::replace(&mut self.vault, None) {
             Some(vault) => {
-                let (disk, lines) = vault.into_parts();
-                let told = telling::ended(self.alloc, lines.len(), &disk)?;
-                self.disk = Some(disk);
-                Ok(told)
+                drop(mem::replace(&mut self.disk, Some(closed(told, vault))));
+                told.done()
             }
-            None => nb_lines::unclear(self.alloc),
+            None => told.unclear(),
         }
     }
+}
+
+fn opened(told: &mut Told, disk: MemDisk) -> Option<Vault<MemDisk>> {
+    match Vault::open(told.alloc(), disk) {
+        Ok(vault) => {
+            told.show("", &vault.entries()).text(" entries");
+            Some(vault)
+        }
+        Err((fault, _)) => {
+            telling::fault(told, fault);
+            None
+        }
+    }
+}
+
+// Tells the lines of a vault from this one on, and gives how many there are.
+fn lines_from(told: &mut Told, names: &Names, vault: &Vault<MemDisk>, first: u64) -> u64 {
+    let mut count = first;
+    for number in first..u64::MAX {
+        let Some(line) = vault.line(number) else {
+            break;
+        };
+        telling::line(told, names, &line);
+        count = number + 1;
+    }
+    count
+}
+
+fn closed(told: &mut Told, vault: Vault<MemDisk>) -> MemDisk {
+    let (disk, lines) = vault.into_parts();
+    told.show("", &lines.len())
+        .show(" lines, ", &disk.calls())
+        .bytes(" calls: ", disk.content());
+    disk
 }

@@ -17,6 +17,7 @@ mod telling;
 
 use crate::house::House;
 use anyhow::anyhow;
+use nb_lines::Told;
 use nb_units::NoMemory;
 use std::sync::Wait;
 use std::thread::Threads;
@@ -24,56 +25,99 @@ use std::time::Clock;
 
 fn main(rt: HostRuntime) -> anyhow::Result<()> {
     let mut house = House::new(rt.alloc());
+    let ended = do_lines(&rt, &rt, &mut house);
+    drop(house);
+    ended
+}
+
+// Does what each line says, with the threads that `many` starts.
+fn do_lines<R: Threads + Wait + Clock + Sync>(
+    rt: &HostRuntime,
+    many: &R,
+    house: &mut House,
+) -> anyhow::Result<()> {
     for line in rt.lines(rt.alloc()) {
-        let told = done(&rt, &mut house, line?.as_str()).map_err(|_| anyhow!("out of memory"))?;
-        if !told.is_empty() {
-            println!(rt; "{told}")?;
-        }
+        do_line(rt, many, house, line?.as_str())?;
     }
     Ok(())
 }
 
-// What is done at a line; nothing where it is empty.
+// Does what a line says, and prints what is told of it; nothing where the line is empty.
+fn do_line<R: Threads + Wait + Clock + Sync>(
+    rt: &HostRuntime,
+    many: &R,
+    house: &mut House,
+    line: &str,
+) -> anyhow::Result<()> {
+    let mut told = Told::new(rt.alloc());
+    if done(many, house, &mut told, line).is_err() || told.done().is_err() {
+        return Err(anyhow!("out of memory"));
+    }
+    let told = told.as_str();
+    if !told.is_empty() {
+        println!(rt; "{told}")?;
+    }
+    Ok(())
+}
+
 fn done<R: Threads + Wait + Clock + Sync>(
     rt: &R,
     house: &mut House,
+    told: &mut Told,
     line: &str,
-) -> Result<String, NoMemory> {
-    let words: Vec<&str> = line.split_whitespace().collect(house.alloc())?;
+) -> Result<(), NoMemory> {
+    let words: Vec<&str> = line.split_whitespace().collect(told.alloc())?;
     match words.as_slice() {
-        [] => Ok(String::new(house.alloc())),
-        [word, rest @ ..] => match *word {
-            "#" => Ok(line.to_string(house.alloc())?),
-            "desk" => house.desk(rt, line),
-            "busy" => house.busy(rt, rest),
-            "crowd" => house.crowd(rt, rest),
-            "ask" => house.ask(rest),
-            "turn" => house.turn(rest),
-            "stops" => house.stops(rest),
-            _ => set(house, *word, rest),
-        },
+        [] => Ok(()),
+        ["#", ..] => told.text(line).done(),
+        ["desk", ..] => house.desk(rt, told, line),
+        [word, rest @ ..] => done_by_word(rt, house, told, *word, rest),
+    }
+}
+
+// Does what a line of this first word says, by the words behind it.
+fn done_by_word<R: Threads + Wait + Clock + Sync>(
+    rt: &R,
+    house: &mut House,
+    told: &mut Told,
+    word: &str,
+    words: &[&str],
+) -> Result<(), NoMemory> {
+    match word {
+        "busy" => house.busy(rt, told, words),
+        "crowd" => house.crowd(rt, told, words),
+        "ask" => house.ask(told, words),
+        "turn" => house.turn(told, words),
+        "stops" => house.stops(told, words),
+        "open" | "close" => begin_or_end(house, told, word, words),
+        _ => set(house, told, word, words),
     }
 }
 
 // What the next vault is made of.
-fn set(house: &mut House, word: &str, rest: &[&str]) -> Result<String, NoMemory> {
+fn set(house: &mut House, told: &mut Told, word: &str, words: &[&str]) -> Result<(), NoMemory> {
     match word {
-        "request" => house.request(rest),
-        "entry" => house.entry(rest),
-        "journal" => house.journal(rest),
-        "disk" => house.disk_fails(rest),
-        _ => begin_or_end(house, word, rest),
+        "request" => house.request(told, words),
+        "entry" => house.entry(told, words),
+        "journal" => house.journal(told, words),
+        "disk" => house.disk_fails(words),
+        _ => told.unclear(),
     }
 }
 
 // A vault begins or ends.
-fn begin_or_end(house: &mut House, word: &str, rest: &[&str]) -> Result<String, NoMemory> {
-    if !rest.is_empty() {
-        return nb_lines::unclear(house.alloc());
+fn begin_or_end(
+    house: &mut House,
+    told: &mut Told,
+    word: &str,
+    words: &[&str],
+) -> Result<(), NoMemory> {
+    if !words.is_empty() {
+        return told.unclear();
     }
-    match word {
-        "open" => house.open(),
-        "close" => house.close(),
-        _ => nb_lines::unclear(house.alloc()),
+    if word == "open" {
+        house.open(told)
+    } else {
+        house.close(told)
     }
 }

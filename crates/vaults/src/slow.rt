@@ -4,11 +4,11 @@ ghost use Rattle.std.specs.Prelude.{◌≡◌, ◌<◌, ◌≤◌, ◌+◌, ◌^
 ghost use Rattle.nb_desk.specs.Desks.{IsAt};
 
 use crate::callers::two_more;
-use crate::desks::{ask_one, desk_over, told};
+use crate::desks::{ask_one, desk_over};
 use crate::house::House;
 use crate::names::Request;
-use crate::telling::Said;
 use nb_desk::{Desk, Pass};
+use nb_lines::Told;
 use nb_port::{Disk, DiskOut, DiskRead, MemDisk};
 use nb_units::NoMemory;
 use std::alloc::Global;
@@ -97,53 +97,85 @@ impl House {
     pub fn busy<R: Threads + Wait + Clock + Sync>(
         &self,
         rt: &R,
+        told: &mut Told,
         words: &[&str],
-    ) -> Result<String, NoMemory> {
+    ) -> Result<(), NoMemory> {
         let [first, second] = words else {
-            return nb_lines::unclear(self.alloc);
+            return told.unclear();
         };
         match (self.names.request(*first), self.names.request(*second)) {
-            (Some(first), Some(second)) => meet(rt, self.alloc, self.next_disk()?, first, second),
-            _ => nb_lines::unclear(self.alloc),
+            (Some(first), Some(second)) => meet(rt, told, self.next_disk()?, first, second),
+            _ => told.unclear(),
         }
     }
 }
 
 fn meet<R: Threads + Wait + Clock + Sync>(
     rt: &R,
-    alloc: Global,
+    told: &mut Told,
     disk: MemDisk,
     first: &Request,
     second: &Request,
-) -> Result<String, NoMemory> {
+) -> Result<(), NoMemory> {
     let signs = Signs::new();
     let disk = SlowDisk {
         rt,
         over: disk,
         signs: &signs,
     };
-    let Some((mut desk, pass)) = desk_over(alloc, disk) else {
-        return nb_lines::unclear(alloc);
+    match desk_over(told.alloc(), disk) {
+        Some((mut desk, pass)) => meet_at(rt, told, &mut desk, pass, (first, second), &signs),
+        None => told.unclear(),
+    }
+}
+
+fn meet_at<R: Threads + Wait + Clock + Sync, D: Disk + Drop + Send>(
+    rt: &R,
+    told: &mut Told,
+    desk: &mut Desk<D>,
+    pass: Pass<D>,
+    requests: (&Request, &Request),
+    signs: &Signs,
+) -> Result<(), NoMemory>
+    requires { IsAt pass desk.old }
+{
+    let Some((pass, (one, two))) = two_more(desk, pass, 1) else {
+        return told.unclear();
     };
-    let Some((pass, (one, two))) = two_more(&mut desk, pass, 1) else {
-        return nb_lines::unclear(alloc);
+    let Some(two) = tell_both(rt, told, desk, (one, two), requests, signs) else {
+        return told.unclear();
     };
-    let (asked, tried) = ask_beside(rt, alloc, &desk, (one, two), (first, second), &signs);
-    let (_, again) = ask_one(rt, alloc, &desk, pass, second, true)?;
-    let spent = signs.spent.load(Ordering::SeqCst);
-    let Some((two, tried)) = tried else {
-        return nb_lines::unclear(alloc);
+    told.text("\n");
+    ask_one(rt, told, desk, pass, requests.1, true)?;
+    told.show("\nwaited in vain ", &signs.spent.load(Ordering::SeqCst))
+        .text("\n");
+    let two = ask_one(rt, told, desk, two, requests.1, true)?;
+    told.show("; pass ", &two.number())
+        .show(" has seen ", &two.seen())
+        .done()
+}
+
+// Tells what both were told, and gives the pass of the other one.
+fn tell_both<R: Threads + Wait + Clock + Sync, D: Disk + Drop + Send>(
+    rt: &R,
+    told: &mut Told,
+    desk: &Desk<D>,
+    passes: (Pass<D>, Pass<D>),
+    requests: (&Request, &Request),
+    signs: &Signs,
+) -> Option<Pass<D>>
+    requires first { IsAt passes.0 desk.now }
+    requires second { IsAt passes.1 desk.now }
+    ensures { IfSome result (λ p. IsAt p desk.now) }
+{
+    let (asked, tried) = ask_beside(rt, told.alloc(), desk, passes, requests, signs);
+    let (two, tried) = tried?;
+    match asked {
+        Some(asked) => told.text(asked.as_str()),
+        None => told.text("no such line"),
     };
-    let (two, late) = ask_one(rt, alloc, &desk, two, second, true)?;
-    Ok(format!(in alloc;
-        "{}\n{}\n{}\nwaited in vain {spent}\n{}; pass {} has seen {}",
-        told(alloc, asked)?,
-        tried.told(alloc)?,
-        again.told(alloc)?,
-        late.told(alloc)?,
-        two.number(),
-        two.seen()
-    )?)
+    told.text("\n").text(tried.as_str());
+    Some(two)
 }
 
 // One asks, and the other one tries to ask while the disk waits.
@@ -154,7 +186,7 @@ fn ask_beside<R: Threads + Wait + Clock + Sync, D: Disk + Drop + Send>(
     passes: (Pass<D>, Pass<D>),
     requests: (&Request, &Request),
     signs: &Signs,
-) -> (Option<Said>, Option<(Pass<D>, Said)>)
+) -> (Option<Told>, Option<(Pass<D>, Told)>)
     requires first { IsAt passes.0 desk.now }
     requires second { IsAt passes.1 desk.now }
     ensures { IfSome result.1 (λ r. IsAt r.0 desk.now) }
@@ -163,10 +195,10 @@ fn ask_beside<R: Threads + Wait + Clock + Sync, D: Disk + Drop + Send>(
     let (first, second) = requests;
     join(
         rt,
-        || -> Option<Said>
+        || -> Option<Told>
             requires { IsAt one desk.now }
         { ask_within(rt, alloc, desk, one, first) },
-        || -> Option<(Pass<D>, Said)>
+        || -> Option<(Pass<D>, Told)>
             requires { IsAt two desk.now }
             ensures { IfSome result (λ r. IsAt r.0 desk.entry.now) }
         { try_within(rt, alloc, desk, two, second, signs) },
@@ -179,11 +211,12 @@ fn ask_within<R: Wait, D: Disk + Drop>(
     desk: &Desk<D>,
     pass: Pass<D>,
     request: &Request,
-) -> Option<Said>
+) -> Option<Told>
     requires { IsAt pass desk.now }
 {
-    let (_, said) = ask_one(rt, alloc, desk, pass, request, false).ok()?;
-    Some(said)
+    let mut told = Told::new(alloc);
+    ask_one(rt, &mut told, desk, pass, request, false).ok()?;
+    Some(told)
 }
 
 // Tries to ask once the disk is within a write, and then releases it.
@@ -194,12 +227,13 @@ fn try_within<R: Wait + Clock, D: Disk + Drop>(
     pass: Pass<D>,
     request: &Request,
     signs: &Signs,
-) -> Option<(Pass<D>, Said)>
+) -> Option<(Pass<D>, Told)>
     requires { IsAt pass desk.now }
     ensures { IfSome result (λ r. IsAt r.0 desk.now) }
 {
     wait_for(rt, signs, &signs.entered);
-    let tried = ask_one(rt, alloc, desk, pass, request, true);
+    let mut told = Told::new(alloc);
+    let tried = ask_one(rt, &mut told, desk, pass, request, true);
     signs.released.store(1, Ordering::SeqCst);
-    tried.ok()
+    Some((tried.ok()?, told))
 }

@@ -1,79 +1,66 @@
 // What vaults and desks do, in words.
 
 use crate::names::Names;
-use nb_desk::AskedAll;
-use nb_port::MemDisk;
+use nb_desk::{Asked, AskedAll};
+use nb_lines::Told;
 use nb_turns::Line;
-use nb_units::NoMemory;
 use nb_vault::VaultFault;
-use std::alloc::Global;
 
 // Why no vault was opened.
-pub(crate) fn fault(alloc: Global, fault: VaultFault) -> Result<String, NoMemory> {
-    Ok(match fault {
-        VaultFault::Unborn { found } => {
-            format!(in alloc; "unborn {}", hex::encode(alloc, found)?)?
-        }
+pub(crate) fn fault(told: &mut Told, fault: VaultFault) {
+    match fault {
+        VaultFault::Unborn { found } => told.hex("unborn ", &found),
         VaultFault::Damaged { item, place } => {
-            format!(in alloc; "damaged in item {item} at {place}")?
+            told.show("damaged in item ", &item).show(" at ", &place)
         }
-        VaultFault::BadEntry { item } => format!(in alloc; "bad entry in item {item}")?,
-        VaultFault::DiskFault { before, after } => disk_fault(alloc, before, after)?,
-        VaultFault::NoMemory => "no memory".to_string(alloc)?,
-    })
+        VaultFault::BadEntry { item } => told.show("bad entry in item ", &item),
+        VaultFault::DiskFault { before, after } => disk_fault(told, before, after),
+        VaultFault::NoMemory => told.text("no memory"),
+    };
 }
 
-fn disk_fault(alloc: Global, before: u64, after: u64) -> Result<String, NoMemory> {
-    Ok(format!(in alloc; "disk fault {before}-{after}")?)
+fn disk_fault(told: &mut Told, before: u64, after: u64) -> &mut Told {
+    told.show("disk fault ", &before).show("-", &after)
 }
 
-// How a turn was answered, at which places, and by which replies.
-#[derive(Drop)]
-pub(crate) struct Said {
-    pub(crate) asked: AskedAll,
-    pub(crate) ats: Vec<u64>,
-    pub(crate) out: Vec<u8>,
+// How one request was answered, and by which reply.
+pub(crate) fn asked(told: &mut Told, asked: Asked, reply: &[u8]) {
+    match asked {
+        Asked::Served { at } => told.show("answered ", &at),
+        Asked::Busy { word } => told.show("busy ", &word),
+        Asked::DiskFault { before, after } => disk_fault(told, before, after),
+        Asked::Worn { faults } => told.show("worn ", &faults),
+    };
+    told.bytes(": ", reply);
 }
 
-impl Said {
-    pub(crate) fn told(&self, alloc: Global) -> Result<String, NoMemory> {
-        let mut told = asked(alloc, self.asked)?;
-        for at in &self.ats {
-            told.push_str(format!(in alloc; " {at}")?.as_str())?;
-        }
-        told.push_str(": ")?;
-        told.push_str(nb_lines::shown(alloc, &self.out)?.as_str())?;
-        Ok(told)
+// How several requests were answered, at which places, and by which replies.
+pub(crate) fn asked_all(told: &mut Told, asked: AskedAll, ats: &[u64], replies: &[u8]) {
+    match asked {
+        AskedAll::Served => told.text("answered"),
+        AskedAll::Busy { word } => told.show("busy ", &word),
+        AskedAll::DiskFault { before, after } => disk_fault(told, before, after),
+        AskedAll::Worn { faults } => told.show("worn ", &faults),
+    };
+    for at in ats {
+        told.show(" ", at);
     }
-}
-
-fn asked(alloc: Global, asked: AskedAll) -> Result<String, NoMemory> {
-    Ok(match asked {
-        AskedAll::Served => "answered".to_string(alloc)?,
-        AskedAll::Busy { word } => format!(in alloc; "busy {word}")?,
-        AskedAll::DiskFault { before, after } => disk_fault(alloc, before, after)?,
-        AskedAll::Worn { faults } => format!(in alloc; "worn {faults}")?,
-    })
+    told.bytes(": ", replies);
 }
 
 // A line: what it tells of, its turn, and who asked.
-pub(crate) fn line(alloc: Global, names: &Names, line: &Line) -> Result<String, NoMemory> {
-    let (turn, by) = (line.turn(), line.by());
-    let (kind, entry) = match *line {
-        Line::Commit { entry, .. } => ("commit", entry),
-        Line::Adopted { entry, .. } => ("adopted", entry),
-        Line::Doubt { entry, .. } => ("doubt", entry),
-        Line::Fault { before, after, .. } => {
-            return Ok(format!(in alloc; "; fault {turn} by {by} {before}-{after}")?);
-        }
+pub(crate) fn line(told: &mut Told, names: &Names, line: &Line) {
+    let kind = match *line {
+        Line::Commit { .. } => "; commit ",
+        Line::Adopted { .. } => "; adopted ",
+        Line::Doubt { .. } => "; doubt ",
+        Line::Fault { .. } => "; fault ",
     };
-    let name = names.of_entry(&entry);
-    Ok(format!(in alloc; "; {kind} {turn} by {by} {name}")?)
-}
-
-// What a vault left.
-pub(crate) fn ended(alloc: Global, lines: usize, disk: &MemDisk) -> Result<String, NoMemory> {
-    let content = nb_lines::shown(alloc, disk.content())?;
-    let calls = disk.calls();
-    Ok(format!(in alloc; "{lines} lines, {calls} calls: {content}")?)
+    told.show(kind, &line.turn()).show(" by ", &line.by());
+    match *line {
+        Line::Commit { entry, .. } | Line::Adopted { entry, .. } | Line::Doubt { entry, .. } => {
+            told.text(" ").text(names.of_entry(&entry))
+        }
+        Line::Fault { before, after, .. } => told.show(" ", &before).show("-", &after),
+    };
 }

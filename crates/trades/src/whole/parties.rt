@@ -1,6 +1,8 @@
 // A consumer, a merchant and the house, and what each does at a frame.
 
+ghost use Rattle.std.specs.Prelude.{IfOk};
 ghost use Rattle.nb_consumer.specs.Deeds.{StepKeepsRules};
+ghost use Rattle.nb_merchant.specs.Sending.{StepIs};
 ghost use Rattle.nb_msgs.specs.Bodies.{MessageKeepsRules};
 ghost use Rattle.nb_wallet.specs.Spelling.{StartKeepsRules};
 
@@ -107,12 +109,18 @@ pub(crate) fn of(alloc: Global, len: u64) -> Result<Option<Parties>, NoMemory> {
     let Some(merchant) = shop(alloc, len)? else {
         return Ok(None);
     };
-    Ok(Some(Parties {
-        consumer: Consumer::new(alloc, WALLET),
-        merchant,
-        house: opened(alloc)?,
-        bad: 0,
-    }))
+    match opened(alloc) {
+        Ok(house) => Ok(Some(Parties {
+            consumer: Consumer::new(alloc, WALLET),
+            merchant,
+            house,
+            bad: 0,
+        })),
+        Err(_) => {
+            drop(merchant);
+            Err(NoMemory)
+        }
+    }
 }
 
 fn wish() -> Start
@@ -125,8 +133,7 @@ fn wish() -> Start
 
 // The consumer wishes to buy.
 pub(crate) fn began(alloc: Global, consumer: &mut Consumer) -> Result<Option<Frame>, NoMemory> {
-    let step = consumer.start(&wish())?;
-    sent(alloc, CONSUMER, &step)
+    consumer_sent(alloc, consumer.start(&wish()))
 }
 
 // ---- one frame
@@ -138,14 +145,34 @@ fn posted(alloc: Global, from: To, to: To, message: &Message) -> Result<Option<F
     Ok(Some(Frame { from, to, bytes }))
 }
 
-// What a step sends.
-fn sent(alloc: Global, from: To, step: &Step) -> Result<Option<Frame>, NoMemory>
-    requires { StepKeepsRules step.now }
+// What a step of the consumer sends.
+fn consumer_sent(alloc: Global, step: Result<Step, NoMemory>) -> Result<Option<Frame>, NoMemory>
+    requires { IfOk step StepKeepsRules }
 {
-    match step {
-        Step::Move { to, message, .. } => posted(alloc, from, *to, message),
+    let step = step?;
+    let sent = match &step {
+        Step::Move { to, message, .. } => posted(alloc, CONSUMER, *to, message),
         _ => Ok(None),
-    }
+    };
+    drop(step);
+    sent
+}
+
+// What a step of this merchant sends.
+fn merchant_sent(
+    alloc: Global,
+    _merchant: &Merchant,
+    step: Result<Step, NoMemory>,
+) -> Result<Option<Frame>, NoMemory>
+    requires { IfOk step (StepIs _merchant.now) }
+{
+    let step = step?;
+    let sent = match &step {
+        Step::Move { to, message, .. } => posted(alloc, MERCHANT, *to, message),
+        _ => Ok(None),
+    };
+    drop(step);
+    sent
 }
 
 fn merchant_asked(
@@ -155,10 +182,8 @@ fn merchant_asked(
 ) -> Result<Option<Frame>, NoMemory>
     requires { MessageKeepsRules message.now }
 {
-    match merchant.on_consumer(message, MOMENT)? {
-        Step::Move { to, message, .. } => posted(alloc, MERCHANT, to, &message),
-        _ => Ok(None),
-    }
+    let step = merchant.on_consumer(message, MOMENT);
+    merchant_sent(alloc, merchant, step)
 }
 
 fn merchant_paid(
@@ -168,22 +193,17 @@ fn merchant_paid(
 ) -> Result<Option<Frame>, NoMemory>
     requires { MessageKeepsRules message.now }
 {
-    match merchant.on_server(message)? {
-        Step::Move { to, message, .. } => posted(alloc, MERCHANT, to, &message),
-        _ => Ok(None),
-    }
+    let step = merchant.on_server(message);
+    merchant_sent(alloc, merchant, step)
 }
 
 fn merchant_waited(alloc: Global, merchant: &mut Merchant) -> Result<Option<Frame>, NoMemory> {
-    match merchant.quiet(WALLET.id, PURCHASE)? {
-        Step::Move { to, message, .. } => posted(alloc, MERCHANT, to, &message),
-        _ => Ok(None),
-    }
+    let step = merchant.quiet(WALLET.id, PURCHASE);
+    merchant_sent(alloc, merchant, step)
 }
 
 fn consumer_waited(alloc: Global, consumer: &mut Consumer) -> Result<Option<Frame>, NoMemory> {
-    let step = consumer.quiet(PURCHASE)?;
-    sent(alloc, CONSUMER, &step)
+    consumer_sent(alloc, consumer.quiet(PURCHASE))
 }
 
 fn consumer_told(
@@ -193,8 +213,7 @@ fn consumer_told(
 ) -> Result<Option<Frame>, NoMemory>
     requires { MessageKeepsRules message.now }
 {
-    let step = consumer.on(message)?;
-    sent(alloc, CONSUMER, &step)
+    consumer_sent(alloc, consumer.on(message))
 }
 
 // The house's reply to a request; what it records is recorded.
@@ -260,7 +279,11 @@ fn node_hears(
     given: &Frame,
 ) -> Result<Option<Frame>, NoMemory> {
     match bytes::message(alloc, kind_of(given), body_of(given)) {
-        Some(message) => told(alloc, parties, given, &message),
+        Some(message) => {
+            let sent = told(alloc, parties, given, &message);
+            drop(message);
+            sent
+        }
         None => {
             parties.bad = parties.bad.saturating_add(1);
             Ok(None)

@@ -98,16 +98,22 @@ pub(crate) fn run(
         losing,
         doubling,
     };
+    let frames = run_by(alloc, parties, &mut post);
+    drop(post);
+    frames
+}
+
+fn run_by(alloc: Global, parties: &mut Parties, post: &mut Post) -> Result<Option<u32>, NoMemory> {
     let first = began(alloc, &mut parties.consumer)?;
-    send(&mut post, first)?;
+    send(post, first)?;
     for _ in 0..MOST {
         if let Some(frame) = post.under_way.pop_front() {
-            give(alloc, parties, &mut post, frame)?;
+            give(alloc, parties, post, frame)?;
         } else if is_done(parties) {
             return Ok(Some(post.frames));
         } else {
             let again = waited(alloc, parties)?;
-            send(&mut post, again)?;
+            send(post, again)?;
         }
     }
     Ok(None)
