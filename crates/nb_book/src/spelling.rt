@@ -168,14 +168,7 @@ impl Entry {
 // What follows spells one kind of entry each, in a buffer without a byte.
 
 #[tactic(auto, unfolding(crate::specs::Spelling::entry_bytes))]
-fn spell_enrol(
-    id: PartyId,
-    role: u8,
-    acct: AcctId,
-    nonce: u64,
-    key: &[u8; 32],
-    bytes: &mut Buffer,
-)
+fn spell_enrol(id: PartyId, role: u8, acct: AcctId, nonce: u64, key: &[u8; 32], bytes: &mut Buffer)
     requires role { spelling.IsRole role }
     requires empty { bytes.old ≡ [] }
     ensures bytes { bytes.new ≡ spelling.entry_bytes (Enrol id role acct nonce key.now) }
@@ -250,14 +243,7 @@ fn spell_charged(
 }
 
 #[tactic(auto, unfolding(crate::specs::Spelling::entry_bytes))]
-fn spell_refused(
-    terms: &OrderTerms,
-    code: u8,
-    a: u64,
-    b: u64,
-    moment: u64,
-    bytes: &mut Buffer,
-)
+fn spell_refused(terms: &OrderTerms, code: u8, a: u64, b: u64, moment: u64, bytes: &mut Buffer)
     requires code { IsReason code }
     requires empty { bytes.old ≡ [] }
     ensures bytes { bytes.new ≡ spelling.entry_bytes (Refused terms.now.digest terms.now.epoid terms.now.consumer terms.now.merchant terms.now.product terms.now.price code a b moment) }
