@@ -56,25 +56,30 @@ pub record Waited {S : Type 0} (times : S → Times) (old new : SocketLink S) (b
   pub goes_on : new.since ≡ since_behind old.place new.place since out
   pub limits : new.limits ≡ old.limits
 
+-- why a read or a write failed: a call of the socket did, or so many were interrupted that their count is at its last value
+abbrev pub Fails : Type 0 → ℕ → Type 0
+Fails broken faults = broken ⊎ (last_count ≤ faults)
+
 -- n bytes were taken off what was left
 pub record Took (old new : Option (List ℕ)) (n : ℕ) : Type 0 where
   pub bytes : List ℕ
   pub takes : Consumes old new bytes
   pub count : length bytes ≡ n
 
--- the rest of a link was read and dropped, until the other side's end, a failure, or so many bytes; `before` and `after` count its failed
--- reads
-pub record DropsRest (left left' : Option (List ℕ)) (before after : ℕ) : Type 0 where
+-- the rest of a link was read and dropped, until the other side's end, a failure of its socket, or so many bytes; `before` and `after` count
+-- its failed reads
+pub record DropsRest (broken : Type 0) (left left' : Option (List ℕ)) (before after : ℕ) : Type 0 where
   pub dropped : ℕ
   pub took : Took left left' dropped
   pub few : dropped ≤ MAX_DROPPED
-  pub why : IsAtEnd left' ⊎ (Rose before after ⊎ (dropped ≡ MAX_DROPPED))
+  pub why : IsAtEnd left' ⊎ ((Rose before after × Fails broken after) ⊎ (dropped ≡ MAX_DROPPED))
 
--- a link was ended: its socket was shut down, and then its rest was read and dropped, for no longer than it may; nothing more was sent
-pub record HasEnded {S : Type 0} (rest told : S → Option (List ℕ)) (times : S → Times) (settings : Settings S) (old new : SocketLink S) : Type 0 where
+-- a link was ended: its socket is shut down, and its rest was read and dropped, each read until so long behind the moment that the socket told
+-- last; nothing more was sent
+pub record HasEnded {S : Type 0} (rest told : S → Option (List ℕ)) (times : S → Times) (settings : Settings S) (broken : S → Type 0) (old new : SocketLink S) : Type 0 where
   pub shut : settings.shut new.socket
   pub sent : told new.socket ≡ told old.socket
-  pub drops : DropsRest (rest old.socket) (rest new.socket) old.read_faults new.read_faults
+  pub drops : DropsRest (broken new.socket) (rest old.socket) (rest new.socket) old.read_faults new.read_faults
   pub until : (times new.socket).until ≡ min ((times new.socket).moment + old.limits.end) last_count
 
 -- a port: its listener, how long its links wait, how many it may still give, how many were given and not taken back, and how many calls failed

@@ -31,7 +31,7 @@ SocketReadGives old new room buf reads.Failed = Keeps old new
 
 -- what was sent before and after, the bytes to send
 abbrev pub SocketWriteGives : Option (List ℕ) → Option (List ℕ) → List ℕ → SocketWrite → Type 0
-SocketWriteGives old new piece (writes.Took n) = (n ≤ length piece) × Appends old new (take n piece)
+SocketWriteGives old new piece (writes.Took n) = (0 < n) × (n ≤ length piece) × Appends old new (take n piece)
 SocketWriteGives old new piece writes.Interrupted = Keeps old new
 SocketWriteGives old new piece writes.Failed = Keeps old new
 

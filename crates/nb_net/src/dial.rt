@@ -1,7 +1,7 @@
-ghost use Rattle.std.specs.Prelude.{◌≡◌, ◌⊎◌, ◌<◌, ◌||◌, true, false, IfOk, IfErr, IfSome, IsTrue, length};
+ghost use Rattle.std.specs.Prelude.{◌≡◌, ◌⊎◌, ◌<◌, ◌||◌, None, true, false, IfOk, IfErr, IfSome, IsTrue, length};
 ghost use Rattle.nb_link.specs.Link.{LinkReads, LinkWrites};
 ghost use Rattle.nb_net.specs.Adapters.{IsFresh, Waited, link_over};
-ghost use Rattle.nb_net.specs.Dials.{dialled_told, ends, DialsOnce, IsOver, WritesOn, WritesAnew, DialsAnew, Refuses};
+ghost use Rattle.nb_net.specs.Dials.{dialled_told, ends, DialsOnce, IsOver, NoLink, WritesOn, WritesAnew, DialsAnew, Refuses};
 
 use crate::limits::Limits;
 use crate::link::TcpLink;
@@ -42,8 +42,8 @@ impl<D: Dialler> DialLink<D> {
         ensures fresh { IfOk result (λ l. IsFresh limits l.link × (l.speaking ≡ false) × (l.over ≡ false)) }
         // after Ok: it was dialled once, and the dial waited no longer than it may
         ensures once { IfOk result (λ l. DialsOnce D.dialled D.within limits.dial dialler l.dialler) }
-        // after Err: the same
-        ensures failed { IfErr result (λ d. DialsOnce D.dialled D.within limits.dial dialler d) }
+        // after Err: the same, and the dial failed, or gave a socket that could not be set
+        ensures failed { IfErr result (λ d. DialsOnce D.dialled D.within limits.dial dialler d × NoLink D.failed D.Joined.refused d) }
     {
         let mut dialler = dialler;
         match dial_once(&mut dialler, limits) {
@@ -60,9 +60,9 @@ impl<D: Dialler> DialLink<D> {
     // Whether the link is over, or seen to be without waiting.
     fn is_over(&mut self) -> bool
         ensures over { IsTrue result → IsOver D.Joined.gone self.old }
-        ensures not { result ≡ false → self.old.over ≡ false }
+        ensures not { result ≡ false → (self.old.over ≡ false) × D.Joined.open_seen self.new.link.socket }
         ensures link { link_over D.Joined.left D.Joined.sent self.new.link ≡ link_over D.Joined.left D.Joined.sent self.old.link }
-        ensures limits { self.new.link.limits ≡ self.old.link.limits }
+        ensures waits { (self.new.link.limits ≡ self.old.link.limits) × (self.new.link.place ≡ self.old.link.place) × (self.new.link.since ≡ self.old.link.since) }
         ensures same { (self.new.dialler ≡ self.old.dialler) × (self.new.speaking ≡ self.old.speaking) × (self.new.over ≡ self.old.over) }
     {
         self.over || self.link.has_ended()
@@ -73,7 +73,7 @@ impl<D: Dialler> DialLink<D> {
         requires { 0 < length piece.now }
         ensures told { LinkWrites (dialled_told self.old) (dialled_told self.new) piece.now result }
         ensures speaking { self.new.speaking ≡ self.old.speaking }
-        ensures anew { WritesAnew (link_over D.Joined.left D.Joined.sent) D.dialled D.within self.old.dialler self.old.link.limits self.old.link.read_faults self.old.link.write_faults self.new piece.now result }
+        ensures anew { WritesAnew (link_over D.Joined.left D.Joined.sent) D.dialled D.within D.failed D.Joined.refused self.old.dialler self.old.link.limits self.old.link.read_faults self.old.link.write_faults self.new piece.now result }
     {
         match dial_once(&mut self.dialler, self.link.limits) {
             Some(link) => {
@@ -120,7 +120,7 @@ impl<D: Dialler> Link for DialLink<D> {
         ensures writes { LinkWrites (dialled_told self.old) (dialled_told self.new) piece.now result }
         ensures speaking { self.new.speaking ≡ true }
         // it wrote over the link that is there; or, first in an exchange over a link that is over, dialled anew; or failed behind such a dial
-        ensures dials { WritesOn (link_over D.Joined.left D.Joined.sent) self.old self.new piece.now result ⊎ (DialsAnew (link_over D.Joined.left D.Joined.sent) D.dialled D.within D.Joined.gone self.old self.new piece.now result ⊎ Refuses self.old self.new result) }
+        ensures dials { WritesOn (link_over D.Joined.left D.Joined.sent) D.Joined.open_seen self.old self.new piece.now result ⊎ (DialsAnew (link_over D.Joined.left D.Joined.sent) D.dialled D.within D.failed D.Joined.refused D.Joined.gone self.old self.new piece.now result ⊎ Refuses self.old self.new result) }
     {
         if self.speaking {
             if self.over {
@@ -143,6 +143,7 @@ fn dial_once<D: Dialler>(dialler: &mut D, limits: Limits) -> Option<TcpLink<D::J
     requires dial { 0 < limits.dial }
     requires write { 0 < limits.write }
     ensures fresh { IfSome result (λ link. IsFresh limits link) }
+    ensures none { result ≡ None → NoLink D.failed D.Joined.refused dialler.new }
     ensures once { DialsOnce D.dialled D.within limits.dial dialler.old dialler.new }
 {
     match dialler.dial(limits.dial) {

@@ -15,8 +15,8 @@
 //! that connection, or it could not be set up: it counts that and waits for the next one, at most [`MAX_TRIES`] times in one call.
 //!
 //! A link that dials does so where it is made, and at the first write of an exchange over a link that is over. Each call of the system that fails
-//! raises the count of the link's reads, of its writes, or of the port; so does a write that takes nothing, and one whose dial failed. A
-//! count stays at 2^64 - 1.
+//! raises the count of the link's reads, of its writes, or of the port; a write that takes nothing is one that failed, and so is one whose
+//! dial failed. A count stays at 2^64 - 1.
 //!
 //! Left to others: to bind.
 //!

@@ -1,11 +1,13 @@
-ghost use Rattle.std.specs.Prelude.{◌≡◌, ◌<◌, ◌≤◌, IfOk, IfErr, IfSome, IsTrue, length};
+ghost use Rattle.std.specs.Prelude.{◌≡◌, ◌⊎◌, ◌<◌, ◌≤◌, IfOk, IfErr, IfSome, IsTrue, false, length};
 ghost use Rattle.nb_port.specs.Faults.{Rose};
+ghost use Rattle.nb_port.specs.declared.source.ReadOut.TheVariants as read_outs;
+ghost use Rattle.nb_port.specs.declared.sink.WriteOut.TheVariants as write_outs;
 ghost use Rattle.nb_port.specs.Source.{ReadGives};
 ghost use Rattle.nb_port.specs.Sink.{WriteGives};
 ghost use Rattle.nb_link.specs.Link.{LinkReads, LinkWrites};
 ghost use Rattle.nb_net.specs.Socket.{StaysSet};
 ghost use Rattle.nb_net.specs.Waits.{bytes_since};
-ghost use Rattle.nb_net.specs.Adapters.{IsSet, IsFresh, Waited, DropsRest, HasEnded, link_over};
+ghost use Rattle.nb_net.specs.Adapters.{IsSet, IsFresh, Waited, DropsRest, HasEnded, Fails, link_over};
 ghost use Rattle.nb_net.specs.declared.socket.SetOut.TheVariants as sets;
 
 use crate::limits::{Limits, MAX_DROPPED, PARTY};
@@ -85,7 +87,7 @@ impl<S: Socket> TcpLink<S> {
     /// a failure, [`Limits::end`] or [`MAX_DROPPED`]. A system that closes a connection with input unread throws away what was written and
     /// not yet read by the other side.
     pub fn end(&mut self)
-        ensures ended { HasEnded S.left S.sent S.times S.settings self.old self.new }
+        ensures ended { HasEnded S.left S.sent S.times S.settings S.broken self.old self.new }
     {
         self.socket.shut_down();
         let until = self.socket.now().saturating_add(u64::from(self.limits.end));
@@ -97,8 +99,9 @@ impl<S: Socket> TcpLink<S> {
     // Whether the other side ended it, seen without waiting.
     pub(crate) fn has_ended(&mut self) -> bool
         ensures gone { IsTrue result → S.gone self.new.socket }
+        ensures open { result ≡ false → S.open_seen self.new.socket }
         ensures same { link_over S.left S.sent self.new ≡ link_over S.left S.sent self.old }
-        ensures limits { self.new.limits ≡ self.old.limits }
+        ensures waits { (self.new.limits ≡ self.old.limits) × (self.new.place ≡ self.old.place) × (self.new.since ≡ self.old.since) }
     {
         self.socket.has_ended()
     }
@@ -141,6 +144,8 @@ impl<S: Socket> Link for TcpLink<S> {
         requires { 0 < length buf.old }
         // as the trait says; it tells the bytes that its socket tells
         ensures reads { LinkReads (link_over S.left S.sent self.old) (link_over S.left S.sent self.new) (length buf.old) buf.new result }
+        // it failed only where a call of its socket did, or its count of failed reads is at its last value
+        ensures only { result ≡ read_outs.Failed → Fails (S.broken self.new.socket) self.new.read_faults }
         // its socket waited as long as the limits allow at this place
         ensures waited { Waited S.times self.old self.new buf.new result }
         // the socket stays set as that of a link
@@ -165,7 +170,10 @@ impl<S: Socket> Link for TcpLink<S> {
         requires { 0 < length piece.now }
         // as the trait says
         ensures writes { LinkWrites (link_over S.left S.sent self.old) (link_over S.left S.sent self.new) piece.now result }
-        ensures limits { self.new.limits ≡ self.old.limits }
+        // it failed only where a call of its socket did, or its count of failed writes is at its last value
+        ensures only { result ≡ write_outs.Failed → Fails (S.broken self.new.socket) self.new.write_faults }
+        // what it waits for, and since when, is as before
+        ensures waits { (self.new.limits ≡ self.old.limits) × (self.new.place ≡ self.old.place) × (self.new.since ≡ self.old.since) }
         // the socket stays set as that of a link
         ensures set { IsSet S.settings self.new.limits.write self.new.socket }
     {
@@ -209,7 +217,7 @@ fn set_up<S: Socket>(socket: &mut S, write: u32) -> SetOut
 // Reads and drops the rest of a socket that was shut down, until a moment.
 fn drop_rest<S: Socket>(socket: &mut S, faults: &mut u64, until: u64)
     requires { S.settings.shut socket.old }
-    ensures drops { DropsRest (S.left socket.old) (S.left socket.new) faults.old faults.new }
+    ensures drops { DropsRest (S.broken socket.new) (S.left socket.old) (S.left socket.new) faults.old faults.new }
     ensures until { (S.times socket.new).until ≡ until }
     ensures moment { (S.times socket.new).moment ≡ (S.times socket.old).moment }
     ensures sent { S.sent socket.new ≡ S.sent socket.old }
@@ -231,6 +239,7 @@ fn drop_rest<S: Socket>(socket: &mut S, faults: &mut u64, until: u64)
 fn read_counted<S: Socket>(socket: &mut S, faults: &mut u64, buf: &mut [u8], until: u64) -> ReadOut
     requires { 0 < length buf.old }
     ensures gives { ReadGives faults.old faults.new (S.left socket.old) (S.left socket.new) (length buf.old) buf.new result }
+    ensures only { result ≡ read_outs.Failed → Fails (S.broken socket.new) faults.new }
     ensures until { (S.times socket.new).until ≡ until }
     ensures moment { (S.times socket.new).moment ≡ (S.times socket.old).moment }
     ensures sent { S.sent socket.new ≡ S.sent socket.old }
@@ -251,10 +260,11 @@ fn read_counted<S: Socket>(socket: &mut S, faults: &mut u64, buf: &mut [u8], unt
     ReadOut::Failed
 }
 
-// One write to `socket` that is not interrupted. `faults` counts those that failed, or took nothing.
+// One write to `socket` that is not interrupted. `faults` counts those that failed.
 fn write_counted<S: Socket>(socket: &mut S, faults: &mut u64, piece: &[u8]) -> WriteOut
     requires { 0 < length piece.now }
     ensures gives { WriteGives faults.old faults.new (S.sent socket.old) (S.sent socket.new) piece.now result }
+    ensures only { result ≡ write_outs.Failed → Fails (S.broken socket.new) faults.new }
     ensures left { S.left socket.new ≡ S.left socket.old }
     ensures times { S.times socket.new ≡ S.times socket.old }
     ensures set { StaysSet S.settings socket.old socket.new }
@@ -262,10 +272,6 @@ fn write_counted<S: Socket>(socket: &mut S, faults: &mut u64, piece: &[u8]) -> W
 {
     for _ in 0..u64::MAX {
         match socket.write(piece) {
-            SocketWrite::Took(0) => {
-                *faults = faults.saturating_add(1);
-                return WriteOut::Failed;
-            }
             SocketWrite::Took(n) => return WriteOut::Took(n),
             SocketWrite::Interrupted => *faults = faults.saturating_add(1),
             SocketWrite::Failed => {

@@ -125,8 +125,8 @@ where
         requires { 0 < self.old.out }
         // as the trait says
         ensures takes { TakesBack (port_over A.listens self.old) (port_over A.listens self.new) (link_over A.Joined.left A.Joined.sent link) }
-        // a link came of this one by being ended: that is the one that is let go
-        ensures ended { (last : SocketLink A.Joined) × HasEnded A.Joined.left A.Joined.sent A.Joined.times A.Joined.settings link last }
+        // a link came of this one by being ended
+        ensures ended { (last : SocketLink A.Joined) × HasEnded A.Joined.left A.Joined.sent A.Joined.times A.Joined.settings A.Joined.broken link last }
     {
         let mut link = link;
         link.end();

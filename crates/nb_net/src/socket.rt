@@ -1,5 +1,8 @@
 ghost use Rattle.std.specs.Prelude.{◌≡◌, ◌<◌, ◌≤◌, ◌+◌, ℕ, Bool, false, IsTrue, List, Option, length};
 ghost use Rattle.nb_net.specs.Socket.{SocketReadGives, SocketWriteGives, Settings, StaysSet, Times};
+ghost use Rattle.nb_net.specs.declared.socket.SocketRead.TheVariants as reads;
+ghost use Rattle.nb_net.specs.declared.socket.SocketWrite.TheVariants as writes;
+ghost use Rattle.nb_net.specs.declared.socket.DialOut.TheVariants as dials;
 ghost use Rattle.nb_net.specs.declared.socket.SetOut.TheVariants as sets;
 ghost use Rattle.nb_net.specs.declared.socket.AcceptOut.TheVariants as accepts;
 
@@ -19,7 +22,7 @@ pub enum SocketRead {
 /// What one write of a socket gives.
 #[derive(Clone, Copy)]
 pub enum SocketWrite {
-    /// So many bytes from the front of the piece were sent.
+    /// So many bytes from the front of the piece were sent, at least one.
     Took(usize),
     /// The write was interrupted before it sent a byte.
     Interrupted,
@@ -56,6 +59,12 @@ pub trait Socket: Drop {
     /// The other side ended it, or it is gone.
     ghost gone: { Self → Type 0 };
 
+    /// It was asked whether the other side ended it, and that was not seen.
+    ghost open_seen: { Self → Type 0 };
+
+    /// A read or a write of it failed.
+    ghost broken: { Self → Type 0 };
+
     /// The moment now, in milliseconds since some start: a clock that never goes back.
     fn now(&mut self) -> u64
         ensures told { times self.new ≡ record (times self.old) { moment = result } }
@@ -69,6 +78,7 @@ pub trait Socket: Drop {
     fn read(&mut self, buf: &mut [u8], until: u64) -> SocketRead
         requires { 0 < length buf.old }
         ensures gives { SocketReadGives (left self.old) (left self.new) (length buf.old) buf.new result }
+        ensures broken { result ≡ reads.Failed → broken self.new }
         ensures until { times self.new ≡ record (times self.old) { until = until } }
         ensures sent { sent self.new ≡ sent self.old }
         // what was set is set still
@@ -78,6 +88,7 @@ pub trait Socket: Drop {
     fn write(&mut self, piece: &[u8]) -> SocketWrite
         requires { 0 < length piece.now }
         ensures gives { SocketWriteGives (sent self.old) (sent self.new) piece.now result }
+        ensures broken { result ≡ writes.Failed → broken self.new }
         ensures left { left self.new ≡ left self.old }
         ensures times { times self.new ≡ times self.old }
         // what was set is set still
@@ -94,6 +105,7 @@ pub trait Socket: Drop {
     /// Whether the other side ended it, and no byte is left, or it is gone: seen without waiting.
     fn has_ended(&mut self) -> bool
         ensures gone { IsTrue result → gone self.new }
+        ensures open { result ≡ false → open_seen self.new }
         ensures left { left self.new ≡ left self.old }
         ensures sent { sent self.new ≡ sent self.old }
         // what was set is set still
@@ -185,9 +197,13 @@ pub trait Dialler: Drop {
     /// Its last dial waited for so many milliseconds at most.
     ghost within: { Self → ℕ → Type 0 };
 
+    /// A dial of it failed.
+    ghost failed: { Self → Type 0 };
+
     /// Dials, and waits for so many milliseconds at most.
     fn dial(&mut self, millis: u32) -> DialOut<Self::Joined>
         requires { 0 < millis }
         ensures dialled { dialled self.new ≤ dialled self.old + 1 }
-        ensures within { within self.new millis };
+        ensures within { within self.new millis }
+        ensures failed { result ≡ dials.Failed → failed self.new };
 }

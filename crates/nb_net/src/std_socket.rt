@@ -47,6 +47,10 @@ impl Socket for StdSocket {
 
     ghost gone = { λ _. ⊤ };
 
+    ghost open_seen = { λ _. ⊤ };
+
+    ghost broken = { λ _. ⊤ };
+
     fn now(&mut self) -> u64 {
         self.moment = monotonic();
         self.moment
@@ -68,9 +72,9 @@ impl Socket for StdSocket {
 
     fn write(&mut self, piece: &[u8]) -> SocketWrite {
         match self.stream.write(piece) {
-            Ok(n) => SocketWrite::Took(n),
+            Ok(n) if n > 0 => SocketWrite::Took(n),
             Err(error) if error.kind() == io::ErrorKind::Interrupted => SocketWrite::Interrupted,
-            Err(_) => SocketWrite::Failed,
+            _ => SocketWrite::Failed,
         }
     }
 
@@ -201,6 +205,8 @@ impl<R: Net<Stream = TcpStream> + Drop> Dialler for StdDialler<R> {
     ghost dialled = { λ _. 0 };
 
     ghost within = { λ _ _. ⊤ };
+
+    ghost failed = { λ _. ⊤ };
 
     fn dial(&mut self, millis: u32) -> DialOut<StdSocket> {
         let limit = Duration::from_millis(u64::from(millis));

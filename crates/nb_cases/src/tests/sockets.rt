@@ -83,6 +83,10 @@ impl Socket for FlakySocket {
 
     ghost gone = { λ _. ⊤ };
 
+    ghost open_seen = { λ _. ⊤ };
+
+    ghost broken = { λ _. ⊤ };
+
     fn now(&mut self) -> u64 {
         0
     }
@@ -106,7 +110,6 @@ impl Socket for FlakySocket {
         match self.writes {
             1 => SocketWrite::Interrupted,
             2 if piece.len() > 1 => SocketWrite::Took(2),
-            3 => SocketWrite::Took(0),
             _ => SocketWrite::Failed,
         }
     }
