@@ -22,7 +22,7 @@ use Rattle.nb_journal.proofs.Moments.{started}
 use Rattle.nb_journal.specs.Time.{LeavesOnly}
 use Rattle.nb_vault.proofs.Resting.{leaves_more}
 use Rattle.nb_vault.specs.Sending.{MaySend, StandsTold}
-use Rattle.nb_vault.specs.Vaults.{Chronicled, Keeps, IsDurable, StandsForState, Went, state_of, entries_in, house_in, TurnOf, FaultWithin}
+use Rattle.nb_vault.specs.Vaults.{Chronicled, Keeps, IsDurable, StandsForState, Went, state_of, house_in, TurnOf, FaultWithin}
 use Rattle.nb_vault.specs.declared.origin.Origin.{Origin}
 use Rattle.nb_vault.specs.Rules.{house_of, refused}
 use Rattle.nb_escrow.specs.Head.{head_of}

@@ -8,7 +8,6 @@ use Rattle.nb_units.specs.Fields.{◌>>=◌}
 use Rattle.nb_units.specs.Epoid.{epoid_bytes}
 use Rattle.nb_units.specs.declared.ids.PartyId.{PartyId}
 use Rattle.nb_units.specs.declared.ids.Price.{Price}
-use Rattle.nb_units.specs.declared.epoid.Epoid.{Epoid}
 use Rattle.nb_body.specs.declared.goods_head.GoodsHead.{GoodsHead}
 use Rattle.nb_body.specs.Reading.{quote_of, goods_head_of}
 use Rattle.nb_epo.specs.declared.order.Order.{Order}

@@ -1,6 +1,6 @@
 -- What opening sealed bytes gives.
 use Rattle.std.proofs.Common.{◌≡◌, ℕ, List, Ok, Err, Result, refl}
-use Rattle.nb_seal.specs.Seal.{Opens, OpensAs, IsNoSeal}
+use Rattle.nb_seal.specs.Seal.{Opens, IsNoSeal}
 use Rattle.nb_seal.proofs.Opening.{text_in_opens, text_in_no_seal}
 use Rattle.nb_endorse.specs.declared.receipt.Signed.{Signed}
 use Rattle.nb_endorse.specs.declared.sealed.SealedFault.{SealedFault}

@@ -1,5 +1,5 @@
 -- The tests that the rows of nodes share. Each goes on, or gives the reason for which a message or a word of the holder is ignored.
-use Rattle.std.specs.Prelude.{◌≡◌, ℕ, Bool, true, false, List, codes, take, Option, Some, None, Result, Ok, Err}
+use Rattle.std.specs.Prelude.{◌≡◌, ℕ, Bool, true, false, List, take, Option, Some, None, Result, Ok, Err}
 use Rattle.nb_units.specs.Fields.{◌>>=◌}
 use Rattle.nb_seal.specs.Seal.{text_in}
 use Rattle.nb_msgs.specs.declared.node.Reason.{Reason}

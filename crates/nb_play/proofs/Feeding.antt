@@ -1,12 +1,12 @@
 -- A source of a drill's frames, and its clock.
-use Rattle.std.proofs.Common.{◌≡◌, ◌≢◌, ℕ, Bool, true, eqb, min, zero, suc, ◌+◌, ◌*◌, ◌-◌, ◌/◌, ◌%◌, ◌<◌, ◌≤◌, List, [], ◌∷◌, ◌++◌, refl, sym, ap, ◌∙◌, arith, append_assoc, length, take, drop}
+use Rattle.std.proofs.Common.{◌≡◌, ◌≢◌, ℕ, true, eqb, min, suc, ◌+◌, ◌-◌, ◌/◌, ◌%◌, ◌<◌, ◌≤◌, List, [], ◌++◌, refl, sym, ap, ◌∙◌, arith, append_assoc, length, take, drop}
 use Rattle.std.proofs.lemmas.List.{replicate-append-replicate, drop-drop, drop_all, length-drop}
 use Rattle.std.proofs.lemmas.Bool.{eqb-true}
 use Rattle.std.proofs.Math.ListN.{take-append-drop}
 use Rattle.nb_units.specs.Frames.{frame}
 use Rattle.nb_port.specs.Faults.{one_more}
 use Rattle.nb_port.specs.Clock.{Gives}
-use Rattle.nb_play.specs.Drill.{frame_at, frame_bytes, order_frame}
+use Rattle.nb_play.specs.Drill.{frame_bytes, order_frame}
 use Rattle.nb_play.specs.Feed.{frames_from, bytes_from, count_of, told_by, IsAgain}
 use Rattle.nb_play.proofs.Framing.{orders}
 

@@ -1,7 +1,7 @@
 -- The frame at each place, by what is there.
-use Rattle.std.proofs.Common.{◌≡◌, ℕ, ◌+◌, ◌-◌, ◌/◌, ◌<◌, ◌≤◌, Bool, true, false, cond, ltb, refl, ap, sym, ◌∙◌, arith}
+use Rattle.std.proofs.Common.{◌≡◌, ℕ, ◌+◌, ◌-◌, ◌/◌, ◌<◌, ◌≤◌, refl, ap, sym, arith}
 use Rattle.std.proofs.lemmas.Bool.{le-ltb, lt-ltb}
-use Rattle.nb_units.specs.Frames.{Frame, frame}
+use Rattle.nb_units.specs.Frames.{frame}
 use Rattle.nb_units.specs.declared.frames.TheConstants.{ENROL_REQUEST, FUND_REQUEST}
 use Rattle.nb_body.specs.Spelling.{enrolment_bytes, funding_bytes}
 use Rattle.nb_play.specs.Drill.{enrolment, funding, frame_at, frame_bytes, order_frame}

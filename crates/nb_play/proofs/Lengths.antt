@@ -1,11 +1,10 @@
 -- How long a drill's frames are.
-use Rattle.std.proofs.Common.{◌≡◌, ℕ, ◌+◌, ◌-◌, ◌*◌, ◌/◌, ◌≤◌, ◌<◌, List, [], ◌∷◌, ◌++◌, length, length-append, codes, take, refl, sym, subst, ap, arith, inl, inr}
-use Rattle.std.proofs.lemmas.Bool.{cases_lt, lt-ltb}
+use Rattle.std.proofs.Common.{◌≡◌, ℕ, ◌+◌, ◌-◌, ◌/◌, ◌≤◌, ◌<◌, List, [], ◌∷◌, ◌++◌, length, length-append, codes, take, refl, sym, subst, ap, arith, inl, inr}
+use Rattle.std.proofs.lemmas.Bool.{cases_lt}
 use Rattle.sha2.proofs.Facts256.{length-sha256}
 use Rattle.nb_units.specs.Fields.{be4, be8, sized}
 use Rattle.nb_units.specs.Epoid.{epoid_bytes}
-use Rattle.nb_units.specs.Frames.{Frame, IsFrame}
-use Rattle.nb_seal.specs.Hmac.{hmac_of}
+use Rattle.nb_units.specs.Frames.{IsFrame}
 use Rattle.nb_seal.specs.Seal.{seal_of}
 use Rattle.nb_seal.proofs.Opening.{length-seal_of, length-hmac_of}
 use Rattle.nb_body.specs.Spelling.{enrolment_bytes, funding_bytes, endorsed_bytes}

@@ -6,7 +6,6 @@ use Rattle.nb_units.specs.Frames.{Frame, frame}
 use Rattle.nb_units.specs.declared.frames.TheConstants.{ENROL_REQUEST, FUND_REQUEST, ORDER_REQUEST}
 use Rattle.nb_units.specs.declared.ids.AcctId.{AcctId}
 use Rattle.nb_units.specs.declared.ids.PartyId.{PartyId}
-use Rattle.nb_units.specs.declared.epoid.Epoid.{Epoid}
 use Rattle.nb_seal.specs.Hmac.{hmac_of}
 use Rattle.nb_seal.specs.Seal.{seal_of}
 use Rattle.nb_body.specs.declared.limits.TheConstants.{CONSUMER_ROLE, MERCHANT_ROLE}

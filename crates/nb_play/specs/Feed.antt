@@ -1,5 +1,5 @@
 -- The frames of a drill one behind the other, as a source gives them, the moments of its clock, and a sink that keeps nothing.
-use Rattle.std.specs.Prelude.{◌≡◌, ℕ, zero, suc, ◌+◌, ◌*◌, ◌-◌, ◌≤◌, ◌<◌, List, [], ◌∷◌, ◌++◌, Option, None, Some, drop, length, replicate, nat_lt, if◌then◌else◌}
+use Rattle.std.specs.Prelude.{◌≡◌, ℕ, zero, suc, ◌+◌, ◌*◌, ◌-◌, ◌≤◌, List, [], ◌∷◌, Option, None, Some, replicate, nat_lt, if◌then◌else◌}
 use Rattle.std.specs.List.{flat_map}
 use Rattle.nb_port.specs.Faults.{last_count}
 use Rattle.nb_units.specs.Frames.{Frame, frame, IsFrame}

@@ -9,7 +9,7 @@ use Rattle.nb_port.specs.Tells.{DiskTells}
 use Rattle.nb_port.specs.Faults.{Rose}
 use Rattle.nb_units.specs.Frames.{Whole, Empty, Partial, Bad, HeaderFault, Frame, frame, IsFrame, front_of, Splits}
 use Rattle.nb_units.proofs.FrameLaws.{longest, whole_front, bad_stays, empty_bad}
-use Rattle.nb_run.specs.declared.ending.TheConstants.{CLEAN, OUT_OF_MEMORY, NO_JOURNAL, DISK_FAILED}
+use Rattle.nb_run.specs.declared.ending.TheConstants.{OUT_OF_MEMORY, NO_JOURNAL, DISK_FAILED}
 use Rattle.nb_batch.specs.declared.batch.BatchEnd.{BatchEnd}
 use Rattle.nb_batch.specs.declared.batch.BatchEnd.TheVariants.{Clean, Cut, BadFrame, ReadFault, WriteFault, NoMemory, FrameLimit}
 use Rattle.nb_vault.specs.declared.vault.opening.VaultFault.{VaultFault}

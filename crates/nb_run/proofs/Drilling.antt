@@ -1,21 +1,16 @@
 -- A drill's batch: all frames, each at the one moment, from an empty list; and its line.
-use Rattle.std.proofs.Common.{◌≡◌, ◌≢◌, ℕ, zero, suc, ◌+◌, ◌<◌, ◌≤◌, ◌*◌, ◌^◌, ◌⊎◌, List, [], ◌∷◌, ◌++◌, length, drop, get_or, Option, None, Some, IfSome, refl, sym, ap, subst, ◌∙◌, append-nil, arith, inl, inr, ⊎_elim, codes}
+use Rattle.std.proofs.Common.{◌≡◌, ◌≢◌, ℕ, zero, suc, ◌<◌, ◌≤◌, ◌^◌, ◌⊎◌, List, [], ◌∷◌, ◌++◌, length, drop, get_or, Option, Some, IfSome, refl, sym, ap, subst, ◌∙◌, append-nil, arith, inl, inr, ⊎_elim}
 use Rattle.std.specs.Prelude.{map, replicate}
-use Rattle.std.specs.Fmt.{decimal}
-use Rattle.std.specs.List.{flat_map, filter_map, AllByRecursion}
+use Rattle.std.specs.List.{flat_map, AllByRecursion}
 use Rattle.std.specs.Io.KnownBytes.{Appends, IsAtEnd}
-use Rattle.std.proofs.lemmas.List.{length-append}
 use Rattle.std.proofs.lemmas.List.Sums.{sum_by-append}
-use Rattle.std.proofs.lemmas.Option.{same_Some}
 use Rattle.nb_port.specs.Tells.{DiskTells}
-use Rattle.nb_port.specs.Faults.{Rose}
 use Rattle.nb_units.specs.Frames.{Frame, frame, IsFrame}
 use Rattle.nb_book.specs.declared.entry.Entry.{Entry}
-use Rattle.nb_book.specs.Legal.{Legal}
 use Rattle.nb_book.specs.Money.{fund, total}
 use Rattle.nb_book.proofs.Summing.{total_fits}
 use Rattle.nb_turns.specs.declared.line.Line.{Line}
-use Rattle.nb_turns.specs.Lines.{entry_of, entries_of}
+use Rattle.nb_turns.specs.Lines.{entries_of}
 use Rattle.nb_turns.specs.Turns.{Request, Answered}
 use Rattle.nb_vault.specs.declared.vault.opening.VaultFault.{VaultFault}
 use Rattle.nb_vault.specs.declared.vault.opening.VaultFault.TheVariants.{Unborn, Damaged, BadEntry, DiskFault, NoMemory}
@@ -25,13 +20,13 @@ use Rattle.nb_vault.proofs.HoldingLaws.{one_list}
 use Rattle.nb_batch.specs.Batch.{Outside, frame_of, moment_of}
 use Rattle.nb_batch.specs.Send.{SentPart}
 use Rattle.nb_play.specs.declared.frames.TheConstants.{MOMENT}
-use Rattle.nb_play.specs.Drill.{frame_at, head_of}
+use Rattle.nb_play.specs.Drill.{head_of}
 use Rattle.nb_play.specs.Feed.{bytes_from, cap_of, count_of, frames_from, frames_of}
 use Rattle.nb_play.proofs.Lengths.{are_frames}
 use Rattle.nb_run.specs.declared.ending.Ending.{Ending}
-use Rattle.nb_run.specs.declared.ending.TheConstants.{CLEAN, SOURCE_FAILED, SINK_FAILED, BAD_INPUT, OUT_OF_MEMORY, DISK_FAILED, NO_JOURNAL, FRAME_LIMIT}
+use Rattle.nb_run.specs.declared.ending.TheConstants.{CLEAN, SOURCE_FAILED, SINK_FAILED, BAD_INPUT, OUT_OF_MEMORY, FRAME_LIMIT}
 use Rattle.nb_run.specs.Ending.{at_no_place}
-use Rattle.nb_run.specs.Run.{Batch, BatchLines, EndsWhole, IsWholeInput, NotOpened, unopened}
+use Rattle.nb_run.specs.Run.{Batch, BatchLines, EndsWhole, IsWholeInput, unopened}
 use Rattle.nb_run.specs.Drill.{Answers, Drilled, IsFresh, TellsLine, fed, held, line_of, line_with, recorded, requests_of, tally}
 use Rattle.nb_run.proofs.Completeness.{parts}
 

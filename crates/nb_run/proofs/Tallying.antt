@@ -1,10 +1,10 @@
 -- A tally grows by one entry as its counts do.
-use Rattle.std.proofs.Common.{◌≡◌, ℕ, ◌+◌, ◌<◌, ◌≤◌, ◌^◌, Bool, true, false, cond, List, [], ◌∷◌, ◌++◌, length, take, get_or, refl, sym, ap, subst, ◌∙◌, arith, append-nil, drop, Option, None, inl, inr, ◌⊎◌}
-use Rattle.std.specs.List.{count_by, sum_by, filter_map}
+use Rattle.std.proofs.Common.{◌≡◌, ℕ, ◌+◌, ◌<◌, ◌≤◌, ◌^◌, Bool, cond, List, [], ◌∷◌, ◌++◌, length, take, get_or, refl, sym, ap, ◌∙◌, arith, append-nil, drop, Option, None, inl, inr, ◌⊎◌}
+use Rattle.std.specs.List.{count_by, filter_map}
 use Rattle.std.specs.Option.{option_to_list}
-use Rattle.std.proofs.lemmas.List.{take_more, length-append, length-take}
+use Rattle.std.proofs.lemmas.List.{take_more, length-take}
 use Rattle.std.proofs.Math.ListN.{take-append-drop}
-use Rattle.std.proofs.lemmas.List.Sums.{sum_by-append, sum_by-take-le, count_by-le-length}
+use Rattle.std.proofs.lemmas.List.Sums.{sum_by-append, count_by-le-length}
 use Rattle.std.proofs.lemmas.List.Elements.{filter_map-append}
 use Rattle.nb_book.specs.declared.entry.Entry.{Entry}
 use Rattle.nb_book.specs.declared.entry.Entry.TheVariants.{Enrol, Fund, Paid, Charged, Refused}

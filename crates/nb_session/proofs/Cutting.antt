@@ -1,11 +1,7 @@
 -- Replies that are sent part by part.
 use Rattle.std.proofs.Common.{◌≡◌, ℕ, ◌+◌, ◌≤◌, List, ◌++◌, length, take, drop, Option, sym, ap, ◌∙◌, subst, arith}
 use Rattle.std.specs.Io.KnownBytes.{Appends}
-use Rattle.std.proofs.KnownBytes.{Appends-trans}
 use Rattle.std.proofs.lemmas.List.{length-append, length-drop, take-append-drop, take-append-le}
-use Rattle.std.proofs.Math.Seq.{take-add}
-use Rattle.nb_port.specs.Faults.{Rose}
-use Rattle.nb_link.specs.Link.{LinkSeen}
 use Rattle.nb_wire.specs.Sent.{SentPart}
 use Rattle.nb_wire.proofs.Outgoing.{sent_more}
 

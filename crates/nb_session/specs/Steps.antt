@@ -1,17 +1,16 @@
 -- The steps of a session, for the contracts of private functions.
-use Rattle.std.specs.Prelude.{◌≡◌, ℕ, ◌+◌, ◌-◌, ◌*◌, ◌<◌, ◌≤◌, List, [], ◌∷◌, ◌++◌, Option, None, Some, length, min, take, vec_capacity, ◌≢◌}
+use Rattle.std.specs.Prelude.{◌≡◌, ℕ, ◌+◌, ◌-◌, ◌*◌, ◌<◌, ◌≤◌, List, [], ◌++◌, Option, None, Some, length, min, vec_capacity, ◌≢◌}
 use Rattle.std.specs.List.{flat_map, AllByRecursion}
-use Rattle.std.specs.Io.KnownBytes.{Consumes, Appends, IsAtEnd}
+use Rattle.std.specs.Io.KnownBytes.{Consumes, Appends}
 use Rattle.nb_port.specs.Tells.{DiskTells}
 use Rattle.nb_port.specs.Faults.{Rose}
 use Rattle.nb_link.specs.Link.{LinkSeen}
 use Rattle.nb_units.specs.Frames.{frame, IsFrame, front_of}
 use Rattle.nb_units.specs.declared.limits.TheConstants.{FIRST_VERSION}
 use Rattle.nb_units.specs.declared.frames.TheConstants.{HEADER, MAX_BODY}
-use Rattle.nb_frame.specs.State.{Collected, waiting, fed, unfed}
+use Rattle.nb_frame.specs.State.{Collected, waiting, unfed}
 use Rattle.nb_frame.specs.Looks.{IsShort}
 use Rattle.nb_frame.specs.Cuts.{EndsIn}
-use Rattle.nb_frame.specs.declared.stream.TheConstants.{MAX_PIECE}
 use Rattle.nb_frame.specs.declared.stream.Next.TheVariants as next
 use Rattle.nb_msgs.specs.declared.reply.TheConstants.{REPLY_ROOM}
 use Rattle.nb_turns.specs.declared.limits.TheConstants.{MAX_REQUESTS}

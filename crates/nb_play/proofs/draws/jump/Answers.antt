@@ -1,4 +1,4 @@
-use Rattle.std.proofs.Common.{◌≡◌, ℕ, ◌/◌, sym, subst, ◌∙◌, rules}
+use Rattle.std.proofs.Common.{◌≡◌, ℕ, ◌/◌, sym, subst, ◌∙◌}
 use Rattle.nb_play.specs.Draws.{number}
 use Rattle.nb_play.proofs.Jumping.{squared, doubled, halved_even, halved_odd, no_steps}
 use Rattle.nb_play.proofs.draws.jump.Goals.{then-left-eq1, else-left-eq1}

@@ -1,4 +1,4 @@
-use Rattle.std.proofs.Common.{◌≡◌, ℕ}
+use Rattle.std.proofs.Common.{◌≡◌}
 use Rattle.nb_play.specs.Draws.{number}
 use Rattle.nb_play.proofs.draws.jump.Given as goal
 

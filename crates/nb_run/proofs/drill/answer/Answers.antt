@@ -1,4 +1,4 @@
-use Rattle.std.proofs.Common.{◌≡◌, ◌≢◌, ℕ, ◌<◌, ◌≤◌, ◌^◌, ◌⊎◌, List, [], Option, Some, None, refl, sym, ap, ap₂, subst, arith, inl, inr}
+use Rattle.std.proofs.Common.{◌≡◌, ◌≢◌, ℕ, ◌<◌, ◌≤◌, ◌^◌, ◌⊎◌, List, [], Option, Some, None, refl, sym, ap₂, subst, arith, inl, inr}
 use Rattle.nb_port.specs.Tells.{DiskTells}
 use Rattle.nb_book.specs.Money.{total}
 use Rattle.nb_journal.specs.Making.{without_fee}
@@ -9,7 +9,7 @@ use Rattle.nb_play.specs.Feed.{Feed, cap_of, told_by, whole}
 use Rattle.nb_run.specs.declared.ending.Ending.{Ending}
 use Rattle.nb_run.specs.declared.ending.TheConstants.{CLEAN, SOURCE_FAILED, OUT_OF_MEMORY, NO_JOURNAL, DISK_FAILED}
 use Rattle.nb_run.specs.Run.{BatchLines, EndsWhole, IsJournal, IsWholeInput}
-use Rattle.nb_run.specs.Drill.{Answers, IsFresh, TellsLine, fed, line_with, recorded, tally}
+use Rattle.nb_run.specs.Drill.{Answers, TellsLine, fed, line_with, recorded, tally}
 use Rattle.nb_run.proofs.Drilling.{fits, other, told, wanting, whole_input}
 use Rattle.nb_run.proofs.drill.answer.Goals.{then-ending-eq-CLEAN-2-via-then-ending-eq-CLEAN-2, then-ending-eq-CLEAN-2-via-else-ending-eq-CLEAN-2+then-ending-eq-SOURCE_FAILED}
 use Rattle.nb_run.proofs.drill.answer.Goals as goal

@@ -1,4 +1,4 @@
-use Rattle.std.proofs.Common.{sym, ap, ◌∙◌, subst, arith, ◌≡◌, ◌≢◌, ◌≤◌, ℕ, List}
+use Rattle.std.proofs.Common.{sym, ap, ◌∙◌, subst, arith, ◌≢◌, ◌≤◌, List}
 use Rattle.nb_turns.specs.declared.line.Line.{Line}
 use Rattle.nb_run.specs.declared.ending.Ending.{Ending}
 use Rattle.nb_run.specs.declared.ending.TheConstants.{DISK_FAILED, NO_JOURNAL}

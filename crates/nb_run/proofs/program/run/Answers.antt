@@ -1,4 +1,4 @@
-use Rattle.std.proofs.Common.{◌≡◌, ℕ, List, Option, Some, ap, subst, ◌∙◌, inl, inr}
+use Rattle.std.proofs.Common.{ℕ, List, Option, Some, ap, subst, ◌∙◌, inl, inr}
 use Rattle.std.specs.Prelude.{map, string_bytes}
 use Rattle.nb_words.specs.Words.{CommandIs}
 use Rattle.nb_run.specs.Drill.{DrillIs}

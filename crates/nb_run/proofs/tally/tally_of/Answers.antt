@@ -1,5 +1,4 @@
-use Rattle.std.proofs.Common.{◌≡◌, ◌<◌, ◌+◌, ◌^◌, List, take, length, refl, sym, ap, subst, ◌∙◌, arith}
-use Rattle.std.proofs.lemmas.List.{take_all}
+use Rattle.std.proofs.Common.{◌<◌, ◌+◌, ◌^◌, List, take, sym, ap, ◌∙◌, arith}
 use Rattle.nb_turns.specs.declared.line.Line.{Line}
 use Rattle.nb_run.specs.declared.tally.Tally.{Tally}
 use Rattle.nb_run.specs.Drill.{and_one, recorded, tally}

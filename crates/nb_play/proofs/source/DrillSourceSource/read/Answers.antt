@@ -1,4 +1,4 @@
-use Rattle.std.proofs.Common.{◌≡◌, ℕ, min, ◌-◌, ◌+◌, length, take, drop, ◌++◌, List, sym, ap, ◌∙◌, refl, subst, arith}
+use Rattle.std.proofs.Common.{◌≡◌, ℕ, min, length, take, drop, ◌++◌, List, sym, ap, ◌∙◌, refl, subst, arith}
 use Rattle.std.proofs.lemmas.List.{take_at, length-take, length-drop}
 use Rattle.nb_play.specs.declared.source.DrillSource.TheInside.{Inside}
 use Rattle.nb_play.specs.Feed.{Feed, count_of}
