@@ -7,10 +7,10 @@ use Rattle.nb_net.specs.declared.socket.SocketWrite.{SocketWrite}
 use Rattle.nb_net.specs.declared.socket.SocketWrite.TheVariants as writes
 
 -- The errors of a look for a connection that say nothing of the listener, by Linux's numbers: the call was interrupted (EINTR), or it
--- gave an error of the connection that waited, which is gone (accept(2): ENONET, EPROTO, ENOPROTOOPT, ENETDOWN, ENETUNREACH,
--- ECONNABORTED, ECONNRESET, ETIMEDOUT, EHOSTDOWN, EHOSTUNREACH)
+-- gave an error of the connection that waited, which is gone (accept(2): EPERM, of a firewall, ENONET, EPROTO, ENOPROTOOPT, EOPNOTSUPP,
+-- ENETDOWN, ENETUNREACH, ECONNABORTED, ECONNRESET, ETIMEDOUT, EHOSTDOWN, EHOSTUNREACH)
 abbrev pub passing : List ℕ
-passing = 4 ∷ 64 ∷ 71 ∷ 92 ∷ 100 ∷ 101 ∷ 103 ∷ 104 ∷ 110 ∷ 112 ∷ 113 ∷ []
+passing = 1 ∷ 4 ∷ 64 ∷ 71 ∷ 92 ∷ 95 ∷ 100 ∷ 101 ∷ 103 ∷ 104 ∷ 110 ∷ 112 ∷ 113 ∷ []
 
 -- a number is one of these
 abbrev pub is_among : ℕ → List ℕ → Bool

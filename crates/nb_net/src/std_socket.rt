@@ -218,6 +218,8 @@ impl<R: Net<Stream = TcpStream> + Drop> Dialler for StdDialler<R> {
 }
 
 // The errors of a look for a connection that are that connection's, by Linux's numbers; and EINTR.
+const EPERM: u32 = 1;
+
 const EINTR: u32 = 4;
 
 const ENONET: u32 = 64;
@@ -225,6 +227,8 @@ const ENONET: u32 = 64;
 const EPROTO: u32 = 71;
 
 const ENOPROTOOPT: u32 = 92;
+
+const EOPNOTSUPP: u32 = 95;
 
 const ENETDOWN: u32 = 100;
 
@@ -246,10 +250,12 @@ fn passes(code: u32) -> bool
 {
     matches!(
         code,
-        EINTR
+        EPERM
+            | EINTR
             | ENONET
             | EPROTO
             | ENOPROTOOPT
+            | EOPNOTSUPP
             | ENETDOWN
             | ENETUNREACH
             | ECONNABORTED
