@@ -1,5 +1,5 @@
 -- A text whose last bytes are put, and then all that waits is sent.
-use Rattle.std.proofs.Common.{◌≡◌, ℕ, ◌≤◌, List, [], ◌++◌, Option, Result, Ok, Err, sym, subst}
+use Rattle.std.proofs.Common.{◌≡◌, ℕ, ◌≤◌, List, [], ◌++◌, Option, Result, Ok, Err, subst}
 use Rattle.std.specs.Io.KnownBytes.{Appends}
 use Rattle.nb_statement.specs.declared.fault.StatementFault.{StatementFault}
 use Rattle.nb_statement.specs.Statement.{SentPart, Sends, Stands}

@@ -79,7 +79,7 @@ pub put_failed : (a : AcctId) (H : List Entry) (i : ℕ) (e : Entry) (m : Moveme
 put_failed a H i e m n b s t u w waited bytes at is first part =
     subst (λ (xs : List ℕ). SentPart s u xs) (lines_split a H (i + 1) w)
     (part_longer s u (w ++ lines_behind a [] (take (i + 1) H)) (lines_behind a (take (i + 1) H) (drop (i + 1) H))
-        (subst (λ (xs : List ℕ). SentPart s u xs) (lines_here a H i e m n b w bytes at is) (part_on s t u waited (w ++ lines_behind a [] (take i H)) bytes first part)))
+    (subst (λ (xs : List ℕ). SentPart s u xs) (lines_here a H i e m n b w bytes at is) (part_on s t u waited (w ++ lines_behind a [] (take i H)) bytes first part)))
 
 -- an entry that moves nothing leaves all as it is
 pub record Same (a : AcctId) (H : List Entry) (i : ℕ) : Type 0 where

@@ -1,5 +1,5 @@
 -- A text on the right of its places.
-use Rattle.std.proofs.Common.{◌≡◌, ℕ, ◌-◌, ◌≤◌, List, ◌++◌, length, take, replicate, sym, ap, ◌∙◌, arith, append_assoc}
+use Rattle.std.proofs.Common.{◌≡◌, ℕ, ◌-◌, ◌≤◌, List, ◌++◌, length, take, replicate, ap, ◌∙◌, arith, append_assoc}
 use Rattle.std.proofs.lemmas.List.{take-replicate}
 
 pub placed : (line blanks text number : List ℕ) (k width : ℕ) → blanks ≡ take k (replicate 20 32) → k ≡ width - length text → text ≡ number → width ≤ 20

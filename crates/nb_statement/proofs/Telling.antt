@@ -1,6 +1,6 @@
 -- The lines of a list, entry by entry, and as a function of its movements.
-use Rattle.std.proofs.Common.{◌≡◌, ℕ, suc, ◌+◌, ◌<◌, ◌≤◌, List, [], ◌∷◌, ◌++◌, Option, Some, None, length, take, get_or, refl, sym, ap, ap₂, ◌∙◌, subst, arith, append_assoc, append-nil}
-use Rattle.std.proofs.lemmas.List.{take_more, take_at, take_all, length_push, length-append, get_or_at}
+use Rattle.std.proofs.Common.{◌≡◌, ℕ, ◌+◌, List, [], ◌∷◌, ◌++◌, Option, Some, None, length, take, refl, sym, ap, ap₂, ◌∙◌, subst, arith, append_assoc, append-nil}
+use Rattle.std.proofs.lemmas.List.{take_more, take_at, length_push, length-append, get_or_at}
 use Rattle.std.proofs.lemmas.List.Elements.{filter_map-append}
 use Rattle.std.proofs.lemmas.Option.{slice_get_within, get_or_from_slice_get}
 use Rattle.std.specs.List.{fold, slice_get}
@@ -114,7 +114,7 @@ grouped h l x r c = simp append_assoc refl
 pub each_line : (a : AcctId) (before : List Entry) (e : Entry) (more : List Entry) (m : Movement) → movement_of a e ≡ Some m
     → statement a (before ++ e ∷ more)
     ≡ (heading a ++ lines_behind a [] before) ++ (line (length (movements a before) + 1) m (balance (before ++ e ∷ []) a)
-        ++ (lines_behind a (before ++ e ∷ []) more ++ closing (balance (before ++ e ∷ more) a)))
+    ++ (lines_behind a (before ++ e ∷ []) more ++ closing (balance (before ++ e ∷ more) a)))
 each_line a before e more m is =
     let h : List ℕ = heading a in
     let c : List ℕ = closing (balance (before ++ e ∷ more) a) in

@@ -15,7 +15,7 @@ abbrev pub EachLineHasItsBalance : Type 0
 EachLineHasItsBalance = (a : AcctId) (before : List Entry) (e : Entry) (more : List Entry) (m : Movement) → movement_of a e ≡ Some m
     → statement a (before ++ e ∷ more)
     ≡ (heading a ++ lines_behind a [] before) ++ (line (length (movements a before) + 1) m (balance (before ++ e ∷ []) a)
-        ++ (lines_behind a (before ++ e ∷ []) more ++ closing (balance (before ++ e ∷ more) a)))
+    ++ (lines_behind a (before ++ e ∷ []) more ++ closing (balance (before ++ e ∷ more) a)))
 
 -- the text ends with the line of the balance of the list
 abbrev pub ClosesWithTheBalance : Type 0

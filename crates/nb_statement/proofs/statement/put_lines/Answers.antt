@@ -1,4 +1,4 @@
-use Rattle.std.proofs.Common.{◌≡◌, ℕ, ◌+◌, ◌<◌, List, [], Result, Err, rules, length, sym, subst, ap, ◌∙◌, arith}
+use Rattle.std.proofs.Common.{◌≡◌, ℕ, ◌+◌, ◌<◌, [], Result, Err, rules, length, sym, subst, ap, ◌∙◌, arith}
 use Rattle.nb_vault.specs.Vaults.{doubt_in, entries_in}
 use Rattle.nb_statement.specs.declared.fault.StatementFault.{StatementFault}
 use Rattle.nb_statement.specs.Statement.{Puts, line, lines_behind}
@@ -11,24 +11,24 @@ use Rattle.nb_statement.proofs.statement.put_lines.Goals as goal
 pub after-balance-requires-clause-fits : goal.after-balance-requires-clause-fits
 after-balance-requires-clause-fits g c =
     (fits c.args.acct (entries_in c.args.vault.now) c.entries.at c.in-Some.entry c.in-Some-movement_of.movement c.entries.number c.entries.balance
-        (record {
-          legal = first_part (entries_in c.args.vault.now) (doubt_in c.args.vault.now) c.witness.ensures.keeps.legal.legal;
-          there = sym c.in-Some.ensures;
-          is = sym c.in-Some-movement_of.ensures;
-          number = c.entries.invariant.number;
-          behind = c.entries.invariant.balance;
-        })).0
+    (record {
+      legal = first_part (entries_in c.args.vault.now) (doubt_in c.args.vault.now) c.witness.ensures.keeps.legal.legal;
+      there = sym c.in-Some.ensures;
+      is = sym c.in-Some-movement_of.ensures;
+      number = c.entries.invariant.number;
+      behind = c.entries.invariant.balance;
+    })).0
 
 pub after-balance-requires-clause-held : goal.after-balance-requires-clause-held
 after-balance-requires-clause-held g c =
     (fits c.args.acct (entries_in c.args.vault.now) c.entries.at c.in-Some.entry c.in-Some-movement_of.movement c.entries.number c.entries.balance
-        (record {
-          legal = first_part (entries_in c.args.vault.now) (doubt_in c.args.vault.now) c.witness.ensures.keeps.legal.legal;
-          there = sym c.in-Some.ensures;
-          is = sym c.in-Some-movement_of.ensures;
-          number = c.entries.invariant.number;
-          behind = c.entries.invariant.balance;
-        })).1
+    (record {
+      legal = first_part (entries_in c.args.vault.now) (doubt_in c.args.vault.now) c.witness.ensures.keeps.legal.legal;
+      there = sym c.in-Some.ensures;
+      is = sym c.in-Some-movement_of.ensures;
+      number = c.entries.invariant.number;
+      behind = c.entries.invariant.balance;
+    })).1
 
 pub returns-in_err-put-clause-stands : goal.returns-in_err-put-clause-stands
 returns-in_err-put-clause-stands g c =
@@ -42,7 +42,7 @@ returns-in_err-put-clause-stands g c =
     let failed = c.in_err-put.ensures.stands in
     let same : c.from_residual.result ≡ Err c.in_err-put.field-0.0 = search rules in
     subst (λ (r : Result ℕ StatementFault). Puts (g.K.Sink.faults c.args.sink.now) (g.K.Sink.faults c.put.new.sink) (g.K.Sink.sent c.args.sink.now) (g.K.Sink.sent c.put.new.sink)
-        c.args.waits.now.items c.put.new.waits.items (lines_behind c.args.acct [] (entries_in c.args.vault.now)) r) (sym same) (
+    c.args.waits.now.items c.put.new.waits.items (lines_behind c.args.acct [] (entries_in c.args.vault.now)) r) (sym same) (
       failed.0,
       rose_behind (g.K.Sink.faults c.args.sink.now) (g.K.Sink.faults c.entries.sink) (g.K.Sink.faults c.put.new.sink) c.entries.invariant.count failed.1,
       put_failed c.args.acct (entries_in c.args.vault.now) c.entries.at c.in-Some.entry c.in-Some-movement_of.movement c.entries.number c.entries.balance
