@@ -1,5 +1,5 @@
-//! A program that does with a vault and with desks what the lines of standard input say, and prints what they do: the trials of `nb_vault` and of
-//! `nb_desk`, as data. Each line is a word and what it is about; [`House`] says what they do. A line that begins with `#` is printed as it is.
+//! A program that does with a vault and with desks what the lines of standard input say, and prints what they do: the trials of `nb_vault`, of
+//! `nb_desk` and of `nb_statement`, as data. Each line is a word and what it is about; [`House`] says what they do. A line that begins with `#` is printed as it is.
 //!
 //! It claims nothing: what it prints is compared with what another program wrote.
 #![tactic(auto)]
@@ -13,6 +13,7 @@ mod house;
 mod images;
 mod names;
 mod slow;
+mod statements;
 mod telling;
 
 use crate::house::House;
@@ -89,6 +90,7 @@ fn done_by_word<R: Threads + Wait + Clock + Sync>(
         "ask" => house.ask(told, words),
         "turn" => house.turn(told, words),
         "stops" => house.stops(told, words),
+        "statement" => house.statement(told, words),
         "open" | "close" => begin_or_end(house, told, word, words),
         _ => set(house, told, word, words),
     }
