@@ -68,7 +68,7 @@ STATUSES = {
     2: ("the words are none of the program's", "", "compare them with docs/netbill.1"),
     3: ("the input failed", "", "send it again: what was answered is recorded, and is told again"),
     4: ("the output failed", "", "send the input again: what was recorded is told again"),
-    5: ("the input ended within a frame, or holds what is no frame, or is no head", "bytes read, or the place of the fault", "mend the input from there on; the frames before it were answered"),
+    5: ("the input ended within a frame, or holds what is no frame, or is no head, or, of migrate, no journal without a rate", "bytes read, or the place of the fault", "mend the input from there on; the frames before it were answered"),
     6: ("there was no memory", "", "give the process more: docs/OPERATING.md says how much a journal takes"),
     7: ("the journal's disk failed as it was opened or made", "", "look at the disk and its free room, then start again"),
     8: ("the file is no journal, has a bad entry, or is damaged", "place of the damage in the file, and else 0", "move the file aside, see what it holds with examples/show journal, and only then take the last copy: docs/OPERATING.md says what that forgets"),

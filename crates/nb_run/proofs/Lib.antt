@@ -5,3 +5,4 @@ pub mod Heads
 pub mod Making
 pub mod Tallying
 pub mod Drilling
+pub mod Moving

@@ -36,7 +36,7 @@ not_other (Some bytes) (Some behind) count input took =
     ends is = ap length is
 
 -- a disk without a journal is not spared
-not_born : (content : Option (List ℕ)) → HasNoJournal content → IfSome content (λ image. IsMagic (found_in image)) → ⊥
+pub not_born : (content : Option (List ℕ)) → HasNoJournal content → IfSome content (λ image. IsMagic (found_in image)) → ⊥
 not_born None none born = absurd cc
 not_born (Some image) none born = none.1 (subst (λ (i : List ℕ). IsMagic (found_in i)) (same_Some image none.0 none.2) born)
 

@@ -5,7 +5,7 @@ use Rattle.std.proofs.lemmas.Fmt.{decimal_injective}
 use Rattle.nb_units.specs.declared.limits.TheConstants.{MAX_RATE}
 use Rattle.nb_run.specs.declared.ending.Outcome.TheVariants.{Work}
 use Rattle.nb_run.specs.declared.ending.Job.TheVariants.{Serve}
-use Rattle.nb_words.specs.Words.{IsDrill, IsInit, IsServe}
+use Rattle.nb_words.specs.Words.{IsDrill, IsInit, IsMigrate, IsServe}
 use Rattle.nb_words.proofs.Whole.{sessions_small}
 
 -- words that are the same have the same number at a place
@@ -42,3 +42,7 @@ one_job words w s v t is other =
     let same : codes "serve" ∷ is.0 ∷ is.1 ∷ decimal w ∷ decimal s ∷ [] ≡ codes "serve" ∷ other.0 ∷ other.1 ∷ decimal v ∷ decimal t ∷ [] = sym is.2 ∙ other.2 in
     ap (λ (n : ℕ). Work (Serve n s)) (same_number 3 _ _ w v (omega (arith, is.5.1)) (omega (arith, other.5.1)) same refl refl)
     ∙ ap (λ (n : ℕ). Work (Serve v n)) (same_number 4 _ _ s t (sessions_small w s is.5.0 is.5.3) (sessions_small v t other.5.0 other.5.3) same refl refl)
+
+-- words have one rate of a journal that is moved
+pub one_migrate : (words : List (List ℕ)) (r q : ℕ) → IsMigrate words r → IsMigrate words q → r ≡ q
+one_migrate words r q is other = same_number 2 _ _ r q (omega (arith, is.3)) (omega (arith, other.3)) (sym is.1 ∙ other.1) refl refl

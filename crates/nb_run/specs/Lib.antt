@@ -3,3 +3,5 @@ pub mod Init
 pub mod Run
 pub mod Drill
 pub mod Numbers
+pub mod Input
+pub mod Migrate

@@ -8,9 +8,10 @@ ghost use Rattle.nb_run.specs.declared.ending.Outcome.TheVariants as outcomes;
 ghost use Rattle.nb_run.specs.declared.ending.Job.{Job};
 ghost use Rattle.nb_run.specs.declared.ending.Job.TheVariants as jobs;
 ghost use Rattle.nb_run.specs.Ending as endings;
-ghost use Rattle.nb_words.specs.Words.{IsBatch, IsDrill, IsInit, IsServe, IsCommand, MayBeRead};
+ghost use Rattle.nb_words.specs.Words.{IsBatch, IsDrill, IsInit, IsMigrate, IsServe, IsCommand, MayBeRead};
 ghost use Rattle.nb_run.specs.Init.{IsHeadInput, HasNoJournal};
 ghost use Rattle.nb_run.specs.Drill as drills;
+ghost use Rattle.nb_run.specs.Migrate as moves;
 ghost use Rattle.nb_run.specs.Run as runs;
 
 use crate::drill::drill;
@@ -19,6 +20,7 @@ use crate::ending::{
     SOURCE_FAILED,
 };
 use crate::init::make_journal;
+use crate::migrate::move_journal;
 use nb_batch::{BatchEnd, serve};
 use nb_port::{Clock, Disk, Sink, Source};
 use nb_turns::Line;
@@ -30,7 +32,8 @@ use std::alloc::Global;
 /// Runs the program on its words, over the input, the output, the journal's disk and the clock. The disk is handed
 /// back. `init JOURNAL CAP` makes a journal without entries, whose head is the input, and `init JOURNAL CAP PERMILLE` one whose house keeps a fee
 /// of that rate; `batch JOURNAL` answers the frames of the
-/// input in order; `serve JOURNAL ADDRESS WORKERS SESSIONS` is work over links, which is left to do.
+/// input in order; `serve JOURNAL ADDRESS WORKERS SESSIONS` is work over links, which is left to do; `migrate JOURNAL PERMILLE` makes a journal
+/// whose house keeps a fee of that rate, with the cap, the head and the entries of the input, which is a journal without fees.
 pub fn run<S: Source, K: Sink, D: Disk, C: Clock>(
     alloc: Global,
     words: &[String],
@@ -74,6 +77,20 @@ pub fn run<S: Source, K: Sink, D: Disk, C: Clock>(
     ensures makes { (cap : ℕ) (rate : Option ℕ) → IsInit (map string_bytes words.now) cap rate → IsCap cap → IsHeadInput (S.left source.old) → HasNoJournal (D.tells.content disk)
         → (Rose (S.faults source.old) (S.faults source.new) → ⊥) → (Rose (D.tells.faults disk) (D.tells.faults result.1) → ⊥)
         → EndsWith result.0 CLEAN ⊎ runs.Unbegun result.0 source.old source.new sink.old sink.new disk result.1 clock.old clock.new }
+
+    // What moving a journal comes to: a journal of the first version is the input, and one of the second with the same entries is made. It sends
+    // nothing and asks for no moment, and nothing is written over a journal that is there.
+    ensures migrate { (rate : ℕ) → IsMigrate (map string_bytes words.now) rate
+        → Ends result.0 (moves.MigrateIs D.tells (S.left source.old) (S.left source.new) (S.faults source.old) (S.faults source.new) disk result.1 rate)
+        ⊎ runs.Unbegun result.0 source.old source.new sink.old sink.new disk result.1 clock.old clock.new }
+    ensures still { (rate : ℕ) → IsMigrate (map string_bytes words.now) rate
+        → (sink.new ≡ sink.old) × (clock.new ≡ clock.old) × SparesJournal D.tells disk result.1 }
+
+    // A journal of the first version alone, of at most 268,435,456 bytes, a disk without a journal, and nothing that fails: it is moved, unless
+    // memory is wanting.
+    ensures moves { (rate : ℕ) → IsMigrate (map string_bytes words.now) rate → moves.IsFirstInput (S.left source.old) → HasNoJournal (D.tells.content disk)
+        → (Rose (S.faults source.old) (S.faults source.new) → ⊥) → (Rose (D.tells.faults disk) (D.tells.faults result.1) → ⊥)
+        → EndsWith result.0 CLEAN ⊎ EndsWith result.0 OUT_OF_MEMORY }
 
     // What a batch comes to, unless there was no memory to read the words.
     ensures batch { IsBatch (map string_bytes words.now)
@@ -124,6 +141,11 @@ pub fn run<S: Source, K: Sink, D: Disk, C: Clock>(
         }
         Ok(Some(Command::Serve { workers, sessions })) => {
             (Outcome::Work(Job::Serve { workers, sessions }), disk)
+        }
+        Ok(Some(Command::Migrate { rate })) => {
+            let mut disk = disk;
+            let end = move_journal(alloc, source, &mut disk, rate);
+            (Outcome::Done(end.ending()), disk)
         }
         Ok(None) => (Outcome::Done(Ending::at_no_place(BAD_WORDS)), disk),
         Err(NoMemory) => (Outcome::Done(Ending::at_no_place(OUT_OF_MEMORY)), disk),

@@ -349,3 +349,67 @@ serve_read (x ∷ xs) (y ∷ ys) (z ∷ zs) (u ∷ us) p q r s = (
     serve_sessions x xs y ys z zs u us (begins x xs p) (begins y ys q) (begins z zs r) (begins u us s),
   ),
 )
+
+-- ---- migrate JOURNAL PERMILLE
+
+pub migrate_named : IsNamed (codes "migrate") (codes "JOURNAL" ∷ codes "PERMILLE" ∷ []) []
+unfolding clap_on_literals
+migrate_named = record { met = refl; silent = refl; found = refl }
+
+abbrev migrate : Shape
+migrate = leaf (codes "migrate") (codes "JOURNAL" ∷ codes "PERMILLE" ∷ []) []
+
+migrate_none : level_fault migrate [] nothing_held [] false [] ≡ MissingRequiredArgument ∷ []
+unfolding clap_on_literals
+migrate_none = refl
+
+migrate_one : (x : ℕ) (xs : Text) → IsBegin x → level_fault migrate [] nothing_held ((x ∷ xs) ∷ []) false [] ≡ MissingRequiredArgument ∷ []
+unfolding clap_on_literals
+migrate_one x xs p =
+    ap (λ (k : Kinds). level migrate k (fold (walked migrate.rules []) (at 1 nothing_held) ((x ∷ xs) ∷ [])))
+    (next_faults migrate 1 nothing_held x xs p [])
+    ∙ ap (λ (w : Walk). level migrate [] w) (next_walk migrate 1 nothing_held x xs p [])
+
+migrate_taken : (x : ℕ) (xs : Text) (y : ℕ) (ys : Text) → IsBegin x → IsBegin y → level_fault migrate [] nothing_held ((x ∷ xs) ∷ (y ∷ ys) ∷ []) false [] ≡ []
+unfolding clap_on_literals
+migrate_taken x xs y ys p q =
+    ap (λ (k : Kinds). level migrate k (fold (walked migrate.rules []) (at 1 nothing_held) ((x ∷ xs) ∷ (y ∷ ys) ∷ [])))
+    (next_faults migrate 1 nothing_held x xs p ((y ∷ ys) ∷ []) ∙ next_faults migrate 2 _ y ys q [])
+    ∙ ap (λ (w : Walk). level migrate [] w) (next_walk migrate 1 nothing_held x xs p ((y ∷ ys) ∷ []) ∙ next_walk migrate 2 _ y ys q [])
+
+migrate_more : (x : ℕ) (xs : Text) (y : ℕ) (ys : Text) (z : ℕ) (zs : Text) (rest : List Text) → IsBegin x → IsBegin y → IsBegin z → level_fault migrate [] nothing_held ((x ∷ xs) ∷ (y ∷ ys) ∷ (z ∷ zs) ∷ rest) false [] ≡ UnknownArgument ∷ []
+unfolding clap_on_literals
+migrate_more x xs y ys z zs rest p q r =
+    ap (λ (k : Kinds). level migrate k (fold (walked migrate.rules []) (at 1 nothing_held) ((x ∷ xs) ∷ (y ∷ ys) ∷ (z ∷ zs) ∷ rest)))
+    (next_faults migrate 1 nothing_held x xs p ((y ∷ ys) ∷ (z ∷ zs) ∷ rest) ∙ next_faults migrate 2 _ y ys q ((z ∷ zs) ∷ rest) ∙ next_faults migrate 3 _ z zs r rest)
+
+migrate_rate : (x : ℕ) (xs : Text) (y : ℕ) (ys : Text) → IsBegin x → IsBegin y → first_of (codes "PERMILLE") (rows_after migrate.rules [] ((x ∷ xs) ∷ (y ∷ ys) ∷ [])) ≡ Some (y ∷ ys)
+unfolding clap_on_literals
+migrate_rate x xs y ys p q = ap (λ (w : Walk). first_of (codes "PERMILLE") (finished migrate.rules w.held)) (next_walk migrate 1 nothing_held x xs p ((y ∷ ys) ∷ []) ∙ next_walk migrate 2 _ y ys q [])
+
+-- clap takes no other number of words
+pub migrate_fits : (words : List Text) → AllByRecursion IsName words → fault_of program (codes "migrate" ∷ words) ≡ [] → (journal : Text) × (permille : Text) × (words ≡ journal ∷ permille ∷ []) × IsName journal
+migrate_fits words all none = go words all (sym (called (codes "migrate") (codes "JOURNAL" ∷ codes "PERMILLE" ∷ []) [] migrate_named words) ∙ none)
+  where
+    go : (words : List Text) → AllByRecursion IsName words → level_fault migrate [] nothing_held words false [] ≡ [] → (journal : Text) × (permille : Text) × (words ≡ journal ∷ permille ∷ []) × IsName journal
+    go [] all none = absurd (faulty _ _ _ migrate_none none)
+    go ([] ∷ words) all none = absurd (not_nothing all.0)
+    go ((x ∷ xs) ∷ []) all none = absurd (faulty _ _ _ (migrate_one x xs (begins x xs all.0)) none)
+    go ((x ∷ xs) ∷ [] ∷ words) all none = absurd (not_nothing all.1.0)
+    go ((x ∷ xs) ∷ (y ∷ ys) ∷ []) all none = (x ∷ xs, y ∷ ys, refl, all.0)
+    go ((x ∷ xs) ∷ (y ∷ ys) ∷ [] ∷ words) all none = absurd (not_nothing all.1.1.0)
+    go ((x ∷ xs) ∷ (y ∷ ys) ∷ (z ∷ zs) ∷ words) all none = absurd (faulty _ _ _ (migrate_more x xs y ys z zs words (begins x xs all.0) (begins y ys all.1.0) (begins z zs all.1.1.0)) none)
+
+-- as many words as it has positions are taken, and read as they stand
+pub migrate_read : (journal permille : Text) → IsName journal → IsName permille
+    → (fault_of program (codes "migrate" ∷ journal ∷ permille ∷ []) ≡ []) × ((rows : List Row) × (subcommand_of program (codes "migrate" ∷ journal ∷ permille ∷ []) ≡ Some (codes "migrate", rows)) × (first_of (codes "PERMILLE") rows ≡ Some permille))
+migrate_read [] permille p q = absurd (not_nothing p)
+migrate_read (x ∷ xs) [] p q = absurd (not_nothing q)
+migrate_read (x ∷ xs) (y ∷ ys) p q = (
+  called (codes "migrate") (codes "JOURNAL" ∷ codes "PERMILLE" ∷ []) [] migrate_named ((x ∷ xs) ∷ (y ∷ ys) ∷ []) ∙ migrate_taken x xs y ys (begins x xs p) (begins y ys q),
+  (
+    rows_after migrate.rules [] ((x ∷ xs) ∷ (y ∷ ys) ∷ []),
+    entered_as (codes "migrate") (codes "JOURNAL" ∷ codes "PERMILLE" ∷ []) [] migrate_named ((x ∷ xs) ∷ (y ∷ ys) ∷ []),
+    migrate_rate x xs y ys (begins x xs p) (begins y ys q),
+  ),
+)

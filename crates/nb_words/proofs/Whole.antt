@@ -15,17 +15,17 @@ use Rattle.clap.specs.Words.{subcommand_of, kind_of}
 use Rattle.clap.specs.declared.error.kind.ErrorKind.TheVariants.{UnknownArgument, InvalidSubcommand, OutOfMemory}
 use Rattle.clap.proofs.OnLiterals.{clap_on_literals}
 use Rattle.nb_words.specs.declared.words.Command.{Command}
-use Rattle.nb_words.specs.declared.words.Command.TheVariants.{Init, Batch, Drill, Serve}
+use Rattle.nb_words.specs.declared.words.Command.TheVariants.{Init, Batch, Drill, Serve, Migrate}
 use Rattle.nb_words.specs.Words.{IsName, IsInit, IsCommand, CommandIs}
 use Rattle.nb_words.specs.Table.{program, InitIn, RateIn, CommandIn}
 use Rattle.nb_words.proofs.Reading.{names, turned, entered_as}
-use Rattle.nb_words.proofs.Commands.{begins, not_nothing, faulty, number_named, init_named, AreInit, init_fits, init_read, init_all_read, batch_named, batch_fits, batch_read, drill_named, drill_fits, drill_read, serve_named, serve_fits, serve_read}
+use Rattle.nb_words.proofs.Commands.{begins, not_nothing, faulty, number_named, init_named, AreInit, init_fits, init_read, init_all_read, batch_named, batch_fits, batch_read, drill_named, drill_fits, drill_read, serve_named, serve_fits, serve_read, migrate_named, migrate_fits, migrate_read}
 
 -- ---- a first word that is no command's
 
-stranger : (w : Text) → bytes_eq (codes "init") w ≡ false → bytes_eq (codes "batch") w ≡ false → bytes_eq (codes "drill") w ≡ false → bytes_eq (codes "serve") w ≡ false → subcommand_met names idle w ≡ None
+stranger : (w : Text) → bytes_eq (codes "init") w ≡ false → bytes_eq (codes "batch") w ≡ false → bytes_eq (codes "drill") w ≡ false → bytes_eq (codes "serve") w ≡ false → bytes_eq (codes "migrate") w ≡ false → subcommand_met names idle w ≡ None
 unfolding clap_on_literals
-stranger w i b d s = rw (i, b, d, s) refl
+stranger w i b d s m = rw (i, b, d, s, m) refl
 
 refused : (x : ℕ) (xs : Text) (words : List Text) → IsName (x ∷ xs) → subcommand_met names idle (x ∷ xs) ≡ None → fault_of program ((x ∷ xs) ∷ words) ≡ [] → ⊥
 unfolding walk_fault
@@ -40,14 +40,18 @@ refused x xs words is met none =
 
 -- the first word is the name of one
 abbrev IsKnown : Text → Type 0
-IsKnown w = (w ≡ codes "init") ⊎ (w ≡ codes "batch") ⊎ (w ≡ codes "drill") ⊎ (w ≡ codes "serve")
+IsKnown w = (w ≡ codes "init") ⊎ (w ≡ codes "batch") ⊎ (w ≡ codes "drill") ⊎ (w ≡ codes "serve") ⊎ (w ≡ codes "migrate")
 
 known : (x : ℕ) (xs : Text) (words : List Text) → IsName (x ∷ xs) → fault_of program ((x ∷ xs) ∷ words) ≡ [] → IsKnown (x ∷ xs)
 known x xs words is none = first (bytes_eq (codes "init") (x ∷ xs)) refl
   where
+    fifth : (m : Bool) → bytes_eq (codes "init") (x ∷ xs) ≡ false → bytes_eq (codes "batch") (x ∷ xs) ≡ false → bytes_eq (codes "drill") (x ∷ xs) ≡ false → bytes_eq (codes "serve") (x ∷ xs) ≡ false → bytes_eq (codes "migrate") (x ∷ xs) ≡ m → IsKnown (x ∷ xs)
+    fifth true e f g h i = inr (inr (inr (inr (sym ((bytes_eq-Decides _ _).0 i)))))
+    fifth false e f g h i = absurd (refused x xs words is (stranger (x ∷ xs) e f g h i) none)
+
     fourth : (s : Bool) → bytes_eq (codes "init") (x ∷ xs) ≡ false → bytes_eq (codes "batch") (x ∷ xs) ≡ false → bytes_eq (codes "drill") (x ∷ xs) ≡ false → bytes_eq (codes "serve") (x ∷ xs) ≡ s → IsKnown (x ∷ xs)
-    fourth true e f g h = inr (inr (inr (sym ((bytes_eq-Decides _ _).0 h))))
-    fourth false e f g h = absurd (refused x xs words is (stranger (x ∷ xs) e f g h) none)
+    fourth true e f g h = inr (inr (inr (inl (sym ((bytes_eq-Decides _ _).0 h)))))
+    fourth false e f g h = fifth (bytes_eq (codes "migrate") (x ∷ xs)) e f g h refl
 
     third : (d : Bool) → bytes_eq (codes "init") (x ∷ xs) ≡ false → bytes_eq (codes "batch") (x ∷ xs) ≡ false → bytes_eq (codes "drill") (x ∷ xs) ≡ d → IsKnown (x ∷ xs)
     third true e f g = inr (inr (inl (sym ((bytes_eq-Decides _ _).0 g))))
@@ -70,7 +74,8 @@ named_by ((x ∷ xs) ∷ words) all some none name rows told = elim (known x xs 
   | inl is ↦ by (codes "init") is (entered_as (codes "init") _ _ init_named words)
   | inr (inl is) ↦ by (codes "batch") is (entered_as (codes "batch") _ _ batch_named words)
   | inr (inr (inl is)) ↦ by (codes "drill") is (entered_as (codes "drill") _ _ drill_named words)
-  | inr (inr (inr is)) ↦ by (codes "serve") is (entered_as (codes "serve") _ _ serve_named words)
+  | inr (inr (inr (inl is))) ↦ by (codes "serve") is (entered_as (codes "serve") _ _ serve_named words)
+  | inr (inr (inr (inr is))) ↦ by (codes "migrate") is (entered_as (codes "migrate") _ _ migrate_named words)
 ]
   where
     by : (first : Text) → (x ∷ xs) ≡ first → {other : List Row} → subcommand_of program (first ∷ words) ≡ Some (first, other) → (behind : List Text) × ((x ∷ xs) ∷ words ≡ name ∷ behind) × AllByRecursion IsName behind
@@ -102,6 +107,9 @@ drill_name = (omega arith, λ e. omega (arith, e))
 serve_name : IsName (codes "serve")
 serve_name = (omega arith, λ e. omega (arith, e))
 
+migrate_name : IsName (codes "migrate")
+migrate_name = (omega arith, λ e. omega (arith, e))
+
 init_taken : (words : List Text) (cap : ℕ) (rate : Option ℕ) → IsInit words cap rate → IsTaken words
 init_taken words cap None is =
     let number = number_named cap (omega (arith, is.3)) in
@@ -118,11 +126,15 @@ taken words (inr (inr (inl d))) =
     let seed = number_named d.0 d.2.1 in
     let orders = number_named d.1 (omega (arith, d.2.2)) in
     subst IsTaken (sym d.2.0) ((drill_name, (seed, (orders, tt))), (drill_read (decimal d.0) (decimal d.1) seed orders).0, omega arith)
-taken words (inr (inr (inr s))) =
+taken words (inr (inr (inr (inl s)))) =
     let is = s.2 in
     let workers = number_named s.0 (omega (arith, is.5.1)) in
     let sessions = number_named s.1 (sessions_small s.0 s.1 is.5.0 is.5.3) in
     subst IsTaken (sym is.2) ((serve_name, (is.3, (is.4, (workers, (sessions, tt))))), (serve_read is.0 is.1 (decimal s.0) (decimal s.1) is.3 is.4 workers sessions).0, omega arith)
+taken words (inr (inr (inr (inr m)))) =
+    let is = m.1 in
+    let permille = number_named m.0 (omega (arith, is.3)) in
+    subst IsTaken (sym is.1) ((migrate_name, (is.2, (permille, tt))), (migrate_read is.0 (decimal m.0) is.2 permille).0, omega arith)
 
 -- ---- what was told is the command
 
@@ -204,6 +216,16 @@ told_serve words all none rows told =
       subst (λ (rs : List Row). first_of (codes "SESSIONS") rs ≡ Some fits.3) same read.3,
     )
 
+told_migrate : (words : List Text) → AllByRecursion IsName words → fault_of program (codes "migrate" ∷ words) ≡ [] → (rows : List Row) → subcommand_of program (codes "migrate" ∷ words) ≡ Some (codes "migrate", rows)
+    → (journal permille : Text) × (words ≡ journal ∷ permille ∷ []) × IsName journal × (first_of (codes "PERMILLE") rows ≡ Some permille)
+told_migrate words all none rows told =
+    let fits = migrate_fits words all none in
+    let P : List Text → Type 0 = λ ws. AllByRecursion IsName ws in
+    let each = subst P fits.2 all in
+    let read = (migrate_read fits.0 fits.1 each.0 each.1.0).1 in
+    let same = same_rows (subcommand_of program (codes "migrate" ∷ words)) (codes "migrate") read.0 rows (ap (λ (ws : List Text). subcommand_of program (codes "migrate" ∷ ws)) fits.2 ∙ read.1) told in
+    (fits.0, fits.1, fits.2, fits.3, subst (λ (rs : List Row). first_of (codes "PERMILLE") rs ≡ Some fits.1) same read.2)
+
 -- what is read of the words of init
 init_rows : (words : List Text) (cap : ℕ) (rate : Option ℕ) → IsInit words cap rate → (rows : List Row) × (subcommand_of program words ≡ Some (codes "init", rows)) × InitIn rows cap × RateIn rows rate
 init_rows words cap None is =
@@ -222,10 +244,14 @@ untold words none (inr (inl i)) = none.0 (init_rows words i.0 i.1 i.2).0 i.0 i.1
 untold words none (inr (inr (inl d))) =
     let read = (drill_read (decimal d.0) (decimal d.1) (number_named d.0 d.2.1) (number_named d.1 (omega (arith, d.2.2)))).1 in
     none.2 read.0 d.0 d.1 (ap (subcommand_of program) d.2.0 ∙ read.1) (read.2, read.3, d.2.1, d.2.2)
-untold words none (inr (inr (inr s))) =
+untold words none (inr (inr (inr (inl s)))) =
     let is = s.2 in
     let read = (serve_read is.0 is.1 (decimal s.0) (decimal s.1) is.3 is.4 (number_named s.0 (omega (arith, is.5.1))) (number_named s.1 (sessions_small s.0 s.1 is.5.0 is.5.3))).1 in
     none.3 read.0 s.0 s.1 (ap (subcommand_of program) is.2 ∙ read.1) (read.2, read.3, is.5)
+untold words none (inr (inr (inr (inr m)))) =
+    let is = m.1 in
+    let read = (migrate_read is.0 (decimal m.0) is.2 (number_named m.0 (omega (arith, is.3)))).1 in
+    none.4 read.0 m.0 (ap (subcommand_of program) is.1 ∙ read.1) (read.2, is.3)
 
 init_is : (words behind : List Text) (cap : ℕ) (rate : Option ℕ) (rows : List Row) → words ≡ codes "init" ∷ behind → InitTold behind rows → InitIn rows cap → RateIn rows rate → IsInit words cap rate
 init_is words behind cap None rows is (inl told) number missing =
@@ -276,6 +302,11 @@ command_is words all some none (Some (Serve workers sessions)) is =
       told.6,
       is.2.2,
     )
+command_is words all some none (Some (Migrate rate)) is =
+    let n = named_by words all some none (codes "migrate") is.0 is.1 in
+    let told = told_migrate n.0 n.2 (ap (fault_of program) (sym n.1) ∙ none) is.0 (ap (subcommand_of program) (sym n.1) ∙ is.1) in
+    let same = same_Some _ _ (sym told.4 ∙ is.2.0) in
+    (told.0, n.1 ∙ ap (λ (ws : List Text). codes "migrate" ∷ ws) told.2 ∙ ap (λ (w : Text). codes "migrate" ∷ told.0 ∷ w ∷ []) same, told.3, is.2.1)
 
 -- clap refused the words, and so they are no command, unless there was no memory
 pub refused_are : {E : Type 0} (words : List Text) (r : Result (Option Command) E) → IfOk r (λ command. command ≡ None) → (IsCommand words → IsErr r) → IfOk r (CommandIs words)

@@ -6,7 +6,7 @@ use Rattle.nb_units.specs.declared.limits.TheConstants.{MAX_RATE}
 use Rattle.nb_play.specs.declared.frames.TheConstants.{MAX_ORDERS}
 use Rattle.nb_words.specs.declared.words.TheConstants.{MAX_WORKERS, MAX_LINKS}
 use Rattle.nb_words.specs.declared.words.Command.{Command}
-use Rattle.nb_words.specs.declared.words.Command.TheVariants.{Init, Batch, Drill, Serve}
+use Rattle.nb_words.specs.declared.words.Command.TheVariants.{Init, Batch, Drill, Serve, Migrate}
 
 -- the byte of a minus
 abbrev pub minus : ℕ
@@ -40,10 +40,15 @@ IsServe words workers sessions =
     (journal address : List ℕ) × (words ≡ codes "serve" ∷ journal ∷ address ∷ decimal workers ∷ decimal sessions ∷ [])
     × IsName journal × IsName address × AreServed workers sessions
 
+-- migrate JOURNAL PERMILLE: the rate is at most 1,000, in decimal
+abbrev pub IsMigrate : List (List ℕ) → ℕ → Type 0
+IsMigrate words rate = (journal : List ℕ) × (words ≡ codes "migrate" ∷ journal ∷ decimal rate ∷ []) × IsName journal × (rate ≤ MAX_RATE)
+
 -- one of these
 abbrev pub IsCommand : List (List ℕ) → Type 0
 IsCommand words =
-    IsBatch words ⊎ ((cap : ℕ) × (rate : Option ℕ) × IsInit words cap rate) ⊎ ((seed orders : ℕ) × IsDrill words seed orders) ⊎ (workers : ℕ) × (sessions : ℕ) × IsServe words workers sessions
+    IsBatch words ⊎ ((cap : ℕ) × (rate : Option ℕ) × IsInit words cap rate) ⊎ ((seed orders : ℕ) × IsDrill words seed orders) ⊎ ((workers : ℕ) × (sessions : ℕ) × IsServe words workers sessions)
+    ⊎ (rate : ℕ) × IsMigrate words rate
 
 -- the words are this command, or none
 abbrev pub CommandIs : List (List ℕ) → Option Command → Type 0
@@ -51,6 +56,7 @@ CommandIs words (Some (Init cap rate)) = IsInit words cap rate
 CommandIs words (Some Batch) = IsBatch words
 CommandIs words (Some (Drill seed orders)) = IsDrill words seed orders
 CommandIs words (Some (Serve workers sessions)) = IsServe words workers sessions
+CommandIs words (Some (Migrate rate)) = IsMigrate words rate
 CommandIs words None = IsCommand words → ⊥
 
 -- words at which want of memory may be told: there are some, each is a name, and the first does not ask for help

@@ -4,6 +4,7 @@ ghost use Rattle.clap.specs.Walk.{first_of};
 ghost use Rattle.clap.specs.Words.{app_of, found_of, rows_of, subcommand_rows_of, with_subcommand};
 ghost use Rattle.nb_words.specs.Table as table;
 ghost use Rattle.nb_words.specs.Words.{AreServed};
+ghost use Rattle.nb_units.specs.declared.limits.TheConstants.{MAX_RATE};
 
 use crate::words::{Command, MAX_LINKS, MAX_WORKERS};
 use clap::{Arg, ArgMatches, Command as Shape};
@@ -24,13 +25,14 @@ pub(crate) fn program<'a>(alloc: Global) -> Result<Shape<'a>, AllocError>
     let program = with(alloc, program, "init", &["JOURNAL", "CAP"], &["PERMILLE"])?;
     let program = with(alloc, program, "batch", &["JOURNAL"], &[])?;
     let program = with(alloc, program, "drill", &["SEED", "ORDERS"], &[])?;
-    with(
+    let program = with(
         alloc,
         program,
         "serve",
         &["JOURNAL", "ADDRESS", "WORKERS", "SESSIONS"],
         &[],
-    )
+    )?;
+    with(alloc, program, "migrate", &["JOURNAL", "PERMILLE"], &[])
 }
 
 /// The command that was read: each row is a command, with the ranges of its numbers.
@@ -57,6 +59,10 @@ pub(crate) fn command_in(matches: &ArgMatches<'_>) -> Option<Command>
         if is_served(workers, sessions) {
             return Some(Command::Serve { workers, sessions });
         }
+    }
+    if is_migrate(name) {
+        let rate = permille_in(given)?;
+        return Some(Command::Migrate { rate });
     }
     None
 }
@@ -101,8 +107,17 @@ fn rate_in(given: &ArgMatches<'_>) -> Option<Option<u16>>
     if is_missing(given, "PERMILLE") {
         return Some(None);
     }
+    let rate = permille_in(given)?;
+    Some(Some(rate))
+}
+
+// The rate at its position, in thousandths.
+fn permille_in(given: &ArgMatches<'_>) -> Option<u16>
+    ensures some { IfSome result (table.IsSmallAt (codes "PERMILLE") (rows_of (found_of given.now)) MAX_RATE) }
+    ensures each { (n : ℕ) → table.IsSmallAt (codes "PERMILLE") (rows_of (found_of given.now)) MAX_RATE n → result ≡ Some n }
+{
     let rate = small_in(given, "PERMILLE", u32::from(MAX_RATE))?;
-    Some(Some(rate as u16))
+    Some(rate as u16)
 }
 
 // Whether nothing stands at a position.
@@ -154,6 +169,12 @@ fn is_serve(word: &str) -> bool
     ensures { IsTrue result ↔ (word.now ≡ codes "serve") }
 {
     word == "serve"
+}
+
+fn is_migrate(word: &str) -> bool
+    ensures { IsTrue result ↔ (word.now ≡ codes "migrate") }
+{
+    word == "migrate"
 }
 
 // Whether a server may have so many workers of so many links.

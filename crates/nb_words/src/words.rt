@@ -25,6 +25,8 @@ pub enum Command {
     Drill { seed: u64, orders: u32 },
     /// `serve JOURNAL ADDRESS WORKERS SESSIONS`: answer the links of so many workers, so many of each.
     Serve { workers: u32, sessions: u32 },
+    /// `migrate JOURNAL PERMILLE`: make a journal with fees of so many thousandths of a price, of one without fees.
+    Migrate { rate: u16 },
 }
 
 /// The most workers of a server.

@@ -1,11 +1,13 @@
-use Rattle.std.proofs.Common.{ℕ, List, Option, Some, ap, subst, ◌∙◌, inl, inr}
+use Rattle.std.proofs.Common.{ℕ, List, Option, Some, length, ap, sym, subst, ◌∙◌, inl, inr, arith}
 use Rattle.std.specs.Prelude.{map, string_bytes}
-use Rattle.nb_words.specs.Words.{CommandIs}
+use Rattle.nb_words.specs.Words.{CommandIs, IsMigrate}
 use Rattle.nb_run.specs.Drill.{DrillIs}
 use Rattle.nb_run.specs.Run.{InitIs}
-use Rattle.nb_run.proofs.Numerals.{one_init, one_drill, one_job, rate_small}
+use Rattle.nb_run.proofs.Numerals.{one_init, one_drill, one_job, one_migrate, rate_small}
 use Rattle.nb_run.proofs.Making.{makes_clean}
+use Rattle.nb_run.proofs.Moving.{moves_clean}
 use Rattle.nb_run.specs.Init.{MakesAs}
+use Rattle.nb_run.specs.Migrate.{MigrateIs, MovesAs}
 use Rattle.nb_run.proofs.program.run.Goals as goal
 
 pub make_journal-end-requires : goal.make_journal-end-requires
@@ -49,7 +51,7 @@ returns-in-Ok-Some-Serve-clause-none g c = λ never.
     let words : List (List ℕ) = map string_bytes c.args.words.now in
     absurd
     (never
-    (inr (inr (inr (c.in-Ok-Some-Serve.workers, c.in-Ok-Some-Serve.sessions, subst (CommandIs words) (c.in-Ok-Some-Serve.field-0-is ∙ ap Some c.in-Ok-Some-Serve.field-0-0-is) c.in-Ok-Some-Serve.ensures.command)))))
+    (inr (inr (inr (inl (c.in-Ok-Some-Serve.workers, c.in-Ok-Some-Serve.sessions, subst (CommandIs words) (c.in-Ok-Some-Serve.field-0-is ∙ ap Some c.in-Ok-Some-Serve.field-0-0-is) c.in-Ok-Some-Serve.ensures.command))))))
 
 pub returns-in-Ok-Some-Serve-clause-serve : goal.returns-in-Ok-Some-Serve-clause-serve
 returns-in-Ok-Some-Serve-clause-serve g c = λ workers sessions is.
@@ -61,4 +63,68 @@ returns-in-Ok-Some-Serve-clause-serve g c = λ workers sessions is.
 pub returns-in-Ok-None-clause-serve : goal.returns-in-Ok-None-clause-serve
 returns-in-Ok-None-clause-serve g c = λ workers sessions is.
     let words : List (List ℕ) = map string_bytes c.args.words.now in
-    absurd (subst (CommandIs words) c.in-Ok-None.field-0-is c.in-Ok-None.ensures.command (inr (inr (inr (workers, sessions, is)))))
+    absurd (subst (CommandIs words) c.in-Ok-None.field-0-is c.in-Ok-None.ensures.command (inr (inr (inr (inl (workers, sessions, is))))))
+
+pub move_journal-end-requires : goal.move_journal-end-requires
+move_journal-end-requires g c =
+    let words : List (List ℕ) = map string_bytes c.args.words.now in
+    let m = c.in-Ok-Some-Migrate in
+    let is : IsMigrate words m.rate = subst (CommandIs words) (m.field-0-is ∙ ap Some m.field-0-0-is) m.ensures.command in
+    record { rate = is.3 }
+
+pub returns-in-Ok-Some-Migrate-clause-none : goal.returns-in-Ok-Some-Migrate-clause-none
+returns-in-Ok-Some-Migrate-clause-none g c = λ never.
+    let words : List (List ℕ) = map string_bytes c.args.words.now in
+    let m = c.in-Ok-Some-Migrate in
+    absurd (never (inr (inr (inr (inr (m.rate, subst (CommandIs words) (m.field-0-is ∙ ap Some m.field-0-0-is) m.ensures.command))))))
+
+pub returns-in-Ok-Some-Migrate-clause-migrate : goal.returns-in-Ok-Some-Migrate-clause-migrate
+returns-in-Ok-Some-Migrate-clause-migrate g c = λ rate is.
+    let words : List (List ℕ) = map string_bytes c.args.words.now in
+    let m = c.in-Ok-Some-Migrate in
+    let same = one_migrate words m.rate rate (subst (CommandIs words) (m.field-0-is ∙ ap Some m.field-0-0-is) m.ensures.command) is in
+    inl
+    (subst (λ (r : ℕ). MigrateIs g.D.Disk.tells (g.S.Source.left c.args.source.now) (g.S.Source.left c.move_journal-end.new.source) (g.S.Source.faults c.args.source.now)
+    (g.S.Source.faults c.move_journal-end.new.source) c.args.disk c.move_journal-end.new.disk r c.ending-in-Ok-Some-Migrate.result)
+    same (c.move_journal-end.result, c.ending-in-Ok-Some-Migrate.ensures, c.move_journal-end.ensures.moved))
+
+pub returns-in-Ok-Some-Migrate-clause-moves : goal.returns-in-Ok-Some-Migrate-clause-moves
+returns-in-Ok-Some-Migrate-clause-moves g c = λ rate is input none no_source no_disk.
+    let m = c.move_journal-end in
+    let ends = moves_clean g.D.Disk.tells (g.S.Source.left c.args.source.now) (g.S.Source.left m.new.source) (g.S.Source.faults c.args.source.now) (g.S.Source.faults m.new.source) c.args.disk m.new.disk
+    c.in-Ok-Some-Migrate.rate input m.result m.ensures.moved none no_source no_disk in
+    elim ends [
+      | inl clean ↦ inl (ap (λ e. e.status) c.ending-in-Ok-Some-Migrate.ensures ∙ clean)
+      | inr starved ↦ inr (ap (λ e. e.status) c.ending-in-Ok-Some-Migrate.ensures ∙ starved)
+    ]
+
+pub returns-in-Ok-None-clause-migrate : goal.returns-in-Ok-None-clause-migrate
+returns-in-Ok-None-clause-migrate g c = λ rate is.
+    let words : List (List ℕ) = map string_bytes c.args.words.now in
+    absurd (subst (CommandIs words) c.in-Ok-None.field-0-is c.in-Ok-None.ensures.command (inr (inr (inr (inr (rate, is))))))
+
+pub returns-in-Ok-None-clause-moves : goal.returns-in-Ok-None-clause-moves
+returns-in-Ok-None-clause-moves g c = λ rate is input none no_source no_disk.
+    let words : List (List ℕ) = map string_bytes c.args.words.now in
+    absurd (subst (CommandIs words) c.in-Ok-None.field-0-is c.in-Ok-None.ensures.command (inr (inr (inr (inr (rate, is))))))
+
+pub returns-in-Ok-Some-Migrate-clause-untouched : goal.returns-in-Ok-Some-Migrate-clause-untouched
+returns-in-Ok-Some-Migrate-clause-untouched g c = λ why.
+    let words : List (List ℕ) = map string_bytes c.args.words.now in
+    let m = c.in-Ok-Some-Migrate in
+    let is : IsMigrate words m.rate = subst (CommandIs words) (m.field-0-is ∙ ap Some m.field-0-0-is) m.ensures.command in
+    elim why [
+      | inl never ↦ absurd (never (inr (inr (inr (inr (m.rate, is))))))
+      | inr work ↦ let done = work.1 in absurd cc
+    ]
+
+pub returns-in-Ok-Some-Migrate-clause-closed : goal.returns-in-Ok-Some-Migrate-clause-closed
+returns-in-Ok-Some-Migrate-clause-closed g c = λ why.
+    let words : List (List ℕ) = map string_bytes c.args.words.now in
+    let m = c.in-Ok-Some-Migrate in
+    let is : IsMigrate words m.rate = subst (CommandIs words) (m.field-0-is ∙ ap Some m.field-0-0-is) m.ensures.command in
+    elim why [
+      | inl never ↦ absurd (never (inr (inr (inr (inr (m.rate, is))))))
+      | inr (inl batch) ↦ absurd (omega (arith, ap length (sym is.1 ∙ batch.1.1)))
+      | inr (inr work) ↦ let done = work.1 in absurd cc
+    ]
