@@ -1,8 +1,7 @@
 -- A journal of the first version, with a rate written in it and the magic of the second: it stands for the same entries.
-use Rattle.std.proofs.Common.{◌≡◌, ℕ, ◌+◌, ◌-◌, ◌≤◌, ◌⊎◌, min, false, List, [], ◌∷◌, ◌++◌, length, take, drop, Option, Some, None, refl, sym, ap, subst, ◌∙◌, arith, inl, inr, slice_index_or, length-append, append-nil}
+use Rattle.std.proofs.Common.{◌≡◌, ℕ, ◌+◌, ◌-◌, ◌≤◌, ◌⊎◌, List, [], ◌∷◌, ◌++◌, length, take, drop, Option, Some, None, refl, sym, ap, subst, ◌∙◌, arith, inl, inr, slice_index_or, length-append, append-nil}
 use Rattle.std.specs.Prelude.{IfSome, replicate}
 use Rattle.std.specs.List.{flat_map}
-use Rattle.std.specs.Io.KnownBytes.{Consumes, IsAtEnd}
 use Rattle.std.proofs.lemmas.List.{append_assoc, drop-drop, length-take}
 use Rattle.std.proofs.lemmas.Option.{same_Some}
 use Rattle.std.proofs.Math.Seq.{take-append-add, take-append_seam, drop-append-add, drop-append_seam}
@@ -14,12 +13,12 @@ use Rattle.nb_units.specs.declared.charter.Charter.{Charter}
 use Rattle.nb_units.specs.declared.limits.TheConstants.{HEAD, MAX_RATE}
 use Rattle.nb_book.specs.declared.entry.Entry.{Entry}
 use Rattle.nb_book.proofs.Rates.{first_stays_legal}
-use Rattle.nb_journal.specs.Layout.{IsMagic, front_bytes, item_bytes, magic, terms, up_to_gate}
+use Rattle.nb_journal.specs.Layout.{IsMagic, front_bytes, item_bytes, magic, up_to_gate}
 use Rattle.nb_journal.specs.Making.{NoJournal, with_fee, without_fee}
 use Rattle.nb_journal.specs.Migrating.{TornCrown, blanked}
 use Rattle.nb_journal.specs.Reading.{IsDamaged, IsUnborn, found_in}
 use Rattle.nb_journal.specs.Stands.{Stands}
-use Rattle.nb_journal.specs.Time.{LeavesOnly, Untouched, Unwritten}
+use Rattle.nb_journal.specs.Time.{Unwritten}
 use Rattle.nb_journal.specs.declared.limits.TheConstants.{MAX_IMAGE}
 use Rattle.nb_journal.proofs.Crowning.{crown_stands}
 use Rattle.nb_journal.proofs.Opens.{front_length}
@@ -34,7 +33,7 @@ use Rattle.nb_vault.proofs.HoldingLaws.{no_damage, no_bad}
 use Rattle.nb_run.specs.declared.ending.TheConstants.{CLEAN, OUT_OF_MEMORY}
 use Rattle.nb_run.specs.declared.migrate.MigrateEnd.{MigrateEnd}
 use Rattle.nb_run.specs.declared.migrate.MigrateEnd.TheVariants.{Moved, ReadFault, TooLong, NotFirst, Damaged, BadEntry, NoMemory, Exists, LookFault, LayFault, CrownFault}
-use Rattle.nb_run.specs.Init.{HasNoJournal, IsSpared}
+use Rattle.nb_run.specs.Init.{HasNoJournal}
 use Rattle.nb_run.specs.Input.{TookAll, TookMore}
 use Rattle.nb_run.specs.Migrate.{BeginsFirst, EndsAt, IsFirst, IsFirstInput, IsLaid, IsMoved, IsRefused, LaidSo, MovesAs, PutsAs, StandsIfCrowned, move_ending, refused_for, renewed}
 use Rattle.nb_run.proofs.Making.{not_born}

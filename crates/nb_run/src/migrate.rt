@@ -18,6 +18,7 @@ const FIRST_MAGIC: [u8; MAGIC_BYTES] = *b"NBJRNL01";
 
 // Where the rate stands in a journal, and its bytes.
 const RATE_AT: usize = 92;
+
 const RATE: usize = 2;
 
 /// How moving a journal into one of the second version ended.
@@ -152,7 +153,10 @@ fn renew(image: &mut Vec<u8>, gate: u64, rate: u16)
 {
     image.truncate(gate as usize + 1);
     let (_, behind) = image.as_mut_slice().split_at_mut(RATE_AT);
-    behind.split_at_mut(RATE).0.copy_from_slice(&rate.to_be_bytes());
+    behind
+        .split_at_mut(RATE)
+        .0
+        .copy_from_slice(&rate.to_be_bytes());
 }
 
 // Lays the image on the disk, and then writes the magic of the second version.

@@ -7,7 +7,7 @@ use Rattle.nb_run.proofs.Numerals.{one_init, one_drill, one_job, one_migrate, ra
 use Rattle.nb_run.proofs.Making.{makes_clean}
 use Rattle.nb_run.proofs.Moving.{moves_clean}
 use Rattle.nb_run.specs.Init.{MakesAs}
-use Rattle.nb_run.specs.Migrate.{MigrateIs, MovesAs}
+use Rattle.nb_run.specs.Migrate.{MigrateIs}
 use Rattle.nb_run.proofs.program.run.Goals as goal
 
 pub make_journal-end-requires : goal.make_journal-end-requires
