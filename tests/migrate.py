@@ -1,13 +1,13 @@
 """Moves journals by the house's program, from version 1 to version 2 with a rate, and holds it to this:
 
-- A journal with entries of each kind that version 1 has, many of them in one item, is moved: the new file is the old one up to its last
+- A journal with entries of each kind that version 1 has is moved, and one with 32 in each item: the new file is the old one up to its last
   gate, but for the magic and the rate. It has mode 0600, and the old file is as it was.
 - Both are opened, and the same requests, which are all recorded, get the same bytes from both; an order that is new is charged a fee in
   the new one alone.
 - It is killed at random moments. What is left does not begin with the magic of version 2, or is the whole journal; where the file is
   removed and the command done again, the journal is there.
 - A journal of version 2, a cut one, one that is longer than the limit and an empty input are refused, and so is a file that has a journal,
-  the input's own among them; on a disk that is full nothing is made.
+  that which the input was read from among them; on a disk that takes no byte the status is 7.
 
 A kill leaves what the program gave to the system. What a failure of power leaves is not tried here.
 """
@@ -153,8 +153,8 @@ def bad(room, image, moved):
     refuses("a file with a journal", (9, 0), room / "new.journal", image, moved)
     source = room / "source.journal"
     whole = source.read_bytes()
-    refuses("the input's own file", (9, 0), source, whole, whole)
-    refuses("a full disk", (7, 0), pathlib.Path("/dev/full"), image, None)
+    refuses("the file that was read", (9, 0), source, whole, whole)
+    refuses("a disk that takes no byte", (7, 0), pathlib.Path("/dev/full"), image, None)
 
 
 def test(room, seed):
@@ -162,6 +162,8 @@ def test(room, seed):
     image, moved = moves(room)
     early = killed(room, random.Random(seed))
     bad(room, image, moved)
+    if not early:
+        fail("no kill came before the end")
     print(f"tests/migrate: seed {seed}: {KILLS} kills, {early} of them before the end")
 
 

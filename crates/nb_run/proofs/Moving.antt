@@ -155,10 +155,13 @@ module _ (image : List ℕ) (gate rate : ℕ) (e : EndsAt image gate) (few : rat
   once_at (Some old) bytes = ap Some (once old bytes)
 
   module _ {D : Type 0} (tells : DiskTells D) (old mid laid new : D) (same : tells.content mid ≡ tells.content old) (unborn : NoJournal (tells.content old)) (so : LaidSo tells mid laid new laid_image) where
-    pub laid_so : IsLaid tells old new e.head rate e.cap e.entries
+    pub laid_so : IsLaid tells old new image rate
     laid_so = record {
+      gate = gate;
+      first = e;
       laid = laid;
       unborn = unborn;
+      bytes = so.bytes ∙ ap (λ (c : Option (List ℕ)). wrote_at c 0 (blanked laid_image)) same;
       blank = λ c allowed. blank_so (tells.content mid) (tells.content laid) so.bytes c (so.only c allowed);
       since = record {
         later = so.since.later;
@@ -171,15 +174,11 @@ module _ (image : List ℕ) (gate rate : ℕ) (e : EndsAt image gate) (few : rat
     }
 
     pub moved_so : tells.content new ≡ wrote_at (tells.content laid) 0 (magic 2) → Only (tells.content new) (tells.allowed new) → IsMoved tells old new image rate
+    unfolding laid_so
     moved_so crowned only =
         let both : tells.content new ≡ wrote_at (wrote_at (tells.content mid) 0 (blanked laid_image)) 0 (magic 2) = crowned ∙ ap (λ (c : Option (List ℕ)). wrote_at c 0 (magic 2)) so.bytes in
         let stands : IfSome (tells.content new) (StandsFor charter e.cap e.entries) = subst (λ (c : Option (List ℕ)). IfSome c (StandsFor charter e.cap e.entries)) (sym both) (whole_so (tells.content mid)) in
         record {
-          head = e.head;
-          cap = e.cap;
-          entries = e.entries;
-          gate = gate;
-          first = e.whole;
           way = laid_so;
           stands = stands;
           images = λ c allowed. subst (λ (told : Option (List ℕ)). IfSome told (StandsFor charter e.cap e.entries)) (only c allowed) stands;
@@ -194,7 +193,7 @@ module _ (image : List ℕ) (gate rate : ℕ) (e : EndsAt image gate) (few : rat
       (image, took, moved_so tells old mid put.0 new same unborn so put.2 put.3)
   puts_moves tells rest rest' source source' old mid new CrownFault took same unborn count all is put =
       let so = subst (LaidSo tells mid put.0 new) is put.1 in
-      ((image, took, (e.head, e.cap, e.entries, e.whole, laid_so tells old mid put.0 new same unborn so)), omega (arith, put.2, count))
+      ((image, took, laid_so tells old mid put.0 new same unborn so), omega (arith, put.2, count))
   puts_moves tells rest rest' source source' old mid new LayFault took same unborn count all is put =
       ((image, took, (e.head, e.cap, e.entries, e.whole)), omega (arith, put, count), unborn)
   puts_moves tells rest rest' source source' old mid new ReadFault took same unborn count all is put = absurd put

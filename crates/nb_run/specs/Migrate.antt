@@ -50,6 +50,17 @@ BeginsFirst input = take 8 input ≡ magic FIRST_VERSION
 abbrev pub IsFirst : List ℕ → Type 0
 IsFirst input = (head : List ℕ) × (cap : ℕ) × (entries : List Entry) × StandsFor (without_fee head) cap entries input
 
+-- it is a journal of the first version, and its first gate that is not open, behind its entries, is at this place
+pub record EndsAt (image : List ℕ) (gate : ℕ) : Type 0 where
+  pub head : List ℕ
+  pub cap : ℕ
+  pub entries : List Entry
+  pub items : List (List ℕ)
+  pub whole : StandsFor (without_fee head) cap entries image
+  pub joins : Joins items entries
+  pub shut : Stands (front_bytes cap (without_fee head)) items image
+  pub place : gate ≡ length (up_to_gate (front_bytes cap (without_fee head)) items)
+
 -- why it is none, by cases on the end; of no memory nothing is said
 abbrev pub IsRefused : List ℕ → MigrateEnd → Type 0
 IsRefused input NotFirst = BeginsFirst input → ⊥
@@ -72,26 +83,24 @@ renewed image gate rate = put_at (take (gate + 1) image) 92 (be2 rate)
 abbrev pub StandsIfCrowned : List ℕ → ℕ → ℕ → List Entry → List ℕ → Type 0
 StandsIfCrowned head rate cap entries image = take 8 image ≡ magic FEE_VERSION → StandsFor (with_fee head rate) cap entries image
 
--- it had no journal, and the input was laid on it, without its magic: there is the disk behind laying, of which a stop leaves no
--- journal, and since which it leaves what is no journal of the second version, or the whole one
-pub record IsLaid {D : Type 0} (tells : DiskTells D) (old new : D) (head : List ℕ) (rate cap : ℕ) (entries : List Entry) : Type 0 where
+-- It had no journal, and the input was laid on it, up to and with its first gate that is not open, with the rate in it and zeros for its magic: there
+-- is the disk behind laying, of which a stop leaves no journal, and since which it leaves what is no journal of the second version, or the whole one
+pub record IsLaid {D : Type 0} (tells : DiskTells D) (old new : D) (input : List ℕ) (rate : ℕ) : Type 0 where
+  pub gate : ℕ
+  pub first : EndsAt input gate
   pub laid : D
   pub unborn : NoJournal (tells.content old)
+  pub bytes : tells.content laid ≡ wrote_at (tells.content old) 0 (blanked (renewed input gate rate))
   pub blank : (image : List ℕ) → tells.allowed laid image → IsMagic (found_in image) → ⊥
-  pub since : LeavesOnly tells laid new (λ image. IfSome (tells.content laid) (λ bytes. StandsIfCrowned head rate cap entries image))
+  pub since : LeavesOnly tells laid new (λ image. IfSome (tells.content laid) (λ bytes. StandsIfCrowned first.head rate first.cap first.entries image))
 
 -- and it has the journal with the same head, cap and entries, and this rate; a stop leaves that and nothing else. The input's bytes stand in
--- front up to its last gate, but for the magic and the rate
+-- front up to and with that gate, but for the magic and the rate
 pub record IsMoved {D : Type 0} (tells : DiskTells D) (old new : D) (input : List ℕ) (rate : ℕ) : Type 0 where
-  pub head : List ℕ
-  pub cap : ℕ
-  pub entries : List Entry
-  pub gate : ℕ
-  pub first : StandsFor (without_fee head) cap entries input
-  pub way : IsLaid tells old new head rate cap entries
-  pub stands : IfSome (tells.content new) (StandsFor (with_fee head rate) cap entries)
-  pub images : (image : List ℕ) → tells.allowed new image → StandsFor (with_fee head rate) cap entries image
-  pub bytes : tells.content new ≡ wrote_at (tells.content old) 0 (magic FEE_VERSION ++ drop 8 (renewed input gate rate))
+  pub way : IsLaid tells old new input rate
+  pub stands : IfSome (tells.content new) (StandsFor (with_fee way.first.head rate) way.first.cap way.first.entries)
+  pub images : (image : List ℕ) → tells.allowed new image → StandsFor (with_fee way.first.head rate) way.first.cap way.first.entries image
+  pub bytes : tells.content new ≡ wrote_at (tells.content old) 0 (magic FEE_VERSION ++ drop 8 (renewed input way.gate rate))
 
 -- ---- all of it
 
@@ -99,17 +108,14 @@ pub record IsMoved {D : Type 0} (tells : DiskTells D) (old new : D) (input : Lis
 abbrev pub MovesAs : {D : Type 0} → DiskTells D → Option (List ℕ) → Option (List ℕ) → ℕ → ℕ → D → D → ℕ → MigrateEnd → Type 0
 MovesAs tells rest rest' source source' old new rate ReadFault = Rose source source' × TookUpTo rest rest' MAX_IMAGE × (new ≡ old)
 MovesAs tells rest rest' source source' old new rate TooLong = TookMore rest rest' MAX_IMAGE × (new ≡ old)
-MovesAs tells rest rest' source source' old new rate NoMemory = new ≡ old
+MovesAs tells rest rest' source source' old new rate NoMemory = TookUpTo rest rest' MAX_IMAGE × (new ≡ old)
 MovesAs tells rest rest' source source' old new rate NotFirst = TookInput rest rest' (λ input. IsRefused input NotFirst) × (new ≡ old)
 MovesAs tells rest rest' source source' old new rate (Damaged place) = TookInput rest rest' (λ input. IsRefused input (Damaged place)) × (new ≡ old)
 MovesAs tells rest rest' source source' old new rate BadEntry = TookInput rest rest' (λ input. IsRefused input BadEntry) × (new ≡ old)
 MovesAs tells rest rest' source source' old new rate Exists = TookInput rest rest' IsFirst × IsSpared tells old new
 MovesAs tells rest rest' source source' old new rate LookFault = TookInput rest rest' IsFirst × Rose (tells.faults old) (tells.faults new) × Untouched tells old new
 MovesAs tells rest rest' source source' old new rate LayFault = TookInput rest rest' IsFirst × Rose (tells.faults old) (tells.faults new) × NoJournal (tells.content old)
-MovesAs tells rest rest' source source' old new rate CrownFault =
-    TookInput rest rest'
-    (λ input. (head : List ℕ) × (cap : ℕ) × (entries : List Entry) × StandsFor (without_fee head) cap entries input × IsLaid tells old new head rate cap entries)
-    × Rose (tells.faults old) (tells.faults new)
+MovesAs tells rest rest' source source' old new rate CrownFault = TookInput rest rest' (λ input. IsLaid tells old new input rate) × Rose (tells.faults old) (tells.faults new)
 MovesAs tells rest rest' source source' old new rate Moved = TookInput rest rest' (λ input. IsMoved tells old new input rate)
 
 -- moving a journal came to one of its ends, which says how the run ends
@@ -124,17 +130,6 @@ pub record IsFirstInput (left : Option (List ℕ)) : Type 0 where
   pub first : IsFirst input
 
 -- ---- for the contracts of private functions alone
-
--- the image is a journal of the first version, and the gate behind its entries is at this place
-pub record EndsAt (image : List ℕ) (gate : ℕ) : Type 0 where
-  pub head : List ℕ
-  pub cap : ℕ
-  pub entries : List Entry
-  pub items : List (List ℕ)
-  pub whole : StandsFor (without_fee head) cap entries image
-  pub joins : Joins items entries
-  pub shut : Stands (front_bytes cap (without_fee head)) items image
-  pub place : gate ≡ length (up_to_gate (front_bytes cap (without_fee head)) items)
 
 abbrev pub JudgedAs : List ℕ → Result ℕ MigrateEnd → Type 0
 JudgedAs image (Ok gate) = EndsAt image gate
