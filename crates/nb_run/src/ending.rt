@@ -19,7 +19,7 @@ pub const SOURCE_FAILED: u8 = 3;
 /// The sink failed.
 pub const SINK_FAILED: u8 = 4;
 
-/// The input ended within a frame, or holds what is no frame, or is no head of 80 bytes.
+/// The input ended within a frame, or holds what is no frame, or is no head of 80 bytes, or no journal that can be moved.
 pub const BAD_INPUT: u8 = 5;
 
 /// There was no memory.
