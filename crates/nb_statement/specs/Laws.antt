@@ -21,10 +21,10 @@ EachLineHasItsBalance = (a : AcctId) (before : List Entry) (e : Entry) (more : L
 abbrev pub ClosesWithTheBalance : Type 0
 ClosesWithTheBalance = (a : AcctId) (H : List Entry) → (front : List ℕ) × (statement a H ≡ front ++ closing (balance H a))
 
--- from 0 on, each fund, income and fee is added, and each outgoing taken away
+-- of a Legal list, from 0 on, each fund, income and fee is added, and each outgoing taken away
 abbrev pub MovementsMakeTheBalance : Type 0
 MovementsMakeTheBalance = (H : List Entry) → Legal H → (a : AcctId) → balance H a ≡ fold after 0 (movements a H)
 
--- lists that move the same on an account have one statement of it
+-- Legal lists that move the same on an account have one statement of it
 abbrev pub EqualMovementsEqualTexts : Type 0
 EqualMovementsEqualTexts = (G H : List Entry) → Legal G → Legal H → (a : AcctId) → movements a G ≡ movements a H → statement a G ≡ statement a H

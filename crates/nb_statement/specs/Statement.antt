@@ -25,7 +25,7 @@ word_of way.Out = codes "out "
 word_of way.In = codes "in  "
 word_of way.Fee = codes "fee "
 
--- a text on the right of so many places. One that is longer stands whole
+-- a text on the right of so many places, behind blanks, whose code is 32. One that is longer stands whole
 abbrev pub right : ℕ → List ℕ → List ℕ
 right width text = replicate (width - length text) 32 ++ text
 

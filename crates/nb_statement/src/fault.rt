@@ -7,7 +7,7 @@ use std::fmt;
 pub enum StatementFault {
     /// Nobody holds the account of this number, and it is not the house's. Nothing was written.
     NoAccount { acct: AcctId },
-    /// A write failed: a part of the statement was written, from its front.
+    /// A write failed: a part of the statement was written, from its front, perhaps none of it and not all.
     WriteFault,
     /// There was no memory, and nothing was written.
     NoMemory,

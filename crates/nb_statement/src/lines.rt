@@ -1,6 +1,7 @@
 ghost use Rattle.std.specs.Prelude.{◌≡◌, ◌≤◌, ◌+◌, ◌++◌, length};
 ghost use Rattle.std.specs.Fmt.{decimal};
 ghost use Rattle.hex.specs.Hex.{encode_lower};
+ghost use Rattle.nb_units.specs.declared.buffer.TheConstants.{MAX_BUFFER};
 ghost use Rattle.nb_statement.specs.Statement as texts;
 
 use crate::movement::{Movement, Way};
@@ -65,7 +66,7 @@ fn word_of(way: Way) -> [u8; 4]
 
 // A number in decimal.
 fn plain(line: &mut Buffer, n: u64)
-    requires { length line.old + 20 ≤ 600 }
+    requires { length line.old + 20 ≤ MAX_BUFFER }
     ensures value { line.new ≡ line.old ++ decimal n }
     ensures short { length line.new ≤ length line.old + 20 }
 {
@@ -75,7 +76,7 @@ fn plain(line: &mut Buffer, n: u64)
 
 // A number in decimal, on the right of so many places.
 fn right(line: &mut Buffer, n: u64, width: usize)
-    requires room { length line.old + 40 ≤ 600 }
+    requires room { length line.old + 40 ≤ MAX_BUFFER }
     requires width { width ≤ 20 }
     ensures value { line.new ≡ line.old ++ texts.right width (decimal n) }
     ensures short { length line.new ≤ length line.old + 20 }
@@ -88,7 +89,7 @@ fn right(line: &mut Buffer, n: u64, width: usize)
 
 // A name of 16 bytes in 32 digits.
 fn digits(line: &mut Buffer, name: &[u8; 16])
-    requires { length line.old + 32 ≤ 600 }
+    requires { length line.old + 32 ≤ MAX_BUFFER }
     ensures value { line.new ≡ line.old ++ encode_lower name.now }
     ensures short { length line.new ≤ length line.old + 32 }
 {

@@ -77,7 +77,7 @@ fn moved_of(account: AcctId, entry: &Entry) -> Option<Movement>
             price: price.0,
             left: price.0,
         }
-        .moved_of(account, cacct, macct),
+        .moved_on(account, cacct, macct),
         Entry::Charged {
             epoid,
             price,
@@ -90,7 +90,7 @@ fn moved_of(account: AcctId, entry: &Entry) -> Option<Movement>
             price: price.0,
             left: price.0.saturating_sub(fee),
         }
-        .moved_of(account, cacct, macct),
+        .moved_on(account, cacct, macct),
         _ => None,
     }
 }
@@ -105,7 +105,7 @@ struct Payment {
 
 impl Payment {
     // What it moves on an account, from the consumer's to the merchant's.
-    fn moved_of(self, account: AcctId, cacct: AcctId, macct: AcctId) -> Option<Movement>
+    fn moved_on(self, account: AcctId, cacct: AcctId, macct: AcctId) -> Option<Movement>
         ensures { result ≡ moves.paid account self.name self.price self.left cacct macct }
     {
         let Payment { name, price, left } = self;

@@ -7,10 +7,10 @@ use crate::fault::StatementFault;
 use nb_port::{Sink, WriteOut};
 use nb_units::Pen;
 
-/// So many bytes of a statement wait at most for a write, 32 KiB. It is all the memory that a statement takes.
+/// So many bytes of a statement wait at most for a write, 32 KiB.
 pub const PIECE: usize = 32_768;
 
-// No piece is handed to the sink before so many bytes wait, but for the last one.
+// Nothing is handed to the sink before so many bytes wait, but for what a sink left of them, and the last ones.
 const SMALLEST: usize = 4_096;
 
 // Sends all of the text, in as many writes as the sink wants, up to one that fails.

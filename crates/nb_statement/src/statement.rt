@@ -18,8 +18,7 @@ use nb_units::AcctId;
 use nb_vault::Vault;
 use std::alloc::Global;
 
-/// Writes the statement of an account to the sink, over all entries that the vault has recorded. 0 is the house's own account. It takes
-/// [`PIECE`] bytes of memory.
+/// Writes the statement of an account to the sink, over all entries that the vault has recorded. 0 is the house's own account.
 pub fn write<D: Disk, K: Sink>(
     alloc: Global,
     vault: &Vault<D>,
