@@ -6,6 +6,7 @@ ghost use Rattle.nb_body.specs.Reading.{endorsed_of};
 
 use crate::limits::MAX_ENDORSED;
 use nb_units::{Buffer, Cut, Malformed, PartyId};
+use std::marker::Model;
 
 /// A merchant asks the house for the payment of an order.
 #[derive(Drop)]
@@ -46,19 +47,62 @@ impl EndorsedOrder {
     }
 }
 
-#[tactic(auto, unfolding(crate::specs::Reading::endorsed_of))]
 fn read_fields(bytes: &[u8]) -> Result<EndorsedOrder, Malformed>
     ensures reads { Reads result (endorsed_of bytes.now) }
     ensures short { IfOk result (λ asked. length asked.sealed ≤ MAX_ENDORSED) }
 {
-    let mut cut = Cut::new(bytes);
-    let merchant = cut.u32()?;
-    let text = cut.bytes(MAX_ENDORSED as u32)?;
-    cut.done()?;
+    let asked = EndorsedBytes::read(bytes)?;
     let mut sealed = Buffer::new();
-    sealed.raw(text);
+    sealed.raw(asked.sealed);
     Ok(EndorsedOrder {
-        merchant: PartyId(merchant),
+        merchant: asked.merchant,
         sealed,
     })
+}
+
+/// An endorsed order whose sealed endorsement stays where it was read. It is seen as the [`EndorsedOrder`] that the bytes spell.
+#[derive(Drop)]
+pub struct EndorsedBytes<'a> {
+    merchant: PartyId,
+    sealed: &'a [u8],
+}
+
+impl<'a> Model for EndorsedBytes<'a> {
+    ghost use Rattle.nb_body.specs.declared.endorsed.EndorsedOrder.{EndorsedOrder};
+
+    ghost Value = { EndorsedOrder };
+
+    ghost view = { λ e. record { merchant = e.merchant; sealed = e.sealed.now } };
+}
+
+impl<'a> EndorsedBytes<'a> {
+    /// What [`EndorsedOrder::read`] gives, and nothing is copied.
+    #[tactic(auto, unfolding(crate::specs::Reading::endorsed_of))]
+    pub fn read(bytes: &'a [u8]) -> Result<EndorsedBytes<'a>, Malformed>
+        ensures reads { Reads result (endorsed_of bytes.now) }
+        ensures short { IfOk result (λ asked. length asked.sealed ≤ MAX_ENDORSED) }
+    {
+        let mut cut = Cut::new(bytes);
+        let merchant = cut.u32()?;
+        let sealed = cut.bytes(MAX_ENDORSED as u32)?;
+        cut.done()?;
+        Ok(EndorsedBytes {
+            merchant: PartyId(merchant),
+            sealed,
+        })
+    }
+
+    /// The merchant's number, 4 bytes wide.
+    pub fn merchant(&self) -> PartyId
+        ensures { result ≡ self.now.merchant }
+    {
+        self.merchant
+    }
+
+    /// The endorsement, sealed under the merchant's key.
+    pub fn sealed(&self) -> &'a [u8]
+        ensures { result.now ≡ self.now.sealed }
+    {
+        self.sealed
+    }
 }

@@ -23,7 +23,7 @@ mod price_request;
 mod query;
 mod quote;
 
-pub use endorsed::EndorsedOrder;
+pub use endorsed::{EndorsedBytes, EndorsedOrder};
 pub use enrolment::Enrolment;
 pub use funding::Funding;
 pub use goods_head::GoodsHead;

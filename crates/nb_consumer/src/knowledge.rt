@@ -5,6 +5,7 @@ ghost use Rattle.nb_consumer.specs.declared.deed.Deed.TheVariants as does;
 ghost use Rattle.nb_consumer.specs.Goods.{goods_in};
 ghost use Rattle.nb_wallet.specs.Changes as changes;
 ghost use Rattle.nb_consumer.specs.State as state;
+ghost use Rattle.nb_wallet.specs.Spelling.{IsItem, ItemKeepsRules, item_bytes};
 ghost use Rattle.nb_wallet.specs.Stages.{end_of};
 ghost use Rattle.nb_consumer.specs.Table as table;
 ghost use Rattle.nb_msgs.specs.Tests.{found};
@@ -355,13 +356,28 @@ impl Knowledge {
         ensures answers { deeds.Answers self.old self.new (Ok (does.Keeps item to message)) result }
         ensures lawful { IfOk result deeds.StepKeepsRules }
     {
+        match self.spell_and_remember(item) {
+            Ok(keep) => Ok(Step::Move {
+                keep: Some(keep),
+                to,
+                message,
+            }),
+            Err(no) => Err(no),
+        }
+    }
+
+    // Spells an item, and remembers it.
+    fn spell_and_remember(&mut self, item: Item) -> Result<Blob, NoMemory>
+        requires lawful { ItemKeepsRules item }
+        requires fits { deeds.ItemFits self.old item }
+        ensures bytes { IfOk result (λ keep. keep ≡ item_bytes item) }
+        ensures spelled { OnOk result (IsItem item) }
+        ensures remembered { OnOk result (self.new ≡ state.remembered self.old item) }
+        ensures err { OnErr result (self.new ≡ self.old) }
+    {
         let keep = item.spelled(self.alloc)?;
         self.remember(item)?;
-        Ok(Step::Move {
-            keep: Some(keep),
-            to,
-            message,
-        })
+        Ok(keep)
     }
 
     // Keeps a receipt, with which a purchase ends.

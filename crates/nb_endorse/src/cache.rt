@@ -14,6 +14,8 @@ pub const PARTY_SLOTS: u32 = 256;
 pub struct StateCache {
     // The state on each slot. None: nothing is kept.
     slots: Option<Vec<KeyState>>,
+    // Where there are no slots, the state that was asked for last.
+    last: Option<KeyState>,
 }
 
 impl StateCache {
@@ -26,30 +28,31 @@ impl StateCache {
         }
         Ok(StateCache {
             slots: Some(states),
+            last: None,
         })
     }
 
     /// A cache that keeps nothing, and takes no memory.
     pub fn none() -> StateCache {
-        StateCache { slots: None }
+        StateCache {
+            slots: None,
+            last: None,
+        }
     }
 
     /// The state of the key. It is kept on the slot of the number, 4 bytes wide, whatever stood there. This takes no memory.
-    pub fn state(&mut self, number: u32, key: &Secret) -> KeyState
-        ensures { result ≡ key.now }
+    pub fn state(&mut self, number: u32, key: &Secret) -> &KeyState
+        ensures { result.now ≡ key.now }
     {
         match &mut self.slots {
-            None => KeyState::new(key),
-            Some(states) => {
-                if states.len() == 0 {
-                    return KeyState::new(key);
-                }
+            Some(states) if states.len() > 0 => {
                 let slot = number as usize % states.len();
                 if !states[slot].is_of(key) {
                     states[slot] = KeyState::new(key);
                 }
-                states[slot].copy()
+                &states[slot]
             }
+            _ => self.last.insert(KeyState::new(key)),
         }
     }
 }
@@ -86,29 +89,29 @@ impl KeptStates {
     }
 
     /// The state of the house's own key.
-    pub fn house(&mut self, key: &Secret) -> KeyState
-        ensures { result ≡ key.now }
+    pub fn house(&mut self, key: &Secret) -> &KeyState
+        ensures { result.now ≡ key.now }
     {
         self.house.state(0, key)
     }
 
     /// The state of the operator's key.
-    pub fn operator(&mut self, key: &Secret) -> KeyState
-        ensures { result ≡ key.now }
+    pub fn operator(&mut self, key: &Secret) -> &KeyState
+        ensures { result.now ≡ key.now }
     {
         self.operator.state(0, key)
     }
 
     /// The state of the key of this merchant.
-    pub fn merchant(&mut self, id: PartyId, key: &Secret) -> KeyState
-        ensures { result ≡ key.now }
+    pub fn merchant(&mut self, id: PartyId, key: &Secret) -> &KeyState
+        ensures { result.now ≡ key.now }
     {
         self.merchants.state(id.0, key)
     }
 
     /// The state of the key of this consumer.
-    pub fn consumer(&mut self, id: PartyId, key: &Secret) -> KeyState
-        ensures { result ≡ key.now }
+    pub fn consumer(&mut self, id: PartyId, key: &Secret) -> &KeyState
+        ensures { result.now ≡ key.now }
     {
         self.consumers.state(id.0, key)
     }

@@ -123,15 +123,25 @@ impl ReplyStates {
         }
     }
 
-    /// The states of the house's key and of one other, or of two.
-    pub fn from_states(house: KeyState, first: KeyState, second: Option<KeyState>) -> ReplyStates
-        ensures { result ≡ record { house = house; first = first; second = key_in second } }
+    /// From now on the house's key is this one.
+    pub fn set_house(&mut self, key: &KeyState)
+        ensures { self.new ≡ record self.old { house = key.now } }
     {
-        ReplyStates {
-            house: Some(house),
-            first: Some(first),
-            second,
-        }
+        self.house = Some(key.copy());
+    }
+
+    /// From now on the first key is this one.
+    pub fn set_first(&mut self, key: &KeyState)
+        ensures { self.new ≡ record self.old { first = key.now } }
+    {
+        self.first = Some(key.copy());
+    }
+
+    /// From now on the second key is this one.
+    pub fn set_second(&mut self, key: &KeyState)
+        ensures { self.new ≡ record self.old { second = key.now } }
+    {
+        self.second = Some(key.copy());
     }
 
     /// The receipt with its tag under the house's key.

@@ -19,7 +19,7 @@ use crate::decision::Decision;
 use crate::head::Head;
 use crate::payment::outcome;
 use crate::settlement::{Settlement, settled_before};
-use nb_body::EndorsedOrder;
+use nb_body::EndorsedBytes;
 use nb_book::{Book, CONSUMER, Entry, MERCHANT, Party};
 use nb_endorse::refusal::{
     IDENTIFIER_USED, IN_ENDORSEMENT, IN_HIDDEN, IN_ORDER, MALFORMED, NOT_SEALED, OTHER_MERCHANT,
@@ -31,7 +31,7 @@ use nb_endorse::{
 };
 use nb_epo::{Hidden, Order, RevealFault, read_order, read_tag_ok, reveal_with};
 use nb_seal::KeyState;
-use nb_units::{Buffer, Digest, Epoid, Malformed, PartyId, Small};
+use nb_units::{Digest, Epoid, Malformed, PartyId, Small};
 
 /// An order whose parties, seals, grammar and tag were tested: who takes part, and what each of them says. Whether it was
 /// settled before, and whether it is paid, is tested next.
@@ -66,19 +66,21 @@ pub(crate) fn decide_order(
     ensures receipts { IfOk result (λ decision. HasLawfulReceipts decision.reply) }
     ensures states { IfOk result (λ decision. decision.keys ≡ states.new) }
 {
-    let asked = EndorsedOrder::read(body)?;
-    let merchant = find_party_as(book, MERCHANT, asked.merchant)?;
-    let merchant_key = kept.merchant(asked.merchant, &merchant.key);
-    let opened = open_endorsement(&asked.sealed, &merchant_key)?;
+    let asked = EndorsedBytes::read(body)?;
+    let merchant = find_party_as(book, MERCHANT, asked.merchant())?;
+    let merchant_key = kept.merchant(asked.merchant(), &merchant.key);
+    states.set_first(merchant_key);
+    let opened = open_endorsement(asked.sealed(), merchant_key)?;
     let endorsement = opened.endorsement;
     let digest = opened.digest;
     let order = read_endorsed(&endorsement.order)?;
     let consumer = find_party_as(book, CONSUMER, order.consumer)?;
-    check_merchant(asked.merchant, &order)?;
+    check_merchant(asked.merchant(), &order)?;
     let consumer_key = kept.consumer(order.consumer, &consumer.key);
-    check_order_tag(&endorsement.order, &order, &consumer_key)?;
-    let hidden = open_hidden(&order.hidden, &consumer_key)?;
-    *states = ReplyStates::from_states(kept.house(&head.house), merchant_key, Some(consumer_key));
+    states.set_second(consumer_key);
+    check_order_tag(&endorsement.order, &order, consumer_key)?;
+    let hidden = open_hidden(&order.hidden, consumer_key)?;
+    states.set_house(kept.house(&head.house));
     let presented = Presented {
         merchant,
         consumer,
@@ -156,13 +158,13 @@ impl Presented {
 
 // The endorsement that is sealed under the merchant's key.
 #[tactic(auto, unfolding(crate::specs::Orders::endorsement_in))]
-fn open_endorsement(sealed: &Buffer, key: &KeyState) -> Result<DigestedEndorsement, Refusal>
+fn open_endorsement(sealed: &[u8], key: &KeyState) -> Result<DigestedEndorsement, Refusal>
     requires { length sealed.now ≤ MAX_SEALED }
     ensures read { IfOk result (λ opened. orders.endorsement_in key.now sealed.now ≡ Ok opened.endorsement) }
     ensures refused { IfErr result (λ refusal. orders.endorsement_in key.now sealed.now ≡ Err refusal) }
     ensures digest { IfOk result (λ opened. opened.digest ≡ endorsement_digest opened.endorsement) }
 {
-    match read_sealed_with(sealed.as_slice(), key) {
+    match read_sealed_with(sealed, key) {
         Ok(opened) => Ok(opened),
         Err(fault) => Err(unread_endorsement(fault)),
     }

@@ -1,5 +1,6 @@
 ghost use Rattle.std.specs.Prelude.{◌≡◌, IfOk, OnOk, IsNone};
 ghost use Rattle.nb_book.specs.Legal.{Legal};
+ghost use Rattle.nb_endorse.specs.Keys.{no_keys};
 ghost use Rattle.nb_endorse.specs.Replies.{HasLawfulReceipts};
 ghost use Rattle.nb_escrow.specs.Statuses.{enough_entries, status_told, status_steps};
 
@@ -26,6 +27,7 @@ pub(crate) fn decide_status(
     kept: &mut KeptStates,
     states: &mut ReplyStates,
 ) -> Result<Decision, Refusal>
+    requires fresh { states.old ≡ no_keys }
     ensures steps { result ≡ status_steps book.now.entries head.now body.now }
     ensures none { IfOk result (λ decision. IsNone decision.entry) }
     ensures receipts { IfOk result (λ decision. HasLawfulReceipts decision.reply) }
@@ -37,13 +39,14 @@ pub(crate) fn decide_status(
     let asker_key = asker_state(kept, asked.asker, &asker);
     check_tag(&asked.tag, &asker_key.code(&STATUS_LABEL, signed(body)))?;
     check_entries(book, asked.least)?;
-    *states = ReplyStates::from_states(kept.house(&head.house), asker_key, None);
+    states.set_first(asker_key);
+    states.set_house(kept.house(&head.house));
     Ok(status_of(book, head, &asker, &asked))
 }
 
 // The state of the key of who asks, which is kept with those of its role.
-fn asker_state(kept: &mut KeptStates, id: PartyId, asker: &Party) -> KeyState
-    ensures { result ≡ asker.now.key }
+fn asker_state<'a>(kept: &'a mut KeptStates, id: PartyId, asker: &Party) -> &'a KeyState
+    ensures { result.now ≡ asker.now.key }
 {
     if asker.role == MERCHANT {
         kept.merchant(id, &asker.key)

@@ -32,12 +32,13 @@ pub(crate) fn decide_ticket(
     let asked = TicketAsk::read(body)?;
     let consumer = find_party_as(book, CONSUMER, asked.consumer)?;
     let consumer_key = kept.consumer(asked.consumer, &consumer.key);
-    check_request_tag(&asked, &consumer_key)?;
+    states.set_first(consumer_key);
+    check_request_tag(&asked, consumer_key)?;
     let merchant = find_party_as(book, MERCHANT, asked.merchant)?;
-    let merchant_key = kept.merchant(asked.merchant, &merchant.key);
+    states.set_second(kept.merchant(asked.merchant, &merchant.key));
     let house_key = kept.house(&head.house);
-    let reply = granted(&asked, &house_key, moment);
-    *states = ReplyStates::from_states(house_key, consumer_key, Some(merchant_key));
+    states.set_house(house_key);
+    let reply = granted(&asked, house_key, moment);
     Ok(Decision {
         reply,
         keys: ReplyKeys {

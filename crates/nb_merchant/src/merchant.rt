@@ -12,7 +12,7 @@ ghost use Rattle.nb_merchant.specs.Telling.{Performs, performed, TakesUp, IsSame
 ghost use Rattle.nb_stall.specs.Sales.{sale_in, epoid_in, stage_of, deliveries_in, next_serial, sold_as};
 ghost use Rattle.nb_merchant.specs.Shop.{new_shop, with_item};
 ghost use Rattle.nb_merchant.specs.Sending.{StepIs};
-ghost use Rattle.nb_stall.specs.Spelling.{IsItem};
+ghost use Rattle.nb_stall.specs.Spelling.{IsItem, item_bytes};
 ghost use Rattle.nb_merchant.specs.Table as table;
 ghost use Rattle.nb_merchant.specs.Telling.{Plans};
 
@@ -630,15 +630,34 @@ impl Merchant {
                 message,
             }),
             Some(item) => {
-                let bytes = item.spelled();
-                let kept = Blob::of(alloc, bytes.as_slice())?;
-                self.keep(item, parts)?;
-                Ok(Step::Move {
-                    keep: Some(kept),
-                    to,
-                    message,
-                })
+                match self.spell_and_keep(alloc, item, parts) {
+                    Ok(kept) => Ok(Step::Move {
+                        keep: Some(kept),
+                        to,
+                        message,
+                    }),
+                    Err(no) => Err(no),
+                }
             }
         }
+    }
+
+    // Spells an item, and keeps it.
+    fn spell_and_keep(
+        &mut self,
+        alloc: Global,
+        item: Item,
+        parts: Option<Parts>,
+    ) -> Result<Blob, NoMemory>
+        requires follows { follows self.old item ≡ true }
+        requires parts { HasParts self.old item parts }
+        ensures bytes { IfOk result (λ kept. kept ≡ item_bytes item) }
+        ensures kept { OnOk result (self.new ≡ with_item self.old item) }
+        ensures err { OnErr result (self.new ≡ self.old) }
+    {
+        let bytes = item.spelled();
+        let kept = Blob::of(alloc, bytes.as_slice())?;
+        self.keep(item, parts)?;
+        Ok(kept)
     }
 }

@@ -11,7 +11,7 @@ use crate::lengths::{
 };
 use crate::message::Message;
 use crate::status::MOST_STATUS;
-use nb_body::{EndorsedOrder, Enrolment, Funding, StatusQuery};
+use nb_body::{EndorsedBytes, Enrolment, Funding, StatusQuery};
 use nb_endorse::{RECEIPT_BYTES, Refusal};
 use nb_goods::PART_BYTES;
 use nb_ticket::{GRANT_BYTES, TICKET_BYTES, TicketAsk};
@@ -116,10 +116,10 @@ fn read_order(alloc: Global, body: &[u8]) -> Result<Message, BodyFault>
 fn read_endorsed(alloc: Global, body: &[u8]) -> Result<Message, BodyFault>
     ensures { reading.ReadsBody result (reading.endorsed_message_of body.now) }
 {
-    let asked = EndorsedOrder::read(body)?;
+    let asked = EndorsedBytes::read(body)?;
     Ok(Message::Endorsed {
-        merchant: asked.merchant,
-        sealed: Blob::of(alloc, asked.sealed.as_slice())?,
+        merchant: asked.merchant(),
+        sealed: Blob::of(alloc, asked.sealed())?,
     })
 }
 

@@ -1,4 +1,4 @@
-ghost use Rattle.std.specs.Prelude.{◌≡◌, ◌≤◌, ◌<◌, ◌+◌, ◌^◌, ◌++◌, codes, length, vec_capacity, IfSome};
+ghost use Rattle.std.specs.Prelude.{◌≡◌, ◌≤◌, ◌<◌, ◌+◌, ◌^◌, ◌++◌, codes, length, vec_capacity, vec_len, IfSome};
 ghost use Rattle.nb_seal.specs.Seal.{seal_of};
 ghost use Rattle.nb_units.specs.Fields.{be4};
 ghost use Rattle.nb_units.specs.Room.{spare_of};
@@ -8,7 +8,7 @@ ghost use Rattle.nb_units.specs.declared.frames.TheConstants.{HEADER};
 ghost use Rattle.nb_units.specs.Epoid.{IsEpoid};
 ghost use Rattle.nb_endorse.specs.declared.reply.Reply.TheVariants as reply;
 ghost use Rattle.nb_endorse.specs.Replies.{HasLawfulReceipts, ReceiptKeepsRules};
-ghost use Rattle.nb_endorse.specs.Spelling.{IsReceipt};
+ghost use Rattle.nb_endorse.specs.Spelling.{IsReceipt, signed_bytes};
 ghost use Rattle.nb_endorse.specs.Tags.{signed_receipt};
 ghost use Rattle.nb_msgs.specs.Bodies.{IsRefusal};
 ghost use Rattle.nb_msgs.specs.Limits.{ReplyLimitsAre};
@@ -98,12 +98,28 @@ fn write_result(merchant: &Receipt, consumer: &Receipt, keys: &ReplyStates, out:
     ensures room { vec_capacity out.new ≡ vec_capacity out.old }
 {
     let first = keys.sign(merchant);
-    let second = sign_again(&first, consumer, keys);
     write_header(RESULT_REPLY, MOST_BODY as u32, out);
     write_length(out);
     keys.write_first(&first, out);
     write_length(out);
-    keys.write_second(&second, out);
+    write_other(&first, consumer, keys, out);
+}
+
+// The other receipt, sealed under the second key. It is signed by itself where it is not the first one again.
+fn write_other(first: &Signed, receipt: &Receipt, keys: &ReplyStates, out: &mut Vec<u8>)
+    requires signed { first.now ≡ signed_receipt keys.now.house first.now.receipt }
+    requires lawful { ReceiptKeepsRules receipt.now }
+    requires room { RECEIPT_BYTES ≤ spare_of out.old }
+    ensures bytes { out.new.items ≡ out.old.items ++ seal_of keys.now.second (codes "rcpt") (signed_bytes (signed_receipt keys.now.house receipt.now)) }
+    ensures fits { IsReceipt receipt.now }
+    ensures long { vec_len out.new ≡ vec_len out.old + RECEIPT_BYTES }
+    ensures room { vec_capacity out.new ≡ vec_capacity out.old }
+{
+    if *receipt == first.receipt {
+        keys.write_second(first, out);
+    } else {
+        keys.write_second(&keys.sign(receipt), out);
+    }
 }
 
 // The length of a sealed receipt, before it.
@@ -114,18 +130,6 @@ fn write_length(out: &mut Vec<u8>)
 {
     let mut pen = Pen::over(out);
     pen.u32(RECEIPT_BYTES as u32);
-}
-
-// The receipt with its tag under the house's key, beside another one that was signed so.
-fn sign_again(first: &Signed, receipt: &Receipt, keys: &ReplyStates) -> Signed
-    requires { first.now ≡ signed_receipt keys.now.house first.now.receipt }
-    ensures { result ≡ signed_receipt keys.now.house receipt.now }
-{
-    if *receipt == first.receipt {
-        *first
-    } else {
-        keys.sign(receipt)
-    }
 }
 
 // Appends the frame of a status, which is sealed for who asked in its place behind the header.
