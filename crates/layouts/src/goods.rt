@@ -155,7 +155,7 @@ fn part(alloc: Global, parts: &[Blob], number: &str) -> Result<Vec<u8>, NoMemory
 }
 
 // Goods of so many bytes: `count` those that count up modulo 251, `zeros`, or those that a word spells.
-fn patterned(alloc: Global, pattern: &str, length: &str) -> Result<Vec<u8>, NoMemory> {
+pub(crate) fn patterned(alloc: Global, pattern: &str, length: &str) -> Result<Vec<u8>, NoMemory> {
     let length = telling::short(length).min(MAX_GOODS as u32);
     match pattern {
         "count" => counting(alloc, length),

@@ -1,11 +1,12 @@
 //! A program that reads and writes what the lines of standard input spell, and prints what came of it: the trials of the layouts of `nb_units`,
-//! `nb_body`, `nb_ticket`, `nb_epo`, `nb_goods`, `nb_endorse` and `nb_msgs`, of the codes and seals of `nb_seal`, and of the frames of `nb_play`, as
+//! `nb_body`, `nb_ticket`, `nb_epo`, `nb_goods`, `nb_endorse` and `nb_msgs`, of the rulings of `nb_judge`, of the codes and seals of `nb_seal`, and of the frames of `nb_play`, as
 //! data. Each line is a word and what it is about; the function that a word calls says what it does. A key is 32 bytes, or one byte that stands 32
 //! times; `-` spells no bytes. A line that begins with `#` is printed as it is.
 //!
 //! It claims nothing: what it prints is compared with what another program wrote.
 #![tactic(auto)]
 
+mod cases;
 mod codes;
 mod drills;
 mod fields;
@@ -74,6 +75,8 @@ fn done_with(
         "came" => shelf.came(told, words),
         "goods-key" => goods::key(told, words),
         "seal-goods" => goods::seal(told, words),
+        "judge" => cases::ruled(told, words),
+        "judge-sale" => cases::sale(told, words),
         _ => done_spelled(told, word, words),
     }
 }
