@@ -1,5 +1,5 @@
 -- A case has one ruling: where a test fails no other can hold in its place.
-use Rattle.std.proofs.Common.{◌≡◌, ℕ, List, Option, Some, None, codes, refl, sym, ap, ◌∙◌, length, inl, inr, subst}
+use Rattle.std.proofs.Common.{◌≡◌, ℕ, List, Option, Some, codes, sym, ap, ◌∙◌, length, inl, inr, subst}
 use Rattle.nb_seal.proofs.Opening.{opens_once}
 use Rattle.nb_endorse.specs.declared.receipt.Receipt.{Receipt}
 use Rattle.nb_endorse.specs.declared.receipt.Signed.{Signed}
@@ -9,8 +9,8 @@ use Rattle.nb_endorse.proofs.Receipts.{one_receipt}
 use Rattle.nb_judge.specs.declared.case.Case.{Case}
 use Rattle.nb_judge.specs.declared.ruling.Ruling.{Ruling}
 use Rattle.nb_judge.specs.declared.ruling.Ruling.TheVariants.{KeyOpens, OtherOrder}
-use Rattle.nb_judge.specs.Ruling.{Rules, RulesByReceipt, RulesByFields, RulesByCode, RulesByGoods, RulesByKey, Shows}
-use Rattle.nb_judge.specs.Laws.{OneRuling}
+use Rattle.nb_judge.specs.Ruling.{RulesByReceipt, RulesByFields, RulesByCode, RulesByGoods, RulesByKey, Shows}
+use Rattle.nb_judge.specs.Laws.{OneRuling, ShownReceiptRules}
 
 some_is : {A : Type 0} (a b : A) → (let first : Option A = Some a in first ≡ Some b) → a ≡ b
 some_is a b e = cc
@@ -52,6 +52,16 @@ by_receipt c a b (inl (none, is)) (inr (r, shows, more)) = absurd (none r shows)
 by_receipt c a b (inr (r, shows, more)) (inl (none, same)) = absurd (none r shows)
 by_receipt c a b (inr (r, shows, more)) (inr (q, show, further)) =
     by_fields c r a b more (subst (λ (x : Receipt). RulesByFields c x b) (one_shown c.consumer c.house c.receipt q r show shows) further)
+
+pub shown_receipt_rules : ShownReceiptRules
+shown_receipt_rules c r ruling made shows fits (inl (other, is)) = absurd (other made)
+shown_receipt_rules c r ruling made shows fits (inr (right, inl (none, is))) = absurd (none r shows)
+shown_receipt_rules c r ruling made shows fits (inr (right, inr (q, show, more))) =
+    behind (subst (λ (x : Receipt). RulesByFields c x ruling) (one_shown c.consumer c.house c.receipt q r show shows) more)
+  where
+    behind : RulesByFields c r ruling → RulesByCode c r ruling
+    behind (inl (n, differs, is)) = absurd cc
+    behind (inr (also, further)) = further
 
 pub one_ruling : OneRuling
 one_ruling c a b (inl (other, is)) (inl (also, same)) = is ∙ sym same

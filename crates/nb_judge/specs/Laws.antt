@@ -1,15 +1,22 @@
 -- What holds of every case.
-use Rattle.std.specs.Prelude.{◌≡◌, ℕ, List, Ok}
+use Rattle.std.specs.Prelude.{◌≡◌, ℕ, List, None, Ok}
 use Rattle.nb_units.specs.Frames.{AreBytes}
+use Rattle.nb_epo.specs.Tags.{order_tag}
+use Rattle.nb_endorse.specs.declared.receipt.Receipt.{Receipt}
 use Rattle.nb_judge.specs.declared.case.Case.{Case}
 use Rattle.nb_judge.specs.declared.case_bytes.TheConstants.{MAX_CASE}
 use Rattle.nb_judge.specs.declared.ruling.Ruling.{Ruling}
 use Rattle.nb_judge.specs.Layout.{IsCase, case_bytes, case_of}
-use Rattle.nb_judge.specs.Ruling.{Rules}
+use Rattle.nb_judge.specs.Ruling.{Rules, RulesByCode, Shows, differs}
 
 -- a case has one ruling
 abbrev pub OneRuling : Type 0
 OneRuling = (c : Case) (a b : Ruling) → Rules c a → Rules c b → a ≡ b
+
+-- Where the consumer made the order, and a receipt of it is shown, the receipt rules: no other paper can be brought in its place
+abbrev pub ShownReceiptRules : Type 0
+ShownReceiptRules = (c : Case) (r : Receipt) (ruling : Ruling) → c.order.tag ≡ order_tag c.consumer c.order → Shows c.consumer c.house c.receipt r → differs c r ≡ None
+    → Rules c ruling → RulesByCode c r ruling
 
 -- what was spelled of a case is read as that case
 abbrev pub CaseReadsBack : Type 0

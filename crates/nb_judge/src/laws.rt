@@ -7,7 +7,12 @@ pub fn one_ruling()
     ensures { law.OneRuling }
 {}
 
-/// A law: what was spelled of a case is read as that case, and two cases with one spelling are one.
+/// A law: where the consumer made the order, and its papers show a receipt of it, that receipt rules. The ruling is then none of the first three.
+pub fn shown_receipt_rules()
+    ensures { law.ShownReceiptRules }
+{}
+
+/// A law: what was spelled of a case is read as that case.
 pub fn case_reads_back()
     ensures { law.CaseReadsBack }
 {}

@@ -1,4 +1,4 @@
-use Rattle.std.proofs.Common.{◌≡◌, ℕ, ◌+◌, ◌-◌, codes, length, sym, ap, refl, arith, inr, subst}
+use Rattle.std.proofs.Common.{◌≡◌, ◌-◌, codes, length, ap, refl, arith, inr, subst}
 use Rattle.nb_seal.proofs.Opening.{length-seal_of}
 use Rattle.nb_judge.specs.declared.case.Case.{Case}
 use Rattle.nb_judge.specs.declared.ruling.Ruling.TheVariants.{KeyOpens}
