@@ -6,7 +6,6 @@ use nb_goods::{MAX_GOODS, sealed};
 use nb_judge::{CaseBytes, CaseFault, Ruling, judge, read_case};
 use nb_lines::Told;
 use nb_units::NoMemory;
-use nb_units::width::LENGTH;
 
 /// `judge CASE`: what is ruled of the case that the bytes spell, as they stand and copied.
 pub fn ruled(told: &mut Told, words: &[&str]) -> Result<(), NoMemory> {
@@ -29,13 +28,14 @@ pub fn sale(told: &mut Told, words: &[&str]) -> Result<(), NoMemory> {
         return told.unclear();
     }
     let made = sealed(alloc, &telling::key(alloc, *key), &goods)?;
-    let mut bytes = nb_lines::spelled(alloc, papers);
-    let front = bytes.len() + LENGTH;
-    bytes.extend_from_slice(&(made.as_slice().len() as u32).to_be_bytes())?;
-    bytes.extend_from_slice(made.as_slice())?;
-    if let Ok(place) = place.parse::<usize>() && let Some(byte) = bytes.get_mut(front + place) {
+    let mut goods = Vec::from_slice(alloc, made.as_slice())?;
+    if let Ok(place) = place.parse::<usize>() && let Some(byte) = goods.get_mut(place) {
         *byte ^= 1;
     }
+    let length = u32::try_from(goods.len()).unwrap_or(0);
+    let mut bytes = nb_lines::spelled(alloc, papers);
+    bytes.extend_from_slice(&length.to_be_bytes())?;
+    bytes.extend_from_slice(&goods)?;
     rule(told, &bytes)
 }
 
