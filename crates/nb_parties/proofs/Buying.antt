@@ -1,17 +1,12 @@
 -- A consumer of which a payment is told holds the goods.
-use Rattle.std.proofs.Common.{◌≡◌, ◌⊎◌, inl, inr, ℕ, zero, suc, List, [], ◌∷◌, ◌++◌, map, set, Option, None, Some, Result, Ok, Err, refl, sym, ap, subst, ◌∙◌}
+use Rattle.std.proofs.Common.{◌≡◌, ◌⊎◌, inl, inr, ℕ, zero, suc, List, [], ◌∷◌, map, set, Option, None, Some, Result, Ok, Err, refl, sym, ap, subst, ◌∙◌}
 use Rattle.std.specs.Prelude.{codes}
 use Rattle.std.specs.List.{slice_get, AllByRecursion}
 use Rattle.sha2.specs.Sha256.{sha256}
-use Rattle.nb_units.specs.declared.ids.AcctId.{AcctId}
-use Rattle.nb_units.specs.declared.ids.PartyId.{PartyId}
 use Rattle.nb_seal.proofs.Opening.{opens_once}
 use Rattle.nb_epo.specs.Places.{checksum_in}
 use Rattle.nb_epo.specs.Spelling.{order_bytes}
 use Rattle.nb_epo.specs.declared.order.Order.{Order}
-use Rattle.nb_endorse.specs.declared.receipt.Signed.{Signed}
-use Rattle.nb_goods.specs.Collision.{Collision}
-use Rattle.nb_goods.specs.Goods.{OpensTo, sealed_goods}
 use Rattle.nb_msgs.specs.Reading.{message_of}
 use Rattle.nb_msgs.specs.declared.message.Message.{Message}
 use Rattle.nb_msgs.specs.declared.node.Reason.{Reason}
@@ -20,14 +15,13 @@ use Rattle.nb_wallet.specs.declared.item.Item.TheVariants as item
 use Rattle.nb_wallet.specs.declared.purchase.Purchase.{Purchase}
 use Rattle.nb_wallet.specs.declared.purchase.Stage.{Stage}
 use Rattle.nb_wallet.specs.declared.purchase.Stage.TheVariants as stage
-use Rattle.nb_wallet.specs.declared.wallet.Start.{Start}
 use Rattle.nb_wallet.specs.declared.wallet.Wallet.{Wallet}
 use Rattle.nb_escrow.specs.declared.head.Head.{Head}
 use Rattle.nb_escrow.specs.declared.settlement.PaymentOutcome.{PaymentOutcome}
 use Rattle.nb_escrow.specs.declared.settlement.PaymentOutcome.TheVariants.{Paid}
 use Rattle.nb_consumer.specs.Known.{HeldSo, AskedSo, PurchaseSo, AllSo}
 use Rattle.nb_consumer.specs.Laws.{RowSo}
-use Rattle.nb_consumer.specs.Restart.{untold_purchase, untold}
+use Rattle.nb_consumer.specs.Restart.{untold_purchase}
 use Rattle.nb_consumer.specs.State.{Buyer, place_of, purchase_of, changed_with, changed_at, raised}
 use Rattle.nb_consumer.specs.Table.{started, heard, silent, after}
 use Rattle.nb_consumer.specs.declared.deed.Deed.{Deed}
@@ -44,9 +38,8 @@ use Rattle.nb_world.specs.World.{World}
 use Rattle.nb_world.specs.Steps.{run}
 use Rattle.nb_world.proofs.Chains.{same_some}
 use Rattle.nb_world.proofs.Holding.{GoesSo, StepsKeep, HoldsIn, run_holds}
-use Rattle.nb_parties.specs.Rules.{buyer_goes, buyer_hears, shop_hears, shop_goes, real_rules}
-use Rattle.nb_parties.specs.Ends.{EndsBy, IsOrdered, IsPaid, IsFoul, EndsAs, EndsAsEntry}
-use Rattle.nb_parties.specs.Goods.{IsKeyOfGoods}
+use Rattle.nb_parties.specs.Rules.{buyer_goes, buyer_hears, real_rules}
+use Rattle.nb_parties.specs.Ends.{IsOrdered, IsPaid, IsFoul, EndsAs}
 use Rattle.nb_parties.specs.Held.{ConsumersAreSo, HoldsGoods, BuyersHoldGoods}
 use Rattle.nb_parties.proofs.Ending.{nothing, any_packets, all_packets}
 

@@ -3,7 +3,6 @@ use Rattle.std.proofs.Common.{◌≡◌, ◌⊎◌, inl, inr, ℕ, Bool, true, f
 use Rattle.std.proofs.lemmas.Bool.{eqb-true, eq-eqb, and_parts}
 use Rattle.std.specs.Prelude.{◌==◌, ◌&&◌, codes}
 use Rattle.std.specs.List.{slice_get, AllByRecursion}
-use Rattle.std.specs.Option.{is_some}
 use Rattle.std.specs.Result.{is_ok}
 use Rattle.nb_units.specs.Epoid.{epoid_bytes, epoid_of, is_same_epoid}
 use Rattle.nb_units.specs.declared.epoid.Epoid.{Epoid}
@@ -11,15 +10,12 @@ use Rattle.nb_units.specs.declared.ids.PartyId.{PartyId}
 use Rattle.nb_units.specs.declared.ids.Price.{Price}
 use Rattle.nb_seal.specs.Seal.{text_in}
 use Rattle.nb_seal.proofs.Opening.{text_in_opens, text_in_no_seal}
-use Rattle.nb_book.specs.declared.entry.Entry.{Entry}
 use Rattle.nb_book.specs.declared.entry.TheConstants.{CONSUMER, MERCHANT}
 use Rattle.nb_book.specs.Laws.{StaysLegal}
 use Rattle.nb_epo.specs.declared.order.Order.{Order}
-use Rattle.nb_endorse.specs.Differing.{first_difference, IsOf}
+use Rattle.nb_endorse.specs.Differing.{IsOf}
 use Rattle.nb_endorse.specs.Places.{SaysAs}
-use Rattle.nb_endorse.specs.Reading.{signed_of}
-use Rattle.nb_endorse.specs.Spelling.{signed_bytes}
-use Rattle.nb_endorse.specs.Tags.{receipt_tag, signed_receipt}
+use Rattle.nb_endorse.specs.Tags.{receipt_tag}
 use Rattle.nb_endorse.specs.declared.receipt.Receipt.{Receipt}
 use Rattle.nb_endorse.specs.declared.receipt.Signed.{Signed}
 use Rattle.nb_endorse.specs.declared.receipt.TheConstants.{PAID_CODE}
@@ -29,26 +25,23 @@ use Rattle.nb_msgs.specs.declared.message.Message.{Message}
 use Rattle.nb_msgs.specs.declared.node.End.{End}
 use Rattle.nb_msgs.specs.declared.node.End.TheVariants as end
 use Rattle.nb_msgs.specs.declared.node.Reason.{Reason}
-use Rattle.nb_msgs.specs.declared.node.To.TheVariants as to
 use Rattle.nb_wallet.specs.Stages.{stage_opened, stage_with, stage_ended, end_of}
 use Rattle.nb_wallet.specs.declared.item.Item.TheVariants as item
-use Rattle.nb_wallet.specs.declared.item.SessionTicket.{SessionTicket}
 use Rattle.nb_wallet.specs.declared.purchase.Purchase.{Purchase}
 use Rattle.nb_wallet.specs.declared.purchase.Stage.{Stage}
 use Rattle.nb_wallet.specs.declared.purchase.Stage.TheVariants as stage
 use Rattle.nb_escrow.specs.Laws as escrow
 use Rattle.nb_escrow.specs.Head.{IsRuling}
 use Rattle.nb_escrow.specs.Lasting.{CodeSays}
-use Rattle.nb_escrow.specs.Settlements.{settlement_in, receipt_in_role, receipt_of_party}
-use Rattle.nb_escrow.specs.Verdict.{verdict}
+use Rattle.nb_escrow.specs.Settlements.{receipt_in_role, receipt_of_party}
 use Rattle.nb_escrow.specs.declared.head.Head.{Head}
 use Rattle.nb_escrow.specs.declared.settlement.PaymentOutcome.{PaymentOutcome}
 use Rattle.nb_escrow.specs.declared.settlement.PaymentOutcome.TheVariants.{Paid, Refused}
 use Rattle.nb_escrow.specs.declared.settlement.Settlement.{Settlement}
 use Rattle.nb_escrow.proofs.Lasts.{receipts_say_the_settlement}
-use Rattle.nb_consumer.specs.Goods.{phase_of, phase_in, phase_at, goods_of, goods_at, HasEnded}
+use Rattle.nb_consumer.specs.Goods.{phase_of, phase_in, phase_at, goods_at, HasEnded}
 use Rattle.nb_consumer.specs.Laws.{RowSo}
-use Rattle.nb_consumer.specs.Restart.{holds_at, untold}
+use Rattle.nb_consumer.specs.Restart.{holds_at}
 use Rattle.nb_consumer.specs.Runs.{Starts, Hears, Waits}
 use Rattle.nb_consumer.specs.State.{Buyer, purchase_of, behind_item}
 use Rattle.nb_consumer.specs.Table.{started, heard, silent, after, owing_in, none_failed, receipt_fits}
@@ -73,7 +66,7 @@ use Rattle.nb_world.specs.Nodes.{ConsumerGoes}
 use Rattle.nb_world.specs.Laws.{Asks, IsReply, RepliesSo, IsLawfulWorld, IsSetUp, RecordsLegal}
 use Rattle.nb_world.proofs.Chains.{same_some}
 use Rattle.nb_world.proofs.Going.{consumer_steps}
-use Rattle.nb_world.proofs.Holding.{AtEach, GoesSo, StepsKeep, HoldsIn, run_holds}
+use Rattle.nb_world.proofs.Holding.{GoesSo, StepsKeep, HoldsIn, run_holds}
 use Rattle.nb_world.proofs.Lists.{all_at}
 use Rattle.nb_world.proofs.Serving.{world_law}
 use Rattle.nb_world.proofs.Settling.{house_records_legal}
@@ -236,18 +229,18 @@ paid_ends p r key code keyed = by (text_in key (codes "good") p.held) refl
 
 ends_as : (p : Purchase) (s : Signed) (r : Receipt) (outcome : PaymentOutcome) → CodeSays outcome r → SaysAs s.receipt r → ((key : List ℕ) → r.key ≡ Some key → length key ≡ 32)
     → EndsAs outcome s (ended_purchase p s.receipt)
-ends_as p s r (Paid cacct macct key fee) says as long =
-    let code : s.receipt.code ≡ PAID_CODE = as.code ∙ says.0 in
-    let keyed : s.receipt.key ≡ Some key = as.key (subst (λ (o : Option (List ℕ)). IfSome o (λ k. length k ≡ 32)) (sym says.1) (long key says.1)) ∙ says.1 in
+unfolding ended_purchase
+ends_as p s r (Paid cacct macct key fee) says same long =
+    let code : s.receipt.code ≡ PAID_CODE = same.code ∙ says.0 in
+    let keyed : s.receipt.key ≡ Some key = same.key (subst (λ (o : Option (List ℕ)). IfSome o (λ k. length k ≡ 32)) (sym says.1) (long key says.1)) ∙ says.1 in
     (code, keyed, paid_ends p s.receipt key code keyed)
-ends_as p s r (Refused why) says as long =
-    let code : s.receipt.code ≡ why.code = as.code ∙ says.0 in
-    let keyed : s.receipt.key ≡ None = as.key (subst (λ (o : Option (List ℕ)). IfSome o (λ k. length k ≡ 32)) (sym says.2) tt) ∙ says.2 in
-    let how : end_of s.receipt p.held ≡ end.Refused s.receipt.code = (ends_are s.receipt p.held).0 (λ paid. says.1 (sym as.code ∙ paid)) in
+ends_as p s r (Refused why) says same long =
+    let code : s.receipt.code ≡ why.code = same.code ∙ says.0 in
+    let keyed : s.receipt.key ≡ None = same.key (subst (λ (o : Option (List ℕ)). IfSome o (λ k. length k ≡ 32)) (sym says.2) tt) ∙ says.2 in
+    let how : end_of s.receipt p.held ≡ end.Refused s.receipt.code = (ends_are s.receipt p.held).0 (λ paid. says.1 (sym same.code ∙ paid)) in
     (code, keyed, refused how code)
   where
     refused : end_of s.receipt p.held ≡ end.Refused s.receipt.code → s.receipt.code ≡ why.code → phase_of (ended_purchase p s.receipt).stage (ended_purchase p s.receipt).held ≡ phase.Refused why.code
-    unfolding ended_purchase
     refused how code = (stage_tells s.receipt p.held).0 ∙ ap phase_at how ∙ ap phase.Refused code
 
 -- the receipt of a consumer's role is its own
@@ -282,9 +275,11 @@ module _ {M : Type 0} (stays : StaysLegal) (legal : escrow.RecordsLegal) (any : 
       let lawful : IsLawfulWorld p.verdict later = world_law stays p w records setup es in
       let reply : RepliesSo p.verdict later told.made told.made.maker = all_at (λ (x : Packet). RepliesSo p.verdict later x x.maker) later.packets told.place told.made told.there lawful.replies in
       let so : IsReply p.verdict later told.made told.call told.at = subst (RepliesSo p.verdict later told.made) told.maker reply in
-      let request : request_of so.packet so.moment ≡ request_of told.packet told.moment = same_call later told.call so.packet told.packet so.moment told.moment so.asks told.asks in
-      (reply_given later.durable head cap told.packet.kind told.packet.body told.moment told.at key told.whom s
-      (λ e has. so.recorded e (ap (λ (x : Request). (p.verdict (take told.at later.durable) x).entry) request ∙ has)) told.tells, lawful)
+      let request : request_of so.packet so.moment ≡ request_of told.packet told.moment = same_call later told.call so.packet told.packet so.moment told.moment so.asks told.asks in (
+        reply_given later.durable head cap told.packet.kind told.packet.body told.moment told.at key told.whom s
+            (λ e has. so.recorded e (ap (λ (x : Request). (p.verdict (take told.at later.durable) x).entry) request ∙ has)) told.tells,
+        lawful,
+      )
 
   -- behind the delivery the consumer is what its row says
   behind_end : (v : World Buyer M) (id : PartyId) (k t : ℕ) (s : Signed) (ended : EndsBy (with_buyers any head cap) v id k t s)
@@ -301,6 +296,7 @@ module _ {M : Type 0} (stays : StaysLegal) (legal : escrow.RecordsLegal) (any : 
       (told : IsToldBy head cap (run (with_buyers any head cap) w (es ++ on.Deliver k ∷ more)) ended.buyer.wallet.key s) (b : Buyer)
       → slice_get (run (with_buyers any head cap) w (es ++ on.Deliver k ∷ more)).consumers ended.is.place ≡ Some b
       → EndsAsEntry head.house (run (with_buyers any head cap) w (es ++ on.Deliver k ∷ more)).durable told.whom s (purchase_of ended.buyer t) (purchase_of b t)
+  unfolding ended_purchase
   ends es more id k t s ended told b there =
       let p = with_buyers any head cap in
       let v = run p w es in
@@ -312,7 +308,7 @@ module _ {M : Type 0} (stays : StaysLegal) (legal : escrow.RecordsLegal) (any : 
       let known = known_for (purchase_of ended.buyer t) _ row.0 in
       let before : Purchase = known.0 in
       let order : OfOrder before s.receipt = order_of_stage before s.receipt before.stage refl known.2 in
-      let as : SaysAs s.receipt receipt = spelled_is_read receipt (receipt_tag head.house receipt) s given.bytes in
+      let says : SaysAs s.receipt receipt = spelled_is_read receipt (receipt_tag head.house receipt) s given.bytes in
       let now : (c : Buyer) → slice_get (next p v (on.Deliver k)).consumers ended.is.place ≡ Some c → purchase_of c t ≡ Some (ended_purchase before s.receipt) =
       λ c at. ended_at c at before known.1 in
       record {
@@ -321,30 +317,25 @@ module _ {M : Type 0} (stays : StaysLegal) (legal : escrow.RecordsLegal) (any : 
         order = order.order;
         known = known.1;
         stays = stays_over any head cap (next p v (on.Deliver k)) ended.is.place t (ended_purchase before s.receipt) (is_over before s.receipt) now more b
-        (subst (λ (u : World Buyer M). slice_get u.consumers ended.is.place ≡ Some b) (run_then p w es (on.Deliver k ∷ more)) there);
-        held = held_same before;
+            (subst (λ (u : World Buyer M). slice_get u.consumers ended.is.place ≡ Some b) (run_then p w es (on.Deliver k ∷ more)) there);
+        held = refl;
         ordered = order.ordered;
         of_order = order.its;
         name = given.name;
         settlement = given.settlement;
-        named = sym (as.epoid ∙ ap (λ (e : Epoid). epoid_of (epoid_bytes e)) (epoid_in given.role given.settlement ∙ given.its)) ∙ order.its.epoid;
+        named = sym (says.epoid ∙ ap (λ (e : Epoid). epoid_of (epoid_bytes e)) (epoid_in given.role given.settlement ∙ given.its)) ∙ order.its.epoid;
         settled = given.settled;
         receipt = receipt;
         given = given.given;
         own = own_is told.whom given.settlement receipt given.given;
         bytes = given.bytes;
         within = reads_back head.house receipt s given.bytes;
-        ends = ends_as before s receipt given.settlement.outcome (receipts_say_the_settlement later.durable so.1.legal given.name given.role given.settlement given.settled) as
-        (λ key keyed. key_long head.house receipt s key given.bytes keyed);
+        ends = ends_as before s receipt given.settlement.outcome (receipts_say_the_settlement later.durable so.1.legal given.name given.role given.settlement given.settled) says
+            (λ key keyed. key_long head.house receipt s key given.bytes keyed);
       }
     where
-      held_same : (q : Purchase) → (ended_purchase q s.receipt).held ≡ q.held
-      unfolding ended_purchase
-      held_same q = refl
-
       ended_at : (c : Buyer) → slice_get (next (with_buyers any head cap) (run (with_buyers any head cap) w es) (on.Deliver k)).consumers ended.is.place ≡ Some c
           → (q : Purchase) → purchase_of ended.buyer t ≡ Some q → purchase_of c t ≡ Some (ended_purchase q s.receipt)
-      unfolding ended_purchase
       ended_at c at q known =
           let same : after ended.buyer (Ok (deed.Ends t s ended.how)) ≡ c = same_some _ c (sym (behind_end (run (with_buyers any head cap) w es) id k t s ended) ∙ at) in
           ap (λ (x : Buyer). purchase_of x t) (sym same) ∙ found_behind ended.buyer t q (behind_item (item.Ended t s)) known refl

@@ -1,12 +1,11 @@
 -- What a merchant's step sends, in every world behind a list of events; and what a consumer held when it kept an order.
-use Rattle.std.proofs.Common.{◌≡◌, ℕ, Bool, true, false, List, [], ◌∷◌, ◌++◌, length, Option, None, Some, Result, Ok, Err, refl, sym, ap, subst, ◌∙◌}
+use Rattle.std.proofs.Common.{◌≡◌, ℕ, true, List, ◌++◌, None, Some, Result, Ok, Err, refl, sym, ap, subst, ◌∙◌}
 use Rattle.std.proofs.lemmas.Bool.{eqb-true}
 use Rattle.std.specs.Prelude.{◌==◌}
 use Rattle.std.specs.List.{slice_get, AllByRecursion}
 use Rattle.sha2.specs.Sha256.{sha256}
 use Rattle.nb_units.specs.declared.ids.PartyId.{PartyId}
 use Rattle.nb_epo.specs.Places.{checksum_in}
-use Rattle.nb_epo.specs.Spelling.{order_bytes}
 use Rattle.nb_msgs.specs.Bodies.{kind_of, body_bytes}
 use Rattle.nb_msgs.specs.Reading.{message_of}
 use Rattle.nb_msgs.specs.declared.message.Message.{Message}
@@ -17,7 +16,7 @@ use Rattle.nb_wallet.specs.declared.item.Item.TheVariants as item
 use Rattle.nb_wallet.specs.declared.purchase.Purchase.{Purchase}
 use Rattle.nb_escrow.specs.declared.head.Head.{Head}
 use Rattle.nb_consumer.specs.Laws.{RowSo}
-use Rattle.nb_consumer.specs.State.{Buyer, purchase_of}
+use Rattle.nb_consumer.specs.State.{Buyer}
 use Rattle.nb_consumer.specs.declared.deed.Deed.TheVariants as deed
 use Rattle.nb_consumer.proofs.Keeping.{rows_are_so}
 use Rattle.nb_merchant.specs.declared.answer.Answer.{Answer}
@@ -35,7 +34,7 @@ use Rattle.nb_world.specs.World.{Going, Stays, Goes, World}
 use Rattle.nb_world.specs.Steps.{run}
 use Rattle.nb_world.specs.Laws.{IsSetUp}
 use Rattle.nb_world.proofs.Chains.{same_some}
-use Rattle.nb_world.proofs.Holding.{AtEach, GoesSo, IsNoNodes, StepsKeep, HoldsIn, run_holds}
+use Rattle.nb_world.proofs.Holding.{GoesSo, IsNoNodes, StepsKeep, HoldsIn, run_holds}
 use Rattle.nb_parties.specs.Rules.{shop_row, shop_goes, shop_hears, real_rules}
 use Rattle.nb_parties.specs.Goods.{EndorsedGoodsOpen, MerchantsAreEnrolled, KeepsOrder}
 
@@ -78,21 +77,26 @@ module _ (first : World Buyer Shop) where
       → GoesSo (IsMerchantAt i) Sent (by.Merchant id) (shop_goes s row)
   unfolding Sent IsMerchantAt
   row_sends i id s w (Ok a) done one so =
-      let follows = sent_follows s w a so.4 done in
-      ((so.0, so.1, so.2, so.3, follows.0), (record {
-        place = i;
-        merchant = so.0;
-        of = so.1;
-        its = ap (λ stall. stall.id.0) (sym so.2) ∙ eqb-true s.stall.id.0 id.0 one;
-        shop = after s (Ok a);
-        stall = so.2;
-        products = so.3;
-        whom = a.to;
-        message = a.message;
-        kind = refl;
-        body = refl;
-        so = follows.1;
-      }, tt))
+      let follows = sent_follows s w a so.4 done in (
+        (so.0, so.1, so.2, so.3, follows.0),
+        (
+          record {
+            place = i;
+            merchant = so.0;
+            of = so.1;
+            its = ap (λ stall. stall.id.0) (sym so.2) ∙ eqb-true s.stall.id.0 id.0 one;
+            shop = after s (Ok a);
+            stall = so.2;
+            products = so.3;
+            whom = a.to;
+            message = a.message;
+            kind = refl;
+            body = refl;
+            so = follows.1;
+          },
+          tt,
+        ),
+      )
   row_sends i id s w (Err why) done one so = tt
 
   -- the word that a message is to a merchant

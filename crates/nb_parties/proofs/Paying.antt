@@ -1,5 +1,5 @@
 -- The key of a payment is that of the endorsement that a merchant's step made.
-use Rattle.std.proofs.Common.{◌≡◌, ◌⊎◌, inl, inr, ℕ, zero, suc, ◌+◌, ◌-◌, ◌<◌, ◌≤◌, ◌^◌, List, [], ◌∷◌, ◌++◌, length, take, Option, None, Some, Result, Ok, Err, refl, sym, ap, subst, ◌∙◌, arith, length-append}
+use Rattle.std.proofs.Common.{◌≡◌, ◌⊎◌, inl, inr, ℕ, ◌+◌, ◌-◌, ◌<◌, ◌≤◌, ◌^◌, List, ◌++◌, length, take, Option, None, Some, Result, Ok, refl, sym, ap, subst, ◌∙◌, arith, length-append}
 use Rattle.std.proofs.lemmas.Option.{slice_get_within, slice_get_cases}
 use Rattle.std.proofs.Math.Seq.{take-append-add}
 use Rattle.std.specs.Prelude.{codes, get_or}
@@ -11,7 +11,6 @@ use Rattle.nb_units.specs.declared.limits.TheConstants.{MAX_MEMO, MAX_ORDER}
 use Rattle.nb_seal.specs.Seal.{OpensAs, seal_of}
 use Rattle.nb_seal.proofs.Opening.{opens_once, length-seal_of}
 use Rattle.nb_body.specs.Reading.{endorsed_of}
-use Rattle.nb_body.specs.Spelling.{endorsed_bytes}
 use Rattle.nb_body.specs.declared.endorsed.EndorsedOrder.{EndorsedOrder}
 use Rattle.nb_body.specs.declared.limits.TheConstants.{MAX_ENDORSED}
 use Rattle.nb_body.proofs.Layouts.{endorsed_reads_back}
@@ -30,8 +29,7 @@ use Rattle.nb_msgs.specs.declared.message.Message.TheVariants as message
 use Rattle.nb_msgs.specs.declared.node.To.{To}
 use Rattle.nb_escrow.specs.Head.{IsRuling, charge}
 use Rattle.nb_escrow.specs.Laws as escrow
-use Rattle.nb_escrow.specs.Payable.{IsAuthenticOrder, IsPayable, payment_of, payment_with}
-use Rattle.nb_escrow.specs.Verdict.{verdict}
+use Rattle.nb_escrow.specs.Payable.{IsAuthenticOrder, payment_with}
 use Rattle.nb_escrow.specs.declared.head.Head.{Head}
 use Rattle.nb_escrow.specs.declared.order.Presented.{Presented}
 use Rattle.nb_escrow.proofs.Exactly.{paid_exactly_where}
@@ -43,7 +41,7 @@ use Rattle.nb_world.specs.declared.event.Event.{Event}
 use Rattle.nb_world.specs.declared.packet.Maker.TheVariants as by
 use Rattle.nb_world.specs.declared.packet.Packet.{Packet}
 use Rattle.nb_world.specs.declared.turning.Origin.{Origin}
-use Rattle.nb_world.specs.World.{World, request_of}
+use Rattle.nb_world.specs.World.{World}
 use Rattle.nb_world.specs.Steps.{run}
 use Rattle.nb_world.specs.Laws.{Begins, CameBy, HasOrigins, IsLawfulWorld, IsSetUp, RecordsLegal}
 use Rattle.nb_world.proofs.Chains.{same_some}
@@ -54,7 +52,7 @@ use Rattle.nb_world.proofs.Serving.{world_law}
 use Rattle.nb_world.proofs.Settling.{house_records_legal}
 use Rattle.nb_world.proofs.Stopping.{entries_have_origins}
 use Rattle.nb_parties.specs.Rules.{shown, house_verdict, real_rules}
-use Rattle.nb_parties.specs.Goods.{IsEnrolled, MerchantsAreEnrolled, IsOpening, PaysUnder, IsEndorsedBy, KeepsOrder, IsKeyOfGoods, IsOfGoods, GoodsLaw, GoodsOfEachPayment}
+use Rattle.nb_parties.specs.Goods.{IsEnrolled, MerchantsAreEnrolled, IsOpening, PaysUnder, KeepsOrder, IsKeyOfGoods, IsOfGoods, GoodsLaw, GoodsOfEachPayment}
 use Rattle.nb_parties.proofs.Endorsing.{SentFrom, SentBy, all_sent, order_names}
 
 ok_same : {A E : Type 0} (x y : A) → ◌≡◌ {A = Result A E} (Ok x) (Ok y) → x ≡ y
@@ -74,7 +72,7 @@ party_there first all begins n long id party found =
 
 endorsement_long : (e : Endorsement) → length (endorsement_bytes e) ≡ 12 + length e.order + length e.memo + length e.key
 unfolding endorsement_bytes
-endorsement_long e = omega (arith, length-append e.order (be4 e.macct.0 ++ sized e.memo ++ e.key), length-append e.memo e.key)
+endorsement_long e = omega (arith, length-append ((e.order ++ be4 e.macct.0) ++ sized e.memo) e.key, length-append (e.order ++ be4 e.macct.0) (sized e.memo), length-append e.order (be4 e.macct.0))
 
 within_limit : (order memo key plain sealed : ℕ) → order ≤ MAX_ORDER → memo ≤ MAX_MEMO → key ≡ 32 → plain ≡ 12 + order + memo + key → sealed ≡ 32 + plain → sealed ≤ MAX_ENDORSED
 within_limit order memo key plain sealed short few long all is = omega arith
@@ -226,10 +224,10 @@ goods_law stays legal head cap ruling w setup enrolled es at entry key there pay
 -- ---- from enrolments and funds alone
 
 none_pays : (key : List ℕ) (e : Entry) → IsOpening e → PaysUnder key e → ⊥
-none_pays key (Paid digest epoid consumer merchant product price cacct macct moment k) (inl no) pays = no
-none_pays key (Paid digest epoid consumer merchant product price cacct macct moment k) (inr no) pays = no
-none_pays key (Charged digest epoid consumer merchant product price fee cacct macct moment k) (inl no) pays = no
-none_pays key (Charged digest epoid consumer merchant product price fee cacct macct moment k) (inr no) pays = no
+none_pays key (Paid digest epoid consumer merchant product price cacct macct moment k) (inl none) pays = none
+none_pays key (Paid digest epoid consumer merchant product price cacct macct moment k) (inr none) pays = none
+none_pays key (Charged digest epoid consumer merchant product price fee cacct macct moment k) (inl none) pays = none
+none_pays key (Charged digest epoid consumer merchant product price fee cacct macct moment k) (inr none) pays = none
 none_pays key (Enrol id role acct nonce k) is pays = pays
 none_pays key (Fund acct amount reference) is pays = pays
 none_pays key (Refused digest epoid consumer merchant product price code a b moment) is pays = pays

@@ -1,14 +1,15 @@
 -- What is read of the bytes of a receipt that the house signed, and of their seal.
-use Rattle.std.proofs.Common.{◌≡◌, ℕ, ◌+◌, ◌≤◌, Bool, true, false, List, ◌++◌, length, take, drop, Option, Some, None, Result, Ok, Err, refl, sym, ap, subst, ◌∙◌, arith, length-append}
-use Rattle.std.proofs.lemmas.Bool.{eqb-true, ltb-false, false≢true}
+use Rattle.std.proofs.Common.{◌≡◌, ℕ, suc, ◌+◌, ◌≤◌, Bool, true, false, List, ◌++◌, length, take, drop, Option, Some, None, Result, Ok, Err, refl, sym, ap, subst, ◌∙◌, arith, length-append}
+use Rattle.std.proofs.lemmas.Bool.{ltb-false}
 use Rattle.std.proofs.lemmas.List.{length-drop}
+use Rattle.std.specs.Bool.{then_some}
 use Rattle.std.specs.Prelude.{◌==◌, nat_lt, bytes_eq, if◌then◌else◌}
 use Rattle.nb_units.specs.declared.cut.CutFault.TheVariants.{Short, Extra}
-use Rattle.nb_units.specs.Epoid.{epoid_bytes}
+use Rattle.nb_units.specs.Epoid.{epoid_bytes, epoid_of}
 use Rattle.nb_units.specs.Fields.{u8_at, u32_at, u64_at, raw_at, done_at, or_place, allowed}
-use Rattle.nb_seal.specs.Seal.{seal_of, text_in}
+use Rattle.nb_seal.specs.Seal.{seal_of}
 use Rattle.nb_seal.proofs.Opening.{length-hmac_of}
-use Rattle.nb_endorse.specs.declared.receipt.TheConstants.{ABSENT, PRESENT, NO_KEY}
+use Rattle.nb_endorse.specs.declared.receipt.TheConstants.{PRESENT, NO_KEY}
 use Rattle.nb_endorse.specs.declared.receipt.Receipt.{Receipt}
 use Rattle.nb_endorse.specs.declared.receipt.Signed.{Signed}
 use Rattle.nb_endorse.specs.Spelling.{key_bytes, shown_bytes, receipt_bytes, signed_bytes, IsReceipt}
@@ -16,7 +17,6 @@ use Rattle.nb_endorse.specs.Tags.{receipt_tag, signed_receipt}
 use Rattle.nb_endorse.specs.Reading.{is_receipt_code, key_flag, may_show, may_hold, behind_key, behind_moment, signed_of}
 use Rattle.nb_endorse.proofs.Placing.{inside}
 use Rattle.nb_endorse.proofs.Receipts.{receipt_reads_back}
-use Rattle.nb_msgs.specs.declared.node.Reason.{Reason}
 use Rattle.nb_msgs.specs.declared.status.StatusText.{StatusText}
 use Rattle.nb_msgs.specs.StatusText.{text_bytes, text_of}
 use Rattle.nb_msgs.specs.Places.{SpellsReceipt, ReadsReceipt}
@@ -77,7 +77,7 @@ behind_moment_long front bytes s is =
     let keyed = inside (allowed (has.0 == key_flag front.code) 53) _ s has.2 in
     let key = inside (or_place (raw_at 32 bytes 54)) _ s keyed.2 in
     let key_fits = inside (allowed (may_hold has.0 (bytes_eq key.0 NO_KEY)) 54) _ s key.2 in
-    behind_key_long _ bytes s key_fits.2
+    behind_key_long (record front { key = then_some (has.0 == PRESENT) key.0 }) bytes s key_fits.2
 
 signed_long : (bytes : List ℕ) (s : Signed) → signed_of bytes ≡ Ok s → length bytes ≡ 135
 unfolding signed_of
@@ -91,7 +91,18 @@ signed_long bytes s is =
     let epoid = inside (or_place (raw_at 16 bytes 21)) _ s price.2 in
     let at = inside (or_place (u64_at bytes 37)) _ s epoid.2 in
     let moment = inside (or_place (u64_at bytes 45)) _ s at.2 in
-    behind_moment_long _ bytes s moment.2
+    behind_moment_long (record {
+      code = code.0;
+      consumer = record { 0 = consumer.0 };
+      merchant = record { 0 = merchant.0 };
+      product = product.0;
+      price = record { 0 = price.0 };
+      epoid = epoid_of epoid.0;
+      at = at.0;
+      moment = moment.0;
+      key = None;
+      shown = None;
+    }) bytes s moment.2
 
 shown_long : (o : Option (ℕ × ℕ)) → length (shown_bytes o) ≡ 17
 shown_long None = refl
@@ -101,7 +112,7 @@ shown_long (Some numbers) = refl
 spelled_long : (r : Receipt) (key tag : List ℕ) → r.key ≡ Some key → length (receipt_bytes r ++ tag) ≡ 71 + length key + length tag
 unfolding receipt_bytes epoid_bytes
 spelled_long r key tag is =
-    let keyed : length (key_bytes r.key) ≡ 1 + length key = ap (λ (o : Option (List ℕ)). length (key_bytes o)) is in
+    let keyed : length (key_bytes r.key) ≡ suc (length key) = ap (λ (o : Option (List ℕ)). length (key_bytes o)) is in
     omega (arith, length-append (key_bytes r.key ++ shown_bytes r.shown) tag, length-append (key_bytes r.key) (shown_bytes r.shown), keyed, shown_long r.shown)
 
 -- a key in what was read so has 32 bytes

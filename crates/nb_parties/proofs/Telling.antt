@@ -1,10 +1,9 @@
 -- What a reply of the house tells of a receipt: it is the one that a settlement among the durable entries gives the party that was told.
-use Rattle.std.proofs.Common.{◌≡◌, ◌≢◌, ◌⊎◌, inl, inr, ℕ, zero, suc, Bool, true, false, cond, List, [], ◌∷◌, ◌++◌, length, take, drop, Option, None, Some, Result, Ok, refl, sym, ap, subst, ◌∙◌, append-nil, take-append-drop}
+use Rattle.std.proofs.Common.{◌≡◌, ◌≢◌, inl, inr, ℕ, zero, suc, Bool, true, false, cond, List, [], ◌∷◌, ◌++◌, take, drop, Option, None, Some, Result, Ok, refl, sym, ap, subst, ◌∙◌, append-nil, take-append-drop}
 use Rattle.std.proofs.lemmas.Bool.{eqb-true, eq-eqb, false_from_ne_true}
 use Rattle.std.specs.Prelude.{◌==◌, codes}
 use Rattle.std.specs.List.{slice_get}
 use Rattle.std.specs.Option.{option_to_list, option_and_then}
-use Rattle.nb_units.specs.Epoid.{epoid_bytes, epoid_of}
 use Rattle.nb_units.specs.declared.epoid.Epoid.{Epoid}
 use Rattle.nb_units.specs.declared.ids.PartyId.{PartyId}
 use Rattle.nb_body.specs.declared.query.StatusQuery.{StatusQuery}
@@ -22,16 +21,13 @@ use Rattle.nb_endorse.specs.declared.receipt.Signed.{Signed}
 use Rattle.nb_endorse.specs.declared.reply.Reply.{Reply}
 use Rattle.nb_endorse.specs.declared.reply.Reply.TheVariants.{Result as Receipts, Grant, Done, Status, Refused as Told}
 use Rattle.nb_endorse.specs.declared.reply.ReplyKeys.{ReplyKeys}
-use Rattle.nb_endorse.proofs.Placing.{spelled_is_read}
 use Rattle.nb_msgs.specs.ReplyBytes.{sealed_receipt, status_frame, told_status}
 use Rattle.nb_msgs.specs.StatusText.{text_bytes, text_of}
 use Rattle.nb_msgs.specs.Tests.{opened}
-use Rattle.nb_msgs.specs.declared.status.StatusText.{StatusText}
 use Rattle.nb_escrow.specs.declared.decision.Decision.{Decision}
 use Rattle.nb_escrow.specs.declared.head.Head.{Head}
-use Rattle.nb_escrow.specs.declared.settlement.PaymentOutcome.{PaymentOutcome}
 use Rattle.nb_escrow.specs.declared.settlement.Settlement.{Settlement}
-use Rattle.nb_escrow.specs.Replies.{HasKeysOfParties, TellsOrder, TellsStatus, IsReceiptFor, merchant_receipt, consumer_receipt}
+use Rattle.nb_escrow.specs.Replies.{HasKeysOfParties, TellsOrder, TellsStatus, IsReceiptFor}
 use Rattle.nb_escrow.specs.Settlements.{settlement_at, settlement_of, settlement_in, receipt_in_role, receipt_of_party}
 use Rattle.nb_escrow.specs.Verdict.{verdict}
 use Rattle.nb_escrow.proofs.Lasts.{order_stays}
@@ -121,7 +117,7 @@ result_given all head body moment at entry keys merchant consumer key whom s rec
       its = name_is all name names.1 of.0 found of.1;
       given = to_consumer of.0 whom (sym (ap (λ (r : Receipt). r.consumer) of.2) ∙ tells.0);
       bytes = subst (λ (h : List ℕ). signed_of (signed_bytes (signed_receipt h (receipt_in_role CONSUMER of.0))) ≡ Ok s) house
-      (subst (λ (r : Receipt). signed_of (signed_bytes (signed_receipt keys.house r)) ≡ Ok s) of.2 plain);
+          (subst (λ (r : Receipt). signed_of (signed_bytes (signed_receipt keys.house r)) ≡ Ok s) of.2 plain);
     }
 
 -- a receipt that a settlement gives in a role, to this party
@@ -202,7 +198,7 @@ status_given all head body at keys place order receipt key whom s names parties 
           its = given.its;
           given = given.given;
           bytes = subst (λ (h : List ℕ). signed_of (signed_bytes (signed_receipt h (receipt_in_role given.role given.settlement))) ≡ Ok s) house
-          (subst (λ (x : Receipt). signed_of (signed_bytes (signed_receipt keys.house x)) ≡ Ok s) given.is plain);
+              (subst (λ (x : Receipt). signed_of (signed_bytes (signed_receipt keys.house x)) ≡ Ok s) given.is plain);
         }
 
 -- whichever reply it is

@@ -8,7 +8,6 @@ use Rattle.nb_endorse.specs.declared.receipt.Signed.{Signed}
 use Rattle.nb_goods.specs.Collision.{Collision}
 use Rattle.nb_goods.specs.Goods.{sealed_goods}
 use Rattle.nb_wallet.specs.declared.purchase.Purchase.{Purchase}
-use Rattle.nb_escrow.specs.Head.{IsRuling}
 use Rattle.nb_escrow.specs.declared.head.Head.{Head}
 use Rattle.nb_escrow.specs.declared.settlement.PaymentOutcome.TheVariants.{Paid}
 use Rattle.nb_consumer.specs.Known.{AllSo}
@@ -19,7 +18,6 @@ use Rattle.nb_world.specs.declared.event.Event.TheVariants as on
 use Rattle.nb_world.specs.declared.packet.Packet.{Packet}
 use Rattle.nb_world.specs.World.{World}
 use Rattle.nb_world.specs.Steps.{run}
-use Rattle.nb_world.specs.Laws.{IsSetUp}
 use Rattle.nb_parties.specs.Rules.{real_rules}
 use Rattle.nb_parties.specs.Ends.{EndsBy, IsPaid, EndsAsEntry}
 use Rattle.nb_parties.specs.Goods.{IsKeyOfGoods}
