@@ -4,3 +4,4 @@ pub mod Ending
 pub mod Endorsing
 pub mod Paying
 pub mod Buying
+pub mod Judging

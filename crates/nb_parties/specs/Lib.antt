@@ -2,3 +2,4 @@ pub mod Rules
 pub mod Ends
 pub mod Goods
 pub mod Held
+pub mod Judged

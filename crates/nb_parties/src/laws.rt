@@ -4,6 +4,7 @@
 ghost use Rattle.nb_parties.specs.Ends as ends;
 ghost use Rattle.nb_parties.specs.Goods as goods;
 ghost use Rattle.nb_parties.specs.Held as held;
+ghost use Rattle.nb_parties.specs.Judged as judged;
 
 /// A purchase that ended by a receipt which the house made for its consumer is, then and behind every later event, what the durable entry of its order says: paid
 /// with the goods that the entry's key opens, foul where that key opens nothing, or refused with the entry's code; and the receipt is the one that the
@@ -35,4 +36,16 @@ pub fn payments_open_goods()
 /// consumer holds is a collision with them as they were sealed: it is not foul.
 pub fn paid_holds_goods()
     ensures { held.BuyersHoldGoods }
+{}
+
+/// The papers of an order for which an entry is recorded now, with the receipt that its consumer is given, are ruled on as the entry says: never by one of the
+/// first three rulings, and as not paid, with the entry's code, exactly where the order was refused.
+pub fn orders_are_judged()
+    ensures { judged.OrdersAreJudged }
+{}
+
+/// Papers with the checksum of an order that a merchant endorsed, and goods that have it, are ruled on by the endorsement's key as goods that it opens, with the length of
+/// the product's goods; or the goods are a collision with those as they were sealed.
+pub fn endorsed_goods_are_judged()
+    ensures { judged.EndorsedGoodsAreJudged }
 {}
