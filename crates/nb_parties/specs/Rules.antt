@@ -65,6 +65,7 @@ abbrev pub shop_goes : Shop → Result Answer Reason → Going Shop
 shop_goes shop (Ok answer) = Goes (sells.after shop (Ok answer)) (sent_by (sells.step_of (Ok answer)))
 shop_goes shop (Err why) = Stays
 
+-- what it does at the message that a packet's body is, or that it is none
 abbrev pub shop_hears : Shop → Result Message ℕ → ℕ → Going Shop
 shop_hears shop (Ok m) moment = shop_goes shop (shop_row shop m moment)
 shop_hears shop (Err place) moment = Stays
