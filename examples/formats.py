@@ -75,6 +75,7 @@ STATUSES = {
     9: ("no journal is made: there is one, or the cap is out of its range", "", "take another file, or a cap from 1 to 1,000,000"),
     11: ("as many frames were answered as one run answers", "", "start again with the rest of the input"),
     13: ("a port failed, with connections left", "", "start again"),
+    15: ("nobody holds the account, and it is not the house's", "", "look for its number: examples/show journal has all accounts, and 0 is the house's"),
     17: ("a file or a port could not be opened, or another process holds the journal", "", "see who holds it, its mode, and whether the port is free"),
 }
 
@@ -351,6 +352,21 @@ def moves(entry):
 def balance(entries, account):
     """What is in an account, which is given as its four bytes."""
     return sum(amount for entry in entries for moved, amount in moves(entry) if moved == account)
+
+
+def statement(entries, account):
+    """The statement of an account over these entries, line by line. The account is given as its number."""
+    lines, behind = [f"account {account}"], 0
+    for entry in entries:
+        for moved, amount in moves(entry):
+            if number(moved) == account:
+                behind += amount
+                if entry[0] == FUNDED:
+                    word, name = "fund", entry[13:29]
+                else:
+                    word, name = "out" if amount < 0 else "in" if account else "fee", entry[33:49]
+                lines.append(f"{len(lines):>8} {word:<4} {name.hex()} {abs(amount):>20} {behind:>20}")
+    return [line + "\n" for line in [*lines, f"closing {behind}"]]
 
 
 def balances(entries, accounts):

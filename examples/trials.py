@@ -5,6 +5,17 @@ import sys
 
 lines, told = [], []
 
+# The statement of account 1 after enrolments of a consumer and a merchant, a fund of 500 and an order of 500, as it stands on paper.
+STATEMENT = """\
+account 1
+       1 fund 00000000000000000000000000000000                  500                  500
+       2 out  0000000200000000000003e800000001                  500                    0
+closing 0
+"""
+
+# The most bytes of a piece of a statement.
+STATEMENT_PIECE = 32_768
+
 
 def say(line, *answers):
     """A line, and what the program prints at it: an answer, or a function that gives it where it takes long."""
@@ -27,6 +38,16 @@ def shown(text, most=1000):
     if not text:
         return "nothing"
     return text.hex() if len(text) <= most else f"{len(text)} bytes, {hashlib.sha256(text).hexdigest()}"
+
+
+def joined(lines, most):
+    """Lines joined to pieces of at most so many letters each. None is parted."""
+    pieces = [""]
+    for line in lines:
+        if len(pieces[-1] + line) > most:
+            pieces.append("")
+        pieces[-1] += line
+    return pieces
 
 
 def write(program, rows):

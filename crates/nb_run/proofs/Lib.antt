@@ -6,3 +6,4 @@ pub mod Making
 pub mod Tallying
 pub mod Drilling
 pub mod Moving
+pub mod Stating

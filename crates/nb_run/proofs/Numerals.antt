@@ -2,10 +2,11 @@
 use Rattle.std.proofs.Common.{◌≡◌, ℕ, ◌<◌, ◌≤◌, ◌^◌, List, [], ◌∷◌, length, Option, None, Some, IfSome, refl, sym, ap, ◌∙◌, arith, codes, slice_index_or}
 use Rattle.std.specs.Fmt.{decimal}
 use Rattle.std.proofs.lemmas.Fmt.{decimal_injective}
+use Rattle.nb_units.specs.declared.ids.AcctId.{AcctId}
 use Rattle.nb_units.specs.declared.limits.TheConstants.{MAX_RATE}
 use Rattle.nb_run.specs.declared.ending.Outcome.TheVariants.{Work}
 use Rattle.nb_run.specs.declared.ending.Job.TheVariants.{Serve}
-use Rattle.nb_words.specs.Words.{IsDrill, IsInit, IsMigrate, IsServe}
+use Rattle.nb_words.specs.Words.{IsDrill, IsInit, IsMigrate, IsServe, IsStatement}
 use Rattle.nb_words.proofs.Whole.{sessions_small}
 
 -- words that are the same have the same number at a place
@@ -46,3 +47,8 @@ one_job words w s v t is other =
 -- words have one rate of a journal that is moved
 pub one_migrate : (words : List (List ℕ)) (r q : ℕ) → IsMigrate words r → IsMigrate words q → r ≡ q
 one_migrate words r q is other = same_number 2 _ _ r q (omega (arith, is.3)) (omega (arith, other.3)) (sym is.1 ∙ other.1) refl refl
+
+-- words have one account of a statement
+pub one_statement : (words : List (List ℕ)) (a b : AcctId) → IsStatement words a.0 → IsStatement words b.0 → a ≡ b
+one_statement words a b is other =
+    ap (λ (n : ℕ). let acct : AcctId = record { 0 = n } in acct) (same_number 2 _ _ a.0 b.0 (omega (arith, is.3)) (omega (arith, other.3)) (sym is.1 ∙ other.1) refl refl)

@@ -5,3 +5,4 @@ pub mod Drill
 pub mod Numbers
 pub mod Input
 pub mod Migrate
+pub mod Statement

@@ -27,7 +27,7 @@ use Rattle.nb_batch.specs.declared.batch.TheConstants.{MOST_FRAMES}
 use Rattle.nb_run.specs.declared.ending.Ending.{Ending}
 use Rattle.nb_run.specs.declared.ending.Outcome.{Outcome}
 use Rattle.nb_run.specs.declared.ending.Outcome.TheVariants.{Done}
-use Rattle.nb_run.specs.declared.ending.TheConstants.{CLEAN, BAD_WORDS, SOURCE_FAILED, SINK_FAILED, BAD_INPUT, OUT_OF_MEMORY, DISK_FAILED, NO_JOURNAL, NOT_MADE, FRAME_LIMIT}
+use Rattle.nb_run.specs.declared.ending.TheConstants.{CLEAN, BAD_WORDS, SOURCE_FAILED, SINK_FAILED, BAD_INPUT, OUT_OF_MEMORY, DISK_FAILED, NO_JOURNAL, NOT_MADE, FRAME_LIMIT, NO_ACCOUNT}
 use Rattle.nb_run.specs.declared.init.InitEnd.{InitEnd}
 use Rattle.nb_run.specs.Ending.{at_no_place}
 use Rattle.nb_run.specs.Init.{MakesAs, ending_of}
@@ -36,7 +36,7 @@ use Rattle.nb_batch.specs.Batch.{at_rest, frame_of, moment_of, AllDecided, failu
 -- the statuses that a run can end with
 abbrev pub IsStatus : ℕ → Type 0
 IsStatus n =
-    (n ≡ CLEAN) ⊎ (n ≡ BAD_WORDS) ⊎ (n ≡ SOURCE_FAILED) ⊎ (n ≡ SINK_FAILED) ⊎ (n ≡ BAD_INPUT) ⊎ (n ≡ OUT_OF_MEMORY) ⊎ (n ≡ DISK_FAILED) ⊎ (n ≡ NO_JOURNAL) ⊎ (n ≡ NOT_MADE) ⊎ (n ≡ FRAME_LIMIT)
+    (n ≡ CLEAN) ⊎ (n ≡ BAD_WORDS) ⊎ (n ≡ SOURCE_FAILED) ⊎ (n ≡ SINK_FAILED) ⊎ (n ≡ BAD_INPUT) ⊎ (n ≡ OUT_OF_MEMORY) ⊎ (n ≡ DISK_FAILED) ⊎ (n ≡ NO_JOURNAL) ⊎ (n ≡ NOT_MADE) ⊎ (n ≡ FRAME_LIMIT) ⊎ (n ≡ NO_ACCOUNT)
 
 -- there was no memory to read the words: the run ends with 6 at place 0, and nothing was touched
 abbrev pub Unbegun : {S K D C : Type 0} → Outcome → S → S → K → K → D → D → C → C → Type 0

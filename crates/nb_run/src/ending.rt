@@ -49,6 +49,9 @@ pub const PORT_FAILED: u8 = 13;
 /// The journal of a buyer or of a seller holds as many items as its cap says, and one more was to be kept. No run answers it yet.
 pub const JOURNAL_FULL: u8 = 14;
 
+/// Nobody holds the account whose statement was asked for, and it is not the house's.
+pub const NO_ACCOUNT: u8 = 15;
+
 /// A status, and the place that it speaks of: 0 where there is none.
 #[derive(Clone, Copy)]
 pub struct Ending {

@@ -1,11 +1,12 @@
 //! What the program does, on its words: `init JOURNAL CAP` makes a journal whose head is the input, `batch JOURNAL` answers the
 //! frames of the input, in order, over the house that the journal holds, `drill SEED ORDERS` makes a journal, answers the frames that the seed gives,
-//! and sends one line of what came of them, `serve JOURNAL ADDRESS WORKERS SESSIONS` is told as a [`Job`], and `migrate JOURNAL PERMILLE` makes a
-//! journal with fees of one without them, which is the input.
+//! and sends one line of what came of them, `serve JOURNAL ADDRESS WORKERS SESSIONS` is told as a [`Job`], `migrate JOURNAL PERMILLE` makes a
+//! journal with fees of one without them, which is the input, and `statement JOURNAL ACCT` writes the statement of an account to the output.
 //!
 //! [`nb_words::command_of`] reads the words. For `init` the head is read and the journal made; for `batch` the vault is opened, and
-//! [`nb_batch::serve`] answers; for `drill` both are done, over a source of its frames; for `migrate` the input is opened as a vault opens a journal, and laid on the disk. [`run`] is all of it over any source, sink, disk and clock. Its contract says how it ends and why
-//! (`specs/Run.antt`, `specs/Init.antt`, `specs/Drill.antt`, `specs/Migrate.antt`), what is written to the output, byte for byte, and what a stop at any moment of a batch
+//! [`nb_batch::serve`] answers; for `drill` both are done, over a source of its frames; for `migrate` the input is opened as a vault opens a journal, and laid on the disk; for `statement` the vault is opened, and
+//! [`nb_statement::write`] tells its entries. [`run`] is all of it over any source, sink, disk and clock. Its contract says how it ends and why
+//! (`specs/Run.antt`, `specs/Init.antt`, `specs/Drill.antt`, `specs/Migrate.antt`, `specs/Statement.antt`), what is written to the output, byte for byte, and what a stop at any moment of a batch
 //! leaves of the disk.
 //!
 //! Left to others: the real terminal, file and clock, and the lock on the file.
@@ -17,11 +18,12 @@ mod init;
 mod input;
 mod migrate;
 mod program;
+mod statement;
 mod tally;
 
 pub use ending::{
     BAD_INPUT, BAD_WORDS, CLEAN, DISK_FAILED, Ending, FRAME_LIMIT, JOURNAL_FULL, Job, LINK_FAILED,
-    NO_JOURNAL, NOT_MADE, OUT_OF_MEMORY, Outcome, PORT_FAILED, SINK_FAILED, SOURCE_FAILED, UNPAID,
+    NO_ACCOUNT, NO_JOURNAL, NOT_MADE, OUT_OF_MEMORY, Outcome, PORT_FAILED, SINK_FAILED, SOURCE_FAILED, UNPAID,
     statuses,
 };
 pub use program::run;

@@ -1,18 +1,20 @@
 ghost use Rattle.std.specs.Prelude.{◌≡◌, ◌≢◌, ◌≤◌, ◌⊎◌, ℕ, Option, map, string_bytes};
 ghost use Rattle.nb_port.specs.Faults.{Rose};
 ghost use Rattle.nb_journal.specs.Making.{SparesJournal, IsCap};
-ghost use Rattle.nb_run.specs.declared.ending.TheConstants.{CLEAN, BAD_WORDS, SOURCE_FAILED, SINK_FAILED, OUT_OF_MEMORY, DISK_FAILED, NO_JOURNAL};
+ghost use Rattle.nb_run.specs.declared.ending.TheConstants.{CLEAN, BAD_WORDS, SOURCE_FAILED, SINK_FAILED, OUT_OF_MEMORY, DISK_FAILED, NO_JOURNAL, NO_ACCOUNT};
 ghost use Rattle.nb_journal.specs.Time.{Unwritten};
 ghost use Rattle.nb_run.specs.Ending.{Ends, EndsEarly, EndsWith};
 ghost use Rattle.nb_run.specs.declared.ending.Outcome.TheVariants as outcomes;
 ghost use Rattle.nb_run.specs.declared.ending.Job.{Job};
 ghost use Rattle.nb_run.specs.declared.ending.Job.TheVariants as jobs;
 ghost use Rattle.nb_run.specs.Ending as endings;
-ghost use Rattle.nb_words.specs.Words.{IsBatch, IsDrill, IsInit, IsMigrate, IsServe, IsCommand, MayBeRead};
+ghost use Rattle.nb_units.specs.declared.ids.AcctId.{AcctId};
+ghost use Rattle.nb_words.specs.Words.{IsBatch, IsDrill, IsInit, IsMigrate, IsServe, IsStatement, IsCommand, MayBeRead};
 ghost use Rattle.nb_run.specs.Init.{IsHeadInput, HasNoJournal};
 ghost use Rattle.nb_run.specs.Drill as drills;
 ghost use Rattle.nb_run.specs.Migrate as moves;
 ghost use Rattle.nb_run.specs.Run as runs;
+ghost use Rattle.nb_run.specs.Statement as states;
 
 use crate::drill::drill;
 use crate::ending::{
@@ -21,6 +23,7 @@ use crate::ending::{
 };
 use crate::init::make_journal;
 use crate::migrate::move_journal;
+use crate::statement::write_statement;
 use nb_batch::{BatchEnd, serve};
 use nb_port::{Clock, Disk, Sink, Source};
 use nb_turns::Line;
@@ -33,7 +36,8 @@ use std::alloc::Global;
 /// back. `init JOURNAL CAP` makes a journal without entries, whose head is the input, and `init JOURNAL CAP PERMILLE` one whose house keeps a fee
 /// of that rate; `batch JOURNAL` answers the frames of the
 /// input in order; `serve JOURNAL ADDRESS WORKERS SESSIONS` is work over links, which is left to do; `migrate JOURNAL PERMILLE` makes a journal
-/// whose house keeps a fee of that rate, with the cap, the head and the entries of the input, which is a journal without fees.
+/// whose house keeps a fee of that rate, with the cap, the head and the entries of the input, which is a journal without fees;
+/// `statement JOURNAL ACCT` writes the statement of the account, 0 being the house's own, to the output.
 pub fn run<S: Source, K: Sink, D: Disk, C: Clock>(
     alloc: Global,
     words: &[String],
@@ -92,6 +96,20 @@ pub fn run<S: Source, K: Sink, D: Disk, C: Clock>(
         → (Rose (S.faults source.old) (S.faults source.new) → ⊥) → (Rose (D.tells.faults disk) (D.tells.faults result.1) → ⊥)
         → EndsWith result.0 CLEAN ⊎ EndsWith result.0 OUT_OF_MEMORY }
 
+    // What a statement comes to, unless there was no memory to read the words. It takes nothing from the source, asks for no moment and writes
+    // nothing to the disk. The sink is as before but after 0 and 4.
+    ensures statement { (acct : AcctId) → IsStatement (map string_bytes words.now) acct.0
+        → Ends result.0 (states.StatementIs D.tells disk result.1 (K.sent sink.old) (K.sent sink.new) acct)
+        ⊎ runs.Unbegun result.0 source.old source.new sink.old sink.new disk result.1 clock.old clock.new }
+    ensures quiet { (acct : AcctId) → IsStatement (map string_bytes words.now) acct.0
+        → (source.new ≡ source.old) × (clock.new ≡ clock.old) × Unwritten D.tells disk result.1
+        × ((EndsWith result.0 CLEAN → ⊥) → (EndsWith result.0 SINK_FAILED → ⊥) → sink.new ≡ sink.old) }
+
+    // A journal, and nothing that fails: the statement is told, or nobody holds the account, unless memory is wanting.
+    ensures states { (acct : AcctId) → IsStatement (map string_bytes words.now) acct.0 → runs.IsJournal (D.tells.content disk)
+        → (Rose (K.faults sink.old) (K.faults sink.new) → ⊥) → (Rose (D.tells.faults disk) (D.tells.faults result.1) → ⊥)
+        → EndsWith result.0 CLEAN ⊎ EndsWith result.0 NO_ACCOUNT ⊎ EndsWith result.0 OUT_OF_MEMORY }
+
     // What a batch comes to, unless there was no memory to read the words.
     ensures batch { IsBatch (map string_bytes words.now)
         → Ends result.0 (runs.BatchIs D.tells disk result.1
@@ -146,6 +164,10 @@ pub fn run<S: Source, K: Sink, D: Disk, C: Clock>(
             let mut disk = disk;
             let end = move_journal(alloc, source, &mut disk, rate);
             (Outcome::Done(end.ending()), disk)
+        }
+        Ok(Some(Command::Statement { acct })) => {
+            let (ending, disk) = write_statement(alloc, acct, sink, disk);
+            (Outcome::Done(ending), disk)
         }
         Ok(None) => (Outcome::Done(Ending::at_no_place(BAD_WORDS)), disk),
         Err(NoMemory) => (Outcome::Done(Ending::at_no_place(OUT_OF_MEMORY)), disk),

@@ -413,3 +413,67 @@ migrate_read (x ∷ xs) (y ∷ ys) p q = (
     migrate_rate x xs y ys (begins x xs p) (begins y ys q),
   ),
 )
+
+-- ---- statement JOURNAL ACCT
+
+pub statement_named : IsNamed (codes "statement") (codes "JOURNAL" ∷ codes "ACCT" ∷ []) []
+unfolding clap_on_literals
+statement_named = record { met = refl; silent = refl; found = refl }
+
+abbrev statement : Shape
+statement = leaf (codes "statement") (codes "JOURNAL" ∷ codes "ACCT" ∷ []) []
+
+statement_none : level_fault statement [] nothing_held [] false [] ≡ MissingRequiredArgument ∷ []
+unfolding clap_on_literals
+statement_none = refl
+
+statement_one : (x : ℕ) (xs : Text) → IsBegin x → level_fault statement [] nothing_held ((x ∷ xs) ∷ []) false [] ≡ MissingRequiredArgument ∷ []
+unfolding clap_on_literals
+statement_one x xs p =
+    ap (λ (k : Kinds). level statement k (fold (walked statement.rules []) (at 1 nothing_held) ((x ∷ xs) ∷ [])))
+    (next_faults statement 1 nothing_held x xs p [])
+    ∙ ap (λ (w : Walk). level statement [] w) (next_walk statement 1 nothing_held x xs p [])
+
+statement_taken : (x : ℕ) (xs : Text) (y : ℕ) (ys : Text) → IsBegin x → IsBegin y → level_fault statement [] nothing_held ((x ∷ xs) ∷ (y ∷ ys) ∷ []) false [] ≡ []
+unfolding clap_on_literals
+statement_taken x xs y ys p q =
+    ap (λ (k : Kinds). level statement k (fold (walked statement.rules []) (at 1 nothing_held) ((x ∷ xs) ∷ (y ∷ ys) ∷ [])))
+    (next_faults statement 1 nothing_held x xs p ((y ∷ ys) ∷ []) ∙ next_faults statement 2 _ y ys q [])
+    ∙ ap (λ (w : Walk). level statement [] w) (next_walk statement 1 nothing_held x xs p ((y ∷ ys) ∷ []) ∙ next_walk statement 2 _ y ys q [])
+
+statement_more : (x : ℕ) (xs : Text) (y : ℕ) (ys : Text) (z : ℕ) (zs : Text) (rest : List Text) → IsBegin x → IsBegin y → IsBegin z → level_fault statement [] nothing_held ((x ∷ xs) ∷ (y ∷ ys) ∷ (z ∷ zs) ∷ rest) false [] ≡ UnknownArgument ∷ []
+unfolding clap_on_literals
+statement_more x xs y ys z zs rest p q r =
+    ap (λ (k : Kinds). level statement k (fold (walked statement.rules []) (at 1 nothing_held) ((x ∷ xs) ∷ (y ∷ ys) ∷ (z ∷ zs) ∷ rest)))
+    (next_faults statement 1 nothing_held x xs p ((y ∷ ys) ∷ (z ∷ zs) ∷ rest) ∙ next_faults statement 2 _ y ys q ((z ∷ zs) ∷ rest) ∙ next_faults statement 3 _ z zs r rest)
+
+statement_acct : (x : ℕ) (xs : Text) (y : ℕ) (ys : Text) → IsBegin x → IsBegin y → first_of (codes "ACCT") (rows_after statement.rules [] ((x ∷ xs) ∷ (y ∷ ys) ∷ [])) ≡ Some (y ∷ ys)
+unfolding clap_on_literals
+statement_acct x xs y ys p q = ap (λ (w : Walk). first_of (codes "ACCT") (finished statement.rules w.held)) (next_walk statement 1 nothing_held x xs p ((y ∷ ys) ∷ []) ∙ next_walk statement 2 _ y ys q [])
+
+-- clap takes no other number of words
+pub statement_fits : (words : List Text) → AllByRecursion IsName words → fault_of program (codes "statement" ∷ words) ≡ [] → (journal : Text) × (number : Text) × (words ≡ journal ∷ number ∷ []) × IsName journal
+statement_fits words all none = go words all (sym (called (codes "statement") (codes "JOURNAL" ∷ codes "ACCT" ∷ []) [] statement_named words) ∙ none)
+  where
+    go : (words : List Text) → AllByRecursion IsName words → level_fault statement [] nothing_held words false [] ≡ [] → (journal : Text) × (number : Text) × (words ≡ journal ∷ number ∷ []) × IsName journal
+    go [] all none = absurd (faulty _ _ _ statement_none none)
+    go ([] ∷ words) all none = absurd (not_nothing all.0)
+    go ((x ∷ xs) ∷ []) all none = absurd (faulty _ _ _ (statement_one x xs (begins x xs all.0)) none)
+    go ((x ∷ xs) ∷ [] ∷ words) all none = absurd (not_nothing all.1.0)
+    go ((x ∷ xs) ∷ (y ∷ ys) ∷ []) all none = (x ∷ xs, y ∷ ys, refl, all.0)
+    go ((x ∷ xs) ∷ (y ∷ ys) ∷ [] ∷ words) all none = absurd (not_nothing all.1.1.0)
+    go ((x ∷ xs) ∷ (y ∷ ys) ∷ (z ∷ zs) ∷ words) all none = absurd (faulty _ _ _ (statement_more x xs y ys z zs words (begins x xs all.0) (begins y ys all.1.0) (begins z zs all.1.1.0)) none)
+
+-- as many words as it has positions are taken, and read as they stand
+pub statement_read : (journal number : Text) → IsName journal → IsName number
+    → (fault_of program (codes "statement" ∷ journal ∷ number ∷ []) ≡ []) × ((rows : List Row) × (subcommand_of program (codes "statement" ∷ journal ∷ number ∷ []) ≡ Some (codes "statement", rows)) × (first_of (codes "ACCT") rows ≡ Some number))
+statement_read [] number p q = absurd (not_nothing p)
+statement_read (x ∷ xs) [] p q = absurd (not_nothing q)
+statement_read (x ∷ xs) (y ∷ ys) p q = (
+  called (codes "statement") (codes "JOURNAL" ∷ codes "ACCT" ∷ []) [] statement_named ((x ∷ xs) ∷ (y ∷ ys) ∷ []) ∙ statement_taken x xs y ys (begins x xs p) (begins y ys q),
+  (
+    rows_after statement.rules [] ((x ∷ xs) ∷ (y ∷ ys) ∷ []),
+    entered_as (codes "statement") (codes "JOURNAL" ∷ codes "ACCT" ∷ []) [] statement_named ((x ∷ xs) ∷ (y ∷ ys) ∷ []),
+    statement_acct x xs y ys (begins x xs p) (begins y ys q),
+  ),
+)

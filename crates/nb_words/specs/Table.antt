@@ -6,7 +6,7 @@ use Rattle.clap.specs.Simple.{App, Shape, new_rule, new_shape, on_top, with_subc
 use Rattle.nb_units.specs.declared.limits.TheConstants.{MAX_RATE}
 use Rattle.nb_play.specs.declared.frames.TheConstants.{MAX_ORDERS}
 use Rattle.nb_words.specs.declared.words.Command.{Command}
-use Rattle.nb_words.specs.declared.words.Command.TheVariants.{Init, Batch, Drill, Serve, Migrate}
+use Rattle.nb_words.specs.declared.words.Command.TheVariants.{Init, Batch, Drill, Serve, Migrate, Statement}
 use Rattle.nb_words.specs.Words.{AreServed}
 
 -- ---- for the contracts of private functions alone
@@ -36,12 +36,14 @@ program =
     (with_subcommand
     (with_subcommand
     (with_subcommand
+    (with_subcommand
     (with_subcommand bare
     (shape (codes "init") (codes "JOURNAL" ∷ codes "CAP" ∷ []) (codes "PERMILLE" ∷ [])))
     (shape (codes "batch") (codes "JOURNAL" ∷ []) []))
     (shape (codes "drill") (codes "SEED" ∷ codes "ORDERS" ∷ []) []))
     (shape (codes "serve") (codes "JOURNAL" ∷ codes "ADDRESS" ∷ codes "WORKERS" ∷ codes "SESSIONS" ∷ []) []))
-    (shape (codes "migrate") (codes "JOURNAL" ∷ codes "PERMILLE" ∷ []) [])
+    (shape (codes "migrate") (codes "JOURNAL" ∷ codes "PERMILLE" ∷ []) []))
+    (shape (codes "statement") (codes "JOURNAL" ∷ codes "ACCT" ∷ []) [])
 
 -- a number that is at most this was read at a position
 abbrev pub IsSmallAt : Text → List Row → ℕ → ℕ → Type 0
@@ -61,6 +63,10 @@ abbrev pub ServeIn : List Row → ℕ → ℕ → Type 0
 ServeIn rows workers sessions =
     (first_of (codes "WORKERS") rows ≡ Some (decimal workers)) × (first_of (codes "SESSIONS") rows ≡ Some (decimal sessions)) × AreServed workers sessions
 
+-- a number for an account was read
+abbrev pub StatementIn : List Row → ℕ → Type 0
+StatementIn rows acct = (first_of (codes "ACCT") rows ≡ Some (decimal acct)) × (acct < 2 ^ 32)
+
 -- no rate was read, or one of at most 1,000
 abbrev pub RateIn : List Row → Option ℕ → Type 0
 RateIn rows None = first_of (codes "PERMILLE") rows ≡ None
@@ -73,9 +79,11 @@ CommandIn told (Some Batch) = (rows : List Row) × (told ≡ Some (codes "batch"
 CommandIn told (Some (Drill seed orders)) = (rows : List Row) × (told ≡ Some (codes "drill", rows)) × DrillIn rows seed orders
 CommandIn told (Some (Serve workers sessions)) = (rows : List Row) × (told ≡ Some (codes "serve", rows)) × ServeIn rows workers sessions
 CommandIn told (Some (Migrate rate)) = (rows : List Row) × (told ≡ Some (codes "migrate", rows)) × IsSmallAt (codes "PERMILLE") rows MAX_RATE rate
+CommandIn told (Some (Statement acct)) = (rows : List Row) × (told ≡ Some (codes "statement", rows)) × StatementIn rows acct.0
 CommandIn told None =
     ((rows : List Row) (cap : ℕ) (rate : Option ℕ) → told ≡ Some (codes "init", rows) → InitIn rows cap → RateIn rows rate → ⊥)
     × ((rows : List Row) → told ≡ Some (codes "batch", rows) → ⊥)
     × ((rows : List Row) (seed orders : ℕ) → told ≡ Some (codes "drill", rows) → DrillIn rows seed orders → ⊥)
     × ((rows : List Row) (workers sessions : ℕ) → told ≡ Some (codes "serve", rows) → ServeIn rows workers sessions → ⊥)
     × ((rows : List Row) (rate : ℕ) → told ≡ Some (codes "migrate", rows) → IsSmallAt (codes "PERMILLE") rows MAX_RATE rate → ⊥)
+    × ((rows : List Row) (acct : ℕ) → told ≡ Some (codes "statement", rows) → StatementIn rows acct → ⊥)

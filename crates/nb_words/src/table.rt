@@ -9,7 +9,7 @@ ghost use Rattle.nb_units.specs.declared.limits.TheConstants.{MAX_RATE};
 use crate::words::{Command, MAX_LINKS, MAX_WORKERS};
 use clap::{Arg, ArgMatches, Command as Shape};
 use nb_play::MAX_ORDERS;
-use nb_units::{MAX_RATE, decimal_of};
+use nb_units::{AcctId, MAX_RATE, decimal_of};
 use std::alloc::{AllocError, Global};
 
 /// The program, as clap reads its words: each row is a command, with its name, the names of what stands behind it, and of what may stand behind
@@ -32,7 +32,8 @@ pub(crate) fn program<'a>(alloc: Global) -> Result<Shape<'a>, AllocError>
         &["JOURNAL", "ADDRESS", "WORKERS", "SESSIONS"],
         &[],
     )?;
-    with(alloc, program, "migrate", &["JOURNAL", "PERMILLE"], &[])
+    let program = with(alloc, program, "migrate", &["JOURNAL", "PERMILLE"], &[])?;
+    with(alloc, program, "statement", &["JOURNAL", "ACCT"], &[])
 }
 
 /// The command that was read: each row is a command, with the ranges of its numbers.
@@ -63,6 +64,10 @@ pub(crate) fn command_in(matches: &ArgMatches<'_>) -> Option<Command>
     if is_migrate(name) {
         let rate = permille_in(given)?;
         return Some(Command::Migrate { rate });
+    }
+    if is_statement(name) {
+        let acct = AcctId(small_in(given, "ACCT", u32::MAX)?);
+        return Some(Command::Statement { acct });
     }
     None
 }
@@ -175,6 +180,12 @@ fn is_migrate(word: &str) -> bool
     ensures { IsTrue result ↔ (word.now ≡ codes "migrate") }
 {
     word == "migrate"
+}
+
+fn is_statement(word: &str) -> bool
+    ensures { IsTrue result ↔ (word.now ≡ codes "statement") }
+{
+    word == "statement"
 }
 
 // Whether a server may have so many workers of so many links.

@@ -10,7 +10,7 @@ ghost use Rattle.clap.specs.declared.error.kind.ErrorKind.TheVariants as errors;
 
 use crate::table::{command_in, program};
 use clap::error::ErrorKind;
-use nb_units::NoMemory;
+use nb_units::{AcctId, NoMemory};
 use std::alloc::Global;
 
 /// What the words tell the program to do.
@@ -27,6 +27,8 @@ pub enum Command {
     Serve { workers: u32, sessions: u32 },
     /// `migrate JOURNAL PERMILLE`: make a journal with fees of so many thousandths of a price, of one without fees.
     Migrate { rate: u16 },
+    /// `statement JOURNAL ACCT`: write the statement of this account.
+    Statement { acct: AcctId },
 }
 
 /// The most workers of a server.
@@ -41,7 +43,7 @@ pub fn limits()
 {}
 
 /// The command that the words are, where they are one. A name is not empty and does not begin with `-`, and so is an address; a number is
-/// decimal, and has no sign and no leading zero: a cap is below 2^32, a rate at most [`MAX_RATE`](nb_units::MAX_RATE) and a seed below 2^64, a
+/// decimal, and has no sign and no leading zero: a cap and an account are below 2^32, a rate at most [`MAX_RATE`](nb_units::MAX_RATE) and a seed below 2^64, a
 /// drill has at most [`nb_play::MAX_ORDERS`] orders, and a server from 1 to [`MAX_WORKERS`] workers, of at least one link each and at most
 /// [`MAX_LINKS`] over all.
 pub fn command_of(alloc: Global, words: &[String]) -> Result<Option<Command>, NoMemory>

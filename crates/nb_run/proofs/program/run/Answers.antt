@@ -1,13 +1,15 @@
 use Rattle.std.proofs.Common.{ℕ, List, Option, Some, length, ap, sym, subst, ◌∙◌, inl, inr, arith}
 use Rattle.std.specs.Prelude.{map, string_bytes}
-use Rattle.nb_words.specs.Words.{CommandIs, IsMigrate}
+use Rattle.nb_units.specs.declared.ids.AcctId.{AcctId}
+use Rattle.nb_words.specs.Words.{CommandIs, IsMigrate, IsStatement}
 use Rattle.nb_run.specs.Drill.{DrillIs}
 use Rattle.nb_run.specs.Run.{InitIs}
-use Rattle.nb_run.proofs.Numerals.{one_init, one_drill, one_job, one_migrate, rate_small}
+use Rattle.nb_run.proofs.Numerals.{one_init, one_drill, one_job, one_migrate, one_statement, rate_small}
 use Rattle.nb_run.proofs.Making.{makes_clean}
 use Rattle.nb_run.proofs.Moving.{moves_clean}
 use Rattle.nb_run.specs.Init.{MakesAs}
 use Rattle.nb_run.specs.Migrate.{MigrateIs}
+use Rattle.nb_run.specs.Statement.{StatementIs}
 use Rattle.nb_run.proofs.program.run.Goals as goal
 
 pub make_journal-end-requires : goal.make_journal-end-requires
@@ -76,7 +78,7 @@ pub returns-in-Ok-Some-Migrate-clause-none : goal.returns-in-Ok-Some-Migrate-cla
 returns-in-Ok-Some-Migrate-clause-none g c = λ never.
     let words : List (List ℕ) = map string_bytes c.args.words.now in
     let m = c.in-Ok-Some-Migrate in
-    absurd (never (inr (inr (inr (inr (m.rate, subst (CommandIs words) (m.field-0-is ∙ ap Some m.field-0-0-is) m.ensures.command))))))
+    absurd (never (inr (inr (inr (inr (inl (m.rate, subst (CommandIs words) (m.field-0-is ∙ ap Some m.field-0-0-is) m.ensures.command)))))))
 
 pub returns-in-Ok-Some-Migrate-clause-migrate : goal.returns-in-Ok-Some-Migrate-clause-migrate
 returns-in-Ok-Some-Migrate-clause-migrate g c = λ rate is.
@@ -101,12 +103,12 @@ returns-in-Ok-Some-Migrate-clause-moves g c = λ rate is input none no_source no
 pub returns-in-Ok-None-clause-migrate : goal.returns-in-Ok-None-clause-migrate
 returns-in-Ok-None-clause-migrate g c = λ rate is.
     let words : List (List ℕ) = map string_bytes c.args.words.now in
-    absurd (subst (CommandIs words) c.in-Ok-None.field-0-is c.in-Ok-None.ensures.command (inr (inr (inr (inr (rate, is))))))
+    absurd (subst (CommandIs words) c.in-Ok-None.field-0-is c.in-Ok-None.ensures.command (inr (inr (inr (inr (inl (rate, is)))))))
 
 pub returns-in-Ok-None-clause-moves : goal.returns-in-Ok-None-clause-moves
 returns-in-Ok-None-clause-moves g c = λ rate is input none no_source no_disk.
     let words : List (List ℕ) = map string_bytes c.args.words.now in
-    absurd (subst (CommandIs words) c.in-Ok-None.field-0-is c.in-Ok-None.ensures.command (inr (inr (inr (inr (rate, is))))))
+    absurd (subst (CommandIs words) c.in-Ok-None.field-0-is c.in-Ok-None.ensures.command (inr (inr (inr (inr (inl (rate, is)))))))
 
 pub returns-in-Ok-Some-Migrate-clause-untouched : goal.returns-in-Ok-Some-Migrate-clause-untouched
 returns-in-Ok-Some-Migrate-clause-untouched g c = λ why.
@@ -114,7 +116,7 @@ returns-in-Ok-Some-Migrate-clause-untouched g c = λ why.
     let m = c.in-Ok-Some-Migrate in
     let is : IsMigrate words m.rate = subst (CommandIs words) (m.field-0-is ∙ ap Some m.field-0-0-is) m.ensures.command in
     elim why [
-      | inl never ↦ absurd (never (inr (inr (inr (inr (m.rate, is))))))
+      | inl never ↦ absurd (never (inr (inr (inr (inr (inl (m.rate, is)))))))
       | inr work ↦ let done = work.1 in absurd cc
     ]
 
@@ -124,7 +126,52 @@ returns-in-Ok-Some-Migrate-clause-closed g c = λ why.
     let m = c.in-Ok-Some-Migrate in
     let is : IsMigrate words m.rate = subst (CommandIs words) (m.field-0-is ∙ ap Some m.field-0-0-is) m.ensures.command in
     elim why [
-      | inl never ↦ absurd (never (inr (inr (inr (inr (m.rate, is))))))
+      | inl never ↦ absurd (never (inr (inr (inr (inr (inl (m.rate, is)))))))
+      | inr (inl batch) ↦ absurd (omega (arith, ap length (sym is.1 ∙ batch.1.1)))
+      | inr (inr work) ↦ let done = work.1 in absurd cc
+    ]
+
+pub returns-in-Ok-Some-Statement-clause-none : goal.returns-in-Ok-Some-Statement-clause-none
+returns-in-Ok-Some-Statement-clause-none g c = λ never.
+    let words : List (List ℕ) = map string_bytes c.args.words.now in
+    let t = c.in-Ok-Some-Statement in
+    absurd (never (inr (inr (inr (inr (inr (t.acct.0, subst (CommandIs words) (t.field-0-is ∙ ap Some t.field-0-0-is) t.ensures.command)))))))
+
+pub returns-in-Ok-Some-Statement-clause-statement : goal.returns-in-Ok-Some-Statement-clause-statement
+returns-in-Ok-Some-Statement-clause-statement g c = λ acct is.
+    let words : List (List ℕ) = map string_bytes c.args.words.now in
+    let t = c.in-Ok-Some-Statement in
+    let same = one_statement words t.acct acct (subst (CommandIs words) (t.field-0-is ∙ ap Some t.field-0-0-is) t.ensures.command) is in
+    let told = c.write_statement-disk in
+    inl (subst (λ (a : AcctId). StatementIs g.D.Disk.tells c.args.disk told.result.1 (g.K.Sink.sent c.args.sink.now) (g.K.Sink.sent told.new.sink) a told.result.0) same told.ensures.statement)
+
+pub returns-in-Ok-None-clause-statement : goal.returns-in-Ok-None-clause-statement
+returns-in-Ok-None-clause-statement g c = λ acct is.
+    let words : List (List ℕ) = map string_bytes c.args.words.now in
+    absurd (subst (CommandIs words) c.in-Ok-None.field-0-is c.in-Ok-None.ensures.command (inr (inr (inr (inr (inr (acct.0, is)))))))
+
+pub returns-in-Ok-None-clause-states : goal.returns-in-Ok-None-clause-states
+returns-in-Ok-None-clause-states g c = λ acct is journal no_sink no_disk.
+    let words : List (List ℕ) = map string_bytes c.args.words.now in
+    absurd (subst (CommandIs words) c.in-Ok-None.field-0-is c.in-Ok-None.ensures.command (inr (inr (inr (inr (inr (acct.0, is)))))))
+
+pub returns-in-Ok-Some-Statement-clause-untouched : goal.returns-in-Ok-Some-Statement-clause-untouched
+returns-in-Ok-Some-Statement-clause-untouched g c = λ why.
+    let words : List (List ℕ) = map string_bytes c.args.words.now in
+    let t = c.in-Ok-Some-Statement in
+    let is : IsStatement words t.acct.0 = subst (CommandIs words) (t.field-0-is ∙ ap Some t.field-0-0-is) t.ensures.command in
+    elim why [
+      | inl never ↦ absurd (never (inr (inr (inr (inr (inr (t.acct.0, is)))))))
+      | inr work ↦ let done = work.1 in absurd cc
+    ]
+
+pub returns-in-Ok-Some-Statement-clause-closed : goal.returns-in-Ok-Some-Statement-clause-closed
+returns-in-Ok-Some-Statement-clause-closed g c = λ why.
+    let words : List (List ℕ) = map string_bytes c.args.words.now in
+    let t = c.in-Ok-Some-Statement in
+    let is : IsStatement words t.acct.0 = subst (CommandIs words) (t.field-0-is ∙ ap Some t.field-0-0-is) t.ensures.command in
+    elim why [
+      | inl never ↦ absurd (never (inr (inr (inr (inr (inr (t.acct.0, is)))))))
       | inr (inl batch) ↦ absurd (omega (arith, ap length (sym is.1 ∙ batch.1.1)))
       | inr (inr work) ↦ let done = work.1 in absurd cc
     ]
