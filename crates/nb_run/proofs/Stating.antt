@@ -1,9 +1,8 @@
 -- The statement of an account, told as a run of the program.
-use Rattle.std.proofs.Common.{◌≡◌, ◌≢◌, ◌⊎◌, ◌↔◌, ℕ, List, [], Option, IfSome, Result, Ok, Err, refl, sym, ap, subst, ◌∙◌, append-nil, arith, inl, inr}
+use Rattle.std.proofs.Common.{◌≡◌, ◌≢◌, ◌⊎◌, ◌↔◌, ℕ, List, [], Option, IfSome, Result, Ok, Err, refl, ap, subst, ◌∙◌, append-nil, arith, inl, inr}
 use Rattle.nb_port.specs.Tells.{DiskTells}
 use Rattle.nb_port.specs.Faults.{Rose}
 use Rattle.nb_book.specs.declared.entry.Entry.{Entry}
-use Rattle.nb_turns.specs.declared.line.Line.{Line}
 use Rattle.nb_turns.specs.Lines.{entries_of}
 use Rattle.nb_units.specs.declared.ids.AcctId.{AcctId}
 use Rattle.nb_vault.specs.Holdings.{StandsFor}
@@ -19,17 +18,16 @@ use Rattle.nb_run.specs.Run.{IsJournal, unopened}
 use Rattle.nb_run.specs.Statement.{Stated, told_ending}
 use Rattle.nb_run.proofs.Completeness.{unopened_end}
 
--- an error that says that nobody holds the account names it
-same_fault : {A : Type 0} (e f : A) → Err {Unit {0}} e ≡ Err f → e ≡ f
-same_fault e f is = cc
+same_fault : (r : Result (Unit {0}) StatementFault) (e f : StatementFault) → r ≡ Err e → r ≡ Err f → e ≡ f
+same_fault r e f is same = cc
 
 -- the status says whether nobody holds the account
 refused_by : (told : Result (Unit {0}) StatementFault) (H : List Entry) (a : AcctId) (before after : ℕ) (sent sent' : Option (List ℕ)) → Wrote before after sent sent' a H told → (told ≡ Err (NoAccount a)) ↔ IsHeldByNobody H a
     → ((told_ending told).status ≡ NO_ACCOUNT) ↔ IsHeldByNobody H a
 refused_by (Ok u) H a before after sent sent' wrote is = (λ e. absurd (omega (arith, e)), λ nobody. let e = is.1 nobody in absurd cc)
 refused_by (Err (NoAccount acct)) H a before after sent sent' wrote is = (λ e. is.0 (ap (λ (x : AcctId). Err (NoAccount x)) wrote), λ nobody. refl)
-refused_by (Err WriteFault) H a before after sent sent' wrote is = (λ e. absurd (omega (arith, e)), λ nobody. let e = same_fault _ _ (is.1 nobody) in absurd cc)
-refused_by (Err NoMemory) H a before after sent sent' wrote is = (λ e. absurd (omega (arith, e)), λ nobody. let e = same_fault _ _ (is.1 nobody) in absurd cc)
+refused_by (Err WriteFault) H a before after sent sent' wrote is = (λ e. absurd (omega (arith, e)), λ nobody. let e = same_fault (Err WriteFault) WriteFault (NoAccount a) refl (is.1 nobody) in absurd cc)
+refused_by (Err NoMemory) H a before after sent sent' wrote is = (λ e. absurd (omega (arith, e)), λ nobody. let e = same_fault (Err NoMemory) NoMemory (NoAccount a) refl (is.1 nobody) in absurd cc)
 
 -- what was written of the entries of a vault that was opened, and has done nothing since
 pub stated : {D : Type 0} (tells : DiskTells D) (old : D) (v : Chronicled D) (told : Result (Unit {0}) StatementFault) (a : AcctId) (before after : ℕ) (sent sent' : Option (List ℕ))

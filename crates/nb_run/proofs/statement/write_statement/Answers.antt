@@ -1,7 +1,7 @@
-use Rattle.std.proofs.Common.{◌≡◌, ◌≢◌, ◌⊎◌, sym, ap, subst, ◌∙◌, inl, inr}
+use Rattle.std.proofs.Common.{◌≡◌, ◌⊎◌, sym, ap, subst, ◌∙◌, inl, inr}
 use Rattle.nb_vault.specs.Vaults.{entries_in}
 use Rattle.nb_run.specs.declared.ending.Ending.{Ending}
-use Rattle.nb_run.specs.declared.ending.TheConstants.{CLEAN, SINK_FAILED, OUT_OF_MEMORY, NO_ACCOUNT}
+use Rattle.nb_run.specs.declared.ending.TheConstants.{CLEAN, OUT_OF_MEMORY, NO_ACCOUNT}
 use Rattle.nb_run.specs.Statement.{Stated}
 use Rattle.nb_run.proofs.Stating.{stated, rose_told, silent_told, ends_told, unopened_starved}
 use Rattle.nb_run.proofs.statement.write_statement.Goals as goal
