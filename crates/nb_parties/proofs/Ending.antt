@@ -72,7 +72,8 @@ use Rattle.nb_world.proofs.Serving.{world_law}
 use Rattle.nb_world.proofs.Settling.{house_records_legal}
 use Rattle.nb_world.proofs.Stopping.{run_then}
 use Rattle.nb_parties.specs.Rules.{buyer_goes, buyer_hears, shown, with_buyers}
-use Rattle.nb_parties.specs.Ends.{EndsBy, IsToldBy, IsOrdered, IsPaid, IsFoul, EndsAs, EndsAsEntry, EndsLaw}
+use Rattle.nb_parties.specs.Ends.{EndsBy, IsToldBy, IsOrdered, IsPaid, IsFoul, EndsAs, EndsAsEntry, EndsLaw, RealIsOne}
+use Rattle.nb_parties.proofs.Standing.{still_there}
 use Rattle.nb_parties.proofs.Spelled.{key_long, reads_back}
 use Rattle.nb_parties.proofs.Telling.{GivenTo, reply_given}
 
@@ -341,4 +342,12 @@ module _ {M : Type 0} (stays : StaysLegal) (legal : escrow.RecordsLegal) (any : 
           ap (λ (x : Buyer). purchase_of x t) (sym same) ∙ found_behind ended.buyer t q (behind_item (item.Ended t s)) known refl
 
 pub ends_law : {M : Type 0} → StaysLegal → escrow.RecordsLegal → EndsLaw M
-ends_law stays legal any head cap ruling w setup es more id k t s ended told b there = ends stays legal any head cap ruling w setup es more id k t s ended told b there
+ends_law {M} stays legal any head cap ruling w setup es more id k t s ended =
+    let p = with_buyers any head cap in
+    let there = still_there p (on.Deliver k ∷ more) (run p w es) ended.is.place ended.buyer ended.is.stands in
+    let now : slice_get (run p w (es ++ on.Deliver k ∷ more)).consumers ended.is.place ≡ Some there.0 =
+    ap (λ (v : World Buyer M). slice_get v.consumers ended.is.place) (run_then p w es (on.Deliver k ∷ more)) ∙ there.1 in
+    (there.0, now, λ told. ends stays legal any head cap ruling w setup es more id k t s ended told there.0 now)
+
+pub real_is_one : RealIsOne
+real_is_one head cap = refl

@@ -1,7 +1,10 @@
 pub mod Spelled
 pub mod Telling
+pub mod Standing
 pub mod Ending
 pub mod Endorsing
 pub mod Paying
 pub mod Buying
+pub mod Script
+pub mod Played
 pub mod Judging

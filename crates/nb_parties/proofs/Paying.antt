@@ -77,7 +77,7 @@ endorsement_long e = omega (arith, length-append ((e.order ++ be4 e.macct.0) ++ 
 within_limit : (order memo key plain sealed : ℕ) → order ≤ MAX_ORDER → memo ≤ MAX_MEMO → key ≡ 32 → plain ≡ 12 + order + memo + key → sealed ≡ 32 + plain → sealed ≤ MAX_ENDORSED
 within_limit order memo key plain sealed short few long all is = omega arith
 
-sealed_short : (key : List ℕ) (e : Endorsement) → IsEndorsement e → length (seal_of key (codes "endo") (endorsement_bytes e)) ≤ MAX_ENDORSED
+pub sealed_short : (key : List ℕ) (e : Endorsement) → IsEndorsement e → length (seal_of key (codes "endo") (endorsement_bytes e)) ≤ MAX_ENDORSED
 sealed_short key e is =
     let sealed : length (seal_of key (codes "endo") (endorsement_bytes e)) ≡ 32 + length (endorsement_bytes e) = omega (arith, length-seal_of key (codes "endo") (endorsement_bytes e)) in
     within_limit (length e.order) (length e.memo) (length e.key) (length (endorsement_bytes e)) (length (seal_of key (codes "endo") (endorsement_bytes e))) is.order is.memo is.key (endorsement_long e) sealed

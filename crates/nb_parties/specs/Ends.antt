@@ -51,7 +51,7 @@ use Rattle.nb_world.specs.World.{Rules, World}
 use Rattle.nb_world.specs.Steps.{run}
 use Rattle.nb_world.specs.Fits.{IsConsumer}
 use Rattle.nb_world.specs.Laws.{Asks, IsSetUp}
-use Rattle.nb_parties.specs.Rules.{with_buyers}
+use Rattle.nb_parties.specs.Rules.{real_rules, with_buyers}
 
 -- ---- what is premised
 
@@ -79,7 +79,8 @@ TellsReceipt key whom body keys (Status place epoid receipt) s =
 TellsReceipt key whom body keys other s = ⊥
 
 -- the house made a packet that tells this receipt under this key: an answer to a call, whose reply is that of the decision over as many of the first
--- durable entries as the packet's maker says. No key is asked to be a secret: an injector may hold it, and may have put bytes of its own on the network
+-- durable entries as the packet's maker says. No key is asked to be a secret: an injector may hold it, and may have put bytes of its own on the
+-- network
 pub record IsToldBy {M : Type 0} (head : Head) (cap : ℕ) (w : World Buyer M) (key : List ℕ) (s : Signed) : Type 0 where
   pub whom : PartyId
   pub place : ℕ
@@ -112,8 +113,8 @@ pub record IsFoul (key : List ℕ) (p : Purchase) : Type 0 where
   pub opens : OpensToNothing key p.held
   pub told : phase_of p.stage p.held ≡ phase.Foul
 
--- a purchase ended by a receipt as an outcome says: a payment has its key in the receipt, and that alone says whether the purchase is paid or foul; where
--- the order was refused the purchase is, with the reason's code
+-- a purchase ended by a receipt as an outcome says: a payment has its key in the receipt, and that alone says whether the purchase is paid or foul;
+-- where the order was refused the purchase is, with the reason's code
 abbrev pub EndsAs : PaymentOutcome → Signed → Purchase → Type 0
 EndsAs (Paid cacct macct key fee) s p = (s.receipt.code ≡ PAID_CODE) × (s.receipt.key ≡ Some key) × (IsPaid key p ⊎ IsFoul key p)
 EndsAs (Refused why) s p = (s.receipt.code ≡ why.code) × (s.receipt.key ≡ None) × (phase_of p.stage p.held ≡ phase.Refused why.code)
@@ -145,11 +146,15 @@ pub record EndsAsEntry (house : List ℕ) (entries : List Entry) (whom : PartyId
   -- the end
   pub ends : EndsAs settlement.outcome s behind
 
--- Whatever merchants, the network and injectors do, in every order of events, with stops and restarts: where a consumer's purchase ended by a receipt that
--- the house made for it, the purchase is, then and for good, as the durable entry of its order says.
+-- The world of real merchants too is one of those of which the law speaks.
+abbrev pub RealIsOne : Type 0
+RealIsOne = (head : Head) (cap : ℕ) → with_buyers (real_rules head cap) head cap ≡ real_rules head cap
+
+-- Whatever merchants, the network and injectors do, in every order of events, with stops and restarts: a consumer that ended a purchase by a receipt is
+-- still there behind all that follows, and where the house made that receipt for it, the purchase is as the durable entry of its order says.
 abbrev pub EndsLaw : Type 0 → Type 0
 EndsLaw M = (any : Rules Buyer M) (head : Head) (cap : ℕ) → IsRuling head → (w : World Buyer M) → IsSetUp w → (es more : List Event) (id : PartyId) (k transaction : ℕ) (s : Signed)
     → let p = with_buyers any head cap in (ended : EndsBy p (run p w es) id k transaction s)
-    → let later = run p w (es ++ on.Deliver k ∷ more) in (told : IsToldBy head cap later ended.buyer.wallet.key s)
-    → (b : Buyer) → slice_get later.consumers ended.is.place ≡ Some b
-    → EndsAsEntry head.house later.durable told.whom s (purchase_of ended.buyer transaction) (purchase_of b transaction)
+    → let later = run p w (es ++ on.Deliver k ∷ more) in
+    (b : Buyer) × (slice_get later.consumers ended.is.place ≡ Some b)
+    × ((told : IsToldBy head cap later ended.buyer.wallet.key s) → EndsAsEntry head.house later.durable told.whom s (purchase_of ended.buyer transaction) (purchase_of b transaction))

@@ -1,5 +1,5 @@
--- That sealed goods which a consumer holds open under the key of the payment: of what a merchant endorsed, of every payment in the house's list, and of
--- who was told that it paid.
+-- That sealed goods which a consumer holds open under the key of the payment: of what a merchant endorsed, of every payment in the house's list, and
+-- of who was told that it paid.
 use Rattle.std.specs.Prelude.{◌≡◌, ◌⊎◌, ℕ, ◌<◌, ◌≤◌, ◌^◌, List, ◌++◌, length, Some, Ok}
 use Rattle.std.specs.List.{slice_get, AllByRecursion}
 use Rattle.sha2.specs.Sha256.{sha256}
@@ -41,8 +41,8 @@ use Rattle.nb_parties.specs.Rules.{house_verdict, real_rules}
 
 -- ---- what a merchant endorsed
 
--- Where a merchant endorses an order, at whatever it hears, bytes with the order's checksum open under the endorsement's key to the goods of the product,
--- or are a collision with these goods as they were sealed.
+-- Where a merchant endorses an order, at whatever it hears, bytes with the order's checksum open under the endorsement's key to the goods of the
+-- product, or are a collision with these goods as they were sealed.
 abbrev pub EndorsedGoodsOpen : Type 0
 EndorsedGoodsOpen = (shop : Shop) (w : Word) (a : Answer) (merchant : PartyId) (sealed : List ℕ) → AllFollow shop → done_at shop w ≡ Ok a
     → a.message ≡ message.Endorsed merchant sealed
@@ -75,8 +75,8 @@ PaysUnder key (Paid digest epoid consumer merchant product price cacct macct mom
 PaysUnder key (Charged digest epoid consumer merchant product price fee cacct macct moment k) = k ≡ key
 PaysUnder key other = ⊥
 
--- a packet is an endorsement that a step of this merchant made, one of those that there are in the set-up: with its key, from its shelf, and from what
--- it had kept by then
+-- a packet is an endorsement that a step of this merchant made, one of those that there are in the set-up: with its key, from its shelf, and from
+-- what it had kept by then
 pub record IsEndorsedBy (first : World Buyer Shop) (id : PartyId) (packet : Packet) : Type 0 where
   pub place : ℕ
   pub merchant : Shop
@@ -104,15 +104,16 @@ pub record KeepsOrder (b : Buyer) (heard_now : Message) (order held : List ℕ) 
   pub bytes : order_bytes kept ≡ order
   pub all : purchase.held ++ part ≡ held
 
--- a payment under this key is that of an endorsement: its key is the endorsement's, and what any consumer held when it kept the endorsed order opens under
--- it to the goods of the product, or is a collision with them as they were sealed
+-- a payment under this key is that of an endorsement: its key is the endorsement's, and what any consumer held when it kept the endorsed order opens
+-- under it to the goods of the product, or is a collision with them as they were sealed
 pub record IsKeyOfGoods (first : World Buyer Shop) (id : PartyId) (packet : Packet) (key : List ℕ) : Type 0 where
   pub endorsed : IsEndorsedBy first id packet
   pub same : key ≡ endorsed.endorses.endorsement.key
   pub opens : (b : Buyer) (heard_now : Message) (held : List ℕ) → KeepsOrder b heard_now endorsed.endorses.sent.order held
       → OpensOrCollides key endorsed.endorses.product.goods held
 
--- the payment at a place came by a call, over the entries before it; where a merchant's step made the packet of that call, the key is that of the goods
+-- the payment at a place came by a call, over the entries before it; where a merchant's step made the packet of that call, the key is that of the
+-- goods
 pub record IsOfGoods (head : Head) (cap : ℕ) (first later : World Buyer Shop) (at : ℕ) (entry : Entry) (key : List ℕ) : Type 0 where
   pub origin : Origin
   pub came : CameBy (house_verdict head cap) later origin

@@ -30,8 +30,8 @@ ConsumersAreSo w = (i : ℕ) (b : Buyer) → slice_get w.consumers i ≡ Some b 
 abbrev pub HoldsGoods : List ℕ → List ℕ → Purchase → Type 0
 HoldsGoods key goods p = ((paid : IsPaid key p) × (paid.goods ≡ goods)) ⊎ Collision p.held (sealed_goods key goods)
 
--- Where a purchase ended as the entry of its order says (`EndsLaw`), that is a payment, and a merchant endorsed the very order that the consumer kept with the key
--- of the payment (`GoodsLaw`), the consumer holds the goods of the product.
+-- Where a purchase ended as the entry of its order says (`EndsLaw`), that is a payment, and a merchant endorsed the very order that the consumer kept
+-- with the key of the payment (`GoodsLaw`), the consumer holds the goods of the product.
 abbrev pub BuyersHoldGoods : Type 0
 BuyersHoldGoods = (head : Head) (cap : ℕ) (w : World Buyer Shop) → ConsumersAreSo w → (es more : List Event) (id : PartyId) (k transaction : ℕ) (s : Signed)
     → let p = real_rules head cap in (ended : EndsBy p (run p w es) id k transaction s)

@@ -2,4 +2,5 @@ pub mod Rules
 pub mod Ends
 pub mod Goods
 pub mod Held
+pub mod Worked
 pub mod Judged

@@ -1,6 +1,8 @@
--- The rules of a world of real parties: its consumers are those of nb_consumer, its merchants those of nb_merchant, and its house decides as
--- nb_escrow does. A consumer is what it knows, and a merchant what it kept, so that a restart of either is what starting again with what was
--- kept gives: of a consumer all but the places that it was told, of a merchant all of it.
+-- The rules of a world of real parties. Its consumers do the rows of nb_consumer's table, which `Consumer::start`, `on` and `quiet` answer; its
+-- merchants those of nb_merchant's, which `Merchant::on_consumer`, `on_server` and `quiet` do; its house decides as `nb_escrow::decide` does, and its
+-- replies are the frames that `nb_msgs::write_reply` writes. A consumer is what it knows, and a merchant who it is, what it sells and what it kept.
+-- So a restart of either is what starting again with what was kept gives (`nb_consumer::laws::restarts_as_kept`, `nb_merchant::laws::runs_are_kept`):
+-- of a consumer all but the places that it was told, of a merchant all of it.
 use Rattle.std.specs.Prelude.{ℕ, ◌==◌, List, Option, Some, None, Result, Ok, Err}
 use Rattle.std.specs.Option.{is_some}
 use Rattle.std.specs.Result.{is_ok}
@@ -65,7 +67,7 @@ abbrev pub shop_goes : Shop → Result Answer Reason → Going Shop
 shop_goes shop (Ok answer) = Goes (sells.after shop (Ok answer)) (sent_by (sells.step_of (Ok answer)))
 shop_goes shop (Err why) = Stays
 
--- what it does at the message that a packet's body is, or that it is none
+-- what it does at a message, if the body was one, at a moment
 abbrev pub shop_hears : Shop → Result Message ℕ → ℕ → Going Shop
 shop_hears shop (Ok m) moment = shop_goes shop (shop_row shop m moment)
 shop_hears shop (Err place) moment = Stays
