@@ -5,3 +5,4 @@ pub mod Rows
 pub mod HowFar
 pub mod Rounds
 pub mod NextTime
+pub mod Ends

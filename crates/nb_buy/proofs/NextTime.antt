@@ -292,6 +292,9 @@ module _ {D : Type 0} (tells : DiskTells D) (s : Start) where
   both_none [] ys e = (refl, e)
   both_none (x ∷ xs) ys e = absurd cc
 
+  no_item : {x : List ℕ} → [] ≡ x ∷ [] → ⊥
+  no_item e = cc
+
   lost_over : (p q : Point D) (why : Lost) (t : TradeLost tells s p q why) → HasEnded (phase_for s p.buyer) → IsEndOfOver (ends.Lost why) × (t.traded.acts ++ t.last ≡ []) × (q.buyer ≡ p.buyer)
   lost_over p q why t over =
       let none = no_act s p.buyer (t.traded.acts ++ t.last) over t.obeys in
@@ -305,13 +308,10 @@ module _ {D : Type 0} (tells : DiskTells D) (s : Start) where
       by (lost.Full cap) t last none before = absurd (no_item (sym (ap (kept_by s t.mid.buyer) last) ∙ t.loses.journal.3.1))
       by (lost.DiskFault x y) t last none before = absurd (no_item (sym (ap (kept_by s t.mid.buyer) last) ∙ t.loses.journal.3.1))
 
-      no_item : {x : List ℕ} → [] ≡ x ∷ [] → ⊥
-      no_item e = cc
-
   over_at : (p q : Point D) (end : BuyEnd) (e : EndsAt tells s p q end) → HasEnded (phase_for s p.buyer) → IsEndOfOver end × (acts_at tells s p q end e ≡ []) × (q.buyer ≡ p.buyer)
-  over_at p q ends.Paid e over = (tt, still p q e.traded over)
-  over_at p q ends.Unpaid e over = (tt, still p q e.traded over)
-  over_at p q ends.SinkFault e over = (tt, still p q e.traded over)
+  over_at p q ends.Paid e over = (tt, (still p q e.traded over).0, (still p q e.traded over).1)
+  over_at p q ends.Unpaid e over = (tt, (still p q e.traded over).0, (still p q e.traded over).1)
+  over_at p q ends.SinkFault e over = (tt, (still p q e.traded over).0, (still p q e.traded over).1)
   over_at p q (ends.Stopped peer why) e over = absurd (still_open p q e.traded over e.going)
   over_at p q ends.Spent e over = absurd (still_open p q e.traded over e.going)
   over_at p q (ends.Lost why) e over = lost_over p q why e over
