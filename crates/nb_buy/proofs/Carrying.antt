@@ -1,19 +1,13 @@
 -- A step that is carried out is an act.
-use Rattle.std.proofs.Common.{◌≡◌, ◌⊎◌, inl, inr, ℕ, ◌≤◌, List, [], ◌∷◌, ◌++◌, length, Option, Some, None, Result, Ok, Err, refl, sym, ap, subst, ◌∙◌, append-nil, arith}
+use Rattle.std.proofs.Common.{◌≡◌, inl, inr, ℕ, List, [], ◌∷◌, ◌++◌, Result, Ok, Err, refl, sym, ap, subst, ◌∙◌, append-nil, arith}
 use Rattle.std.specs.Prelude.{IfOk}
-use Rattle.std.specs.List.{AllByRecursion}
 use Rattle.nb_port.specs.Tells.{DiskTells}
-use Rattle.nb_journal.specs.declared.journal.Journal.{Journal}
 use Rattle.nb_journal.specs.Growing.{Grows}
 use Rattle.nb_journal.proofs.Growing.{stays_grows, grows_twice}
-use Rattle.nb_units.specs.Frames.{Frame}
-use Rattle.nb_units.specs.declared.memory.NoMemory.{NoMemory}
 use Rattle.nb_msgs.specs.declared.node.Reason.{Reason}
 use Rattle.nb_msgs.specs.declared.node.Step.{Step}
 use Rattle.nb_wallet.specs.declared.wallet.Start.{Start}
-use Rattle.nb_wallet.specs.declared.item.Item.{Item}
 use Rattle.nb_wallet.specs.declared.item.Item.TheVariants as item
-use Rattle.nb_wallet.specs.Spelling.{item_bytes}
 use Rattle.nb_wallet.proofs.Items.{item_is_short}
 use Rattle.nb_consumer.specs.declared.deed.Deed.{Deed}
 use Rattle.nb_consumer.specs.declared.deed.Deed.TheVariants as deed
@@ -26,7 +20,7 @@ use Rattle.nb_buy.specs.declared.peer.Peer.TheVariants.{House, Seller}
 use Rattle.nb_buy.specs.declared.peer.Next.{Next}
 use Rattle.nb_buy.specs.declared.ended.Lost.{Lost}
 use Rattle.nb_buy.specs.declared.ended.Lost.TheVariants as lost
-use Rattle.nb_buy.specs.Run.{Act, act_row, step_at, buyer_behind, kept_by, AreSpelled, bytes_in, bytes_to, frame_in, frames_on}
+use Rattle.nb_buy.specs.Run.{Act, act_row, step_at, buyer_behind, kept_by, AreSpelled, bytes_in, bytes_to, frames_on}
 use Rattle.nb_buy.specs.Lines.{Line, Lines, LineGoes}
 use Rattle.nb_buy.specs.Bought.{Point, point, Went, NotKept, KnowsOf, Loses}
 use Rattle.nb_buy.specs.Steps.{AreShort, Acts, Carries, next_behind}

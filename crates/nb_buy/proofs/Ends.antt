@@ -1,5 +1,5 @@
 -- What a trade and the writing of its goods come to.
-use Rattle.std.proofs.Common.{◌≡◌, ℕ, ◌≤◌, List, [], ◌∷◌, ◌++◌, length, Option, refl, inl, sym, subst, append-nil, arith}
+use Rattle.std.proofs.Common.{◌≡◌, ℕ, List, [], ◌∷◌, Option, refl, inl, sym, subst, append-nil, arith}
 use Rattle.nb_port.specs.Tells.{DiskTells}
 use Rattle.nb_journal.specs.declared.journal.Journal.{Journal}
 use Rattle.nb_link.specs.Link.{LinkSeen}

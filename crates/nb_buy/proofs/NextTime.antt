@@ -1,5 +1,5 @@
 -- A wallet goes on next time: what a stop leaves, and what starts again with it.
-use Rattle.std.proofs.Common.{◌≡◌, ◌⊎◌, inl, inr, ⊎_elim, ℕ, zero, suc, ◌+◌, ◌-◌, ◌≤◌, List, [], ◌∷◌, ◌++◌, length, take, Option, Some, None, Result, Ok, Err, refl, sym, ap, subst, ◌∙◌, append_assoc, append-nil, length-append, arith}
+use Rattle.std.proofs.Common.{◌≡◌, inl, inr, ⊎_elim, ℕ, zero, suc, ◌+◌, ◌-◌, ◌≤◌, List, [], ◌∷◌, ◌++◌, length, take, Option, Some, None, Result, Ok, Err, refl, sym, ap, subst, ◌∙◌, append_assoc, append-nil, length-append, arith}
 use Rattle.std.specs.Prelude.{IfOk}
 use Rattle.std.proofs.lemmas.List.{take-append-le}
 use Rattle.std.proofs.Math.Seq.{take-append-add}
@@ -7,11 +7,9 @@ use Rattle.nb_port.specs.Tells.{DiskTells}
 use Rattle.nb_journal.specs.declared.journal.Journal.{Journal}
 use Rattle.nb_journal.specs.Stands.{Stands, BeforeOrAfter}
 use Rattle.nb_journal.specs.States.{AtRest}
-use Rattle.nb_journal.specs.Growing.{StandsAmong, StopsIn, Grows}
+use Rattle.nb_journal.specs.Growing.{StandsAmong, StopsIn}
 use Rattle.nb_journal.proofs.Growing.{stops_both}
 use Rattle.nb_journal.proofs.Appending.{stands_now}
-use Rattle.nb_units.specs.Frames.{Frame}
-use Rattle.nb_units.specs.declared.memory.NoMemory.{NoMemory}
 use Rattle.nb_msgs.specs.Reading.{message_of}
 use Rattle.nb_msgs.specs.declared.message.Message.{Message}
 use Rattle.nb_msgs.specs.declared.node.Reason.{Reason}
@@ -27,7 +25,7 @@ use Rattle.nb_consumer.specs.declared.phase.Phase.{Phase}
 use Rattle.nb_consumer.specs.declared.phase.Phase.TheVariants as phase
 use Rattle.nb_consumer.specs.State.{Buyer, purchase_of}
 use Rattle.nb_consumer.specs.Table.{step_of, after}
-use Rattle.nb_consumer.specs.Deeds.{Answers, DeedIsSpelled}
+use Rattle.nb_consumer.specs.Deeds.{DeedIsSpelled}
 use Rattle.nb_consumer.specs.Goods.{IsOpen, HasEnded, phase_in, goods_in}
 use Rattle.nb_consumer.specs.Restart.{Kept, kept_in, untold, restarted}
 use Rattle.nb_consumer.specs.Runs.{Call, row_of}
@@ -39,10 +37,10 @@ use Rattle.nb_buy.specs.declared.ended.Lost.{Lost}
 use Rattle.nb_buy.specs.declared.ended.Lost.TheVariants as lost
 use Rattle.nb_buy.specs.declared.ended.BuyEnd.{BuyEnd}
 use Rattle.nb_buy.specs.declared.ended.BuyEnd.TheVariants as ends
-use Rattle.nb_buy.specs.Run.{Act, Starts, Hears, Waits, heard_as, frame_row, act_row, step_at, buyer_behind, kept_by, AreSpelled, phase_for, outset, MayAct, Obeys}
-use Rattle.nb_buy.specs.Bought.{Point, Went, NotKept, KnowsOf, Loses, Traded, TradeLost, Around, EndsAt, first_point, Bought}
+use Rattle.nb_buy.specs.Run.{Act, Starts, Hears, Waits, heard_as, frame_row, act_row, step_at, buyer_behind, kept_by, AreSpelled, phase_for, outset, Obeys}
+use Rattle.nb_buy.specs.Bought.{Point, Went, NotKept, Traded, TradeLost, EndsAt, first_point}
 use Rattle.nb_buy.specs.Laws.{acts_at, acts_of, StopLeavesFirst, GoesOn, GoesOnNextTime, IsEndOfOver, OverDoesNothing, PaidAgain}
-use Rattle.nb_buy.proofs.Runs.{buyer_both, kept_both, spelled_both}
+use Rattle.nb_buy.proofs.Runs.{kept_both, spelled_both}
 
 -- ---- items with the first of some more
 

@@ -1,14 +1,13 @@
 -- What goes over a line: one part behind another, and what was over.
-use Rattle.std.proofs.Common.{◌≡◌, ◌⊎◌, inl, inr, ⊎_elim, ℕ, ◌+◌, ◌*◌, ◌<◌, ◌≤◌, List, [], ◌∷◌, ◌++◌, length, take, drop, Option, refl, sym, ap, subst, ◌∙◌, append-nil, arith}
+use Rattle.std.proofs.Common.{◌≡◌, ◌⊎◌, inl, inr, ⊎_elim, ℕ, ◌+◌, ◌≤◌, List, [], ◌∷◌, ◌++◌, take, drop, Option, refl, sym, ap, subst, ◌∙◌, append-nil, arith}
 use Rattle.std.specs.Io.KnownBytes.{Consumes, Appends}
 use Rattle.std.proofs.KnownBytes.{Consumes-nil, Appends-nil}
 use Rattle.nb_link.specs.Link.{LinkSeen}
-use Rattle.nb_link.specs.declared.link.Reading.{Reading}
 use Rattle.nb_units.specs.Frames.{Frame, IsFrame}
 use Rattle.nb_frame.specs.State.{Collected, waiting}
 use Rattle.nb_frame.specs.Collected.{frame_at}
 use Rattle.nb_frame.specs.declared.stream.FrameAt.{FrameAt}
-use Rattle.nb_wire.specs.Received.{Wire, Received, ReceivedPromptly}
+use Rattle.nb_wire.specs.Received.{ReceivedPromptly}
 use Rattle.nb_wire.specs.Sent.{WroteOn}
 use Rattle.nb_wire.specs.declared.sending.Sent.{Sent}
 use Rattle.nb_wire.specs.declared.sending.Sent.TheVariants.{All, Failed}
@@ -22,7 +21,7 @@ use Rattle.nb_buy.specs.declared.peer.Peer.TheVariants.{House, Seller}
 use Rattle.nb_buy.specs.declared.peer.Over.{Over}
 use Rattle.nb_buy.specs.declared.peer.Over.TheVariants as over
 use Rattle.nb_buy.specs.declared.sides.Sides.{Sides}
-use Rattle.nb_buy.specs.Run.{Hears, frame_in, frames_on}
+use Rattle.nb_buy.specs.Run.{Hears, frames_on}
 use Rattle.nb_buy.specs.Lines.{Line, Lines, line_at, LineGoes, HasRefusal, IsOver}
 use Rattle.nb_buy.specs.Steps.{FetchIs, Says, SameReaders, IsNear, held_at, lines_of}
 

@@ -1,5 +1,5 @@
 -- A trade goes on act by act.
-use Rattle.std.proofs.Common.{◌≡◌, ◌⊎◌, inl, inr, ⊎_elim, ℕ, ◌+◌, ◌-◌, ◌*◌, ◌<◌, ◌≤◌, Bool, true, false, List, [], ◌∷◌, ◌++◌, length, Option, Some, None, Result, Ok, Err, refl, sym, ap, subst, ◌∙◌, append_assoc, append-nil, length-append, arith}
+use Rattle.std.proofs.Common.{◌≡◌, ◌⊎◌, inl, inr, ⊎_elim, ℕ, ◌+◌, ◌-◌, ◌*◌, ◌<◌, ◌≤◌, Bool, true, false, List, [], ◌∷◌, ◌++◌, length, Option, Some, None, Ok, Err, refl, sym, ap, subst, ◌∙◌, append_assoc, append-nil, length-append, arith}
 use Rattle.std.specs.Prelude.{◌==◌, if◌then◌else◌}
 use Rattle.std.proofs.lemmas.Bool.{eqb-true, eq-eqb, false≢true}
 use Rattle.nb_port.specs.Tells.{DiskTells}
@@ -8,21 +8,17 @@ use Rattle.nb_journal.proofs.Growing.{grows_to_rest}
 use Rattle.nb_units.specs.Frames.{Frame}
 use Rattle.nb_units.specs.declared.frames.TheConstants.{REFUSED_REPLY}
 use Rattle.nb_msgs.specs.declared.message.Message.{Message}
-use Rattle.nb_msgs.specs.declared.node.Reason.{Reason}
 use Rattle.nb_msgs.specs.declared.node.Step.{Step}
 use Rattle.nb_msgs.specs.declared.node.Step.TheVariants as step
 use Rattle.nb_msgs.specs.declared.node.To.{To}
 use Rattle.nb_msgs.specs.declared.node.To.TheVariants as to
-use Rattle.nb_wire.specs.Received.{EndsAs}
 use Rattle.nb_wire.specs.Sent.{WroteOn}
 use Rattle.nb_wire.specs.declared.sending.Sent.{Sent}
 use Rattle.nb_wire.specs.declared.sending.Sent.TheVariants.{All, Failed}
-use Rattle.nb_wire.specs.declared.receiving.LinkEnd.{LinkEnd}
 use Rattle.nb_wallet.specs.declared.wallet.Start.{Start}
-use Rattle.nb_consumer.specs.declared.phase.Phase.{Phase}
 use Rattle.nb_consumer.specs.Goods.{IsOpen, HasEnded}
 use Rattle.nb_consumer.specs.State.{Buyer}
-use Rattle.nb_consumer.specs.Table.{step_of, after}
+use Rattle.nb_consumer.specs.Table.{step_of}
 use Rattle.nb_consumer.proofs.Moving.{start_moves, silent_moves}
 use Rattle.nb_buy.specs.declared.peer.Peer.{Peer}
 use Rattle.nb_buy.specs.declared.peer.Peer.TheVariants.{House, Seller}
@@ -32,9 +28,9 @@ use Rattle.nb_buy.specs.declared.peer.Next.{Next}
 use Rattle.nb_buy.specs.declared.peer.Next.TheVariants as next
 use Rattle.nb_buy.specs.declared.ended.TheConstants.{MOST_FRAMES}
 use Rattle.nb_buy.specs.declared.ended.Lost.{Lost}
-use Rattle.nb_buy.specs.Run.{Act, Starts, Hears, Waits, act_row, asks, step_at, buyer_behind, peer_of, bytes_in, bytes_to, frames_on, frames_of, phase_for, IsOrdered, Way, outset, awaited, onward, way_behind, MayAct, Obeys}
-use Rattle.nb_buy.specs.Lines.{Line, Lines, line_at, LineGoes, HasRefusal, IsOver}
-use Rattle.nb_buy.specs.Bought.{Point, Went, way_of, IsOverAt, AskedFor, IsSpoilt, HadItsTurn, Traded, Finished, Stopped, Spent, Loses, TradeLost}
+use Rattle.nb_buy.specs.Run.{Act, Starts, Hears, Waits, act_row, asks, step_at, peer_of, bytes_in, frames_on, frames_of, phase_for, IsOrdered, Way, outset, awaited, onward, MayAct, Obeys}
+use Rattle.nb_buy.specs.Lines.{Lines, line_at, HasRefusal}
+use Rattle.nb_buy.specs.Bought.{Point, Went, way_of, AskedFor, IsSpoilt, HadItsTurn, Traded, Finished, Stopped, Spent, Loses, TradeLost}
 use Rattle.nb_buy.specs.Steps.{Carries, HeardAs, Listens, Ran, peer_in, OverIs, IsOfSeller, IsKnown, next_sent, next_behind, next_heard, frames_heard}
 use Rattle.nb_buy.proofs.Runs.{way_both, obeys_both, frames_both, heard_both}
 use Rattle.nb_buy.proofs.OverLines.{sent_same, refusal_either, refusal_later, over_from}

@@ -1,5 +1,5 @@
 -- What rows do: a refusal is ignored, and a purchase that is known stays known.
-use Rattle.std.proofs.Common.{◌≡◌, ◌⊎◌, inl, inr, ℕ, Bool, true, false, cond, List, [], ◌∷◌, ◌++◌, Option, Some, None, Result, Ok, Err, refl, sym, ap, subst, ◌∙◌}
+use Rattle.std.proofs.Common.{◌≡◌, ℕ, Bool, true, false, cond, List, [], ◌∷◌, ◌++◌, Option, Some, None, Result, Ok, Err, refl, sym, ap, subst, ◌∙◌}
 use Rattle.std.specs.Prelude.{nat_eq, is_none, IfOk}
 use Rattle.std.specs.List.{find}
 use Rattle.std.specs.Option.{option_or}
@@ -25,9 +25,9 @@ use Rattle.nb_wallet.specs.Messages.{ticket_request}
 use Rattle.nb_wallet.specs.Spelling.{item_bytes}
 use Rattle.nb_consumer.specs.declared.deed.Deed.{Deed}
 use Rattle.nb_consumer.specs.declared.deed.Deed.TheVariants as deed
-use Rattle.nb_consumer.specs.Goods.{phase_in, IsOpen}
+use Rattle.nb_consumer.specs.Goods.{phase_in}
 use Rattle.nb_consumer.specs.State.{Buyer, number_of, place_of, purchase_at, purchase_of, changed, behind_item, fresh, remembered, raised}
-use Rattle.nb_consumer.specs.Table.{started, heard, step_of, after}
+use Rattle.nb_consumer.specs.Table.{started, step_of, after}
 use Rattle.nb_consumer.proofs.Moving.{start_moves}
 use Rattle.nb_consumer.proofs.Staying.{found_first, changed_other}
 use Rattle.nb_consumer.proofs.Again.{found_behind}

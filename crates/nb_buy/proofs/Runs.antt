@@ -1,8 +1,7 @@
 -- One run behind another: what both do, and where each act may come.
-use Rattle.std.proofs.Common.{◌≡◌, ℕ, Bool, List, [], ◌∷◌, ◌++◌, length, Option, refl, sym, ap, subst, ◌∙◌}
+use Rattle.std.proofs.Common.{◌≡◌, List, [], ◌∷◌, ◌++◌, refl, ap, ◌∙◌}
 use Rattle.std.specs.List.{flat_map}
 use Rattle.std.proofs.lemmas.Grind.{flat_map-append}
-use Rattle.nb_units.specs.Frames.{Frame}
 use Rattle.nb_msgs.specs.declared.node.Step.{Step}
 use Rattle.nb_wallet.specs.declared.wallet.Start.{Start}
 use Rattle.nb_consumer.specs.State.{Buyer}

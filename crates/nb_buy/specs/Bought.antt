@@ -1,5 +1,5 @@
 -- What buying does: to the journal, the consumer, the two links and the output.
-use Rattle.std.specs.Prelude.{◌≡◌, ◌⊎◌, ℕ, ◌≤◌, Bool, true, false, List, [], ◌∷◌, ◌++◌, Option, Some, None, Result, Ok, Err, length}
+use Rattle.std.specs.Prelude.{◌≡◌, ◌⊎◌, ℕ, ◌≤◌, Bool, true, List, [], ◌∷◌, ◌++◌, Option, Some, length}
 use Rattle.std.specs.Io.KnownBytes.{Appends}
 use Rattle.nb_port.specs.Tells.{DiskTells}
 use Rattle.nb_port.specs.Faults.{Rose}
@@ -24,7 +24,7 @@ use Rattle.nb_buy.specs.declared.ended.Lost.TheVariants as lost
 use Rattle.nb_buy.specs.declared.ended.BuyEnd.{BuyEnd}
 use Rattle.nb_buy.specs.declared.ended.BuyEnd.TheVariants as ends
 use Rattle.nb_buy.specs.Run.{Act, Waits, buyer_behind, kept_by, AreSpelled, bytes_to, frames_on, frames_of, phase_for, IsOrdered, Way, outset, way_behind, Obeys}
-use Rattle.nb_buy.specs.Lines.{Line, Lines, line_at, begun, LineGoes, HasRefusal, IsOver}
+use Rattle.nb_buy.specs.Lines.{Lines, line_at, begun, LineGoes, HasRefusal, IsOver}
 
 -- what a purchase is made with
 pub record Point (D : Type 0) : Type 0 where

@@ -1,5 +1,5 @@
 -- A purchase as a run: what is done, one thing after another, what each of these keeps and sends, and what may come next.
-use Rattle.std.specs.Prelude.{◌≡◌, ℕ, Bool, true, false, List, [], ◌∷◌, Option, Some, None, Result, Ok, Err, IfOk, length}
+use Rattle.std.specs.Prelude.{◌≡◌, ℕ, Bool, true, false, List, [], ◌∷◌, Option, Some, None, Result, Ok, Err, IfOk}
 use Rattle.std.specs.List.{flat_map}
 use Rattle.nb_units.specs.Frames.{Frame}
 use Rattle.nb_msgs.specs.Bodies.{message_bytes}

@@ -1,5 +1,5 @@
 -- For the contracts of private functions alone: the steps of a purchase.
-use Rattle.std.specs.Prelude.{◌≡◌, ◌⊎◌, ℕ, ◌+◌, ◌*◌, ◌<◌, ◌≤◌, ◌==◌, ◌&&◌, not, if◌then◌else◌, Bool, true, false, List, [], ◌∷◌, ◌++◌, Option, Some, None, Result, Ok, Err, length}
+use Rattle.std.specs.Prelude.{◌≡◌, ◌⊎◌, ℕ, ◌+◌, ◌*◌, ◌<◌, ◌≤◌, ◌==◌, ◌&&◌, not, if◌then◌else◌, Bool, true, false, List, [], ◌∷◌, Option, Some, None, Result, Ok, Err, length}
 use Rattle.std.specs.List.{AllByRecursion}
 use Rattle.std.specs.Io.KnownBytes.{Appends}
 use Rattle.nb_port.specs.Tells.{DiskTells}
@@ -13,8 +13,8 @@ use Rattle.nb_units.specs.declared.frames.TheConstants.{HEADER, MAX_BODY, REFUSE
 use Rattle.nb_frame.specs.State.{Collected, unfed}
 use Rattle.nb_msgs.specs.declared.node.Step.{Step}
 use Rattle.nb_msgs.specs.declared.node.Step.TheVariants as step
-use Rattle.nb_wire.specs.Received.{Wire, wire, Fetches, EndsAs}
-use Rattle.nb_wire.specs.Sent.{WroteOn, OnlyWrites, Sends, SentPart}
+use Rattle.nb_wire.specs.Received.{wire, Fetches, EndsAs}
+use Rattle.nb_wire.specs.Sent.{WroteOn, OnlyWrites, SentPart}
 use Rattle.nb_wire.specs.declared.sending.Sent.{Sent}
 use Rattle.nb_wire.specs.declared.sending.Sent.TheVariants.{All, Failed}
 use Rattle.nb_wire.specs.declared.receiving.LinkEnd.{LinkEnd}
@@ -22,13 +22,11 @@ use Rattle.nb_wire.specs.declared.receiving.Fetched.{Fetched}
 use Rattle.nb_wire.specs.declared.receiving.Fetched.TheVariants as fetched
 use Rattle.nb_wallet.specs.declared.wallet.Start.{Start}
 use Rattle.nb_consumer.specs.declared.phase.Phase.{Phase}
-use Rattle.nb_consumer.specs.declared.phase.Phase.TheVariants as phase
 use Rattle.nb_consumer.specs.State.{Buyer}
 use Rattle.nb_consumer.specs.Goods.{IsOpen, HasEnded}
 use Rattle.nb_consumer.specs.Restart.{kept_in}
 use Rattle.nb_buy.specs.declared.peer.Peer.{Peer}
 use Rattle.nb_buy.specs.declared.peer.Peer.TheVariants.{House, Seller}
-use Rattle.nb_buy.specs.declared.peer.Over.{Over}
 use Rattle.nb_buy.specs.declared.peer.Over.TheVariants as over
 use Rattle.nb_buy.specs.declared.peer.Next.{Next}
 use Rattle.nb_buy.specs.declared.peer.Next.TheVariants as next

@@ -1,4 +1,4 @@
-ghost use Rattle.std.specs.Prelude.{◌≡◌};
+ghost use Rattle.std.specs.Prelude.{◌≡◌, ◌≤◌};
 ghost use Rattle.nb_journal.specs.Growing.{IsAtRest};
 ghost use Rattle.nb_journal.specs.declared.limits.TheConstants.{MAX_ITEM};
 ghost use Rattle.nb_wallet.specs.Spelling.{StartKeepsRules};
@@ -35,14 +35,19 @@ pub fn buy<D: Disk, L: Link, K: Sink>(
     ensures bought { Bought D.tells start.now (around journal.old consumer.old (L.seen server.old) (L.seen seller.old)) (around journal.new consumer.new (L.seen server.new) (L.seen seller.new)) result }
     ensures goods { WritesGoods start.now consumer.new (K.faults sink.old) (K.faults sink.new) (K.sent sink.old) (K.sent sink.new) result }
     ensures unwritten { IsUnwritten result → sink.new ≡ sink.old }
+    ensures count { K.faults sink.old ≤ K.faults sink.new }
 {
     let Ok(mut sides) = Sides::new(alloc) else {
         return BuyEnd::Lost(Lost::NoMemory);
     };
-    match trade(alloc, journal, consumer, start, server, seller, &mut sides) {
-        Ok(TradeEnd::Finished) => finish(consumer, start, sink),
-        Ok(TradeEnd::Stopped(peer, why)) => BuyEnd::Stopped { peer, why },
-        Ok(TradeEnd::Spent) => BuyEnd::Spent,
+    let traded = trade(alloc, journal, consumer, start, server, seller, &mut sides);
+    drop(sides);
+    match traded {
+        Ok(end) => match end {
+            TradeEnd::Finished => finish(consumer, start, sink),
+            TradeEnd::Stopped(peer, why) => BuyEnd::Stopped { peer, why },
+            TradeEnd::Spent => BuyEnd::Spent,
+        },
         Err(why) => BuyEnd::Lost(why),
     }
 }
@@ -52,6 +57,7 @@ fn finish<K: Sink>(consumer: &Consumer, start: &Start, sink: &mut K) -> BuyEnd
     requires { HasEnded (phase_for start.now consumer.now) }
     ensures finishes { Finishes start.now consumer.now (K.faults sink.old) (K.faults sink.new) (K.sent sink.old) (K.sent sink.new) result }
     ensures unwritten { IsUnwritten result → sink.new ≡ sink.old }
+    ensures count { K.faults sink.old ≤ K.faults sink.new }
 {
     match consumer.goods(start.transaction) {
         Err(_) => BuyEnd::Lost(Lost::NoMemory),

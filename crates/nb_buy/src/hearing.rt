@@ -42,7 +42,11 @@ pub fn begin<D: Disk, L: Link>(
     ensures readers { SameReaders sides.old sides.new }
 {
     match consumer.start(start) {
-        Ok(step) => act(alloc, journal, server, seller, sides, Peer::House, &step),
+        Ok(step) => {
+            let done = act(alloc, journal, server, seller, sides, Peer::House, &step);
+            drop(step);
+            done
+        }
         Err(_) => Err(Lost::NoMemory),
     }
 }
@@ -64,7 +68,11 @@ pub fn go_on<D: Disk, L: Link>(
     ensures readers { SameReaders sides.old sides.new }
 {
     match consumer.quiet(start.transaction) {
-        Ok(step) => act(alloc, journal, server, seller, sides, from, &step),
+        Ok(step) => {
+            let done = act(alloc, journal, server, seller, sides, from, &step);
+            drop(step);
+            done
+        }
         Err(_) => Err(Lost::NoMemory),
     }
 }
@@ -93,29 +101,32 @@ pub fn listen<D: Disk, L: Link>(
         Fetched::End(end) => return Ok(Next::Over(from, Over::Ended(end))),
     };
     match hear(alloc, consumer, f.kind, sides.body(from, &f)) {
-        Ok(step) => match act(alloc, journal, server, seller, sides, from, &step) {
-            Ok(next) => Ok(heard(from, f.kind, next)),
-            Err(why) => Err(why),
-        },
+        Ok(step) => {
+            let done = act(alloc, journal, server, seller, sides, from, &step);
+            drop(step);
+            match done {
+                Ok(next) => Ok(heard(from, f.kind, next)),
+                Err(why) => Err(why),
+            }
+        }
         Err(_) => Err(Lost::NoMemory),
     }
 }
 
 // What the consumer does at a frame. One whose body spells no message is ignored.
 #[tactic(auto, unfolding(crate::specs::Run::frame_row))]
-fn hear(
-    alloc: Global,
-    consumer: &mut Consumer,
-    kind: u8,
-    body: &[u8],
-) -> Result<Step, NoMemory>
+fn hear(alloc: Global, consumer: &mut Consumer, kind: u8, body: &[u8]) -> Result<Step, NoMemory>
     requires least { 1 ≤ kind }
     requires most { kind ≤ LAST_KIND }
     ensures answers { Answers consumer.old consumer.new (frame_row consumer.old (record { kind = kind; body = body.now })) result }
     ensures lawful { IfOk result StepKeepsRules }
 {
     match read_body(alloc, kind, body) {
-        Ok(message) => consumer.on(&message),
+        Ok(message) => {
+            let step = consumer.on(&message);
+            drop(message);
+            step
+        }
         Err(BodyFault::Malformed { .. }) => Ok(Step::Ignored(Reason::Kind)),
         Err(BodyFault::NoMemory) => Err(NoMemory),
     }

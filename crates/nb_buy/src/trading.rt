@@ -109,7 +109,14 @@ fn open<D: Disk, L: Link>(
         }
         Standing::Going { .. } => {
             match go_on(
-                alloc, journal, consumer, start, server, seller, sides, Peer::House,
+                alloc,
+                journal,
+                consumer,
+                start,
+                server,
+                seller,
+                sides,
+                Peer::House,
             ) {
                 Ok(next) => Ok(Some(next)),
                 Err(why) => Err(why),

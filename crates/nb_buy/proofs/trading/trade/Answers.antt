@@ -1,5 +1,4 @@
-use Rattle.std.proofs.Common.{◌≡◌, ℕ, Bool, true, false, Ok, Err, sym, ap, subst, ◌∙◌, arith}
-use Rattle.nb_consumer.specs.Goods.{IsOpen}
+use Rattle.std.proofs.Common.{◌≡◌, ℕ, Bool, true, Ok, Err, sym, ap, subst, ◌∙◌, arith}
 use Rattle.nb_buy.specs.declared.peer.Peer.{Peer}
 use Rattle.nb_buy.specs.declared.peer.Peer.TheVariants.{Seller}
 use Rattle.nb_buy.specs.declared.peer.Next.{Next}
