@@ -29,7 +29,9 @@ pub fn sale(told: &mut Told, words: &[&str]) -> Result<(), NoMemory> {
     }
     let made = sealed(alloc, &telling::key(alloc, *key), &goods)?;
     let mut goods = Vec::from_slice(alloc, made.as_slice())?;
-    if let Ok(place) = place.parse::<usize>() && let Some(byte) = goods.get_mut(place) {
+    if let Ok(place) = place.parse::<usize>()
+        && let Some(byte) = goods.get_mut(place)
+    {
         *byte ^= 1;
     }
     let length = u32::try_from(goods.len()).unwrap_or(0);

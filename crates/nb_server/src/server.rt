@@ -60,14 +60,16 @@ pub fn serve_all<
     ensures ok { IfOk result (λ served. AllSessions D.tells vault served.vault (map (worker_seen P.seen C.moments) workers.items) (map (worker_seen P.seen C.moments) served.workers.items) served.ends.items) }
     ensures err { IfErr result (λ e. (e.1 ≡ vault) × (e.2 ≡ workers)) }
 {
-    let Ok(room) = Room::new(alloc, workers.len()) else {
+    let count = workers.len();
+    let Ok(mut jobs) = Vec::with_capacity(alloc, count) else {
         return Err((NoMemory, vault, workers));
     };
-    let Room {
-        mut jobs,
-        mut ends,
-        mut passes,
-    } = room;
+    let Ok(mut ends) = Vec::with_capacity(alloc, count) else {
+        return Err((NoMemory, vault, workers));
+    };
+    let Ok(mut passes) = Vec::with_capacity(alloc, count) else {
+        return Err((NoMemory, vault, workers));
+    };
     match Desk::open(alloc, vault) {
         Ok((desk, pass)) => {
             let mut desk = desk;
@@ -92,28 +94,6 @@ pub fn serve_all<
             })
         }
         Err((_, vault)) => Err((NoMemory, vault, workers)),
-    }
-}
-
-// The memory of a server, with nothing in it yet.
-#[derive(Drop)]
-struct Room<D: Disk, P, C> {
-    jobs: Vec<Job<Pass<D>, P, C>>,
-    ends: Vec<WorkerEnd>,
-    passes: Vec<Option<Pass<D>>>,
-}
-
-impl<D: Disk + Drop, P: Drop, C: Drop> Room<D, P, C> {
-    // Room for so many workers.
-    fn new(alloc: Global, count: usize) -> Result<Room<D, P, C>, NoMemory>
-        ensures none { IfOk result (λ room. (room.jobs.items ≡ []) × (room.ends.items ≡ []) × (room.passes.items ≡ [])) }
-        ensures room { IfOk result (λ room. (count ≤ vec_capacity room.jobs) × (count ≤ vec_capacity room.ends) × (count ≤ vec_capacity room.passes)) }
-    {
-        Ok(Room {
-            jobs: Vec::with_capacity(alloc, count)?,
-            ends: Vec::with_capacity(alloc, count)?,
-            passes: Vec::with_capacity(alloc, count)?,
-        })
     }
 }
 
