@@ -267,14 +267,14 @@ refused_is image opens.NoMemory nothing first is fails = tt
 -- ---- a journal of the first version is moved
 
 -- all of an input is the input
-same_input : (left left' : Option (List ℕ)) (input bytes : List ℕ) (limit : ℕ) → left ≡ Some input → TookAll left left' limit bytes → bytes ≡ input
+pub same_input : (left left' : Option (List ℕ)) (input bytes : List ℕ) (limit : ℕ) → left ≡ Some input → TookAll left left' limit bytes → bytes ≡ input
 same_input None left' input bytes limit is took = absurd cc
 same_input (Some all) None input bytes limit is took = absurd took.took
 same_input (Some all) (Some behind) input bytes limit is took =
     sym (took.took ∙ ap (λ (xs : List ℕ). bytes ++ xs) took.ended ∙ append-nil bytes) ∙ same_Some all input is
 
 -- and none is longer
-not_longer : (left left' : Option (List ℕ)) (input : List ℕ) (limit : ℕ) → left ≡ Some input → length input ≤ limit → TookMore left left' limit → ⊥
+pub not_longer : (left left' : Option (List ℕ)) (input : List ℕ) (limit : ℕ) → left ≡ Some input → length input ≤ limit → TookMore left left' limit → ⊥
 not_longer None left' input limit is few took = absurd cc
 not_longer (Some all) None input limit is few took = absurd took.took
 not_longer (Some all) (Some behind) input limit is few took =

@@ -6,3 +6,4 @@ pub mod Numbers
 pub mod Input
 pub mod Migrate
 pub mod Statement
+pub mod Judge

@@ -9,9 +9,10 @@ ghost use Rattle.nb_run.specs.declared.ending.Job.{Job};
 ghost use Rattle.nb_run.specs.declared.ending.Job.TheVariants as jobs;
 ghost use Rattle.nb_run.specs.Ending as endings;
 ghost use Rattle.nb_units.specs.declared.ids.AcctId.{AcctId};
-ghost use Rattle.nb_words.specs.Words.{IsBatch, IsDrill, IsInit, IsMigrate, IsServe, IsStatement, IsCommand, MayBeRead};
+ghost use Rattle.nb_words.specs.Words.{IsBatch, IsDrill, IsInit, IsMigrate, IsServe, IsStatement, IsJudge, IsCommand, MayBeRead};
 ghost use Rattle.nb_run.specs.Init.{IsHeadInput, HasNoJournal};
 ghost use Rattle.nb_run.specs.Drill as drills;
+ghost use Rattle.nb_run.specs.Judge as judges;
 ghost use Rattle.nb_run.specs.Migrate as moves;
 ghost use Rattle.nb_run.specs.Run as runs;
 ghost use Rattle.nb_run.specs.Statement as states;
@@ -22,6 +23,7 @@ use crate::ending::{
     SOURCE_FAILED,
 };
 use crate::init::make_journal;
+use crate::judging::rule_on;
 use crate::migrate::move_journal;
 use crate::statement::write_statement;
 use nb_batch::{BatchEnd, serve};
@@ -37,7 +39,8 @@ use std::alloc::Global;
 /// of that rate; `batch JOURNAL` answers the frames of the
 /// input in order; `serve JOURNAL ADDRESS WORKERS SESSIONS` is work over links, which is left to do; `migrate JOURNAL PERMILLE` makes a journal
 /// whose house keeps a fee of that rate, with the cap, the head and the entries of the input, which is a journal without fees;
-/// `statement JOURNAL ACCT` writes the statement of the account, 0 being the house's own, to the output.
+/// `statement JOURNAL ACCT` writes the statement of the account, 0 being the house's own, to the output; `judge` writes what is ruled of the case that is
+/// the input.
 pub fn run<S: Source, K: Sink, D: Disk, C: Clock>(
     alloc: Global,
     words: &[String],
@@ -110,6 +113,19 @@ pub fn run<S: Source, K: Sink, D: Disk, C: Clock>(
         → (Rose (K.faults sink.old) (K.faults sink.new) → ⊥) → (Rose (D.tells.faults disk) (D.tells.faults result.1) → ⊥)
         → EndsWith result.0 CLEAN ⊎ EndsWith result.0 NO_ACCOUNT ⊎ EndsWith result.0 OUT_OF_MEMORY }
 
+    // What ruling on a case comes to, unless there was no memory to read the words. Neither the disk nor the clock is touched, and the sink is as
+    // before but after 0 and 4.
+    ensures judge { IsJudge (map string_bytes words.now)
+        → Ends result.0 (judges.JudgeIs (S.left source.old) (S.left source.new) (S.faults source.old) (S.faults source.new) (K.sent sink.old) (K.sent sink.new) (K.faults sink.old) (K.faults sink.new))
+        ⊎ runs.Unbegun result.0 source.old source.new sink.old sink.new disk result.1 clock.old clock.new }
+    ensures lone { IsJudge (map string_bytes words.now)
+        → (result.1 ≡ disk) × (clock.new ≡ clock.old) × ((EndsWith result.0 CLEAN → ⊥) → (EndsWith result.0 SINK_FAILED → ⊥) → sink.new ≡ sink.old) }
+
+    // A case alone, and nothing that fails: it is ruled on, unless memory is wanting.
+    ensures rules { IsJudge (map string_bytes words.now) → judges.IsCaseInput (S.left source.old)
+        → (Rose (S.faults source.old) (S.faults source.new) → ⊥) → (Rose (K.faults sink.old) (K.faults sink.new) → ⊥)
+        → EndsWith result.0 CLEAN ⊎ EndsWith result.0 OUT_OF_MEMORY }
+
     // What a batch comes to, unless there was no memory to read the words.
     ensures batch { IsBatch (map string_bytes words.now)
         → Ends result.0 (runs.BatchIs D.tells disk result.1
@@ -168,6 +184,10 @@ pub fn run<S: Source, K: Sink, D: Disk, C: Clock>(
         Ok(Some(Command::Statement { acct })) => {
             let (ending, disk) = write_statement(alloc, acct, sink, disk);
             (Outcome::Done(ending), disk)
+        }
+        Ok(Some(Command::Judge)) => {
+            let end = rule_on(alloc, source, sink);
+            (Outcome::Done(end.ending()), disk)
         }
         Ok(None) => (Outcome::Done(Ending::at_no_place(BAD_WORDS)), disk),
         Err(NoMemory) => (Outcome::Done(Ending::at_no_place(OUT_OF_MEMORY)), disk),

@@ -477,3 +477,38 @@ statement_read (x ∷ xs) (y ∷ ys) p q = (
     statement_acct x xs y ys (begins x xs p) (begins y ys q),
   ),
 )
+
+-- ---- judge
+
+pub judge_named : IsNamed (codes "judge") [] []
+unfolding clap_on_literals
+judge_named = record { met = refl; silent = refl; found = refl }
+
+abbrev judge : Shape
+judge = leaf (codes "judge") [] []
+
+judge_none : level_fault judge [] nothing_held [] false [] ≡ []
+unfolding clap_on_literals
+judge_none = refl
+
+judge_more : (x : ℕ) (xs : Text) (rest : List Text) → IsBegin x → level_fault judge [] nothing_held ((x ∷ xs) ∷ rest) false [] ≡ UnknownArgument ∷ []
+unfolding clap_on_literals
+judge_more x xs rest p =
+    ap (λ (k : Kinds). level judge k (fold (walked judge.rules []) (at 1 nothing_held) ((x ∷ xs) ∷ rest)))
+    (next_faults judge 1 nothing_held x xs p rest)
+
+-- clap takes no word behind it
+pub judge_fits : (words : List Text) → AllByRecursion IsName words → fault_of program (codes "judge" ∷ words) ≡ [] → words ≡ []
+judge_fits words all none = go words all (sym (called (codes "judge") [] [] judge_named words) ∙ none)
+  where
+    go : (words : List Text) → AllByRecursion IsName words → level_fault judge [] nothing_held words false [] ≡ [] → words ≡ []
+    go [] all none = refl
+    go ([] ∷ words) all none = absurd (not_nothing all.0)
+    go ((x ∷ xs) ∷ words) all none = absurd (faulty _ _ _ (judge_more x xs words (begins x xs all.0)) none)
+
+-- the word alone is taken
+pub judge_read : (fault_of program (codes "judge" ∷ []) ≡ []) × ((rows : List Row) × (subcommand_of program (codes "judge" ∷ []) ≡ Some (codes "judge", rows)))
+judge_read = (
+  called (codes "judge") [] [] judge_named [] ∙ judge_none,
+  (rows_after judge.rules [] [], entered_as (codes "judge") [] [] judge_named []),
+)

@@ -15,17 +15,17 @@ use Rattle.clap.specs.Words.{subcommand_of, kind_of}
 use Rattle.clap.specs.declared.error.kind.ErrorKind.TheVariants.{UnknownArgument, InvalidSubcommand, OutOfMemory}
 use Rattle.clap.proofs.OnLiterals.{clap_on_literals}
 use Rattle.nb_words.specs.declared.words.Command.{Command}
-use Rattle.nb_words.specs.declared.words.Command.TheVariants.{Init, Batch, Drill, Serve, Migrate, Statement}
+use Rattle.nb_words.specs.declared.words.Command.TheVariants.{Init, Batch, Drill, Serve, Migrate, Statement, Judge}
 use Rattle.nb_words.specs.Words.{IsName, IsInit, IsCommand, CommandIs}
 use Rattle.nb_words.specs.Table.{program, InitIn, RateIn, CommandIn}
 use Rattle.nb_words.proofs.Reading.{names, turned, entered_as}
-use Rattle.nb_words.proofs.Commands.{begins, not_nothing, faulty, number_named, init_named, AreInit, init_fits, init_read, init_all_read, batch_named, batch_fits, batch_read, drill_named, drill_fits, drill_read, serve_named, serve_fits, serve_read, migrate_named, migrate_fits, migrate_read, statement_named, statement_fits, statement_read}
+use Rattle.nb_words.proofs.Commands.{begins, not_nothing, faulty, number_named, init_named, AreInit, init_fits, init_read, init_all_read, batch_named, batch_fits, batch_read, drill_named, drill_fits, drill_read, serve_named, serve_fits, serve_read, migrate_named, migrate_fits, migrate_read, statement_named, statement_fits, statement_read, judge_named, judge_fits, judge_read}
 
 -- ---- a first word that is no command's
 
-stranger : (w : Text) → bytes_eq (codes "init") w ≡ false → bytes_eq (codes "batch") w ≡ false → bytes_eq (codes "drill") w ≡ false → bytes_eq (codes "serve") w ≡ false → bytes_eq (codes "migrate") w ≡ false → bytes_eq (codes "statement") w ≡ false → subcommand_met names idle w ≡ None
+stranger : (w : Text) → bytes_eq (codes "init") w ≡ false → bytes_eq (codes "batch") w ≡ false → bytes_eq (codes "drill") w ≡ false → bytes_eq (codes "serve") w ≡ false → bytes_eq (codes "migrate") w ≡ false → bytes_eq (codes "statement") w ≡ false → bytes_eq (codes "judge") w ≡ false → subcommand_met names idle w ≡ None
 unfolding clap_on_literals
-stranger w i b d s m t = rw (i, b, d, s, m, t) refl
+stranger w i b d s m t j = rw (i, b, d, s, m, t, j) refl
 
 refused : (x : ℕ) (xs : Text) (words : List Text) → IsName (x ∷ xs) → subcommand_met names idle (x ∷ xs) ≡ None → fault_of program ((x ∷ xs) ∷ words) ≡ [] → ⊥
 unfolding walk_fault
@@ -40,14 +40,18 @@ refused x xs words is met none =
 
 -- the first word is the name of one
 abbrev IsKnown : Text → Type 0
-IsKnown w = (w ≡ codes "init") ⊎ (w ≡ codes "batch") ⊎ (w ≡ codes "drill") ⊎ (w ≡ codes "serve") ⊎ (w ≡ codes "migrate") ⊎ (w ≡ codes "statement")
+IsKnown w = (w ≡ codes "init") ⊎ (w ≡ codes "batch") ⊎ (w ≡ codes "drill") ⊎ (w ≡ codes "serve") ⊎ (w ≡ codes "migrate") ⊎ (w ≡ codes "statement") ⊎ (w ≡ codes "judge")
 
 known : (x : ℕ) (xs : Text) (words : List Text) → IsName (x ∷ xs) → fault_of program ((x ∷ xs) ∷ words) ≡ [] → IsKnown (x ∷ xs)
 known x xs words is none = first (bytes_eq (codes "init") (x ∷ xs)) refl
   where
+    seventh : (v : Bool) → bytes_eq (codes "init") (x ∷ xs) ≡ false → bytes_eq (codes "batch") (x ∷ xs) ≡ false → bytes_eq (codes "drill") (x ∷ xs) ≡ false → bytes_eq (codes "serve") (x ∷ xs) ≡ false → bytes_eq (codes "migrate") (x ∷ xs) ≡ false → bytes_eq (codes "statement") (x ∷ xs) ≡ false → bytes_eq (codes "judge") (x ∷ xs) ≡ v → IsKnown (x ∷ xs)
+    seventh true e f g h i j k = inr (inr (inr (inr (inr (inr (sym ((bytes_eq-Decides _ _).0 k)))))))
+    seventh false e f g h i j k = absurd (refused x xs words is (stranger (x ∷ xs) e f g h i j k) none)
+
     sixth : (t : Bool) → bytes_eq (codes "init") (x ∷ xs) ≡ false → bytes_eq (codes "batch") (x ∷ xs) ≡ false → bytes_eq (codes "drill") (x ∷ xs) ≡ false → bytes_eq (codes "serve") (x ∷ xs) ≡ false → bytes_eq (codes "migrate") (x ∷ xs) ≡ false → bytes_eq (codes "statement") (x ∷ xs) ≡ t → IsKnown (x ∷ xs)
-    sixth true e f g h i j = inr (inr (inr (inr (inr (sym ((bytes_eq-Decides _ _).0 j))))))
-    sixth false e f g h i j = absurd (refused x xs words is (stranger (x ∷ xs) e f g h i j) none)
+    sixth true e f g h i j = inr (inr (inr (inr (inr (inl (sym ((bytes_eq-Decides _ _).0 j)))))))
+    sixth false e f g h i j = seventh (bytes_eq (codes "judge") (x ∷ xs)) e f g h i j refl
 
     fifth : (m : Bool) → bytes_eq (codes "init") (x ∷ xs) ≡ false → bytes_eq (codes "batch") (x ∷ xs) ≡ false → bytes_eq (codes "drill") (x ∷ xs) ≡ false → bytes_eq (codes "serve") (x ∷ xs) ≡ false → bytes_eq (codes "migrate") (x ∷ xs) ≡ m → IsKnown (x ∷ xs)
     fifth true e f g h i = inr (inr (inr (inr (inl (sym ((bytes_eq-Decides _ _).0 i))))))
@@ -80,7 +84,8 @@ named_by ((x ∷ xs) ∷ words) all some none name rows told = elim (known x xs 
   | inr (inr (inl is)) ↦ by (codes "drill") is (entered_as (codes "drill") _ _ drill_named words)
   | inr (inr (inr (inl is))) ↦ by (codes "serve") is (entered_as (codes "serve") _ _ serve_named words)
   | inr (inr (inr (inr (inl is)))) ↦ by (codes "migrate") is (entered_as (codes "migrate") _ _ migrate_named words)
-  | inr (inr (inr (inr (inr is)))) ↦ by (codes "statement") is (entered_as (codes "statement") _ _ statement_named words)
+  | inr (inr (inr (inr (inr (inl is))))) ↦ by (codes "statement") is (entered_as (codes "statement") _ _ statement_named words)
+  | inr (inr (inr (inr (inr (inr is))))) ↦ by (codes "judge") is (entered_as (codes "judge") _ _ judge_named words)
 ]
   where
     by : (first : Text) → (x ∷ xs) ≡ first → {other : List Row} → subcommand_of program (first ∷ words) ≡ Some (first, other) → (behind : List Text) × ((x ∷ xs) ∷ words ≡ name ∷ behind) × AllByRecursion IsName behind
@@ -118,6 +123,9 @@ migrate_name = (omega arith, λ e. omega (arith, e))
 statement_name : IsName (codes "statement")
 statement_name = (omega arith, λ e. omega (arith, e))
 
+judge_name : IsName (codes "judge")
+judge_name = (omega arith, λ e. omega (arith, e))
+
 init_taken : (words : List Text) (cap : ℕ) (rate : Option ℕ) → IsInit words cap rate → IsTaken words
 init_taken words cap None is =
     let number = number_named cap (omega (arith, is.3)) in
@@ -143,10 +151,11 @@ taken words (inr (inr (inr (inr (inl m))))) =
     let is = m.1 in
     let permille = number_named m.0 (omega (arith, is.3)) in
     subst IsTaken (sym is.1) ((migrate_name, (is.2, (permille, tt))), (migrate_read is.0 (decimal m.0) is.2 permille).0, omega arith)
-taken words (inr (inr (inr (inr (inr t))))) =
+taken words (inr (inr (inr (inr (inr (inl t)))))) =
     let is = t.1 in
     let number = number_named t.0 (omega (arith, is.3)) in
     subst IsTaken (sym is.1) ((statement_name, (is.2, (number, tt))), (statement_read is.0 (decimal t.0) is.2 number).0, omega arith)
+taken words (inr (inr (inr (inr (inr (inr is)))))) = subst IsTaken (sym is) ((judge_name, tt), judge_read.0, omega arith)
 
 -- ---- what was told is the command
 
@@ -274,10 +283,11 @@ untold words none (inr (inr (inr (inr (inl m))))) =
     let is = m.1 in
     let read = (migrate_read is.0 (decimal m.0) is.2 (number_named m.0 (omega (arith, is.3)))).1 in
     none.4 read.0 m.0 (ap (subcommand_of program) is.1 ∙ read.1) (read.2, is.3)
-untold words none (inr (inr (inr (inr (inr t))))) =
+untold words none (inr (inr (inr (inr (inr (inl t)))))) =
     let is = t.1 in
     let read = (statement_read is.0 (decimal t.0) is.2 (number_named t.0 (omega (arith, is.3)))).1 in
     none.5 read.0 t.0 (ap (subcommand_of program) is.1 ∙ read.1) (read.2, is.3)
+untold words none (inr (inr (inr (inr (inr (inr is)))))) = none.6 judge_read.1.0 (ap (subcommand_of program) is ∙ judge_read.1.1)
 
 init_is : (words behind : List Text) (cap : ℕ) (rate : Option ℕ) (rows : List Row) → words ≡ codes "init" ∷ behind → InitTold behind rows → InitIn rows cap → RateIn rows rate → IsInit words cap rate
 init_is words behind cap None rows is (inl told) number missing =
@@ -338,6 +348,10 @@ command_is words all some none (Some (Statement acct)) is =
     let told = told_statement n.0 n.2 (ap (fault_of program) (sym n.1) ∙ none) is.0 (ap (subcommand_of program) (sym n.1) ∙ is.1) in
     let same = same_Some _ _ (sym told.4 ∙ is.2.0) in
     (told.0, n.1 ∙ ap (λ (ws : List Text). codes "statement" ∷ ws) told.2 ∙ ap (λ (w : Text). codes "statement" ∷ told.0 ∷ w ∷ []) same, told.3, is.2.1)
+
+command_is words all some none (Some Judge) is =
+    let n = named_by words all some none (codes "judge") is.0 is.1 in
+    n.1 ∙ ap (λ (ws : List Text). codes "judge" ∷ ws) (judge_fits n.0 n.2 (ap (fault_of program) (sym n.1) ∙ none))
 
 -- clap refused the words, and so they are no command, unless there was no memory
 pub refused_are : {E : Type 0} (words : List Text) (r : Result (Option Command) E) → IfOk r (λ command. command ≡ None) → (IsCommand words → IsErr r) → IfOk r (CommandIs words)

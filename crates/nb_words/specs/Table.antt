@@ -6,7 +6,7 @@ use Rattle.clap.specs.Simple.{App, Shape, new_rule, new_shape, on_top, with_subc
 use Rattle.nb_units.specs.declared.limits.TheConstants.{MAX_RATE}
 use Rattle.nb_play.specs.declared.frames.TheConstants.{MAX_ORDERS}
 use Rattle.nb_words.specs.declared.words.Command.{Command}
-use Rattle.nb_words.specs.declared.words.Command.TheVariants.{Init, Batch, Drill, Serve, Migrate, Statement}
+use Rattle.nb_words.specs.declared.words.Command.TheVariants.{Init, Batch, Drill, Serve, Migrate, Statement, Judge}
 use Rattle.nb_words.specs.Words.{AreServed}
 
 -- ---- for the contracts of private functions alone
@@ -30,20 +30,27 @@ bare = record {
   subs = [];
 }
 
+-- with the first three commands
+abbrev pub first_commands : App
+first_commands =
+    with_subcommand
+    (with_subcommand
+    (with_subcommand bare
+    (shape (codes "init") (codes "JOURNAL" ∷ codes "CAP" ∷ []) (codes "PERMILLE" ∷ [])))
+    (shape (codes "batch") (codes "JOURNAL" ∷ []) []))
+    (shape (codes "drill") (codes "SEED" ∷ codes "ORDERS" ∷ []) [])
+
+-- with all of them
 abbrev pub program : App
 program =
     with_subcommand
     (with_subcommand
     (with_subcommand
-    (with_subcommand
-    (with_subcommand
-    (with_subcommand bare
-    (shape (codes "init") (codes "JOURNAL" ∷ codes "CAP" ∷ []) (codes "PERMILLE" ∷ [])))
-    (shape (codes "batch") (codes "JOURNAL" ∷ []) []))
-    (shape (codes "drill") (codes "SEED" ∷ codes "ORDERS" ∷ []) []))
+    (with_subcommand first_commands
     (shape (codes "serve") (codes "JOURNAL" ∷ codes "ADDRESS" ∷ codes "WORKERS" ∷ codes "SESSIONS" ∷ []) []))
     (shape (codes "migrate") (codes "JOURNAL" ∷ codes "PERMILLE" ∷ []) []))
-    (shape (codes "statement") (codes "JOURNAL" ∷ codes "ACCT" ∷ []) [])
+    (shape (codes "statement") (codes "JOURNAL" ∷ codes "ACCT" ∷ []) []))
+    (shape (codes "judge") [] [])
 
 -- a number that is at most this was read at a position
 abbrev pub IsSmallAt : Text → List Row → ℕ → ℕ → Type 0
@@ -80,6 +87,7 @@ CommandIn told (Some (Drill seed orders)) = (rows : List Row) × (told ≡ Some 
 CommandIn told (Some (Serve workers sessions)) = (rows : List Row) × (told ≡ Some (codes "serve", rows)) × ServeIn rows workers sessions
 CommandIn told (Some (Migrate rate)) = (rows : List Row) × (told ≡ Some (codes "migrate", rows)) × IsSmallAt (codes "PERMILLE") rows MAX_RATE rate
 CommandIn told (Some (Statement acct)) = (rows : List Row) × (told ≡ Some (codes "statement", rows)) × StatementIn rows acct.0
+CommandIn told (Some Judge) = (rows : List Row) × (told ≡ Some (codes "judge", rows))
 CommandIn told None =
     ((rows : List Row) (cap : ℕ) (rate : Option ℕ) → told ≡ Some (codes "init", rows) → InitIn rows cap → RateIn rows rate → ⊥)
     × ((rows : List Row) → told ≡ Some (codes "batch", rows) → ⊥)
@@ -87,3 +95,4 @@ CommandIn told None =
     × ((rows : List Row) (workers sessions : ℕ) → told ≡ Some (codes "serve", rows) → ServeIn rows workers sessions → ⊥)
     × ((rows : List Row) (rate : ℕ) → told ≡ Some (codes "migrate", rows) → IsSmallAt (codes "PERMILLE") rows MAX_RATE rate → ⊥)
     × ((rows : List Row) (acct : ℕ) → told ≡ Some (codes "statement", rows) → StatementIn rows acct → ⊥)
+    × ((rows : List Row) → told ≡ Some (codes "judge", rows) → ⊥)

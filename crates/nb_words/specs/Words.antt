@@ -6,7 +6,7 @@ use Rattle.nb_units.specs.declared.limits.TheConstants.{MAX_RATE}
 use Rattle.nb_play.specs.declared.frames.TheConstants.{MAX_ORDERS}
 use Rattle.nb_words.specs.declared.words.TheConstants.{MAX_WORKERS, MAX_LINKS}
 use Rattle.nb_words.specs.declared.words.Command.{Command}
-use Rattle.nb_words.specs.declared.words.Command.TheVariants.{Init, Batch, Drill, Serve, Migrate, Statement}
+use Rattle.nb_words.specs.declared.words.Command.TheVariants.{Init, Batch, Drill, Serve, Migrate, Statement, Judge}
 
 -- the byte of a minus
 abbrev pub minus : ℕ
@@ -48,11 +48,15 @@ IsMigrate words rate = (journal : List ℕ) × (words ≡ codes "migrate" ∷ jo
 abbrev pub IsStatement : List (List ℕ) → ℕ → Type 0
 IsStatement words acct = (journal : List ℕ) × (words ≡ codes "statement" ∷ journal ∷ decimal acct ∷ []) × IsName journal × (acct < 2 ^ 32)
 
+-- judge
+abbrev pub IsJudge : List (List ℕ) → Type 0
+IsJudge words = words ≡ codes "judge" ∷ []
+
 -- one of these
 abbrev pub IsCommand : List (List ℕ) → Type 0
 IsCommand words =
     IsBatch words ⊎ ((cap : ℕ) × (rate : Option ℕ) × IsInit words cap rate) ⊎ ((seed orders : ℕ) × IsDrill words seed orders) ⊎ ((workers : ℕ) × (sessions : ℕ) × IsServe words workers sessions)
-    ⊎ ((rate : ℕ) × IsMigrate words rate) ⊎ (acct : ℕ) × IsStatement words acct
+    ⊎ ((rate : ℕ) × IsMigrate words rate) ⊎ ((acct : ℕ) × IsStatement words acct) ⊎ IsJudge words
 
 -- the words are this command, or none
 abbrev pub CommandIs : List (List ℕ) → Option Command → Type 0
@@ -62,6 +66,7 @@ CommandIs words (Some (Drill seed orders)) = IsDrill words seed orders
 CommandIs words (Some (Serve workers sessions)) = IsServe words workers sessions
 CommandIs words (Some (Migrate rate)) = IsMigrate words rate
 CommandIs words (Some (Statement acct)) = IsStatement words acct.0
+CommandIs words (Some Judge) = IsJudge words
 CommandIs words None = IsCommand words → ⊥
 
 -- words at which want of memory may be told: there are some, each is a name, and the first does not ask for help

@@ -17,14 +17,7 @@ use std::alloc::{AllocError, Global};
 pub(crate) fn program<'a>(alloc: Global) -> Result<Shape<'a>, AllocError>
     ensures { IfOk result (λ program. app_of program ≡ table.program) }
 {
-    let program = Shape::new(alloc, "netbill")
-        .no_binary_name(true)
-        .disable_help_flag(true)
-        .disable_help_subcommand(true)
-        .subcommand_required(true);
-    let program = with(alloc, program, "init", &["JOURNAL", "CAP"], &["PERMILLE"])?;
-    let program = with(alloc, program, "batch", &["JOURNAL"], &[])?;
-    let program = with(alloc, program, "drill", &["SEED", "ORDERS"], &[])?;
+    let program = first_commands(alloc)?;
     let program = with(
         alloc,
         program,
@@ -33,7 +26,22 @@ pub(crate) fn program<'a>(alloc: Global) -> Result<Shape<'a>, AllocError>
         &[],
     )?;
     let program = with(alloc, program, "migrate", &["JOURNAL", "PERMILLE"], &[])?;
-    with(alloc, program, "statement", &["JOURNAL", "ACCT"], &[])
+    let program = with(alloc, program, "statement", &["JOURNAL", "ACCT"], &[])?;
+    with(alloc, program, "judge", &[], &[])
+}
+
+// The program with its first rows.
+fn first_commands<'a>(alloc: Global) -> Result<Shape<'a>, AllocError>
+    ensures { IfOk result (λ program. app_of program ≡ table.first_commands) }
+{
+    let program = Shape::new(alloc, "netbill")
+        .no_binary_name(true)
+        .disable_help_flag(true)
+        .disable_help_subcommand(true)
+        .subcommand_required(true);
+    let program = with(alloc, program, "init", &["JOURNAL", "CAP"], &["PERMILLE"])?;
+    let program = with(alloc, program, "batch", &["JOURNAL"], &[])?;
+    with(alloc, program, "drill", &["SEED", "ORDERS"], &[])
 }
 
 /// The command that was read: each row is a command, with the ranges of its numbers.
@@ -68,6 +76,9 @@ pub(crate) fn command_in(matches: &ArgMatches<'_>) -> Option<Command>
     if is_statement(name) {
         let acct = AcctId(small_in(given, "ACCT", u32::MAX)?);
         return Some(Command::Statement { acct });
+    }
+    if is_judge(name) {
+        return Some(Command::Judge);
     }
     None
 }
@@ -186,6 +197,12 @@ fn is_statement(word: &str) -> bool
     ensures { IsTrue result ↔ (word.now ≡ codes "statement") }
 {
     word == "statement"
+}
+
+fn is_judge(word: &str) -> bool
+    ensures { IsTrue result ↔ (word.now ≡ codes "judge") }
+{
+    word == "judge"
 }
 
 // Whether a server may have so many workers of so many links.

@@ -29,6 +29,8 @@ pub enum Command {
     Migrate { rate: u16 },
     /// `statement JOURNAL ACCT`: write the statement of this account.
     Statement { acct: AcctId },
+    /// `judge`: rule on the case that is the input.
+    Judge,
 }
 
 /// The most workers of a server.

@@ -1,12 +1,13 @@
 use Rattle.std.proofs.Common.{ℕ, List, Option, Some, length, ap, sym, subst, ◌∙◌, inl, inr, arith}
 use Rattle.std.specs.Prelude.{map, string_bytes}
 use Rattle.nb_units.specs.declared.ids.AcctId.{AcctId}
-use Rattle.nb_words.specs.Words.{CommandIs, IsMigrate, IsStatement}
+use Rattle.nb_words.specs.Words.{CommandIs, IsMigrate, IsStatement, IsJudge}
 use Rattle.nb_run.specs.Drill.{DrillIs}
 use Rattle.nb_run.specs.Run.{InitIs}
 use Rattle.nb_run.proofs.Numerals.{one_init, one_drill, one_job, one_migrate, one_statement, rate_small}
 use Rattle.nb_run.proofs.Making.{makes_clean}
 use Rattle.nb_run.proofs.Moving.{moves_clean}
+use Rattle.nb_run.proofs.Judging.{rules_clean}
 use Rattle.nb_run.specs.Init.{MakesAs}
 use Rattle.nb_run.specs.Migrate.{MigrateIs}
 use Rattle.nb_run.specs.Statement.{StatementIs}
@@ -135,7 +136,7 @@ pub returns-in-Ok-Some-Statement-clause-none : goal.returns-in-Ok-Some-Statement
 returns-in-Ok-Some-Statement-clause-none g c = λ never.
     let words : List (List ℕ) = map string_bytes c.args.words.now in
     let t = c.in-Ok-Some-Statement in
-    absurd (never (inr (inr (inr (inr (inr (t.acct.0, subst (CommandIs words) (t.field-0-is ∙ ap Some t.field-0-0-is) t.ensures.command)))))))
+    absurd (never (inr (inr (inr (inr (inr (inl (t.acct.0, subst (CommandIs words) (t.field-0-is ∙ ap Some t.field-0-0-is) t.ensures.command))))))))
 
 pub returns-in-Ok-Some-Statement-clause-statement : goal.returns-in-Ok-Some-Statement-clause-statement
 returns-in-Ok-Some-Statement-clause-statement g c = λ acct is.
@@ -148,12 +149,12 @@ returns-in-Ok-Some-Statement-clause-statement g c = λ acct is.
 pub returns-in-Ok-None-clause-statement : goal.returns-in-Ok-None-clause-statement
 returns-in-Ok-None-clause-statement g c = λ acct is.
     let words : List (List ℕ) = map string_bytes c.args.words.now in
-    absurd (subst (CommandIs words) c.in-Ok-None.field-0-is c.in-Ok-None.ensures.command (inr (inr (inr (inr (inr (acct.0, is)))))))
+    absurd (subst (CommandIs words) c.in-Ok-None.field-0-is c.in-Ok-None.ensures.command (inr (inr (inr (inr (inr (inl (acct.0, is))))))))
 
 pub returns-in-Ok-None-clause-states : goal.returns-in-Ok-None-clause-states
 returns-in-Ok-None-clause-states g c = λ acct is journal no_sink no_disk.
     let words : List (List ℕ) = map string_bytes c.args.words.now in
-    absurd (subst (CommandIs words) c.in-Ok-None.field-0-is c.in-Ok-None.ensures.command (inr (inr (inr (inr (inr (acct.0, is)))))))
+    absurd (subst (CommandIs words) c.in-Ok-None.field-0-is c.in-Ok-None.ensures.command (inr (inr (inr (inr (inr (inl (acct.0, is))))))))
 
 pub returns-in-Ok-Some-Statement-clause-untouched : goal.returns-in-Ok-Some-Statement-clause-untouched
 returns-in-Ok-Some-Statement-clause-untouched g c = λ why.
@@ -161,7 +162,7 @@ returns-in-Ok-Some-Statement-clause-untouched g c = λ why.
     let t = c.in-Ok-Some-Statement in
     let is : IsStatement words t.acct.0 = subst (CommandIs words) (t.field-0-is ∙ ap Some t.field-0-0-is) t.ensures.command in
     elim why [
-      | inl never ↦ absurd (never (inr (inr (inr (inr (inr (t.acct.0, is)))))))
+      | inl never ↦ absurd (never (inr (inr (inr (inr (inr (inl (t.acct.0, is))))))))
       | inr work ↦ let done = work.1 in absurd cc
     ]
 
@@ -171,7 +172,47 @@ returns-in-Ok-Some-Statement-clause-closed g c = λ why.
     let t = c.in-Ok-Some-Statement in
     let is : IsStatement words t.acct.0 = subst (CommandIs words) (t.field-0-is ∙ ap Some t.field-0-0-is) t.ensures.command in
     elim why [
-      | inl never ↦ absurd (never (inr (inr (inr (inr (inr (t.acct.0, is)))))))
+      | inl never ↦ absurd (never (inr (inr (inr (inr (inr (inl (t.acct.0, is))))))))
       | inr (inl batch) ↦ absurd (omega (arith, ap length (sym is.1 ∙ batch.1.1)))
+      | inr (inr work) ↦ let done = work.1 in absurd cc
+    ]
+
+pub returns-in-Ok-Some-Judge-clause-none : goal.returns-in-Ok-Some-Judge-clause-none
+returns-in-Ok-Some-Judge-clause-none g c = λ never.
+    let words : List (List ℕ) = map string_bytes c.args.words.now in
+    let j = c.in-Ok-Some-Judge in
+    absurd (never (inr (inr (inr (inr (inr (inr (subst (CommandIs words) (j.field-0-is ∙ ap Some j.field-0-0-is) j.ensures.command))))))))
+
+pub returns-in-Ok-Some-Judge-clause-judge : goal.returns-in-Ok-Some-Judge-clause-judge
+returns-in-Ok-Some-Judge-clause-judge g c = λ is. inl (c.rule_on-end.result, c.ending-in-Ok-Some-Judge.ensures, c.rule_on-end.ensures.judged)
+
+pub returns-in-Ok-Some-Judge-clause-rules : goal.returns-in-Ok-Some-Judge-clause-rules
+returns-in-Ok-Some-Judge-clause-rules g c = λ is input no_source no_sink.
+    let r = c.rule_on-end in
+    let ends = rules_clean (g.S.Source.left c.args.source.now) (g.S.Source.left r.new.source) (g.S.Source.faults c.args.source.now) (g.S.Source.faults r.new.source) (g.K.Sink.sent c.args.sink.now) (g.K.Sink.sent r.new.sink)
+    (g.K.Sink.faults c.args.sink.now) (g.K.Sink.faults r.new.sink) input r.result r.ensures.judged no_source no_sink in
+    elim ends [
+      | inl clean ↦ inl (ap (λ e. e.status) c.ending-in-Ok-Some-Judge.ensures ∙ clean)
+      | inr starved ↦ inr (ap (λ e. e.status) c.ending-in-Ok-Some-Judge.ensures ∙ starved)
+    ]
+
+pub returns-in-Ok-None-clause-judge : goal.returns-in-Ok-None-clause-judge
+returns-in-Ok-None-clause-judge g c = λ is.
+    let words : List (List ℕ) = map string_bytes c.args.words.now in
+    absurd (subst (CommandIs words) c.in-Ok-None.field-0-is c.in-Ok-None.ensures.command (inr (inr (inr (inr (inr (inr is)))))))
+
+pub returns-in-Ok-None-clause-rules : goal.returns-in-Ok-None-clause-rules
+returns-in-Ok-None-clause-rules g c = λ is input no_source no_sink.
+    let words : List (List ℕ) = map string_bytes c.args.words.now in
+    absurd (subst (CommandIs words) c.in-Ok-None.field-0-is c.in-Ok-None.ensures.command (inr (inr (inr (inr (inr (inr is)))))))
+
+pub returns-in-Ok-Some-Judge-clause-closed : goal.returns-in-Ok-Some-Judge-clause-closed
+returns-in-Ok-Some-Judge-clause-closed g c = λ why.
+    let words : List (List ℕ) = map string_bytes c.args.words.now in
+    let j = c.in-Ok-Some-Judge in
+    let is : IsJudge words = subst (CommandIs words) (j.field-0-is ∙ ap Some j.field-0-0-is) j.ensures.command in
+    elim why [
+      | inl never ↦ absurd (never (inr (inr (inr (inr (inr (inr is)))))))
+      | inr (inl batch) ↦ absurd (omega (arith, ap length (sym is ∙ batch.1.1)))
       | inr (inr work) ↦ let done = work.1 in absurd cc
     ]
