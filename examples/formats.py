@@ -68,7 +68,7 @@ STATUSES = {
     2: ("the words are none of the program's", "", "compare them with docs/netbill.1"),
     3: ("the input failed", "", "send it again: what was answered is recorded, and is told again"),
     4: ("the output failed", "", "send the input again: what was recorded is told again"),
-    5: ("the input ended within a frame, or holds what is no frame, or is no head, or, of migrate, no journal without a rate", "bytes read, or the place of the fault", "mend the input from there on; the frames before it were answered"),
+    5: ("the input ended within a frame, or holds what is no frame, or is no head, or, of migrate, no journal without a rate, or, of judge, no case", "bytes read, or the place of the fault", "mend the input from there on; the frames before it were answered"),
     6: ("there was no memory", "", "give the process more: docs/OPERATING.md says how much a journal takes"),
     7: ("the journal's disk failed as it was opened or made", "", "look at the disk and its free room, then start again"),
     8: ("the file is no journal, has a bad entry, or is damaged", "place of the damage in the file, and else 0", "move the file aside, see what it holds with examples/show journal, and only then take the last copy: docs/OPERATING.md says what that forgets"),
@@ -190,7 +190,7 @@ class Fund(typing.NamedTuple):
 
 
 class Order(typing.NamedTuple):
-    """An order, and the merchant's endorsement. Its three digests, at which no house looks, are zeros."""
+    """An order, and the merchant's endorsement. Its three digests, at which no house looks, are zeros where nothing else is said."""
 
     consumer: Party
     merchant: Party
@@ -201,6 +201,7 @@ class Order(typing.NamedTuple):
     key: bytes
     memo: bytes = b""
     merchant_memo: bytes = b""
+    digests: bytes = bytes(96)
 
     def epoid(self):
         """Its identifier."""
@@ -210,12 +211,15 @@ class Order(typing.NamedTuple):
         """Who buys what from whom, and the price."""
         return struct.pack(">IIIQ", self.consumer.id, self.merchant.id, self.product, self.price)
 
+    def bytes(self):
+        """The order's own bytes."""
+        hidden = struct.pack(">IQ", self.consumer.account, self.consumer.nonce) + sized(self.memo)
+        order = self.terms() + self.epoid() + self.digests + sized(seal(self.consumer.key, b"hide", hidden))
+        return order + code(self.consumer.key, b"ordr" + order)
+
     def endorsement(self):
         """The endorsement before it is sealed."""
-        hidden = struct.pack(">IQ", self.consumer.account, self.consumer.nonce) + sized(self.memo)
-        order = self.terms() + self.epoid() + bytes(96) + sized(seal(self.consumer.key, b"hide", hidden))
-        order += code(self.consumer.key, b"ordr" + order)
-        return sized(order) + struct.pack(">I", self.merchant.account) + sized(self.merchant_memo) + self.key
+        return sized(self.bytes()) + struct.pack(">I", self.merchant.account) + sized(self.merchant_memo) + self.key
 
     def frame(self):
         """The frame that presents it."""
@@ -334,6 +338,49 @@ def unsealed(key, label, sealed):
     stream = b"".join(block(stream_key, place) for place in range(len(sealed) // 64 + 1))
     text = bytes(a ^ b for a, b in zip(sealed[32:], stream))
     return text if code(key, label + text) == sealed[:32] else None
+
+
+class Case(typing.NamedTuple):
+    """The papers of a dispute."""
+
+    house: bytes
+    consumer: bytes
+    order: bytes
+    receipt: bytes
+    sealed: bytes
+
+    def papers(self):
+        """Its bytes before the sealed goods."""
+        return self.house + self.consumer + sized(self.order) + sized(self.receipt)
+
+    def bytes(self):
+        """Its bytes."""
+        return self.papers() + sized(self.sealed)
+
+    def ruling(self, opens):
+        """What is ruled of it, in words, and what that shows. 'opens' says whether bytes are sealed goods under a key."""
+        if code(self.consumer, b"ordr" + self.order[:-32]) != self.order[-32:]:
+            return "no order", self.order[-32:].hex()
+        text = unsealed(self.consumer, b"rcpt", self.receipt)
+        if text is None or len(text) != 135 or code(self.house, b"rcpt" + text[:-32]) != text[-32:]:
+            return "no receipt", self.receipt[:32].ljust(32, bytes(1)).hex()
+        pairs = (text[21:37], self.order[20:36]), (text[1:5], self.order[:4]), (text[5:9], self.order[4:8]), (text[9:13], self.order[8:12]), (text[13:21], self.order[12:20])
+        for field, (told, ordered) in enumerate(pairs, 1):
+            if told != ordered:
+                return f"other order {field}", ""
+        if text[0]:
+            return f"not paid {text[0]}", ""
+        given = hashlib.sha256(self.sealed).digest()
+        if given != self.order[36:68]:
+            return "wrong goods", f"{self.order[36:68].hex()} {given.hex()}"
+        if not opens(text[54:86], self.sealed):
+            return "wrong key", self.sealed[:32].ljust(32, bytes(1)).hex()
+        return f"key opens {len(self.sealed) - 32}", ""
+
+
+def opens(key, sealed):
+    """Whether bytes are sealed goods under a key."""
+    return len(sealed) >= 32 and unsealed(key, b"good", sealed) is not None
 
 
 def moves(entry):
