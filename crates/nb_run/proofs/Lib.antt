@@ -7,4 +7,4 @@ pub mod Tallying
 pub mod Drilling
 pub mod Moving
 pub mod Stating
-pub mod Judging
+pub mod Rulings

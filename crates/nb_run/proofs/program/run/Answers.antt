@@ -7,7 +7,7 @@ use Rattle.nb_run.specs.Run.{InitIs}
 use Rattle.nb_run.proofs.Numerals.{one_init, one_drill, one_job, one_migrate, one_statement, rate_small}
 use Rattle.nb_run.proofs.Making.{makes_clean}
 use Rattle.nb_run.proofs.Moving.{moves_clean}
-use Rattle.nb_run.proofs.Judging.{rules_clean}
+use Rattle.nb_run.proofs.Rulings.{rules_clean}
 use Rattle.nb_run.specs.Init.{MakesAs}
 use Rattle.nb_run.specs.Migrate.{MigrateIs}
 use Rattle.nb_run.specs.Statement.{StatementIs}
