@@ -69,7 +69,7 @@ as_entry c kept r ruling told rules = by_entry kept.entry told rules
 pub orders_are_judged : OrdersAreJudged
 orders_are_judged H head most body moment merchant consumer keys entry is within =
     let tells : TellsOrder H body moment (Some entry) (Receipts merchant consumer) =
-        subst (λ (d : Decision). TellsOrder H body moment d.entry d.reply) is (receipts_name_the_order H head most ORDER_REQUEST body moment) in
+    subst (λ (d : Decision). TellsOrder H body moment d.entry d.reply) is (receipts_name_the_order H head most ORDER_REQUEST body moment) in
     let p : Presented = tells.0 in
     record {
       order = p;

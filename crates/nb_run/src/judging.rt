@@ -64,7 +64,9 @@ pub fn rule_on<S: Source, K: Sink>(alloc: Global, source: &mut S, sink: &mut K) 
     };
     let ruling = match CaseBytes::read(input.as_slice()) {
         Ok(case) => case.judge(),
-        Err(Malformed { place }) => return JudgeEnd::Malformed { place: place as u64 },
+        Err(Malformed { place }) => return JudgeEnd::Malformed {
+            place: place as u64,
+        },
     };
     tell(alloc, &ruling, sink)
 }

@@ -348,7 +348,6 @@ command_is words all some none (Some (Statement acct)) is =
     let told = told_statement n.0 n.2 (ap (fault_of program) (sym n.1) ∙ none) is.0 (ap (subcommand_of program) (sym n.1) ∙ is.1) in
     let same = same_Some _ _ (sym told.4 ∙ is.2.0) in
     (told.0, n.1 ∙ ap (λ (ws : List Text). codes "statement" ∷ ws) told.2 ∙ ap (λ (w : Text). codes "statement" ∷ told.0 ∷ w ∷ []) same, told.3, is.2.1)
-
 command_is words all some none (Some Judge) is =
     let n = named_by words all some none (codes "judge") is.0 is.1 in
     n.1 ∙ ap (λ (ws : List Text). codes "judge" ∷ ws) (judge_fits n.0 n.2 (ap (fault_of program) (sym n.1) ∙ none))
