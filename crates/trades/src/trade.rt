@@ -4,6 +4,7 @@ ghost use Rattle.nb_msgs.specs.Bodies.{MessageKeepsRules};
 
 pub(crate) mod selling;
 
+use crate::deal::Deal;
 use crate::{bytes, telling};
 use nb_consumer::Consumer;
 use nb_lines::Told;
@@ -37,6 +38,8 @@ pub struct Trade {
     kept: Vec<u8>,
     sent: Vec<u8>,
     goods: Blob,
+    // What the next purchase over links is made with.
+    pub deal: Deal,
 }
 
 impl Trade {
@@ -52,6 +55,7 @@ impl Trade {
             kept: Vec::new(alloc),
             sent: Vec::new(alloc),
             goods: Blob::from_vec(Vec::new(alloc)),
+            deal: Deal::new(alloc),
         })
     }
 

@@ -1,0 +1,92 @@
+-- What holds of every purchase that was made.
+use Rattle.std.specs.Prelude.{◌≡◌, ℕ, ◌≤◌, List, [], ◌++◌, length, take, Ok}
+use Rattle.nb_port.specs.Tells.{DiskTells}
+use Rattle.nb_journal.specs.Stands.{Stands}
+use Rattle.nb_journal.specs.States.{AtRest}
+use Rattle.nb_journal.specs.Growing.{StandsAmong}
+use Rattle.nb_wallet.specs.declared.wallet.Start.{Start}
+use Rattle.nb_consumer.specs.State.{Buyer, purchase_of}
+use Rattle.nb_msgs.specs.declared.node.End.{End}
+use Rattle.nb_msgs.specs.declared.node.Reason.{Reason}
+use Rattle.nb_consumer.specs.declared.deed.Deed.{Deed}
+use Rattle.nb_consumer.specs.declared.deed.Deed.TheVariants as deed
+use Rattle.nb_consumer.specs.Goods.{HasEnded, goods_in, goods_at, phase_at}
+use Rattle.nb_consumer.specs.Restart.{restarted, untold, Kept}
+use Rattle.nb_buy.specs.declared.ended.TheConstants.{MOST_FRAMES}
+use Rattle.nb_buy.specs.declared.ended.Lost.TheVariants as lost
+use Rattle.nb_buy.specs.declared.ended.BuyEnd.{BuyEnd}
+use Rattle.nb_buy.specs.declared.ended.BuyEnd.TheVariants as ends
+use Rattle.nb_buy.specs.Run.{Act, act_row, buyer_behind, kept_by, phase_for}
+use Rattle.nb_buy.specs.Bought.{Point, Around, EndsAt, first_point, Bought}
+
+-- the acts of a purchase, with the one that was not carried out, if there is one
+abbrev pub acts_at : {D : Type 0} (tells : DiskTells D) (s : Start) (p q : Point D) (end : BuyEnd) → EndsAt tells s p q end → List Act
+acts_at tells s p q ends.Paid e = e.traded.acts
+acts_at tells s p q ends.Unpaid e = e.traded.acts
+acts_at tells s p q ends.SinkFault e = e.traded.acts
+acts_at tells s p q (ends.Stopped peer why) e = e.traded.acts
+acts_at tells s p q ends.Spent e = e.traded.acts
+acts_at tells s p q (ends.Lost why) e = e.traded.acts ++ e.last
+
+-- so of a purchase that was made
+abbrev pub acts_of : {D : Type 0} (tells : DiskTells D) (s : Start) (old new : Around D) (end : BuyEnd) → Bought tells s old new end → List Act
+acts_of tells s old new end b = acts_at tells s (first_point old) b.last end b.ended
+
+-- a stop at any moment of a purchase leaves the items of the journal with the first so many of those that its acts keep
+abbrev pub StopLeavesFirst : {D : Type 0} → DiskTells D → Type 0
+StopLeavesFirst {D} tells = (s : Start) (old new : Around D) (end : BuyEnd) (b : Bought tells s old new end) (front : List ℕ) (items : List (List ℕ)) → AtRest tells front items old.journal
+    → (image : List ℕ) → tells.left new.journal.disk (tells.moment old.journal.disk) image → StandsAmong front items (kept_by s old.buyer (acts_of tells s old new end b)) image
+
+-- behind the first k acts, this is what the journal holds, and a wallet that starts again with that is as the consumer was then, but for the places that it
+-- was told
+pub record GoesOn (s : Start) (b : Buyer) (items : List (List ℕ)) (acts : List Act) (front : List ℕ) (image : List ℕ) : Type 0 where
+  pub k : ℕ
+  pub within : k ≤ length acts
+  pub stands : Stands front (items ++ kept_by s b (take k acts)) image
+  pub again : restarted b.wallet (items ++ kept_by s b (take k acts)) ≡ Ok (untold (buyer_behind s b (take k acts)))
+
+-- of a wallet that starts again with what its journal holds: whatever a stop at any moment of a purchase leaves, it goes on from there next time
+abbrev pub GoesOnNextTime : {D : Type 0} → DiskTells D → Type 0
+GoesOnNextTime {D} tells = (s : Start) (old new : Around D) (end : BuyEnd) (b : Bought tells s old new end) (front : List ℕ) (items : List (List ℕ)) → AtRest tells front items old.journal
+    → Kept items old.buyer
+    → (image : List ℕ) → tells.left new.journal.disk (tells.moment old.journal.disk) image → GoesOn s old.buyer items (acts_of tells s old new end b) front image
+
+-- a purchase that is over ends so
+abbrev pub IsEndOfOver : BuyEnd → Type 0
+IsEndOfOver ends.Paid = Unit {0}
+IsEndOfOver ends.Unpaid = Unit {0}
+IsEndOfOver ends.SinkFault = Unit {0}
+IsEndOfOver (ends.Lost lost.NoMemory) = Unit {0}
+IsEndOfOver other = ⊥
+
+-- what is done of a purchase that is over: no act, and so nothing is kept, read and sent
+abbrev pub OverDoesNothing : {D : Type 0} → DiskTells D → Type 0
+OverDoesNothing {D} tells = (s : Start) (old new : Around D) (end : BuyEnd) (b : Bought tells s old new end) → HasEnded (phase_for s old.buyer)
+    → IsEndOfOver end × (acts_of tells s old new end b ≡ []) × (new.buyer ≡ old.buyer)
+
+-- a purchase that was paid, made again with a wallet that started again, whatever its other words are: it ends as one that is over, and its goods are the same
+abbrev pub PaidAgain : {D : Type 0} → DiskTells D → Type 0
+PaidAgain {D} tells = (s then : Start) (old new old' new' : Around D) (end : BuyEnd) → Bought tells s old new ends.Paid → then.transaction ≡ s.transaction → old'.buyer ≡ untold new.buyer
+    → Bought tells then old' new' end
+    → IsEndOfOver end × (goods_in (purchase_of new'.buyer then.transaction) ≡ goods_in (purchase_of new.buyer s.transaction))
+
+-- how a row ends the purchase of this number, if it does
+abbrev pub ends_with : ℕ → Result Deed Reason → Option End
+ends_with transaction (Ok (deed.Ends number receipt how)) = if number == transaction then Some how else None
+ends_with transaction other = None
+
+-- each of its acts was carried out
+abbrev pub IsCarriedOut : BuyEnd → Type 0
+IsCarriedOut (ends.Lost why) = ⊥
+IsCarriedOut other = Unit {0}
+
+-- A purchase of which a receipt was heard is over as that says, whatever came before it and behind it: it is paid, and has the goods that the receipt's key
+-- opens the held bytes to, or it was refused, or the key opens nothing; and so it ends
+abbrev pub ReceiptEnds : {D : Type 0} → DiskTells D → Type 0
+ReceiptEnds {D} tells = (s : Start) (old new : Around D) (end : BuyEnd) (b : Bought tells s old new end) (before later : List Act) (a : Act) (how : End) → IsCarriedOut end
+    → acts_of tells s old new end b ≡ before ++ a ∷ later → ends_with s.transaction (act_row s (buyer_behind s old.buyer before) a) ≡ Some how
+    → IsEndOfOver end × (phase_for s new.buyer ≡ Some (phase_at how)) × (goods_in (purchase_of new.buyer s.transaction) ≡ goods_at how)
+
+-- the most frames that are read for one purchase
+abbrev pub LimitIs : Type 0
+LimitIs = MOST_FRAMES ≡ 10000

@@ -1,0 +1,5 @@
+pub mod Run
+pub mod Lines
+pub mod Bought
+pub mod Steps
+pub mod Laws

@@ -1,0 +1,143 @@
+ghost use Rattle.std.specs.Prelude.{◌≡◌, ◌≤◌, length, IfOk};
+ghost use Rattle.nb_journal.specs.Growing.{IsAtRest};
+ghost use Rattle.nb_journal.specs.declared.limits.TheConstants.{MAX_ITEM};
+ghost use Rattle.nb_frame.specs.declared.stream.TheConstants.{MAX_PIECE};
+ghost use Rattle.nb_units.specs.declared.frames.TheConstants.{LAST_KIND};
+ghost use Rattle.nb_consumer.specs.Deeds.{Answers, StepKeepsRules};
+ghost use Rattle.nb_wallet.specs.Spelling.{StartKeepsRules};
+ghost use Rattle.nb_buy.specs.declared.peer.Peer.TheVariants.{House};
+ghost use Rattle.nb_buy.specs.Run.{Starts, Waits, frame_row};
+ghost use Rattle.nb_buy.specs.Bought.{point};
+ghost use Rattle.nb_buy.specs.Steps.{CanRead, IsNear, Carries, Listens, SameReaders, lines_of, next_heard};
+
+use crate::acting::act;
+use crate::ended::Lost;
+use crate::peer::{Next, Over, Peer};
+use crate::sides::{Sides, fetch};
+use nb_consumer::Consumer;
+use nb_journal::Journal;
+use nb_link::Link;
+use nb_msgs::{BodyFault, Reason, Step, read_body};
+use nb_port::Disk;
+use nb_units::NoMemory;
+use nb_units::frames::REFUSED_REPLY;
+use nb_wallet::Start;
+use nb_wire::Fetched;
+use std::alloc::Global;
+
+// Starts the purchase.
+pub fn begin<D: Disk, L: Link>(
+    alloc: Global,
+    journal: &mut Journal<D>,
+    consumer: &mut Consumer,
+    start: &Start,
+    server: &mut L,
+    seller: &mut L,
+    sides: &mut Sides,
+) -> Result<Next, Lost>
+    requires rest { IsAtRest D.tells journal.old }
+    requires room { journal.old.room ≡ MAX_ITEM }
+    requires start { StartKeepsRules start.now }
+    ensures carries { Carries D.tells start.now (point journal.old consumer.old (lines_of (L.seen server.old) (L.seen seller.old) sides.old)) (point journal.new consumer.new (lines_of (L.seen server.new) (L.seen seller.new) sides.new)) House Starts result }
+    ensures readers { SameReaders sides.old sides.new }
+{
+    match consumer.start(start) {
+        Ok(step) => {
+            let done = act(alloc, journal, server, seller, sides, Peer::House, &step);
+            drop(step);
+            done
+        }
+        Err(_) => Err(Lost::NoMemory),
+    }
+}
+
+// Waits no more for the answer of a peer: the last message of the purchase is sent again, and of an order the house is asked.
+pub fn go_on<D: Disk, L: Link>(
+    alloc: Global,
+    journal: &mut Journal<D>,
+    consumer: &mut Consumer,
+    start: &Start,
+    server: &mut L,
+    seller: &mut L,
+    sides: &mut Sides,
+    from: Peer,
+) -> Result<Next, Lost>
+    requires rest { IsAtRest D.tells journal.old }
+    requires room { journal.old.room ≡ MAX_ITEM }
+    ensures carries { Carries D.tells start.now (point journal.old consumer.old (lines_of (L.seen server.old) (L.seen seller.old) sides.old)) (point journal.new consumer.new (lines_of (L.seen server.new) (L.seen seller.new) sides.new)) from Waits result }
+    ensures readers { SameReaders sides.old sides.new }
+{
+    match consumer.quiet(start.transaction) {
+        Ok(step) => {
+            let done = act(alloc, journal, server, seller, sides, from, &step);
+            drop(step);
+            done
+        }
+        Err(_) => Err(Lost::NoMemory),
+    }
+}
+
+// Hears the next frame of a peer, and does what the consumer does at it.
+pub fn listen<D: Disk, L: Link>(
+    alloc: Global,
+    journal: &mut Journal<D>,
+    consumer: &mut Consumer,
+    _start: &Start,
+    server: &mut L,
+    seller: &mut L,
+    sides: &mut Sides,
+    piece: &mut [u8],
+    from: Peer,
+) -> Result<Next, Lost>
+    requires rest { IsAtRest D.tells journal.old }
+    requires room { journal.old.room ≡ MAX_ITEM }
+    requires piece { length piece.old ≡ MAX_PIECE }
+    requires near { CanRead sides.old }
+    ensures listens { Listens D.tells _start.now (point journal.old consumer.old (lines_of (L.seen server.old) (L.seen seller.old) sides.old)) (point journal.new consumer.new (lines_of (L.seen server.new) (L.seen seller.new) sides.new)) from sides.old.read sides.new.read result }
+    ensures near { IsNear sides.new }
+{
+    let f = match fetch(server, seller, sides, piece, from) {
+        Fetched::Frame(f) => f,
+        Fetched::End(end) => return Ok(Next::Over(from, Over::Ended(end))),
+    };
+    match hear(alloc, consumer, f.kind, sides.body(from, &f)) {
+        Ok(step) => {
+            let done = act(alloc, journal, server, seller, sides, from, &step);
+            drop(step);
+            match done {
+                Ok(next) => Ok(heard(from, f.kind, next)),
+                Err(why) => Err(why),
+            }
+        }
+        Err(_) => Err(Lost::NoMemory),
+    }
+}
+
+// What the consumer does at a frame. One whose body spells no message is ignored.
+#[tactic(auto, unfolding(crate::specs::Run::frame_row))]
+fn hear(alloc: Global, consumer: &mut Consumer, kind: u8, body: &[u8]) -> Result<Step, NoMemory>
+    requires least { 1 ≤ kind }
+    requires most { kind ≤ LAST_KIND }
+    ensures answers { Answers consumer.old consumer.new (frame_row consumer.old (record { kind = kind; body = body.now })) result }
+    ensures lawful { IfOk result StepKeepsRules }
+{
+    match read_body(alloc, kind, body) {
+        Ok(message) => {
+            let step = consumer.on(&message);
+            drop(message);
+            step
+        }
+        Err(BodyFault::Malformed { .. }) => Ok(Step::Ignored(Reason::Kind)),
+        Err(BodyFault::NoMemory) => Err(NoMemory),
+    }
+}
+
+// What is done next behind a frame.
+fn heard(from: Peer, kind: u8, next: Next) -> Next
+    ensures { result ≡ next_heard from kind next }
+{
+    if kind == REFUSED_REPLY {
+        return Next::Over(from, Over::Refused);
+    }
+    next
+}

@@ -1,0 +1,158 @@
+// Purchases over links in memory, with a wallet's journal on a disk in memory.
+
+ghost use Rattle.std.specs.Prelude.{◌<◌};
+
+mod making;
+
+use crate::bytes;
+use nb_journal::{Journal, MAX_ITEM, Opened};
+use nb_lines::Told;
+use nb_link::MemLink;
+use nb_port::MemDisk;
+use nb_units::NoMemory;
+use std::alloc::Global;
+
+// The most bytes that a line adds to what comes over a link.
+const MOST: u64 = 2_000_000;
+
+// What comes over a link, and which of its calls fail.
+#[derive(Drop)]
+struct Side {
+    comes: Vec<u8>,
+    fails: Vec<u64>,
+}
+
+impl Side {
+    fn new(alloc: Global) -> Side {
+        Side {
+            comes: Vec::new(alloc),
+            fails: Vec::new(alloc),
+        }
+    }
+
+    // The link, of which one read gives at most so many bytes. What came and what fails is used up by it.
+    fn link(&mut self, alloc: Global, step: usize) -> Result<MemLink, NoMemory>
+        requires { 0 < step }
+    {
+        let link = MemLink::new(alloc, self.comes.as_slice(), step, self.fails.as_slice())?;
+        self.comes.clear();
+        self.fails.clear();
+        Ok(link)
+    }
+}
+
+/// What a purchase is made with: the content of the wallet's disk, what comes over the links of the house and the seller, and which calls of the disk,
+/// the links and the output fail.
+#[derive(Drop)]
+pub struct Deal {
+    alloc: Global,
+    wallet: Vec<u8>,
+    disk: Vec<u64>,
+    output: Vec<u64>,
+    house: Side,
+    seller: Side,
+}
+
+impl Deal {
+    /// An empty disk, and links over which nothing comes.
+    pub fn new(alloc: Global) -> Deal {
+        Deal {
+            alloc,
+            wallet: Vec::new(alloc),
+            disk: Vec::new(alloc),
+            output: Vec::new(alloc),
+            house: Side::new(alloc),
+            seller: Side::new(alloc),
+        }
+    }
+
+    /// `wallet HEX`: the content of the wallet's disk.
+    pub fn wallet(&mut self, told: &mut Told, words: &[&str]) -> Result<(), NoMemory> {
+        let [text] = words else {
+            return told.unclear();
+        };
+        self.wallet = nb_lines::spelled(self.alloc, *text);
+        Ok(())
+    }
+
+    /// `comes house COUNT HEX`, `comes seller COUNT HEX`: these bytes come over the link so many times, behind the others.
+    pub fn comes(&mut self, told: &mut Told, words: &[&str]) -> Result<(), NoMemory> {
+        let [whose, count, text] = words else {
+            return told.unclear();
+        };
+        let bytes = nb_lines::spelled(self.alloc, *text);
+        let count = nb_lines::number(*count).min(MOST);
+        match *whose {
+            "house" => again(&mut self.house.comes, count, &bytes),
+            "seller" => again(&mut self.seller.comes, count, &bytes),
+            _ => told.unclear(),
+        }
+    }
+
+    /// `fails house CALL..`, and of `seller`, `disk` and `output`: these calls fail, of the disk those behind its opening, each from 1 on.
+    pub fn fails(&mut self, told: &mut Told, words: &[&str]) -> Result<(), NoMemory> {
+        let [whose, calls @ ..] = words else {
+            return told.unclear();
+        };
+        let numbers = nb_lines::numbers(self.alloc, calls, 0)?;
+        match *whose {
+            "house" => self.house.fails = numbers,
+            "seller" => self.seller.fails = numbers,
+            "disk" => self.disk = numbers,
+            "output" => self.output = numbers,
+            _ => return told.unclear(),
+        }
+        Ok(())
+    }
+
+    /// `buy NUMBER LIMIT STEP`: the purchase of this number of merchant 2's product 7 is made, by a wallet that is opened on the disk, over links of which
+    /// one read gives at most so many bytes. It prints how that ended, what the disk has then, what was sent to the house and to the seller, and
+    /// what was written to the output.
+    pub fn buy(&mut self, told: &mut Told, words: &[&str]) -> Result<(), NoMemory> {
+        let [number, limit, step] = words else {
+            return told.unclear();
+        };
+        let wish = bytes::wish(nb_lines::number(*number), nb_lines::number(*limit));
+        let step = step.parse::<usize>().unwrap_or(1).max(1);
+        let calls = self.opening_calls()?;
+        let fails = behind(self.alloc, calls, self.disk.as_slice())?;
+        self.disk.clear();
+        let disk = MemDisk::new(self.alloc, self.wallet.as_slice(), fails.as_slice())?;
+        match Journal::open(self.alloc, disk, MAX_ITEM) {
+            Ok(opened) => self.with(told, opened, &wish, step),
+            Err(_) => told.unclear(),
+        }
+    }
+
+    // How many calls of the disk it takes to open the wallet.
+    fn opening_calls(&self) -> Result<u64, NoMemory> {
+        let disk = MemDisk::new(self.alloc, self.wallet.as_slice(), &[])?;
+        match Journal::open(self.alloc, disk, MAX_ITEM) {
+            Ok(opened) => {
+                let Opened { journal, .. } = opened;
+                Ok(journal.into_disk().calls())
+            }
+            Err((_, disk)) => Ok(disk.calls()),
+        }
+    }
+}
+
+// Appends bytes so many times.
+fn again(to: &mut Vec<u8>, count: u64, bytes: &[u8]) -> Result<(), NoMemory> {
+    for _ in 0..count {
+        if to.len() as u64 > MOST {
+            break;
+        }
+        to.extend_from_slice(bytes)?;
+    }
+    Ok(())
+}
+
+// The numbers of calls that come behind so many others.
+fn behind(alloc: Global, before: u64, calls: &[u64]) -> Result<Vec<u64>, NoMemory> {
+    let mut numbers = Vec::with_capacity(alloc, calls.len())?;
+    for call in calls {
+        numbers.push(before.saturating_add(*call))?;
+    }
+    Ok(numbers)
+}
