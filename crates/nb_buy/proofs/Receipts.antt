@@ -12,7 +12,6 @@ use Rattle.nb_wallet.specs.declared.wallet.Start.{Start}
 use Rattle.nb_wallet.specs.declared.purchase.Purchase.{Purchase}
 use Rattle.nb_consumer.specs.declared.deed.Deed.{Deed}
 use Rattle.nb_consumer.specs.declared.deed.Deed.TheVariants as deed
-use Rattle.nb_consumer.specs.declared.phase.Phase.{Phase}
 use Rattle.nb_consumer.specs.State.{Buyer, purchase_of}
 use Rattle.nb_consumer.specs.Table.{after}
 use Rattle.nb_consumer.specs.Goods.{IsOpen, HasEnded, phase_in, phase_at, goods_in, goods_at}
@@ -24,7 +23,7 @@ use Rattle.nb_consumer.proofs.Staying.{ended_stays}
 use Rattle.nb_buy.specs.declared.ended.BuyEnd.{BuyEnd}
 use Rattle.nb_buy.specs.declared.ended.BuyEnd.TheVariants as ends
 use Rattle.nb_buy.specs.Run.{Act, Starts, Hears, Waits, heard_as, frame_row, act_row, buyer_behind, phase_for}
-use Rattle.nb_buy.specs.Bought.{Point, Traded, Around, EndsAt, first_point, Bought}
+use Rattle.nb_buy.specs.Bought.{Point, Traded, EndsAt, first_point}
 use Rattle.nb_buy.specs.Laws.{acts_at, IsEndOfOver, ends_with, IsCarriedOut, ReceiptEnds}
 use Rattle.nb_buy.proofs.Runs.{buyer_both}
 use Rattle.nb_buy.proofs.NextTime.{over_apart}

@@ -1,5 +1,5 @@
 -- What holds of every purchase that was made.
-use Rattle.std.specs.Prelude.{◌≡◌, ℕ, ◌≤◌, List, [], ◌++◌, length, take, Ok}
+use Rattle.std.specs.Prelude.{◌≡◌, ℕ, ◌≤◌, ◌==◌, if◌then◌else◌, List, [], ◌∷◌, ◌++◌, length, take, Option, Some, None, Result, Ok}
 use Rattle.nb_port.specs.Tells.{DiskTells}
 use Rattle.nb_journal.specs.Stands.{Stands}
 use Rattle.nb_journal.specs.States.{AtRest}
@@ -66,9 +66,9 @@ OverDoesNothing {D} tells = (s : Start) (old new : Around D) (end : BuyEnd) (b :
 
 -- a purchase that was paid, made again with a wallet that started again, whatever its other words are: it ends as one that is over, and its goods are the same
 abbrev pub PaidAgain : {D : Type 0} → DiskTells D → Type 0
-PaidAgain {D} tells = (s then : Start) (old new old' new' : Around D) (end : BuyEnd) → Bought tells s old new ends.Paid → then.transaction ≡ s.transaction → old'.buyer ≡ untold new.buyer
-    → Bought tells then old' new' end
-    → IsEndOfOver end × (goods_in (purchase_of new'.buyer then.transaction) ≡ goods_in (purchase_of new.buyer s.transaction))
+PaidAgain {D} tells = (s again : Start) (old new old' new' : Around D) (end : BuyEnd) → Bought tells s old new ends.Paid → again.transaction ≡ s.transaction → old'.buyer ≡ untold new.buyer
+    → Bought tells again old' new' end
+    → IsEndOfOver end × (goods_in (purchase_of new'.buyer again.transaction) ≡ goods_in (purchase_of new.buyer s.transaction))
 
 -- how a row ends the purchase of this number, if it does
 abbrev pub ends_with : ℕ → Result Deed Reason → Option End
