@@ -1,13 +1,13 @@
 -- What a judge rules on papers that real parties made: of an order, by the entry that settled it, and of goods that a merchant endorsed.
-use Rattle.std.specs.Prelude.{◌≡◌, ◌⊎◌, ℕ, List, [], ◌∷◌, ◌++◌, length, Option, Some, None, Ok}
+use Rattle.std.specs.Prelude.{◌≡◌, ◌⊎◌, ℕ, List, true, length, Option, Some, None, IsNone, Ok}
 use Rattle.sha2.specs.Sha256.{sha256}
 use Rattle.nb_units.specs.declared.frames.TheConstants.{ORDER_REQUEST}
 use Rattle.nb_units.specs.declared.ids.PartyId.{PartyId}
-use Rattle.nb_book.specs.Searches.{order_in}
+use Rattle.nb_book.specs.Searches.{order_in, settles}
 use Rattle.nb_book.specs.declared.entry.Entry.{Entry}
 use Rattle.nb_book.specs.declared.entry.Entry.TheVariants.{Paid, Charged, Refused}
-use Rattle.nb_book.specs.declared.kept.Kept.{Kept}
 use Rattle.nb_epo.specs.Places.{checksum_in}
+use Rattle.nb_epo.specs.declared.order.Order.{Order}
 use Rattle.nb_endorse.specs.Spelling.{IsReceipt}
 use Rattle.nb_endorse.specs.declared.receipt.Receipt.{Receipt}
 use Rattle.nb_endorse.specs.declared.reply.Reply.TheVariants.{Result as Receipts}
@@ -31,12 +31,12 @@ use Rattle.nb_merchant.specs.Shop.{Shop}
 use Rattle.nb_merchant.specs.Table.{after}
 use Rattle.nb_merchant.specs.declared.answer.Answer.{Answer}
 
--- the papers of an order that was presented, and of what its consumer was told of it: whatever goods they are
-pub record ArePapers (head : Head) (p : Presented) (consumer : Receipt) (c : Case) : Type 0 where
-  pub house : c.house ≡ head.house
-  pub key : c.consumer ≡ p.consumer.key
-  pub order : c.order ≡ p.order
-  pub receipt : c.receipt ≡ sealed_receipt head.house p.consumer.key consumer
+-- the papers of an order, and of what its consumer was told of it under these keys: whatever goods they are
+pub record ArePapers (keys : ReplyKeys) (presented : Order) (consumer : Receipt) (c : Case) : Type 0 where
+  pub house : c.house ≡ keys.house
+  pub key : c.consumer ≡ keys.second
+  pub order : c.order ≡ presented
+  pub receipt : c.receipt ≡ sealed_receipt keys.house keys.second consumer
 
 -- how an order is ruled on by the entry that settles it: where it was refused, as not paid, with the entry's code; where it was paid, by its goods under the
 -- entry's key
@@ -46,21 +46,22 @@ RulesAsEntry c (Charged digest epoid consumer merchant product price fee cacct m
 RulesAsEntry c (Refused digest epoid consumer merchant product price code a b moment) ruling = ruling ≡ NotPaid code
 RulesAsEntry c other ruling = ⊥
 
--- the papers of an order that is authentic over these entries are ruled on as the entry says that settles its identifier, among them and the one
--- that is recorded
-pub record IsJudged (H : List Entry) (recorded : Entry) (head : Head) (body : List ℕ) (consumer : Receipt) : Type 0 where
+-- an order is authentic over these entries, no entry of them settles its identifier, the recorded one does; the keys are those of the house and of its
+-- consumer; and its papers are ruled on as the recorded entry says
+pub record IsJudged (H : List Entry) (recorded : Entry) (body : List ℕ) (consumer : Receipt) (keys : ReplyKeys) (house : List ℕ) : Type 0 where
   pub order : Presented
   pub authentic : IsAuthenticOrder H body order
-  pub kept : Kept
-  pub settles : order_in (H ++ recorded ∷ []) order.order.epoid ≡ Some kept
-  pub ruled : (c : Case) (ruling : Ruling) → ArePapers head order consumer c → Rules c ruling → RulesAsEntry c kept.entry ruling
+  pub new : IsNone (order_in H order.order.epoid)
+  pub settles : settles order.order.epoid recorded ≡ true
+  pub keyed : (keys.house ≡ house) × (keys.second ≡ order.consumer.key)
+  pub ruled : (c : Case) (ruling : Ruling) → ArePapers keys order.order consumer c → Rules c ruling → RulesAsEntry c recorded ruling
 
--- Where a verdict records an entry for an order, the papers of that order with the receipt that its consumer is given are ruled on as that says: never by
--- one of the first three rulings, and as not paid, with the code, exactly where the order was refused.
+-- Where a verdict records an entry for an order, the papers of that order with the receipt that its consumer is given, under the keys of the reply, are ruled
+-- on as that entry says: never by one of the first three rulings, and as not paid, with the code, exactly where the order was refused.
 abbrev pub OrdersAreJudged : Type 0
 OrdersAreJudged = (H : List Entry) (head : Head) (cap : ℕ) (body : List ℕ) (moment : ℕ) (merchant consumer : Receipt) (keys : ReplyKeys) (entry : Entry)
     → verdict H head cap ORDER_REQUEST body moment ≡ record { reply = Receipts merchant consumer; keys = keys; entry = Some entry }
-    → IsReceipt consumer → IsJudged H entry head body consumer
+    → IsReceipt consumer → IsJudged H entry body consumer keys head.house
 
 -- Where a merchant endorses an order, at whatever it hears, and papers have that order's checksum and goods with it, they are ruled on by the endorsement's
 -- key as goods that it opens, with their length, or the goods are a collision with those of the product as they were sealed.

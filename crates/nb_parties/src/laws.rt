@@ -50,8 +50,9 @@ pub fn premises_are_met()
     nb_book::laws::stays_legal();
 }
 
-/// The papers of an order for which an entry is recorded now, with the receipt that its consumer is given, are ruled on as the entry says: never by one of the
-/// first three rulings, and as not paid, with the entry's code, exactly where the order was refused.
+/// The papers of an order for which an entry is recorded now, with the receipt that its consumer is given, under the keys of the reply, are ruled on as that
+/// entry says: never by one of the first three rulings, and as not paid, with the entry's code, exactly where the order was refused. The keys are those of the
+/// house and of the order's consumer. Premise: the receipt's fields have their widths.
 pub fn orders_are_judged()
     ensures { judged.OrdersAreJudged }
 {}
