@@ -107,20 +107,20 @@ presented_once : (H : List Entry) (body : List ℕ) (p q : Presented) → IsAuth
 presented_once H body p q a b =
     let request : a.request ≡ b.request = ok_is a.request b.request (sym a.signed.ordered.endorsed.asked.spelled ∙ b.signed.ordered.endorsed.asked.spelled) in
     let merchant : p.merchant ≡ q.merchant = some_is p.merchant q.merchant
-        (sym a.signed.ordered.endorsed.asked.enrolled ∙ ap (λ (r : EndorsedOrder). party_in H r.merchant) request ∙ b.signed.ordered.endorsed.asked.enrolled) in
+    (sym a.signed.ordered.endorsed.asked.enrolled ∙ ap (λ (r : EndorsedOrder). party_in H r.merchant) request ∙ b.signed.ordered.endorsed.asked.enrolled) in
     let endorsement : p.endorsement ≡ q.endorsement =
-        read_once endorsement_of q.merchant.key (codes "endo") b.request.sealed p.endorsement q.endorsement
-        (subst (λ (r : EndorsedOrder). OpensAs endorsement_of q.merchant.key (codes "endo") r.sealed (Ok p.endorsement)) request
-        (subst (λ (m : Party). OpensAs endorsement_of m.key (codes "endo") a.request.sealed (Ok p.endorsement)) merchant a.signed.ordered.endorsed.opens))
-        b.signed.ordered.endorsed.opens in
+    read_once endorsement_of q.merchant.key (codes "endo") b.request.sealed p.endorsement q.endorsement
+    (subst (λ (r : EndorsedOrder). OpensAs endorsement_of q.merchant.key (codes "endo") r.sealed (Ok p.endorsement)) request
+    (subst (λ (m : Party). OpensAs endorsement_of m.key (codes "endo") a.request.sealed (Ok p.endorsement)) merchant a.signed.ordered.endorsed.opens))
+    b.signed.ordered.endorsed.opens in
     let order : p.order ≡ q.order = ok_is p.order q.order (sym a.signed.ordered.spelled ∙ ap (λ (e : Endorsement). order_of e.order) endorsement ∙ b.signed.ordered.spelled) in
     let consumer : p.consumer ≡ q.consumer = some_is p.consumer q.consumer
-        (sym a.signed.enrolled ∙ ap (λ (o : Order). party_in H o.consumer) order ∙ b.signed.enrolled) in
+    (sym a.signed.enrolled ∙ ap (λ (o : Order). party_in H o.consumer) order ∙ b.signed.enrolled) in
     let hidden : p.hidden ≡ q.hidden =
-        read_once hidden_of q.consumer.key (codes "hide") q.order.hidden p.hidden q.hidden
-        (subst (λ (o : Order). OpensAs hidden_of q.consumer.key (codes "hide") o.hidden (Ok p.hidden)) order
-        (subst (λ (m : Party). OpensAs hidden_of m.key (codes "hide") p.order.hidden (Ok p.hidden)) consumer a.opens))
-        b.opens in
+    read_once hidden_of q.consumer.key (codes "hide") q.order.hidden p.hidden q.hidden
+    (subst (λ (o : Order). OpensAs hidden_of q.consumer.key (codes "hide") o.hidden (Ok p.hidden)) order
+    (subst (λ (m : Party). OpensAs hidden_of m.key (codes "hide") p.order.hidden (Ok p.hidden)) consumer a.opens))
+    b.opens in
     let digest : p.digest ≡ q.digest = a.hashed ∙ ap endorsement_digest endorsement ∙ sym b.hashed in
     λ i. record { merchant = merchant i; consumer = consumer i; endorsement = endorsement i; digest = digest i; order = order i; hidden = hidden i }
 
