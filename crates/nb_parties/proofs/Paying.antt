@@ -119,7 +119,7 @@ paid_key key None p moment pays = pays
 paid_key key (Some fee) p moment pays = pays
 
 -- a merchant's message to the house is an endorsement
-is_endorsement : (shop : Shop) (whom : To) (m : Message) → MessageIs shop whom m → kind_of m ≡ ORDER_REQUEST → Endorses shop whom m
+pub is_endorsement : (shop : Shop) (whom : To) (m : Message) → MessageIs shop whom m → kind_of m ≡ ORDER_REQUEST → Endorses shop whom m
 is_endorsement shop whom (message.Endorsed merchant sealed) so kind = so
 is_endorsement shop whom (message.Quote transaction sealed) so kind = absurd (omega (arith, kind))
 is_endorsement shop whom (message.Goods transaction head part) so kind = absurd (omega (arith, kind))
@@ -128,11 +128,11 @@ is_endorsement shop whom other so kind = absurd so
 
 -- the key of an endorsement is that of the goods of whoever kept its order
 module _ (first : World Buyer Shop) (id : PartyId) (packet : Packet) (from : SentFrom first id packet) (endorses : Endorses from.shop from.whom from.message) (key : List ℕ) (same : key ≡ endorses.endorsement.key) where
-  goods_open : (b : Buyer) (heard_now : Message) (held : List ℕ) → KeepsOrder b heard_now endorses.sent.order held → OpensOrCollides key endorses.product.goods held
+  pub goods_open : (b : Buyer) (heard_now : Message) (held : List ℕ) → KeepsOrder b heard_now endorses.sent.order held → OpensOrCollides key endorses.product.goods held
   goods_open b heard_now held keeps =
       subst (λ (k : List ℕ). OpensOrCollides k endorses.product.goods held) (sym same) (endorses.goods held (order_names b heard_now endorses.sent.order held keeps))
 
-  pub key_of_goods : IsKeyOfGoods first id packet key
+  unfoldable pub key_of_goods : IsKeyOfGoods first id packet key
   key_of_goods = record {
     endorsed = record {
       place = from.place;

@@ -1,13 +1,22 @@
 -- The purchase in numbers, event by event: it meets what the laws premise.
-use Rattle.std.proofs.Common.{◌≡◌, inl, inr, ℕ, zero, suc, List, [], ◌∷◌, ◌++◌, ◌-◌, take, drop, Option, None, Some, Result, Ok, refl, sym, ap, subst, ◌∙◌, arith, length}
+use Rattle.std.proofs.Common.{◌≡◌, ◌<◌, ◌^◌, inl, inr, ℕ, zero, suc, List, [], ◌∷◌, ◌++◌, ◌-◌, take, drop, Option, None, Some, Result, Ok, refl, sym, ap, subst, ◌∙◌, arith, length}
 use Rattle.std.specs.Prelude.{codes, replicate, if◌then◌else◌}
 use Rattle.std.specs.List.{slice_get}
 use Rattle.std.specs.Result.{is_ok}
 use Rattle.nb_seal.specs.Seal.{seal_of, text_in}
-use Rattle.nb_seal.proofs.Opening.{text_in_opens, length-seal_of}
+use Rattle.nb_seal.proofs.Opening.{text_in_opens, length-seal_of, opens_once}
 use Rattle.nb_epo.specs.Spelling.{order_bytes}
 use Rattle.nb_body.specs.Spelling.{price_request_bytes, goods_request_bytes, payment_request_bytes, goods_head_bytes, quote_bytes, endorsed_bytes, query_bytes}
 use Rattle.nb_body.proofs.Layouts.{price_request_is_as_long, quote_is_as_long, goods_request_is_as_long, goods_head_is_as_long, payment_request_is_as_long, query_reads_back}
+use Rattle.nb_body.proofs.Layouts.{endorsed_reads_back}
+use Rattle.nb_body.specs.Reading.{endorsed_of}
+use Rattle.nb_body.specs.declared.endorsed.EndorsedOrder.{EndorsedOrder}
+use Rattle.nb_endorse.proofs.Layouts.{one_endorsement}
+use Rattle.nb_endorse.specs.Spelling.{endorsement_bytes, IsEndorsement}
+use Rattle.nb_endorse.specs.declared.endorsement.Endorsement.{Endorsement}
+use Rattle.nb_stall.specs.declared.stall.Stall.{Stall}
+use Rattle.nb_merchant.specs.Sending.{Endorses}
+use Rattle.nb_world.proofs.Lists.{all_at}
 use Rattle.nb_units.specs.declared.frames.TheConstants.{ORDER_REQUEST, STATUS_REQUEST}
 use Rattle.nb_units.specs.declared.width.TheConstants.{SEAL}
 use Rattle.nb_book.specs.Laws.{StaysLegal}
@@ -71,11 +80,13 @@ use Rattle.nb_world.proofs.Chains.{same_some}
 use Rattle.nb_world.specs.Steps.{consumer_at, consumer_goes, merchant_goes, next, run, buy_of, deliver_of, turn_of, write_of, open_of, answer_of, quiet_consumer_of}
 use Rattle.nb_world.specs.Headline.{verdict_shown}
 use Rattle.nb_parties.specs.Rules.{buyer_goes, buyer_hears, shop_row, shop_goes, shop_hears, shown}
-use Rattle.nb_parties.specs.Worked.{buyer_id, seller_id, first_wallet, first_stall, first_head, first_entries, first_start, first_world, first_rules, first_key, goods_come, order_is_paid, status_is_asked, behind, OrderIsKept, PaymentStands, EndsPaid, IsReported, PremisesAreMet}
+use Rattle.nb_parties.specs.Worked.{buyer_id, seller_id, first_wallet, first_stall, first_head, first_entries, first_start, first_world, first_rules, first_key, goods_come, order_is_paid, status_is_asked, behind, OrderIsKept, OrderIsEndorsed, PaymentStands, EndsPaid, IsReported, PremisesAreMet}
 use Rattle.nb_parties.specs.Ends.{TellsReceipt}
 use Rattle.nb_parties.specs.Goods.{IsEnrolled, MerchantsAreEnrolled}
 use Rattle.nb_parties.specs.Held.{ConsumersAreSo}
-use Rattle.nb_parties.proofs.Script.{is_epoid, is_query, query, paid_entries, tells, tells_status, text, text_is, hears_status, waits, signed_is, price, is_ticket, is_receipt, is_head, ticket_short, order_short, order_long, sealed_long, asked_price, asked_goods, asked_payment, consumer_party, merchant_party, ask, session, grant, pass, quote, sealed, head, epoid, order, request, receipt, signed, part, ticketing, asking, wanting, ordering, shop, quoted, delivered, endorsed, settled_item, pays, payment_entry, hears_grant, hears_quote, hears_goods, hears_result, asks_price, asks_goods, asks_payment, hears_house, grants, pays_order}
+use Rattle.nb_parties.proofs.Endorsing.{SentFrom, SentBy, all_sent}
+use Rattle.nb_parties.proofs.Paying.{is_endorsement as sent_endorsement, key_of_goods, sealed_short}
+use Rattle.nb_parties.proofs.Script.{endorsement, is_endorsement, request_short, is_epoid, is_query, query, paid_entries, tells, tells_status, text, text_is, hears_status, waits, signed_is, price, is_ticket, is_receipt, is_head, ticket_short, order_short, order_long, sealed_long, asked_price, asked_goods, asked_payment, consumer_party, merchant_party, ask, session, grant, pass, quote, sealed, head, epoid, order, request, receipt, signed, part, ticketing, asking, wanting, ordering, shop, quoted, delivered, endorsed, settled_item, pays, payment_entry, hears_grant, hears_quote, hears_goods, hears_result, asks_price, asks_goods, asks_payment, hears_house, grants, pays_order}
 
 -- ---- packets
 
@@ -607,5 +618,48 @@ are_so : ConsumersAreSo first_world
 are_so zero b at = subst AllSo (same_some (new_buyer first_wallet) b at) tt
 are_so (suc i) b at = absurd cc
 
+-- ---- the endorsement
+
+merchant_is : (i : ℕ) (m : Shop) → slice_get first_world.merchants i ≡ Some m → m.stall ≡ first_stall
+merchant_is zero m at = ap (λ (x : Shop). x.stall) (sym (same_some (shop []) m at))
+merchant_is (suc i) m at = absurd cc
+
+-- an endorsement of whose bytes the packet is, under the same stall's key, is the one that was endorsed
+endorsed_as : (stall : Stall) (e : Endorsement) → stall ≡ first_stall → IsEndorsement e
+    → endorsed_packet.body ≡ body_bytes (message.Endorsed stall.id (seal_of stall.key (codes "endo") (endorsement_bytes e))) → e ≡ endorsement
+endorsed_as stall e its within same =
+    let key : List ℕ = first_stall.key in
+    let bytes : List ℕ = endorsement_bytes e in
+    let theirs : EndorsedOrder = record { merchant = first_stall.id; sealed = seal_of key (codes "endo") bytes } in
+    let body : endorsed_bytes request ≡ endorsed_bytes theirs =
+    same ∙ ap (λ (x : Stall). body_bytes (message.Endorsed x.id (seal_of x.key (codes "endo") bytes))) its in
+    let read : (let first : Result EndorsedOrder ℕ = Ok request in first ≡ Ok theirs) =
+    sym (endorsed_reads_back request (record { merchant = omega arith; sealed = request_short })) ∙ ap endorsed_of body
+    ∙ endorsed_reads_back theirs (record { merchant = omega arith; sealed = sealed_short key e within }) in
+    let seals : seal_of key (codes "endo") (endorsement_bytes endorsement) ≡ seal_of key (codes "endo") bytes = ap (λ (o : EndorsedOrder). o.sealed) (ok_is read) in
+    one_endorsement e endorsement within is_endorsement
+    (opens_once key (codes "endo") (seal_of key (codes "endo") bytes) bytes (endorsement_bytes endorsement) refl (sym seals))
+  where
+    ok_is : {A E : Type 0} {a b : A} → (let first : Result A E = Ok a in first ≡ Ok b) → a ≡ b
+    ok_is e = cc
+
+order_is_endorsed : StaysLegal → OrderIsEndorsed (order_bytes order)
+unfolding key_of_goods
+order_is_endorsed stays =
+    let there : slice_get (behind (goods_come ++ order_is_paid)).packets 7 ≡ Some endorsed_packet = ap (λ (w : World Buyer Shop). slice_get w.packets 7) passed_is in
+    let from : SentFrom first_world seller_id endorsed_packet =
+    all_at (λ (made : Packet). SentBy first_world made made.maker) (behind (goods_come ++ order_is_paid)).packets 7 endorsed_packet there
+    (all_sent first_head 8 first_world (is_setup stays) are_enrolled (goods_come ++ order_is_paid)) in
+    let endorses : Endorses from.shop from.whom from.message = sent_endorsement from.shop from.whom from.message from.so (sym from.kind) in
+    let stall : from.shop.stall ≡ first_stall = from.stall ∙ merchant_is from.place from.merchant from.of in
+    let within : IsEndorsement endorses.endorsement = endorses.within (subst (λ (x : Stall). x.acct.0 < 2 ^ 32) (sym stall) (omega arith)) in
+    let is : endorses.endorsement ≡ endorsement = endorsed_as from.shop.stall endorses.endorsement stall within (from.body ∙ ap body_bytes endorses.sealed) in
+    record {
+      packet = endorsed_packet;
+      sent = there;
+      of = key_of_goods first_world seller_id endorsed_packet from endorses first_key (sym (ap (λ (e : Endorsement). e.key) is));
+      same = sym endorses.of_order ∙ ap (λ (e : Endorsement). e.order) is;
+    }
+
 pub premises_are_met : StaysLegal → PremisesAreMet
-premises_are_met stays = ((inl refl, omega arith), is_setup stays, are_enrolled, are_so, (inl tt, (inl tt, (inr tt, tt))), (order_bytes order, kept), by_result, by_status, reported)
+premises_are_met stays = ((inl refl, omega arith), is_setup stays, are_enrolled, are_so, (inl tt, (inl tt, (inr tt, tt))), (order_bytes order, kept, order_is_endorsed stays), by_result, by_status, reported)

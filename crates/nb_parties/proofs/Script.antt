@@ -224,7 +224,7 @@ order_long = omega (arith, lengths.0 order is_order, hidden_long)
 pub order_short : length (order_bytes order) ≤ MAX_ORDER
 order_short = omega (arith, order_long)
 
-is_endorsement : IsEndorsement endorsement
+pub is_endorsement : IsEndorsement endorsement
 is_endorsement = record { order = order_short; macct = omega arith; memo = omega arith; key = length-hmac_of (replicate 32 0x66) _ }
 
 pub is_receipt : IsReceipt receipt
@@ -433,7 +433,7 @@ payment_entry = entries.Paid (endorsement_digest endorsement) epoid buyer_id sel
 abbrev pub pays : Decision
 pays = record { reply = Receipts receipt receipt; keys = record { house = replicate 32 0x11; first = replicate 32 0x55; second = replicate 32 0x44 }; entry = Some payment_entry }
 
-request_short : length request.sealed ≤ MAX_ENDORSED
+pub request_short : length request.sealed ≤ MAX_ENDORSED
 request_short = sealed_short (replicate 32 0x55) endorsement is_endorsement
 
 endorsement_is : endorsement_in (replicate 32 0x55) request.sealed ≡ Ok endorsement

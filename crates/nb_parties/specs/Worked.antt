@@ -30,7 +30,7 @@ use Rattle.nb_world.specs.Steps.{run}
 use Rattle.nb_world.specs.Laws.{Asks, IsSetUp}
 use Rattle.nb_parties.specs.Rules.{real_rules}
 use Rattle.nb_parties.specs.Ends.{EndsBy, IsToldBy}
-use Rattle.nb_parties.specs.Goods.{MerchantsAreEnrolled, IsOpening, PaysUnder, KeepsOrder}
+use Rattle.nb_parties.specs.Goods.{IsKeyOfGoods, MerchantsAreEnrolled, IsOpening, PaysUnder, KeepsOrder}
 use Rattle.nb_parties.specs.Held.{ConsumersAreSo}
 
 -- ---- the set-up: two enrolments and a fund, a consumer that knows nothing, a merchant that kept nothing
@@ -121,6 +121,13 @@ pub record OrderIsKept (order : List ℕ) : Type 0 where
   pub delivered : slice_get (behind goods_come).packets 5 ≡ Some packet
   pub read : message_of packet.kind packet.body ≡ Ok message
 
+-- the packet that asks for the payment is an endorsement of this order by the merchant, under the key of its goods
+pub record OrderIsEndorsed (order : List ℕ) : Type 0 where
+  pub packet : Packet
+  pub sent : slice_get (behind (goods_come ++ order_is_paid)).packets 7 ≡ Some packet
+  pub of : IsKeyOfGoods first_world seller_id packet first_key
+  pub same : of.endorsed.endorses.sent.order ≡ order
+
 -- call 1, of a packet that the merchant's step made, asked for a payment, which stands at place 3 under the key of the goods
 pub record PaymentStands (w : World Buyer Shop) : Type 0 where
   pub asked : Packet
@@ -150,10 +157,10 @@ pub record IsReported (w : World Buyer Shop) : Type 0 where
   pub payer : balance w.durable (record { 0 = 1 }) ≡ 200
   pub payee : balance w.durable (record { 0 = 2 }) ≡ 300
 
--- the set-up is as the laws premise; an order is kept, and the purchase ends where the result arrives, and where the status is told in its place
+-- the set-up is as the laws premise; an order is kept, and that order is endorsed, and the purchase ends where the result arrives, and where the status is told in its place
 abbrev pub PremisesAreMet : Type 0
 PremisesAreMet = IsRuling first_head × IsSetUp first_world × MerchantsAreEnrolled first_world × ConsumersAreSo first_world × AllByRecursion IsOpening first_world.durable
-    × ((order : List ℕ) × OrderIsKept order)
+    × ((order : List ℕ) × OrderIsKept order × OrderIsEndorsed order)
     × EndsPaid (goods_come ++ order_is_paid) 9
     × EndsPaid ((goods_come ++ order_is_paid) ++ status_is_asked) 11
     × IsReported (behind (((goods_come ++ order_is_paid) ++ status_is_asked) ++ on.Deliver 11 ∷ []))
