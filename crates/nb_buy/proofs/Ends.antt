@@ -14,19 +14,20 @@ use Rattle.nb_buy.specs.declared.ended.BuyEnd.TheVariants as ends
 use Rattle.nb_buy.specs.declared.sides.Sides.{Sides}
 use Rattle.nb_buy.specs.Run.{Act, Waits, outset, Obeys}
 use Rattle.nb_buy.specs.Lines.{Lines}
-use Rattle.nb_buy.specs.Bought.{Point, point, Traded, Finished, TradeLost, Around, around, first_point, EndsAt, Bought, WritesGoods}
+use Rattle.nb_buy.specs.Bought.{Point, point, Traded, AreFew, Finished, TradeLost, Around, around, first_point, EndsAt, Bought, WritesGoods}
 use Rattle.nb_buy.specs.Steps.{AreBegun, Finishes, lines_of}
 use Rattle.nb_buy.proofs.OverLines.{line_none}
-use Rattle.nb_buy.proofs.Rounds.{traded_none}
+use Rattle.nb_buy.proofs.Rounds.{traded_none, few_none}
 
 module _ {D : Type 0} (tells : DiskTells D) (s : Start) where
   -- there was no memory behind acts that were carried out
-  lost_nothing : (p q : Point D) → Traded tells s p q → TradeLost tells s p q lost.NoMemory
-  lost_nothing p q t = record {
+  lost_nothing : (p q : Point D) (t : Traded tells s p q) → AreFew t.acts → TradeLost tells s p q lost.NoMemory
+  lost_nothing p q t few = record {
     mid = q;
     traded = t;
     last = [];
     one = omega arith;
+    few = subst AreFew (sym (append-nil t.acts)) few;
     obeys = subst (Obeys s p.buyer outset) (sym (append-nil t.acts)) t.obeys;
     loses = record { journal = refl; buyer = inl refl; house = line_none q.lines.house; seller = line_none q.lines.seller };
     asks = λ e awaits. absurd (apart e);
@@ -39,7 +40,7 @@ module _ {D : Type 0} (tells : DiskTells D) (s : Start) where
   bought_nothing a = record {
     last = first_point a;
     last_is = record { journal = refl; buyer = refl; house = refl; seller = refl };
-    ended = lost_nothing (first_point a) (first_point a) (traded_none tells s (first_point a));
+    ended = lost_nothing (first_point a) (first_point a) (traded_none tells s (first_point a)) (few_none tells s (first_point a));
   }
 
   -- the lines at the outset are those of what is held beside the links then
@@ -66,7 +67,7 @@ module _ {D : Type 0} (tells : DiskTells D) (s : Start) where
   finished_at p q before after old new ends.SinkFault is finished = finished
   finished_at p q before after old new (ends.Stopped peer why) is finished = absurd is
   finished_at p q before after old new ends.Spent is finished = absurd is
-  finished_at p q before after old new (ends.Lost lost.NoMemory) is finished = lost_nothing p q finished.traded
+  finished_at p q before after old new (ends.Lost lost.NoMemory) is finished = lost_nothing p q finished.traded finished.few
   finished_at p q before after old new (ends.Lost (lost.Full cap)) is finished = absurd is
   finished_at p q before after old new (ends.Lost (lost.DiskFault x y)) is finished = absurd is
 

@@ -7,3 +7,4 @@ pub mod Rounds
 pub mod NextTime
 pub mod Ends
 pub mod Receipts
+pub mod Coming

@@ -1,5 +1,5 @@
 -- A wallet goes on next time: what a stop leaves, and what starts again with it.
-use Rattle.std.proofs.Common.{◌≡◌, inl, inr, ⊎_elim, ℕ, zero, suc, ◌+◌, ◌-◌, ◌≤◌, List, [], ◌∷◌, ◌++◌, length, take, Option, Some, None, Result, Ok, Err, refl, sym, ap, subst, ◌∙◌, append_assoc, append-nil, length-append, arith}
+use Rattle.std.proofs.Common.{◌≡◌, ◌⊎◌, inl, inr, ⊎_elim, ℕ, zero, suc, ◌+◌, ◌-◌, ◌≤◌, List, [], ◌∷◌, ◌++◌, length, take, Option, Some, None, Result, Ok, Err, refl, sym, ap, subst, ◌∙◌, append_assoc, append-nil, length-append, arith}
 use Rattle.std.specs.Prelude.{IfOk}
 use Rattle.std.proofs.lemmas.List.{take-append-le}
 use Rattle.std.proofs.Math.Seq.{take-append-add}
@@ -38,7 +38,7 @@ use Rattle.nb_buy.specs.declared.ended.Lost.TheVariants as lost
 use Rattle.nb_buy.specs.declared.ended.BuyEnd.{BuyEnd}
 use Rattle.nb_buy.specs.declared.ended.BuyEnd.TheVariants as ends
 use Rattle.nb_buy.specs.Run.{Act, Starts, Hears, Waits, heard_as, frame_row, act_row, step_at, buyer_behind, kept_by, AreSpelled, phase_for, outset, Obeys}
-use Rattle.nb_buy.specs.Bought.{Point, Went, NotKept, Traded, TradeLost, EndsAt, first_point}
+use Rattle.nb_buy.specs.Bought.{Point, Around, Bought, Went, NotKept, Traded, TradeLost, EndsAt, first_point}
 use Rattle.nb_buy.specs.Laws.{acts_at, acts_of, StopLeavesFirst, GoesOn, GoesOnNextTime, IsEndOfOver, OverDoesNothing, PaidAgain}
 use Rattle.nb_buy.proofs.Runs.{kept_both, spelled_both}
 
@@ -212,37 +212,41 @@ goes_on_more s b items acts more front image g =
       again = subst (λ (done : List Act). restarted b.wallet (items ++ kept_by s b done) ≡ Ok (untold (buyer_behind s b done))) (sym same) g.again;
     }
 
-module _ {D : Type 0} (tells : DiskTells D) (only_now : (d : D) (c : List ℕ) → tells.left d (tells.moment d) c → tells.allowed d c) (s : Start) where
-  -- the image of a stop since the start of a purchase
-  among : (p q : Point D) (kept : List (List ℕ)) (front : List ℕ) (items : List (List ℕ)) → AtRest tells front items p.journal
-      → StopsIn tells p.journal.disk q.journal.disk (StandsAmong front items kept) → (image : List ℕ) → tells.left q.journal.disk (tells.moment p.journal.disk) image → StandsAmong front items kept image
-  among p q kept front items rest stops image left =
-      ⊎_elim (λ past. among_none front items kept image (stands_now tells front items p.journal rest image (only_now p.journal.disk image past))) (λ is. is)
-      (stops.since (tells.moment p.journal.disk) image (omega arith) left)
+-- what stands for the items alone is that behind no act
+goes_on_none : (s : Start) (b : Buyer) (items : List (List ℕ)) (acts : List Act) (front image : List ℕ) → Kept items b → Stands front items image → GoesOn s b items acts front image
+goes_on_none s b items acts front image kept stands = record {
+  k = 0;
+  within = omega arith;
+  stands = subst (λ (xs : List (List ℕ)). Stands front xs image) (sym (append-nil items)) stands;
+  again = ap (restarted b.wallet) (append-nil items) ∙ kept;
+}
 
-  went_goes_on : (p q : Point D) (acts : List Act) → Went tells s p q acts → (front : List ℕ) (items : List (List ℕ)) → AtRest tells front items p.journal → Kept items p.buyer
-      → (image : List ℕ) → tells.left q.journal.disk (tells.moment p.journal.disk) image → GoesOn s p.buyer items acts front image
-  went_goes_on p q acts went front items rest kept image left =
-      spelled_goes_on s p.buyer items acts front image kept went.spelled (among p q (kept_by s p.buyer acts) front items rest (went_stops tells s p q acts went front items rest) image left)
+module _ {D : Type 0} (tells : DiskTells D) (s : Start) (front : List ℕ) (items : List (List ℕ)) where
+  -- an image of a stop since this moment was left by a stop before the purchase, or goes on behind the first of these acts
+  abbrev Either : Point D → Point D → List Act → Type 0
+  Either p q acts = (t : ℕ) (image : List ℕ) → t ≤ tells.moment p.journal.disk → tells.left q.journal.disk t image → tells.left p.journal.disk t image ⊎ GoesOn s p.buyer items acts front image
+
+  went_goes_on : (p q : Point D) (acts : List Act) → Went tells s p q acts → AtRest tells front items p.journal → Kept items p.buyer → Either p q acts
+  went_goes_on p q acts went rest kept t image le left =
+      ⊎_elim (λ past. inl past) (λ some. inr (spelled_goes_on s p.buyer items acts front image kept went.spelled some))
+      ((went_stops tells s p q acts went front items rest).since t image le left)
 
   -- where the journal is as it was behind the last act
-  same_goes_on : (p q : Point D) (why : Lost) (t : TradeLost tells s p q why) → q.journal ≡ t.mid.journal → (front : List ℕ) (items : List (List ℕ)) → AtRest tells front items p.journal → Kept items p.buyer
-      → (image : List ℕ) → tells.left q.journal.disk (tells.moment p.journal.disk) image → GoesOn s p.buyer items (t.traded.acts ++ t.last) front image
-  same_goes_on p q why t same front items rest kept image left =
-      goes_on_more s p.buyer items t.traded.acts t.last front image
-      (went_goes_on p t.mid t.traded.acts t.traded.went front items rest kept image (subst (λ (j : Journal D). tells.left j.disk (tells.moment p.journal.disk) image) same left))
+  same_goes_on : (p q : Point D) (why : Lost) (x : TradeLost tells s p q why) → q.journal ≡ x.mid.journal → AtRest tells front items p.journal → Kept items p.buyer → Either p q (x.traded.acts ++ x.last)
+  same_goes_on p q why x same rest kept t image le left =
+      ⊎_elim (λ past. inl past) (λ on. inr (goes_on_more s p.buyer items x.traded.acts x.last front image on))
+      (went_goes_on p x.mid x.traded.acts x.traded.went rest kept t image le (subst (λ (j : Journal D). tells.left j.disk t image) same left))
 
-  lost_goes_on : (p q : Point D) (why : Lost) (t : TradeLost tells s p q why) (front : List ℕ) (items : List (List ℕ)) → AtRest tells front items p.journal → Kept items p.buyer
-      → (image : List ℕ) → tells.left q.journal.disk (tells.moment p.journal.disk) image → GoesOn s p.buyer items (t.traded.acts ++ t.last) front image
-  lost_goes_on p q lost.NoMemory t front items rest kept image left = same_goes_on p q lost.NoMemory t t.loses.journal front items rest kept image left
-  lost_goes_on p q (lost.Full cap) t front items rest kept image left = same_goes_on p q (lost.Full cap) t t.loses.journal.0 front items rest kept image left
-  lost_goes_on p q (lost.DiskFault before after) t front items rest kept image left =
-      spelled_goes_on s p.buyer items (t.traded.acts ++ t.last) front image kept
-      (spelled_both s p.buyer t.traded.acts t.last t.traded.went.spelled (subst (λ (b : Buyer). AreSpelled s b t.last) t.traded.went.buyer t.loses.buyer.1))
-      (among p q (kept_by s p.buyer (t.traded.acts ++ t.last)) front items rest (lost_stops tells s p q (lost.DiskFault before after) t front items rest) image left)
+  lost_goes_on : (p q : Point D) (why : Lost) (x : TradeLost tells s p q why) → AtRest tells front items p.journal → Kept items p.buyer → Either p q (x.traded.acts ++ x.last)
+  lost_goes_on p q lost.NoMemory x rest kept t image le left = same_goes_on p q lost.NoMemory x x.loses.journal rest kept t image le left
+  lost_goes_on p q (lost.Full n) x rest kept t image le left = same_goes_on p q (lost.Full n) x x.loses.journal.0 rest kept t image le left
+  lost_goes_on p q (lost.DiskFault m n) x rest kept t image le left =
+      ⊎_elim (λ past. inl past)
+      (λ some. inr (spelled_goes_on s p.buyer items (x.traded.acts ++ x.last) front image kept
+      (spelled_both s p.buyer x.traded.acts x.last x.traded.went.spelled (subst (λ (b : Buyer). AreSpelled s b x.last) x.traded.went.buyer x.loses.buyer.1)) some))
+      ((lost_stops tells s p q (lost.DiskFault m n) x front items rest).since t image le left)
 
-  goes_on_at : (p q : Point D) (end : BuyEnd) (e : EndsAt tells s p q end) (front : List ℕ) (items : List (List ℕ)) → AtRest tells front items p.journal → Kept items p.buyer
-      → (image : List ℕ) → tells.left q.journal.disk (tells.moment p.journal.disk) image → GoesOn s p.buyer items (acts_at tells s p q end e) front image
+  goes_on_at : (p q : Point D) (end : BuyEnd) (e : EndsAt tells s p q end) → AtRest tells front items p.journal → Kept items p.buyer → Either p q (acts_at tells s p q end e)
   goes_on_at p q ends.Paid e = went_goes_on p q e.traded.acts e.traded.went
   goes_on_at p q ends.Unpaid e = went_goes_on p q e.traded.acts e.traded.went
   goes_on_at p q ends.SinkFault e = went_goes_on p q e.traded.acts e.traded.went
@@ -250,10 +254,19 @@ module _ {D : Type 0} (tells : DiskTells D) (only_now : (d : D) (c : List ℕ) �
   goes_on_at p q ends.Spent e = went_goes_on p q e.traded.acts e.traded.went
   goes_on_at p q (ends.Lost why) e = lost_goes_on p q why e
 
+-- what a stop since any moment up to the start of a purchase leaves
+pub goes_on_since : {D : Type 0} (tells : DiskTells D) (s : Start) (old new : Around D) (end : BuyEnd) (b : Bought tells s old new end) (front : List ℕ) (items : List (List ℕ)) → AtRest tells front items old.journal
+    → Kept items old.buyer → (t : ℕ) (image : List ℕ) → t ≤ tells.moment old.journal.disk → tells.left new.journal.disk t image
+    → tells.left old.journal.disk t image ⊎ GoesOn s old.buyer items (acts_of tells s old new end b) front image
+goes_on_since {D} tells s old new end b front items rest kept t image le left =
+    goes_on_at tells s front items (first_point old) b.last end b.ended rest kept t image le (subst (λ (j : Journal D). tells.left j.disk t image) b.last_is.journal left)
+
 pub goes_on_next_time : {D : Type 0} (tells : DiskTells D) → ((d : D) (c : List ℕ) → tells.left d (tells.moment d) c → tells.allowed d c) → GoesOnNextTime tells
 goes_on_next_time {D} tells only_now s old new end b front items rest kept image left =
-    goes_on_at tells only_now s (first_point old) b.last end b.ended front items rest kept image
-    (subst (λ (j : Journal D). tells.left j.disk (tells.moment old.journal.disk) image) b.last_is.journal left)
+    ⊎_elim
+    (λ past. goes_on_none s old.buyer items (acts_of tells s old new end b) front image kept (stands_now tells front items old.journal rest image (only_now old.journal.disk image past)))
+    (λ on. on)
+    (goes_on_since tells s old new end b front items rest kept (tells.moment old.journal.disk) image (omega arith) left)
 
 -- ---- a purchase that is over
 

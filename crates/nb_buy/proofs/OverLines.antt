@@ -28,7 +28,7 @@ use Rattle.nb_buy.specs.Steps.{FetchIs, Says, SameReaders, IsNear, held_at, line
 pub line_none : (here : Line) → LineGoes here here [] []
 line_none here = record { received = received_none here.wire; wrote = wrote_none here.sent here.wire.link }
 
-line_both : (old mid new : Line) (frames others : List Frame) (bytes more : List ℕ) → LineGoes old mid frames bytes → LineGoes mid new others more → LineGoes old new (frames ++ others) (bytes ++ more)
+pub line_both : (old mid new : Line) (frames others : List Frame) (bytes more : List ℕ) → LineGoes old mid frames bytes → LineGoes mid new others more → LineGoes old new (frames ++ others) (bytes ++ more)
 line_both old mid new frames others bytes more first then = record {
   received = received_both old.wire mid.wire new.wire frames others first.received then.received;
   wrote = wrote_both old.sent mid.sent new.sent old.wire.link mid.wire.link new.wire.link bytes more first.received.write_count then.received.write_count first.wrote then.wrote;

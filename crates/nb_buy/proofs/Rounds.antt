@@ -30,7 +30,7 @@ use Rattle.nb_buy.specs.declared.ended.TheConstants.{MOST_FRAMES}
 use Rattle.nb_buy.specs.declared.ended.Lost.{Lost}
 use Rattle.nb_buy.specs.Run.{Act, Starts, Hears, Waits, act_row, asks, step_at, peer_of, bytes_in, frames_on, frames_of, phase_for, IsOrdered, Way, outset, awaited, onward, MayAct, Obeys}
 use Rattle.nb_buy.specs.Lines.{Lines, line_at, HasRefusal}
-use Rattle.nb_buy.specs.Bought.{Point, Went, way_of, AskedFor, IsSpoilt, HadItsTurn, Traded, Finished, Stopped, Spent, Loses, TradeLost}
+use Rattle.nb_buy.specs.Bought.{Point, Went, way_of, AskedFor, IsSpoilt, HadItsTurn, Traded, AreFew, Finished, Stopped, Spent, Loses, TradeLost}
 use Rattle.nb_buy.specs.Steps.{Carries, HeardAs, Listens, Ran, peer_in, OverIs, IsOfSeller, IsKnown, next_sent, next_behind, next_heard, frames_heard}
 use Rattle.nb_buy.proofs.Runs.{way_both, obeys_both, frames_both, heard_both}
 use Rattle.nb_buy.proofs.OverLines.{sent_same, refusal_either, refusal_later, over_from}
@@ -132,6 +132,10 @@ module _ {D : Type 0} (tells : DiskTells D) (s : Start) where
   pub traded_none : (p : Point D) → Traded tells s p p
   traded_none p = record { acts = []; obeys = tt; went = went_none tells s p; asked_for = λ is. absurd (false≢true is) }
 
+  pub few_none : (p : Point D) → AreFew (traded_none p).acts
+  unfolding traded_none
+  few_none p = omega arith
+
   known_on : (q r : Point D) (a : Act) → Went tells s q r (a ∷ []) → IsKnown (phase_for s q.buyer) → IsKnown (phase_for s r.buyer)
   known_on q r a went known = subst (λ (b : Buyer). IsKnown (phase_for s b)) (sym went.buyer) (row_known q.buyer s.transaction (act_row s q.buyer a) known)
 
@@ -187,13 +191,14 @@ module _ {D : Type 0} (tells : DiskTells D) (s : Start) where
         count = refl;
       }
 
-  lost_first : (p q : Point D) (a : Act) (why : Lost) → MayAct (phase_for s p.buyer) outset a → Loses tells s p q (a ∷ []) why → TradeLost tells s p q why
+  lost_first : (p q : Point D) (a : Act) (why : Lost) → AreFew (a ∷ []) → MayAct (phase_for s p.buyer) outset a → Loses tells s p q (a ∷ []) why → TradeLost tells s p q why
   unfolding traded_none
-  lost_first p q a why may loses = record {
+  lost_first p q a why few may loses = record {
     mid = p;
     traded = traded_none p;
     last = a ∷ [];
     one = omega arith;
+    few = few;
     obeys = (may, tt);
     loses = loses;
     asks = λ e awaits. absurd (apart awaits);
@@ -203,14 +208,15 @@ module _ {D : Type 0} (tells : DiskTells D) (s : Start) where
       apart e = cc
 
   pub lost_started : (p q : Point D) (why : Lost) → phase_for s p.buyer ≡ None → Carries tells s p q House Starts (Err why) → TradeLost tells s p q why
-  lost_started p q why none loses = lost_first p q Starts why (refl, none) loses
+  lost_started p q why none loses = lost_first p q Starts why (omega arith) (refl, none) loses
 
   pub lost_waited : (p q : Point D) (why : Lost) → IsOpen (phase_for s p.buyer) → Carries tells s p q House Waits (Err why) → TradeLost tells s p q why
-  lost_waited p q why going loses = lost_first p q Waits why going loses
+  lost_waited p q why going loses = lost_first p q Waits why (omega arith) going loses
 
   -- nothing is done where the purchase is over at the outset
   pub finished_first : (p : Point D) → HasEnded (phase_for s p.buyer) → Finished tells s p p
-  finished_first p over = record { traded = traded_none p; over = over }
+  unfolding traded_none
+  finished_first p over = record { traded = traded_none p; few = omega arith; over = over }
 
   -- ---- the house is asked
 
@@ -255,13 +261,14 @@ module _ {D : Type 0} (tells : DiskTells D) (s : Start) where
       none_more : (n : ℕ) → n + 0 ≡ n
       none_more n = omega arith
 
-  pub lost_asks : (p q r : Point D) (why : Over) (lost : Lost) (read : ℕ) → Ran tells s p q false (next.Over Seller why) read → IsOrdered (phase_for s q.buyer)
+  pub lost_asks : (p q r : Point D) (why : Over) (lost : Lost) (read : ℕ) → read ≤ MOST_FRAMES → Ran tells s p q false (next.Over Seller why) read → IsOrdered (phase_for s q.buyer)
       → Carries tells s q r Seller Waits (Err lost) → TradeLost tells s p r lost
-  lost_asks p q r why lost read ran ordered loses = record {
+  lost_asks p q r why lost read most ran ordered loses = record {
     mid = q;
     traded = ran.traded;
     last = Waits ∷ [];
     one = omega arith;
+    few = omega (arith, most, count_on ran.traded.acts Waits read ran.count);
     obeys = obeys_on p q ran.traded.acts Waits ran.traded.obeys ran.traded.went (may_wait p q why read ran ordered);
     loses = loses;
     asks = λ e awaits. (why, ran.over);
@@ -349,13 +356,14 @@ module _ {D : Type 0} (tells : DiskTells D) (s : Start) where
             count = count_on acts (Hears from f) read ran.count ∙ sym e;
           }
 
-  pub lost_listened : (p q r : Point D) (asked : Bool) (from : Peer) (lost : Lost) (read read' : ℕ) → Ran tells s p q asked (next.Awaits from) read → IsOpen (phase_for s q.buyer)
+  pub lost_listened : (p q r : Point D) (asked : Bool) (from : Peer) (lost : Lost) (read read' : ℕ) → read < MOST_FRAMES → Ran tells s p q asked (next.Awaits from) read → IsOpen (phase_for s q.buyer)
       → Listens tells s q r from read read' (Err lost) → TradeLost tells s p r lost
-  lost_listened p q r asked from lost read read' ran going heard = record {
+  lost_listened p q r asked from lost read read' most ran going heard = record {
     mid = q;
     traded = ran.traded;
     last = Hears from heard.0 ∷ [];
     one = omega arith;
+    few = omega (arith, most, count_on ran.traded.acts (Hears from heard.0) read ran.count);
     obeys = obeys_on p q ran.traded.acts (Hears from heard.0) ran.traded.obeys ran.traded.went (ran.awaits, going);
     loses = heard.1;
     asks = λ e awaits. absurd (apart e);
@@ -377,13 +385,14 @@ module _ {D : Type 0} (tells : DiskTells D) (s : Start) where
 
   -- ---- the ends
 
-  pub finished : (p q : Point D) (asked : Bool) (n : Next) (read : ℕ) → Ran tells s p q asked n read → HasEnded (phase_for s q.buyer) → Finished tells s p q
-  finished p q asked n read ran over = record { traded = ran.traded; over = over }
+  pub finished : (p q : Point D) (asked : Bool) (n : Next) (read : ℕ) → read ≤ MOST_FRAMES → Ran tells s p q asked n read → HasEnded (phase_for s q.buyer) → Finished tells s p q
+  finished p q asked n read most ran over = record { traded = ran.traded; few = omega (arith, most, ran.count); over = over }
 
-  pub stopped : (p q : Point D) (asked : Bool) (peer : Peer) (why : Over) (read : ℕ) → Ran tells s p q asked (next.Over peer why) read → IsOpen (phase_for s q.buyer)
+  pub stopped : (p q : Point D) (asked : Bool) (peer : Peer) (why : Over) (read : ℕ) → read ≤ MOST_FRAMES → Ran tells s p q asked (next.Over peer why) read → IsOpen (phase_for s q.buyer)
       → HadItsTurn (phase_for s q.buyer) asked peer → Stopped tells s p q peer why
-  stopped p q asked peer why read ran going turn = record {
+  stopped p q asked peer why read most ran going turn = record {
     traded = ran.traded;
+    few = omega (arith, most, ran.count);
     going = going;
     awaited = ran.awaits;
     over = ran.over;

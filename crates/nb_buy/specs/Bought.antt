@@ -85,14 +85,20 @@ pub record Traded {D : Type 0} (tells : DiskTells D) (s : Start) (p q : Point D)
   pub went : Went tells s p q acts
   pub asked_for : (way_of s p.buyer acts).asked ≡ true → AskedFor tells s p q acts
 
+-- no more frames were heard than are read for one purchase
+abbrev pub AreFew : List Act → Type 0
+AreFew acts = length (frames_of acts) ≤ MOST_FRAMES
+
 -- the purchase is over
 pub record Finished {D : Type 0} (tells : DiskTells D) (s : Start) (p q : Point D) : Type 0 where
   pub traded : Traded tells s p q
+  pub few : AreFew traded.acts
   pub over : HasEnded (phase_for s q.buyer)
 
 -- it is not, the answer of this peer is waited for, nothing more comes of that, and where it is the seller the house had its turn
 pub record Stopped {D : Type 0} (tells : DiskTells D) (s : Start) (p q : Point D) (peer : Peer) (why : Over) : Type 0 where
   pub traded : Traded tells s p q
+  pub few : AreFew traded.acts
   pub going : IsOpen (phase_for s q.buyer)
   pub awaited : (way_of s p.buyer traded.acts).awaits ≡ Some peer
   pub over : IsOverAt p q traded.acts peer why
@@ -137,6 +143,7 @@ pub record TradeLost {D : Type 0} (tells : DiskTells D) (s : Start) (p q : Point
   pub traded : Traded tells s p mid
   pub last : List Act
   pub one : length last ≤ 1
+  pub few : AreFew (traded.acts ++ last)
   pub obeys : Obeys s p.buyer outset (traded.acts ++ last)
   pub loses : Loses tells s mid q last why
   pub asks : last ≡ Waits ∷ [] → (way_of s p.buyer traded.acts).awaits ≡ Some Seller → (over : Over) × IsOverAt p mid traded.acts Seller over

@@ -1,5 +1,10 @@
 -- What holds of every purchase that was made.
-use Rattle.std.specs.Prelude.{◌≡◌, ℕ, ◌≤◌, ◌==◌, if◌then◌else◌, List, [], ◌∷◌, ◌++◌, length, take, Option, Some, None, Result, Ok}
+use Rattle.std.specs.Prelude.{◌≡◌, ◌≢◌, ◌⊎◌, ℕ, ◌+◌, ◌≤◌, ◌==◌, if◌then◌else◌, List, [], ◌∷◌, ◌++◌, length, take, Option, Some, None, Result, Ok}
+use Rattle.std.specs.List.{flat_map}
+use Rattle.nb_port.specs.Faults.{Rose}
+use Rattle.nb_link.specs.Link.{LinkSeen}
+use Rattle.nb_units.specs.Frames.{Frame, frame, IsFrame}
+use Rattle.nb_units.specs.declared.frames.TheConstants.{REFUSED_REPLY}
 use Rattle.nb_port.specs.Tells.{DiskTells}
 use Rattle.nb_journal.specs.Stands.{Stands}
 use Rattle.nb_journal.specs.States.{AtRest}
@@ -12,12 +17,16 @@ use Rattle.nb_consumer.specs.declared.deed.Deed.{Deed}
 use Rattle.nb_consumer.specs.declared.deed.Deed.TheVariants as deed
 use Rattle.nb_consumer.specs.Goods.{HasEnded, goods_in, goods_at, phase_at}
 use Rattle.nb_consumer.specs.Restart.{restarted, untold, Kept}
+use Rattle.nb_consumer.specs.declared.phase.Phase.{Phase}
+use Rattle.nb_consumer.specs.declared.phase.Phase.TheVariants as phase
+use Rattle.nb_buy.specs.declared.peer.Peer.{Peer}
+use Rattle.nb_buy.specs.declared.peer.Peer.TheVariants.{House, Seller}
 use Rattle.nb_buy.specs.declared.ended.TheConstants.{MOST_FRAMES}
 use Rattle.nb_buy.specs.declared.ended.Lost.TheVariants as lost
 use Rattle.nb_buy.specs.declared.ended.BuyEnd.{BuyEnd}
 use Rattle.nb_buy.specs.declared.ended.BuyEnd.TheVariants as ends
-use Rattle.nb_buy.specs.Run.{Act, act_row, buyer_behind, kept_by, phase_for}
-use Rattle.nb_buy.specs.Bought.{Point, Around, EndsAt, first_point, Bought}
+use Rattle.nb_buy.specs.Run.{Act, Starts, Hears, Waits, act_row, buyer_behind, kept_by, frames_on, frames_of, phase_for, outset, Obeys}
+use Rattle.nb_buy.specs.Bought.{Point, Around, EndsAt, first_point, Bought, WritesGoods}
 
 -- the acts of a purchase, with the one that was not carried out, if there is one
 abbrev pub acts_at : {D : Type 0} (tells : DiskTells D) (s : Start) (p q : Point D) (end : BuyEnd) → EndsAt tells s p q end → List Act
@@ -86,6 +95,65 @@ abbrev pub ReceiptEnds : {D : Type 0} → DiskTells D → Type 0
 ReceiptEnds {D} tells = (s : Start) (old new : Around D) (end : BuyEnd) (b : Bought tells s old new end) (before later : List Act) (a : Act) (how : End) → IsCarriedOut end
     → acts_of tells s old new end b ≡ before ++ a ∷ later → ends_with s.transaction (act_row s (buyer_behind s old.buyer before) a) ≡ Some how
     → IsEndOfOver end × (phase_for s new.buyer ≡ Some (phase_at how)) × (goods_in (purchase_of new.buyer s.transaction) ≡ goods_at how)
+
+-- ---- a purchase that links bring to its end
+
+-- frames are heard one after another, and none of them is a refusal
+abbrev pub AreHeard : List Act → Type 0
+AreHeard [] = Unit {0}
+AreHeard (Hears from f ∷ acts) = IsFrame f × (f.kind ≢ REFUSED_REPLY) × AreHeard acts
+AreHeard (Starts ∷ acts) = ⊥
+AreHeard (Waits ∷ acts) = ⊥
+
+-- the purchase is started, or its last message sent again, and then such frames are heard; or nothing is done
+abbrev pub AreBrought : List Act → Type 0
+AreBrought [] = Unit {0}
+AreBrought (Starts ∷ acts) = AreHeard acts
+AreBrought (Waits ∷ acts) = AreHeard acts
+AreBrought (Hears from f ∷ acts) = ⊥
+
+-- the link of a peer
+abbrev pub link_at : {D : Type 0} → Peer → Around D → LinkSeen
+link_at House a = a.house
+link_at Seller a = a.seller
+
+-- the bytes that a link gives begin with these frames
+abbrev pub Gives : LinkSeen → List Frame → Type 0
+Gives link frames = (rest : List ℕ) × (link.left ≡ Some (flat_map frame frames ++ rest))
+
+-- The links bring the purchase to its end by these acts: each may come where it comes, their frames are the first that each link gives, they are no more than are
+-- read for one purchase, and behind the last one the purchase is over
+pub record IsBrought (s : Start) (b : Buyer) (at_house at_seller : LinkSeen) (acts : List Act) : Type 0 where
+  pub each : AreBrought acts
+  pub obeys : Obeys s b outset acts
+  pub house : Gives at_house (frames_on House acts)
+  pub seller : Gives at_seller (frames_on Seller acts)
+  pub few : length (frames_of acts) ≤ MOST_FRAMES
+  pub over : HasEnded (phase_for s (buyer_behind s b acts))
+
+-- no count rose, the output's count of failed writes, which is told before and behind, among them
+pub record NoneFails {D : Type 0} (tells : DiskTells D) (old new : Around D) (before after : ℕ) : Type 0 where
+  pub disk : Rose (tells.faults old.journal.disk) (tells.faults new.journal.disk) → ⊥
+  pub reads : (peer : Peer) → Rose (link_at peer old).read_faults (link_at peer new).read_faults → ⊥
+  pub writes : (peer : Peer) → Rose (link_at peer old).write_faults (link_at peer new).write_faults → ⊥
+  pub output : Rose before after → ⊥
+
+-- how a purchase ends that is over: with its goods where it was paid, and else without
+abbrev pub EndsAsOver : Option Phase → BuyEnd → Type 0
+EndsAsOver (Some (phase.Paid len)) end = end ≡ ends.Paid
+EndsAsOver (Some (phase.Refused code)) end = end ≡ ends.Unpaid
+EndsAsOver (Some phase.Foul) end = end ≡ ends.Unpaid
+EndsAsOver other end = ⊥
+
+-- A purchase that the links bring to its end, with a wallet that has room for the items, where nothing fails, comes to that end: the consumer knows then what it
+-- knows behind these acts, and the goods are written where it was paid; or there was no memory
+abbrev pub ComesToItsEnd : {D : Type 0} → DiskTells D → Type 0
+ComesToItsEnd {D} tells = (s : Start) (old new : Around D) (end : BuyEnd) → Bought tells s old new end
+    → (before after : ℕ) (sent sent' : Option (List ℕ)) → WritesGoods s new.buyer before after sent sent' end
+    → (front : List ℕ) (items : List (List ℕ)) → AtRest tells front items old.journal
+    → (acts : List Act) → IsBrought s old.buyer old.house old.seller acts → length items + length (kept_by s old.buyer acts) ≤ old.journal.cap
+    → NoneFails tells old new before after
+    → (end ≡ ends.Lost lost.NoMemory) ⊎ ((new.buyer ≡ buyer_behind s old.buyer acts) × EndsAsOver (phase_for s new.buyer) end)
 
 -- the most frames that are read for one purchase
 abbrev pub LimitIs : Type 0

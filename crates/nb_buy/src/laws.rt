@@ -33,6 +33,12 @@ pub fn receipt_ends<D: Disk>()
     ensures { law.ReceiptEnds D.tells }
 {}
 
+/// A law: a purchase whose links give the frames that bring it to its end comes to it, where no call fails and the wallet has room for its items: its goods
+/// are written where it was paid, it ends unpaid where it was not; or there was no memory.
+pub fn comes_to_its_end<D: Disk>()
+    ensures { law.ComesToItsEnd D.tells }
+{}
+
 /// A law: the most frames in numbers.
 pub fn limit()
     ensures { law.LimitIs }

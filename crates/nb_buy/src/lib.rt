@@ -11,15 +11,14 @@
 //! is promised (`specs/Bought.antt`): the journal grew by what the acts of such a list keep; the frames that they hear are the first that came over each link, and
 //! what they send was sent to each, up to a write that failed; and each end says exactly why nothing more was done. Where a step could not be taken nothing of it
 //! was sent. [`laws`] say what a stop leaves, also where an append failed, that a wallet goes on from there next time, that a purchase that was paid has the same
-//! goods each time, and that one of which a receipt was heard is over as that says.
+//! goods each time, that one of which a receipt was heard is over as that says, and that one whose links give the frames that bring it to its end comes to it.
 //!
 //! That a message is sent behind its item is said so: where an append fails nothing of that act was sent. Links and disks tell no time that they share.
 //!
 //! Left to others: the opening of the wallet, links and how long they wait, what is told outside of an end. A step of another purchase of the same wallet is carried
 //! out as any.
 //!
-//! Not said: that a purchase is brought to its end by links that bring the frames of one, which takes that two lists of acts over the same links begin alike; and that
-//! there is no want of memory where there is memory. The stored run of `trades` shows both.
+//! Not said: that there is no want of memory where there is memory. The stored run of `trades` shows it.
 #![tactic(auto)]
 
 mod acting;

@@ -6,10 +6,17 @@ use Rattle.nb_buy.specs.declared.peer.Next.TheVariants as next
 use Rattle.nb_buy.specs.Run.{Waits, phase_for}
 use Rattle.nb_buy.specs.Bought.{point}
 use Rattle.nb_buy.specs.Steps.{Carries, Ran, lines_of}
-use Rattle.nb_buy.proofs.HowFar.{MayAsk, open_is, asks_is, turn_is}
+use Rattle.nb_buy.proofs.HowFar.{MayAsk, open_is, over_is, asks_is, turn_is}
 use Rattle.nb_buy.proofs.OverLines.{near_same}
-use Rattle.nb_buy.proofs.Rounds.{ran_asks, lost_asks, ran_listened, lost_listened, stopped, spent}
+use Rattle.nb_buy.proofs.Rounds.{ran_asks, lost_asks, ran_listened, lost_listened, finished, stopped, spent}
 use Rattle.nb_buy.proofs.trading.trade.Goals as goal
+
+pub returns-then-is_over : goal.returns-then-is_over
+returns-then-is_over g c =
+    let p = point c.args.journal.now c.args.consumer.now (lines_of (g.L.Link.seen c.args.server.now) (g.L.Link.seen c.args.seller.now) c.args.sides.now) in
+    let q = point c.trading.journal c.trading.consumer (lines_of (g.L.Link.seen c.trading.server) (g.L.Link.seen c.trading.seller) c.trading.sides) in
+    finished g.D.Disk.tells c.args.start.now p q c.trading.asked c.trading.next c.trading.sides.read c.trading.invariant.near.few c.trading.invariant.ran
+    (over_is (phase_for c.args.start.now c.trading.consumer) c.standing_of-stands.result c.standing_of-stands.ensures (sym c.is_over.ensures ∙ c.if-is_over.true))
 
 pub returns-then-not-may_ask : goal.returns-then-not-may_ask
 returns-then-not-may_ask g c =
@@ -19,7 +26,7 @@ returns-then-not-may_ask g c =
     let q = point c.trading.journal c.trading.consumer (lines_of (g.L.Link.seen c.trading.server) (g.L.Link.seen c.trading.seller) c.trading.sides) in
     let told = phase_for s c.trading.consumer in
     let stands = c.standing_of-stands.result in
-    stopped tells s p q c.trading.asked c.in-Over.peer c.in-Over.why c.trading.sides.read
+    stopped tells s p q c.trading.asked c.in-Over.peer c.in-Over.why c.trading.sides.read c.trading.invariant.near.few
     (subst (λ (n : Next). Ran tells s p q c.trading.asked n c.trading.sides.read) c.in-Over.is c.trading.invariant.ran)
     (open_is told stands c.standing_of-stands.ensures (sym c.is_over.ensures ∙ c.if-is_over.false) c.trading.invariant.ran.known)
     (turn_is told c.trading.asked c.in-Over.peer stands c.standing_of-stands.ensures (sym c.may_ask.ensures ∙ c.if-not-may_ask.true))
@@ -34,7 +41,7 @@ returns-in-Err-go_on g c =
     let may : MayAsk (phase_for s c.trading.consumer) c.trading.asked c.in-Over.peer =
     asks_is (phase_for s c.trading.consumer) c.trading.asked c.in-Over.peer c.standing_of-stands.result c.standing_of-stands.ensures (sym c.may_ask.ensures ∙ c.if-not-may_ask.false) in
     let is : c.trading.next ≡ next.Over Seller c.in-Over.why = c.in-Over.is ∙ ap (λ (peer : Peer). next.Over peer c.in-Over.why) may.seller in
-    lost_asks tells s p q r c.in-Over.why c.in-Err-go_on.why c.trading.sides.read
+    lost_asks tells s p q r c.in-Over.why c.in-Err-go_on.why c.trading.sides.read c.trading.invariant.near.few
     (subst (λ (x : Bool × Next). Ran tells s p q x.0 x.1 c.trading.sides.read) (λ i. (may.fresh i, is i)) c.trading.invariant.ran) may.ordered
     (subst (λ (peer : Peer). Carries tells s q r peer Waits (Err c.in-Err-go_on.why)) may.seller c.in-Err-go_on.ensures.carries)
 
@@ -89,7 +96,7 @@ returns-in-Err-listen g c =
     let p = point c.args.journal.now c.args.consumer.now (lines_of (g.L.Link.seen c.args.server.now) (g.L.Link.seen c.args.seller.now) c.args.sides.now) in
     let q = point c.trading.journal c.trading.consumer (lines_of (g.L.Link.seen c.trading.server) (g.L.Link.seen c.trading.seller) c.trading.sides) in
     let r = point c.listen.new.journal c.listen.new.consumer (lines_of (g.L.Link.seen c.listen.new.server) (g.L.Link.seen c.listen.new.seller) c.listen.new.sides) in
-    lost_listened tells s p q r c.trading.asked c.in-Awaits.peer c.in-Err-listen.why c.trading.sides.read c.listen.new.sides.read
+    lost_listened tells s p q r c.trading.asked c.in-Awaits.peer c.in-Err-listen.why c.trading.sides.read c.listen.new.sides.read (omega (arith, c.if-sides-ge-MOST_FRAMES.false))
     (subst (λ (n : Next). Ran tells s p q c.trading.asked n c.trading.sides.read) c.in-Awaits.is c.trading.invariant.ran)
     (open_is (phase_for s c.trading.consumer) c.standing_of-stands.result c.standing_of-stands.ensures (sym c.is_over.ensures ∙ c.if-is_over.false) c.trading.invariant.ran.known)
     c.in-Err-listen.ensures.listens
