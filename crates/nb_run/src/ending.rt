@@ -5,6 +5,7 @@ ghost use Rattle.nb_run.specs.Ending.{at_no_place};
 ghost use Rattle.nb_run.specs.Run.{unopened};
 ghost use Rattle.nb_run.specs.Numbers.{StatusesAre};
 
+use nb_units::{PartyId, Price};
 use nb_vault::VaultFault;
 
 /// All was done.
@@ -34,19 +35,19 @@ pub const NO_JOURNAL: u8 = 8;
 /// No journal is made: the disk has one, or its cap is 0 or above 1,000,000.
 pub const NOT_MADE: u8 = 9;
 
-/// A purchase is over and was not paid: it was refused, or what was paid for is not what was sealed. No run answers it yet.
+/// A purchase is over and was not paid: it was refused, or the key of its receipt does not open the goods. Work alone ends so.
 pub const UNPAID: u8 = 10;
 
 /// As many frames were answered as one run answers, 10,000,000.
 pub const FRAME_LIMIT: u8 = 11;
 
-/// A link ended, failed or gave what is no frame, with a purchase that is not over. No run answers it yet.
+/// Nothing more comes over a link with a purchase that is not over, or as many frames were read as are read for one. Work alone ends so.
 pub const LINK_FAILED: u8 = 12;
 
-/// A port failed, with links left.
+/// A port failed, with links left. Work alone ends so.
 pub const PORT_FAILED: u8 = 13;
 
-/// The journal of a buyer or of a seller holds as many items as its cap says, and one more was to be kept. No run answers it yet.
+/// The journal of a buyer or of a seller holds as many items as its cap says, and one more was to be kept. Work alone ends so.
 pub const JOURNAL_FULL: u8 = 14;
 
 /// Nobody holds the account whose statement was asked for, and it is not the house's.
@@ -93,6 +94,17 @@ pub enum Job {
         workers: u32,
         /// The links of each worker, at least 1: over all workers at most [`MAX_LINKS`](nb_words::MAX_LINKS).
         sessions: u32,
+    },
+    /// `buy WALLET SERVER SELLER MERCHANT PRODUCT LIMIT TID`: make a purchase over a link to the house and one to the seller.
+    Buy {
+        /// Who is to sell.
+        merchant: PartyId,
+        /// The merchant's number for the product.
+        product: u32,
+        /// The most that it may cost, in the house's smallest unit of money.
+        limit: Price,
+        /// The consumer's own number of the purchase. One that the wallet knows is gone on with.
+        transaction: u64,
     },
 }
 

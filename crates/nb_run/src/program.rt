@@ -9,7 +9,9 @@ ghost use Rattle.nb_run.specs.declared.ending.Job.{Job};
 ghost use Rattle.nb_run.specs.declared.ending.Job.TheVariants as jobs;
 ghost use Rattle.nb_run.specs.Ending as endings;
 ghost use Rattle.nb_units.specs.declared.ids.AcctId.{AcctId};
-ghost use Rattle.nb_words.specs.Words.{IsBatch, IsDrill, IsInit, IsMigrate, IsServe, IsStatement, IsJudge, IsCommand, MayBeRead};
+ghost use Rattle.nb_units.specs.declared.ids.PartyId.{PartyId};
+ghost use Rattle.nb_units.specs.declared.ids.Price.{Price};
+ghost use Rattle.nb_words.specs.Words.{IsBatch, IsBuy, IsDrill, IsInit, IsMigrate, IsServe, IsStatement, IsJudge, IsCommand, MayBeRead};
 ghost use Rattle.nb_run.specs.Init.{IsHeadInput, HasNoJournal};
 ghost use Rattle.nb_run.specs.Drill as drills;
 ghost use Rattle.nb_run.specs.Judge as judges;
@@ -40,7 +42,7 @@ use std::alloc::Global;
 /// input in order; `serve JOURNAL ADDRESS WORKERS SESSIONS` is work over links, which is left to do; `migrate JOURNAL PERMILLE` makes a journal
 /// whose house keeps a fee of that rate, with the cap, the head and the entries of the input, which is a journal without fees;
 /// `statement JOURNAL ACCT` writes the statement of the account, 0 being the house's own, to the output; `judge` writes what is ruled of the case that is
-/// the input.
+/// the input; `buy WALLET SERVER SELLER MERCHANT PRODUCT LIMIT TID` is work over links, too.
 pub fn run<S: Source, K: Sink, D: Disk, C: Clock>(
     alloc: Global,
     words: &[String],
@@ -49,12 +51,16 @@ pub fn run<S: Source, K: Sink, D: Disk, C: Clock>(
     disk: D,
     clock: &mut C,
 ) -> (Outcome, D)
-    // Where it ends, with one of these statuses; else a server's work is left to do, at a server's words alone, and there always, unless
-    // there was no memory to read them.
+    // Where it ends, with one of these statuses; else the work of a server or of a purchase is left to do, at such words alone, and there always,
+    // unless there was no memory to read them.
     ensures status { (status : ℕ) → EndsWith result.0 status → runs.IsStatus status }
     ensures work { (workers sessions : ℕ) → result.0 ≡ outcomes.Work (jobs.Serve workers sessions) → IsServe (map string_bytes words.now) workers sessions }
     ensures serve { (workers sessions : ℕ) → IsServe (map string_bytes words.now) workers sessions
         → (result.0 ≡ outcomes.Work (jobs.Serve workers sessions)) ⊎ runs.Unbegun result.0 source.old source.new sink.old sink.new disk result.1 clock.old clock.new }
+    ensures buys { (merchant : PartyId) (product : ℕ) (limit : Price) (transaction : ℕ) → result.0 ≡ outcomes.Work (jobs.Buy merchant product limit transaction)
+        → IsBuy (map string_bytes words.now) merchant.0 product limit.0 transaction }
+    ensures buy { (merchant : PartyId) (product : ℕ) (limit : Price) (transaction : ℕ) → IsBuy (map string_bytes words.now) merchant.0 product limit.0 transaction
+        → (result.0 ≡ outcomes.Work (jobs.Buy merchant product limit transaction)) ⊎ runs.Unbegun result.0 source.old source.new sink.old sink.new disk result.1 clock.old clock.new }
 
     // Status 2: the words, and nothing else; and there always, unless there was no memory to read them, which is not told of no words, a word
     // that is no name and a call for help. Nothing is touched at words that are no command, and where work is left to do.
@@ -188,6 +194,24 @@ pub fn run<S: Source, K: Sink, D: Disk, C: Clock>(
         Ok(Some(Command::Judge)) => {
             let end = rule_on(alloc, source, sink);
             (Outcome::Done(end.ending()), disk)
+        }
+        Ok(
+            Some(
+                Command::Buy {
+                    merchant,
+                    product,
+                    limit,
+                    transaction,
+                },
+            ),
+        ) => {
+            let job = Job::Buy {
+                merchant,
+                product,
+                limit,
+                transaction,
+            };
+            (Outcome::Work(job), disk)
         }
         Ok(None) => (Outcome::Done(Ending::at_no_place(BAD_WORDS)), disk),
         Err(NoMemory) => (Outcome::Done(Ending::at_no_place(OUT_OF_MEMORY)), disk),

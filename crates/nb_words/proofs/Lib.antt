@@ -1,4 +1,5 @@
 pub mod Reading
 pub mod Listing
 pub mod Commands
+pub mod Buying
 pub mod Whole

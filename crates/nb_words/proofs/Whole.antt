@@ -15,17 +15,18 @@ use Rattle.clap.specs.Words.{subcommand_of, kind_of}
 use Rattle.clap.specs.declared.error.kind.ErrorKind.TheVariants.{UnknownArgument, InvalidSubcommand, OutOfMemory}
 use Rattle.clap.proofs.OnLiterals.{clap_on_literals}
 use Rattle.nb_words.specs.declared.words.Command.{Command}
-use Rattle.nb_words.specs.declared.words.Command.TheVariants.{Init, Batch, Drill, Serve, Migrate, Statement, Judge}
-use Rattle.nb_words.specs.Words.{IsName, IsInit, IsCommand, CommandIs}
-use Rattle.nb_words.specs.Table.{program, InitIn, RateIn, CommandIn}
+use Rattle.nb_words.specs.declared.words.Command.TheVariants.{Init, Batch, Drill, Serve, Migrate, Statement, Judge, Buy}
+use Rattle.nb_words.specs.Words.{IsName, IsInit, IsBuy, IsCommand, CommandIs}
+use Rattle.nb_words.specs.Table.{program, InitIn, RateIn, BuyIn, CommandIn}
 use Rattle.nb_words.proofs.Reading.{names, turned, entered_as}
 use Rattle.nb_words.proofs.Commands.{begins, not_nothing, faulty, number_named, init_named, AreInit, init_fits, init_read, init_all_read, batch_named, batch_fits, batch_read, drill_named, drill_fits, drill_read, serve_named, serve_fits, serve_read, migrate_named, migrate_fits, migrate_read, statement_named, statement_fits, statement_read, judge_named, judge_fits, judge_read}
+use Rattle.nb_words.proofs.Buying.{buy_named, buy_fits, buy_read}
 
 -- ---- a first word that is no command's
 
-stranger : (w : Text) → bytes_eq (codes "init") w ≡ false → bytes_eq (codes "batch") w ≡ false → bytes_eq (codes "drill") w ≡ false → bytes_eq (codes "serve") w ≡ false → bytes_eq (codes "migrate") w ≡ false → bytes_eq (codes "statement") w ≡ false → bytes_eq (codes "judge") w ≡ false → subcommand_met names idle w ≡ None
+stranger : (w : Text) → bytes_eq (codes "init") w ≡ false → bytes_eq (codes "batch") w ≡ false → bytes_eq (codes "drill") w ≡ false → bytes_eq (codes "serve") w ≡ false → bytes_eq (codes "migrate") w ≡ false → bytes_eq (codes "statement") w ≡ false → bytes_eq (codes "judge") w ≡ false → bytes_eq (codes "buy") w ≡ false → subcommand_met names idle w ≡ None
 unfolding clap_on_literals
-stranger w i b d s m t j = rw (i, b, d, s, m, t, j) refl
+stranger w i b d s m t j y = rw (i, b, d, s, m, t, j, y) refl
 
 refused : (x : ℕ) (xs : Text) (words : List Text) → IsName (x ∷ xs) → subcommand_met names idle (x ∷ xs) ≡ None → fault_of program ((x ∷ xs) ∷ words) ≡ [] → ⊥
 unfolding walk_fault
@@ -40,14 +41,18 @@ refused x xs words is met none =
 
 -- the first word is the name of one
 abbrev IsKnown : Text → Type 0
-IsKnown w = (w ≡ codes "init") ⊎ (w ≡ codes "batch") ⊎ (w ≡ codes "drill") ⊎ (w ≡ codes "serve") ⊎ (w ≡ codes "migrate") ⊎ (w ≡ codes "statement") ⊎ (w ≡ codes "judge")
+IsKnown w = (w ≡ codes "init") ⊎ (w ≡ codes "batch") ⊎ (w ≡ codes "drill") ⊎ (w ≡ codes "serve") ⊎ (w ≡ codes "migrate") ⊎ (w ≡ codes "statement") ⊎ (w ≡ codes "judge") ⊎ (w ≡ codes "buy")
 
 known : (x : ℕ) (xs : Text) (words : List Text) → IsName (x ∷ xs) → fault_of program ((x ∷ xs) ∷ words) ≡ [] → IsKnown (x ∷ xs)
 known x xs words is none = first (bytes_eq (codes "init") (x ∷ xs)) refl
   where
+    eighth : (v : Bool) → bytes_eq (codes "init") (x ∷ xs) ≡ false → bytes_eq (codes "batch") (x ∷ xs) ≡ false → bytes_eq (codes "drill") (x ∷ xs) ≡ false → bytes_eq (codes "serve") (x ∷ xs) ≡ false → bytes_eq (codes "migrate") (x ∷ xs) ≡ false → bytes_eq (codes "statement") (x ∷ xs) ≡ false → bytes_eq (codes "judge") (x ∷ xs) ≡ false → bytes_eq (codes "buy") (x ∷ xs) ≡ v → IsKnown (x ∷ xs)
+    eighth true e f g h i j k l = inr (inr (inr (inr (inr (inr (inr (sym ((bytes_eq-Decides _ _).0 l))))))))
+    eighth false e f g h i j k l = absurd (refused x xs words is (stranger (x ∷ xs) e f g h i j k l) none)
+
     seventh : (v : Bool) → bytes_eq (codes "init") (x ∷ xs) ≡ false → bytes_eq (codes "batch") (x ∷ xs) ≡ false → bytes_eq (codes "drill") (x ∷ xs) ≡ false → bytes_eq (codes "serve") (x ∷ xs) ≡ false → bytes_eq (codes "migrate") (x ∷ xs) ≡ false → bytes_eq (codes "statement") (x ∷ xs) ≡ false → bytes_eq (codes "judge") (x ∷ xs) ≡ v → IsKnown (x ∷ xs)
-    seventh true e f g h i j k = inr (inr (inr (inr (inr (inr (sym ((bytes_eq-Decides _ _).0 k)))))))
-    seventh false e f g h i j k = absurd (refused x xs words is (stranger (x ∷ xs) e f g h i j k) none)
+    seventh true e f g h i j k = inr (inr (inr (inr (inr (inr (inl (sym ((bytes_eq-Decides _ _).0 k))))))))
+    seventh false e f g h i j k = eighth (bytes_eq (codes "buy") (x ∷ xs)) e f g h i j k refl
 
     sixth : (t : Bool) → bytes_eq (codes "init") (x ∷ xs) ≡ false → bytes_eq (codes "batch") (x ∷ xs) ≡ false → bytes_eq (codes "drill") (x ∷ xs) ≡ false → bytes_eq (codes "serve") (x ∷ xs) ≡ false → bytes_eq (codes "migrate") (x ∷ xs) ≡ false → bytes_eq (codes "statement") (x ∷ xs) ≡ t → IsKnown (x ∷ xs)
     sixth true e f g h i j = inr (inr (inr (inr (inr (inl (sym ((bytes_eq-Decides _ _).0 j)))))))
@@ -85,7 +90,8 @@ named_by ((x ∷ xs) ∷ words) all some none name rows told = elim (known x xs 
   | inr (inr (inr (inl is))) ↦ by (codes "serve") is (entered_as (codes "serve") _ _ serve_named words)
   | inr (inr (inr (inr (inl is)))) ↦ by (codes "migrate") is (entered_as (codes "migrate") _ _ migrate_named words)
   | inr (inr (inr (inr (inr (inl is))))) ↦ by (codes "statement") is (entered_as (codes "statement") _ _ statement_named words)
-  | inr (inr (inr (inr (inr (inr is))))) ↦ by (codes "judge") is (entered_as (codes "judge") _ _ judge_named words)
+  | inr (inr (inr (inr (inr (inr (inl is)))))) ↦ by (codes "judge") is (entered_as (codes "judge") _ _ judge_named words)
+  | inr (inr (inr (inr (inr (inr (inr is)))))) ↦ by (codes "buy") is (entered_as (codes "buy") _ _ buy_named words)
 ]
   where
     by : (first : Text) → (x ∷ xs) ≡ first → {other : List Row} → subcommand_of program (first ∷ words) ≡ Some (first, other) → (behind : List Text) × ((x ∷ xs) ∷ words ≡ name ∷ behind) × AllByRecursion IsName behind
@@ -126,6 +132,9 @@ statement_name = (omega arith, λ e. omega (arith, e))
 judge_name : IsName (codes "judge")
 judge_name = (omega arith, λ e. omega (arith, e))
 
+buy_name : IsName (codes "buy")
+buy_name = (omega arith, λ e. omega (arith, e))
+
 init_taken : (words : List Text) (cap : ℕ) (rate : Option ℕ) → IsInit words cap rate → IsTaken words
 init_taken words cap None is =
     let number = number_named cap (omega (arith, is.3)) in
@@ -134,6 +143,18 @@ init_taken words cap (Some rate) is =
     let number = number_named cap (omega (arith, is.3)) in
     let permille = number_named rate (omega (arith, is.4)) in
     subst IsTaken (sym is.1) ((init_name, (is.2, (number, (permille, tt)))), (init_all_read is.0 (decimal cap) (decimal rate) is.2 number permille).0, omega arith)
+
+buy_taken : (words : List Text) (merchant product limit transaction : ℕ) → IsBuy words merchant product limit transaction → IsTaken words
+buy_taken words merchant product limit transaction is =
+    let m = number_named merchant (omega (arith, is.7)) in
+    let p = number_named product (omega (arith, is.8)) in
+    let l = number_named limit is.9 in
+    let t = number_named transaction is.10 in
+    subst IsTaken (sym is.3) (
+      (buy_name, (is.4, (is.5, (is.6, (m, (p, (l, (t, tt)))))))),
+      (buy_read is.0 is.1 is.2 (decimal merchant) (decimal product) (decimal limit) (decimal transaction) is.4 is.5 is.6 m p l t).0,
+      omega arith,
+    )
 
 pub taken : (words : List Text) → IsCommand words → IsTaken words
 taken words (inl b) = subst IsTaken (sym b.1) ((batch_name, (b.2, tt)), (batch_read b.0 b.2).0, omega arith)
@@ -155,7 +176,8 @@ taken words (inr (inr (inr (inr (inr (inl t)))))) =
     let is = t.1 in
     let number = number_named t.0 (omega (arith, is.3)) in
     subst IsTaken (sym is.1) ((statement_name, (is.2, (number, tt))), (statement_read is.0 (decimal t.0) is.2 number).0, omega arith)
-taken words (inr (inr (inr (inr (inr (inr is)))))) = subst IsTaken (sym is) ((judge_name, tt), judge_read.0, omega arith)
+taken words (inr (inr (inr (inr (inr (inr (inl is))))))) = subst IsTaken (sym is) ((judge_name, tt), judge_read.0, omega arith)
+taken words (inr (inr (inr (inr (inr (inr (inr b))))))) = buy_taken words b.0 b.1 b.2 b.3 b.4
 
 -- ---- what was told is the command
 
@@ -257,6 +279,32 @@ told_statement words all none rows told =
     let same = same_rows (subcommand_of program (codes "statement" ∷ words)) (codes "statement") read.0 rows (ap (λ (ws : List Text). subcommand_of program (codes "statement" ∷ ws)) fits.2 ∙ read.1) told in
     (fits.0, fits.1, fits.2, fits.3, subst (λ (rs : List Row). first_of (codes "ACCT") rs ≡ Some fits.1) same read.2)
 
+told_buy : (words : List Text) → AllByRecursion IsName words → fault_of program (codes "buy" ∷ words) ≡ [] → (rows : List Row) → subcommand_of program (codes "buy" ∷ words) ≡ Some (codes "buy", rows)
+    → (wallet server seller merchant product limit transaction : Text) × (words ≡ wallet ∷ server ∷ seller ∷ merchant ∷ product ∷ limit ∷ transaction ∷ []) × IsName wallet × IsName server × IsName seller
+    × (first_of (codes "MERCHANT") rows ≡ Some merchant) × (first_of (codes "PRODUCT") rows ≡ Some product) × (first_of (codes "LIMIT") rows ≡ Some limit) × (first_of (codes "TID") rows ≡ Some transaction)
+told_buy words all none rows told =
+    let fits = buy_fits words all none in
+    let P : List Text → Type 0 = λ ws. AllByRecursion IsName ws in
+    let each = subst P fits.7 all in
+    let read = (buy_read fits.0 fits.1 fits.2 fits.3 fits.4 fits.5 fits.6 each.0 each.1.0 each.1.1.0 each.1.1.1.0 each.1.1.1.1.0 each.1.1.1.1.1.0 each.1.1.1.1.1.1.0).1 in
+    let same = same_rows (subcommand_of program (codes "buy" ∷ words)) (codes "buy") read.0 rows (ap (λ (ws : List Text). subcommand_of program (codes "buy" ∷ ws)) fits.7 ∙ read.1) told in (
+      fits.0,
+      fits.1,
+      fits.2,
+      fits.3,
+      fits.4,
+      fits.5,
+      fits.6,
+      fits.7,
+      fits.8,
+      fits.9,
+      fits.10,
+      subst (λ (rs : List Row). first_of (codes "MERCHANT") rs ≡ Some fits.3) same read.2,
+      subst (λ (rs : List Row). first_of (codes "PRODUCT") rs ≡ Some fits.4) same read.3,
+      subst (λ (rs : List Row). first_of (codes "LIMIT") rs ≡ Some fits.5) same read.4,
+      subst (λ (rs : List Row). first_of (codes "TID") rs ≡ Some fits.6) same read.5,
+    )
+
 -- what is read of the words of init
 init_rows : (words : List Text) (cap : ℕ) (rate : Option ℕ) → IsInit words cap rate → (rows : List Row) × (subcommand_of program words ≡ Some (codes "init", rows)) × InitIn rows cap × RateIn rows rate
 init_rows words cap None is =
@@ -265,6 +313,13 @@ init_rows words cap None is =
 init_rows words cap (Some rate) is =
     let read = (init_all_read is.0 (decimal cap) (decimal rate) is.2 (number_named cap (omega (arith, is.3))) (number_named rate (omega (arith, is.4)))).1 in
     (read.0, ap (subcommand_of program) is.1 ∙ read.1, (read.2, is.3), (read.3, is.4))
+
+-- what is read of the words of a purchase
+buy_rows : (words : List Text) (merchant product limit transaction : ℕ) → IsBuy words merchant product limit transaction → (rows : List Row) × (subcommand_of program words ≡ Some (codes "buy", rows)) × BuyIn rows merchant product limit transaction
+buy_rows words merchant product limit transaction is =
+    let read = (buy_read is.0 is.1 is.2 (decimal merchant) (decimal product) (decimal limit) (decimal transaction) is.4 is.5 is.6
+    (number_named merchant (omega (arith, is.7))) (number_named product (omega (arith, is.8))) (number_named limit is.9) (number_named transaction is.10)).1 in
+    (read.0, ap (subcommand_of program) is.3 ∙ read.1, (read.2, read.3, read.4, read.5, is.7, is.8, is.9, is.10))
 
 -- none was told, so that the words are none
 untold : (words : List Text) → CommandIn (subcommand_of program words) None → IsCommand words → ⊥
@@ -287,7 +342,10 @@ untold words none (inr (inr (inr (inr (inr (inl t)))))) =
     let is = t.1 in
     let read = (statement_read is.0 (decimal t.0) is.2 (number_named t.0 (omega (arith, is.3)))).1 in
     none.5 read.0 t.0 (ap (subcommand_of program) is.1 ∙ read.1) (read.2, is.3)
-untold words none (inr (inr (inr (inr (inr (inr is)))))) = none.6 judge_read.1.0 (ap (subcommand_of program) is ∙ judge_read.1.1)
+untold words none (inr (inr (inr (inr (inr (inr (inl is))))))) = none.6 judge_read.1.0 (ap (subcommand_of program) is ∙ judge_read.1.1)
+untold words none (inr (inr (inr (inr (inr (inr (inr b))))))) =
+    let rows = buy_rows words b.0 b.1 b.2 b.3 b.4 in
+    none.7 rows.0 b.0 b.1 b.2 b.3 rows.1 rows.2
 
 init_is : (words behind : List Text) (cap : ℕ) (rate : Option ℕ) (rows : List Row) → words ≡ codes "init" ∷ behind → InitTold behind rows → InitIn rows cap → RateIn rows rate → IsInit words cap rate
 init_is words behind cap None rows is (inl told) number missing =
@@ -351,6 +409,28 @@ command_is words all some none (Some (Statement acct)) is =
 command_is words all some none (Some Judge) is =
     let n = named_by words all some none (codes "judge") is.0 is.1 in
     n.1 ∙ ap (λ (ws : List Text). codes "judge" ∷ ws) (judge_fits n.0 n.2 (ap (fault_of program) (sym n.1) ∙ none))
+command_is words all some none (Some (Buy merchant product limit transaction)) is =
+    let n = named_by words all some none (codes "buy") is.0 is.1 in
+    let told = told_buy n.0 n.2 (ap (fault_of program) (sym n.1) ∙ none) is.0 (ap (subcommand_of program) (sym n.1) ∙ is.1) in
+    let first = same_Some _ _ (sym told.11 ∙ is.2.0) in
+    let second = same_Some _ _ (sym told.12 ∙ is.2.1) in
+    let third = same_Some _ _ (sym told.13 ∙ is.2.2) in
+    let fourth = same_Some _ _ (sym told.14 ∙ is.2.3) in (
+      told.0,
+      told.1,
+      told.2,
+      n.1 ∙ ap (λ (ws : List Text). codes "buy" ∷ ws) told.7 ∙ ap (λ (w : Text). codes "buy" ∷ told.0 ∷ told.1 ∷ told.2 ∷ w ∷ told.4 ∷ told.5 ∷ told.6 ∷ []) first
+          ∙ ap (λ (w : Text). codes "buy" ∷ told.0 ∷ told.1 ∷ told.2 ∷ decimal merchant.0 ∷ w ∷ told.5 ∷ told.6 ∷ []) second
+          ∙ ap (λ (w : Text). codes "buy" ∷ told.0 ∷ told.1 ∷ told.2 ∷ decimal merchant.0 ∷ decimal product ∷ w ∷ told.6 ∷ []) third
+          ∙ ap (λ (w : Text). codes "buy" ∷ told.0 ∷ told.1 ∷ told.2 ∷ decimal merchant.0 ∷ decimal product ∷ decimal limit.0 ∷ w ∷ []) fourth,
+      told.8,
+      told.9,
+      told.10,
+      is.2.4,
+      is.2.5,
+      is.2.6,
+      is.2.7,
+    )
 
 -- clap refused the words, and so they are no command, unless there was no memory
 pub refused_are : {E : Type 0} (words : List Text) (r : Result (Option Command) E) → IfOk r (λ command. command ≡ None) → (IsCommand words → IsErr r) → IfOk r (CommandIs words)

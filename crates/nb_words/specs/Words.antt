@@ -6,7 +6,7 @@ use Rattle.nb_units.specs.declared.limits.TheConstants.{MAX_RATE}
 use Rattle.nb_play.specs.declared.frames.TheConstants.{MAX_ORDERS}
 use Rattle.nb_words.specs.declared.words.TheConstants.{MAX_WORKERS, MAX_LINKS}
 use Rattle.nb_words.specs.declared.words.Command.{Command}
-use Rattle.nb_words.specs.declared.words.Command.TheVariants.{Init, Batch, Drill, Serve, Migrate, Statement, Judge}
+use Rattle.nb_words.specs.declared.words.Command.TheVariants.{Init, Batch, Drill, Serve, Migrate, Statement, Judge, Buy}
 
 -- the byte of a minus
 abbrev pub minus : ℕ
@@ -52,11 +52,19 @@ IsStatement words acct = (journal : List ℕ) × (words ≡ codes "statement" �
 abbrev pub IsJudge : List (List ℕ) → Type 0
 IsJudge words = words ≡ codes "judge" ∷ []
 
+-- buy WALLET SERVER SELLER MERCHANT PRODUCT LIMIT TID: the merchant's number and the product's are below 2^32, the most that it may cost and the number
+-- of the purchase below 2^64, all in decimal
+abbrev pub IsBuy : List (List ℕ) → ℕ → ℕ → ℕ → ℕ → Type 0
+IsBuy words merchant product limit transaction =
+    (wallet server seller : List ℕ) × (words ≡ codes "buy" ∷ wallet ∷ server ∷ seller ∷ decimal merchant ∷ decimal product ∷ decimal limit ∷ decimal transaction ∷ [])
+    × IsName wallet × IsName server × IsName seller × (merchant < 2 ^ 32) × (product < 2 ^ 32) × (limit < 2 ^ 64) × (transaction < 2 ^ 64)
+
 -- one of these
 abbrev pub IsCommand : List (List ℕ) → Type 0
 IsCommand words =
     IsBatch words ⊎ ((cap : ℕ) × (rate : Option ℕ) × IsInit words cap rate) ⊎ ((seed orders : ℕ) × IsDrill words seed orders) ⊎ ((workers : ℕ) × (sessions : ℕ) × IsServe words workers sessions)
     ⊎ ((rate : ℕ) × IsMigrate words rate) ⊎ ((acct : ℕ) × IsStatement words acct) ⊎ IsJudge words
+    ⊎ ((merchant product limit transaction : ℕ) × IsBuy words merchant product limit transaction)
 
 -- the words are this command, or none
 abbrev pub CommandIs : List (List ℕ) → Option Command → Type 0
@@ -67,6 +75,7 @@ CommandIs words (Some (Serve workers sessions)) = IsServe words workers sessions
 CommandIs words (Some (Migrate rate)) = IsMigrate words rate
 CommandIs words (Some (Statement acct)) = IsStatement words acct.0
 CommandIs words (Some Judge) = IsJudge words
+CommandIs words (Some (Buy merchant product limit transaction)) = IsBuy words merchant.0 product limit.0 transaction
 CommandIs words None = IsCommand words → ⊥
 
 -- words at which want of memory may be told: there are some, each is a name, and the first does not ask for help

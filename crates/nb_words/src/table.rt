@@ -1,4 +1,4 @@
-ghost use Rattle.std.specs.Prelude.{◌≡◌, ◌↔◌, ◌≤◌, ◌<◌, ◌^◌, ℕ, codes, map, IsTrue, IfOk, IfSome, Option, Some, None};
+ghost use Rattle.std.specs.Prelude.{◌≡◌, ◌↔◌, ◌≤◌, ◌<◌, ◌^◌, ℕ, codes, map, IsTrue, IfOk, IfSome, IsSome, Option, Some, None};
 ghost use Rattle.std.specs.Fmt.{decimal};
 ghost use Rattle.clap.specs.Walk.{first_of};
 ghost use Rattle.clap.specs.Words.{app_of, found_of, rows_of, subcommand_rows_of, with_subcommand};
@@ -9,7 +9,7 @@ ghost use Rattle.nb_units.specs.declared.limits.TheConstants.{MAX_RATE};
 use crate::words::{Command, MAX_LINKS, MAX_WORKERS};
 use clap::{Arg, ArgMatches, Command as Shape};
 use nb_play::MAX_ORDERS;
-use nb_units::{AcctId, MAX_RATE, decimal_of};
+use nb_units::{AcctId, MAX_RATE, PartyId, Price, decimal_of};
 use std::alloc::{AllocError, Global};
 
 /// The program, as clap reads its words: each row is a command, with its name, the names of what stands behind it, and of what may stand behind
@@ -27,7 +27,16 @@ pub(crate) fn program<'a>(alloc: Global) -> Result<Shape<'a>, AllocError>
     )?;
     let program = with(alloc, program, "migrate", &["JOURNAL", "PERMILLE"], &[])?;
     let program = with(alloc, program, "statement", &["JOURNAL", "ACCT"], &[])?;
-    with(alloc, program, "judge", &[], &[])
+    let program = with(alloc, program, "judge", &[], &[])?;
+    with(
+        alloc,
+        program,
+        "buy",
+        &[
+            "WALLET", "SERVER", "SELLER", "MERCHANT", "PRODUCT", "LIMIT", "TID",
+        ],
+        &[],
+    )
 }
 
 // The program with its first rows.
@@ -80,7 +89,27 @@ pub(crate) fn command_in(matches: &ArgMatches<'_>) -> Option<Command>
     if is_judge(name) {
         return Some(Command::Judge);
     }
+    if is_buy(name) {
+        return purchase_in(given);
+    }
     None
+}
+
+// The purchase whose numbers were read.
+fn purchase_in(given: &ArgMatches<'_>) -> Option<Command>
+    ensures some { IfSome result (table.IsPurchaseIn (rows_of (found_of given.now))) }
+    ensures each { (merchant product limit transaction : ℕ) → table.BuyIn (rows_of (found_of given.now)) merchant product limit transaction → IsSome result }
+{
+    let merchant = PartyId(small_in(given, "MERCHANT", u32::MAX)?);
+    let product = small_in(given, "PRODUCT", u32::MAX)?;
+    let limit = Price(number_in(given, "LIMIT")?);
+    let transaction = number_in(given, "TID")?;
+    Some(Command::Buy {
+        merchant,
+        product,
+        limit,
+        transaction,
+    })
 }
 
 // The program with one command more. What is needed has to be there, and what is optional may be missing behind it; all of it is read as texts.
@@ -203,6 +232,12 @@ fn is_judge(word: &str) -> bool
     ensures { IsTrue result ↔ (word.now ≡ codes "judge") }
 {
     word == "judge"
+}
+
+fn is_buy(word: &str) -> bool
+    ensures { IsTrue result ↔ (word.now ≡ codes "buy") }
+{
+    word == "buy"
 }
 
 // Whether a server may have so many workers of so many links.

@@ -10,7 +10,7 @@ ghost use Rattle.clap.specs.declared.error.kind.ErrorKind.TheVariants as errors;
 
 use crate::table::{command_in, program};
 use clap::error::ErrorKind;
-use nb_units::{AcctId, NoMemory};
+use nb_units::{AcctId, NoMemory, PartyId, Price};
 use std::alloc::Global;
 
 /// What the words tell the program to do.
@@ -18,19 +18,39 @@ use std::alloc::Global;
 pub enum Command {
     /// `init JOURNAL CAP`, or `init JOURNAL CAP PERMILLE`: make a journal that holds at most so many entries, without fees, or with fees of so many
     /// thousandths of a price.
-    Init { cap: u32, rate: Option<u16> },
+    Init {
+        cap: u32,
+        rate: Option<u16>,
+    },
     /// `batch JOURNAL`: answer the frames of the input in order.
     Batch,
     /// `drill SEED ORDERS`: make a journal, and answer the frames of a drill with so many orders over it.
-    Drill { seed: u64, orders: u32 },
+    Drill {
+        seed: u64,
+        orders: u32,
+    },
     /// `serve JOURNAL ADDRESS WORKERS SESSIONS`: answer the links of so many workers, so many of each.
-    Serve { workers: u32, sessions: u32 },
+    Serve {
+        workers: u32,
+        sessions: u32,
+    },
     /// `migrate JOURNAL PERMILLE`: make a journal with fees of so many thousandths of a price, of one without fees.
-    Migrate { rate: u16 },
+    Migrate {
+        rate: u16,
+    },
     /// `statement JOURNAL ACCT`: write the statement of this account.
-    Statement { acct: AcctId },
+    Statement {
+        acct: AcctId,
+    },
     /// `judge`: rule on the case that is the input.
     Judge,
+    /// `buy WALLET SERVER SELLER MERCHANT PRODUCT LIMIT TID`: make this purchase, or go on with it.
+    Buy {
+        merchant: PartyId,
+        product: u32,
+        limit: Price,
+        transaction: u64,
+    },
 }
 
 /// The most workers of a server.
@@ -45,7 +65,7 @@ pub fn limits()
 {}
 
 /// The command that the words are, where they are one. A name is not empty and does not begin with `-`, and so is an address; a number is
-/// decimal, and has no sign and no leading zero: a cap and an account are below 2^32, a rate at most [`MAX_RATE`](nb_units::MAX_RATE) and a seed below 2^64, a
+/// decimal, and has no sign and no leading zero: a cap, an account, a merchant and a product are below 2^32, the limit and the number of a purchase below 2^64, a rate at most [`MAX_RATE`](nb_units::MAX_RATE) and a seed below 2^64, a
 /// drill has at most [`nb_play::MAX_ORDERS`] orders, and a server from 1 to [`MAX_WORKERS`] workers, of at least one link each and at most
 /// [`MAX_LINKS`] over all.
 pub fn command_of(alloc: Global, words: &[String]) -> Result<Option<Command>, NoMemory>

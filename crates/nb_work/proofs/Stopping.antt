@@ -1,5 +1,5 @@
 -- How a job ends, worker by worker.
-use Rattle.std.proofs.Common.{◌≡◌, ◌≢◌, ℕ, ◌+◌, ◌<◌, ◌≤◌, ◌⊎◌, Bool, true, false, List, length, Option, Some, refl, sym, ap, subst, ◌∙◌, inl, inr, arith}
+use Rattle.std.proofs.Common.{◌≡◌, ◌≢◌, ℕ, ◌+◌, ◌<◌, Bool, true, false, List, length, Some, sym, ap, subst, ◌∙◌, inl, inr, arith}
 use Rattle.std.specs.List.{slice_get}
 use Rattle.std.proofs.lemmas.Bool.{cases_lt}
 use Rattle.std.proofs.lemmas.Option.{slice_get_within, same_Some}
@@ -9,7 +9,7 @@ use Rattle.nb_server.specs.declared.worker.WorkerEnd.{WorkerEnd}
 use Rattle.nb_run.specs.declared.ending.Ending.{Ending}
 use Rattle.nb_run.specs.declared.ending.TheConstants.{CLEAN, OUT_OF_MEMORY, PORT_FAILED}
 use Rattle.nb_run.specs.Ending.{at_no_place}
-use Rattle.nb_work.specs.Work.{AnyStopped, NoneStopped, AllStopped, StoppedAs}
+use Rattle.nb_work.specs.Work.{AnyStopped, StoppedAs}
 
 -- each of the first so many stopped so
 abbrev Each : (How → Type 0) → List WorkerEnd → ℕ → Type 0

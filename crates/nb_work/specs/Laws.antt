@@ -1,5 +1,6 @@
 -- What follows for a job over links.
-use Rattle.std.specs.Prelude.{◌≡◌, ◌⊎◌, ℕ, List, Some}
+use Rattle.std.specs.Prelude.{◌≡◌, ◌⊎◌, ℕ, ◌+◌, ◌≤◌, List, length, Option, Some, IfSome, Ok}
+use Rattle.std.specs.Io.KnownBytes.{Appends}
 use Rattle.nb_units.specs.declared.charter.Charter.{Charter}
 use Rattle.nb_port.specs.Tells.{DiskTells}
 use Rattle.nb_port.specs.Faults.{Rose}
@@ -12,6 +13,21 @@ use Rattle.nb_server.specs.Laws.{AreFaultless, AllServeWhole}
 use Rattle.nb_run.specs.declared.ending.Ending.{Ending}
 use Rattle.nb_run.specs.declared.ending.TheConstants.{CLEAN, OUT_OF_MEMORY}
 use Rattle.nb_run.specs.Ending.{at_no_place}
+use Rattle.nb_run.specs.declared.ending.TheConstants.{UNPAID}
+use Rattle.nb_journal.specs.Layout.{front_bytes}
+use Rattle.nb_journal.specs.Reading.{Holds}
+use Rattle.nb_wallet.specs.declared.wallet.Start.{Start}
+use Rattle.nb_wallet.specs.Head.{wallet_of}
+use Rattle.nb_consumer.specs.declared.phase.Phase.{Phase}
+use Rattle.nb_consumer.specs.declared.phase.Phase.TheVariants as phase
+use Rattle.nb_consumer.specs.State.{Buyer, purchase_of}
+use Rattle.nb_consumer.specs.Goods.{goods_in}
+use Rattle.nb_consumer.specs.Restart.{restarted}
+use Rattle.nb_buy.specs.declared.ended.BuyEnd.{BuyEnd}
+use Rattle.nb_buy.specs.Run.{Act, buyer_behind, kept_by, phase_for}
+use Rattle.nb_buy.specs.Bought.{around}
+use Rattle.nb_buy.specs.Laws.{acts_of, GoesOn, IsBrought}
+use Rattle.nb_work.specs.Buying.{Outside, BoughtWith, BuysAs}
 use Rattle.nb_work.specs.Work.{ServesAs}
 
 -- over a content that stands for a list, where no count of the disk, of a port or of a link rises, ports tell their links, and each link gives
@@ -23,3 +39,45 @@ Completes {D} {W} tells sees = (old new : D) (before after : W) (lines : List Li
     → tells.content old ≡ Some image → StandsFor charter cap entries image
     → (Rose (tells.faults old) (tells.faults new) → ⊥) → AreFaultless (sees before) (sees after)
     → (ending ≡ at_no_place OUT_OF_MEMORY) ⊎ ((ending ≡ at_no_place CLEAN) × AllServeWhole (sees before) ends)
+
+-- ---- a purchase
+
+-- the content holds a wallet with these items, whose consumer starts again with them as this, and which may hold so many
+pub record IsWallet (image : List ℕ) (cap : ℕ) (items : List (List ℕ)) (buyer : Buyer) : Type 0 where
+  pub charter : Charter
+  pub holds : Holds image cap charter items
+  pub starts : restarted (wallet_of charter.head) items ≡ Ok buyer
+
+-- what a stop leaves since before the job: what might have been left before it, or a wallet that goes on from there: it holds the items with the first
+-- so many of those that the acts of the purchase keep, and starts again to what the consumer knew then, but for the places that it was told
+abbrev pub StopsGoOn : {D : Type 0} → DiskTells D → Type 0
+StopsGoOn {D} tells = (s : Start) (old new : Outside D) (end : BuyEnd) (b : BoughtWith tells s old new end)
+    → (image : List ℕ) → tells.left new.disk (tells.moment old.disk) image
+    → tells.allowed old.disk image
+    ⊎ GoesOn s b.buyer b.items (acts_of tells s (around b.opened b.buyer old.house old.seller) (around b.journal b.later new.house new.seller) end b.bought) (front_bytes b.cap b.charter) image
+
+-- no count rose
+pub record NothingFails {D : Type 0} (tells : DiskTells D) (old new : Outside D) : Type 0 where
+  pub disk : Rose (tells.faults old.disk) (tells.faults new.disk) → ⊥
+  pub house_reads : Rose old.house.read_faults new.house.read_faults → ⊥
+  pub house_writes : Rose old.house.write_faults new.house.write_faults → ⊥
+  pub seller_reads : Rose old.seller.read_faults new.seller.read_faults → ⊥
+  pub seller_writes : Rose old.seller.write_faults new.seller.write_faults → ⊥
+  pub output : Rose old.faults new.faults → ⊥
+
+-- how it ends, by how far the purchase is: its goods were written, or it was not paid
+abbrev pub EndsPaid : Option (List ℕ) → Option (List ℕ) → Option (List ℕ) → Option Phase → Ending → Type 0
+EndsPaid goods sent sent' (Some (phase.Paid len)) ending = (ending ≡ at_no_place CLEAN) × IfSome goods (λ bytes. Appends sent sent' bytes)
+EndsPaid goods sent sent' (Some (phase.Refused code)) ending = ending ≡ at_no_place UNPAID
+EndsPaid goods sent sent' (Some phase.Foul) ending = ending ≡ at_no_place UNPAID
+EndsPaid goods sent sent' other ending = ⊥
+
+-- A purchase with a wallet that has room for the items, over links whose frames bring it to its end, ends as it is behind those acts, where no count
+-- rises: with 0 and its goods where it was paid, with 10 where it was not; or with 6 for want of memory
+abbrev pub PurchasesComplete : {D : Type 0} → DiskTells D → Type 0
+PurchasesComplete {D} tells = (s : Start) (old new : Outside D) (ending : Ending) → BuysAs tells s old new ending
+    → (image : List ℕ) (cap : ℕ) (items : List (List ℕ)) (buyer : Buyer) → tells.content old.disk ≡ Some image → IsWallet image cap items buyer
+    → (acts : List Act) → IsBrought s buyer old.house old.seller acts → length items + length (kept_by s buyer acts) ≤ cap
+    → NothingFails tells old new
+    → (ending ≡ at_no_place OUT_OF_MEMORY)
+    ⊎ EndsPaid (goods_in (purchase_of (buyer_behind s buyer acts) s.transaction)) old.sent new.sent (phase_for s (buyer_behind s buyer acts)) ending

@@ -12,3 +12,15 @@ use nb_port::{Clock, Disk};
 pub fn completes<D: Disk, P: Port, C: Clock>()
     ensures { law.Completes D.tells (workers_seen P.seen C.moments) }
 {}
+
+/// A law: what a stop since before a purchase leaves is what might have been left before it, or a wallet that goes on from there: the items that it held with the
+/// first of those that the purchase keeps.
+pub fn stops_go_on<D: Disk>()
+    ensures { law.StopsGoOn D.tells }
+{}
+
+/// A law: a purchase with a wallet that has room, over links that give the frames which bring it to its end, ends with 0 and its goods where it was paid and with
+/// 10 where it was not, where no count of the disk, a link or the output rises; or with 6 for want of memory.
+pub fn purchases_complete<D: Disk>()
+    ensures { law.PurchasesComplete D.tells }
+{}

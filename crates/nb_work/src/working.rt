@@ -1,13 +1,17 @@
-ghost use Rattle.std.specs.Prelude.{◌≡◌, ◌≤◌, [], None, vec_len};
+ghost use Rattle.std.specs.Prelude.{◌≡◌, ◌≤◌, [], None, IsSome, vec_len};
 ghost use Rattle.nb_words.specs.declared.words.TheConstants.{MAX_WORKERS};
-ghost use Rattle.nb_work.specs.Work.{IsStaffed, ServesAs, StoppedAs, workers_seen};
+ghost use Rattle.nb_wallet.specs.Spelling.{StartKeepsRules};
+ghost use Rattle.nb_work.specs.Buying.{BuysOver};
+ghost use Rattle.nb_work.specs.Work.{IsStaffed, IsDialled, WorksAs, ServesAs, StoppedAs, workers_seen};
 
+use crate::buying::{buy_with, nothing};
 use nb_link::{Gate, Link, Port};
 use nb_port::{Clock, Disk, Sink};
 use nb_run::{CLEAN, Ending, Job, OUT_OF_MEMORY, PORT_FAILED};
 use nb_server::{How, Served, Worker, WorkerEnd, serve_all};
 use nb_turns::Line;
 use nb_vault::Vault;
+use nb_wallet::Start;
 use std::alloc::Global;
 use std::sync::Wait;
 use std::thread::Threads;
@@ -57,6 +61,11 @@ pub struct Worked<D, P, L, C> {
 /// with nothing begun, which is for want of memory and which no clause bounds; else 13 where a port failed, 6 where links were left, and 0
 /// where each port gave all its links. Where nothing was begun no byte was written, and the workers are those handed in. The dialled links
 /// and the output are not touched. No clause speaks of the gate, nor of threads.
+///
+/// `Buy`: opens the wallet on the disk, starts its consumer again, and makes the purchase by [`nb_buy::buy`] over the two dialled links. The status is that of a
+/// journal that was not opened, 7, 8 or 6; 8 where an item of it is none of a wallet's, and 6 where there is no memory, both with nothing begun; else 0 where the
+/// goods were written, 4 where the output failed, 10 where the purchase is over and was not paid, 12 where it is not over and nothing more came of a
+/// link or 10,000 frames were read, 14 where the wallet is full, 7 where its disk failed and 6 where there was no memory. The workers and the clock are not touched.
 pub fn work<
     R: Threads + Wait + Sync,
     D: Disk + Drop + Send,
@@ -73,16 +82,61 @@ pub fn work<
     workers: Vec<Worker<P, C>>,
     dials: Dials<L>,
     gate: &G,
-    _sink: &mut K,
+    sink: &mut K,
 ) -> Worked<D, P, L, C>
+    // A server has as many workers as the job says.
     requires staffed { IsStaffed job (vec_len workers) }
-    ensures serves { ServesAs D.tells (workers_seen P.seen C.moments) disk result.disk workers.items result.workers.items result.lines.items result.ends.items result.ending }
-    ensures dials { result.dials ≡ dials }
-    ensures sink { _sink.new ≡ _sink.old }
+    // For a purchase both links were dialled.
+    requires dialled { IsDialled job dials }
+    // What it comes to, by the job: a server's end, or a purchase's.
+    ensures works { WorksAs D.tells (workers_seen P.seen C.moments) L.seen job disk result.disk workers.items result.workers.items dials result.dials
+        (K.sent sink.old) (K.sent sink.new) (K.faults sink.old) (K.faults sink.new) result.lines.items result.ends.items result.ending }
 {
     match job {
         Job::Serve { .. } => serve(rt, alloc, disk, workers, dials, gate),
+        Job::Buy {
+            merchant,
+            product,
+            limit,
+            transaction,
+        } => {
+            let start = Start {
+                transaction,
+                merchant,
+                product,
+                limit,
+                request: nothing(),
+                memo: nothing(),
+            };
+            purchase(alloc, &start, disk, workers, dials, sink)
+        }
     }
+}
+
+// Makes a purchase over both links.
+fn purchase<D: Disk, P: Port, L: Link, C: Clock, K: Sink>(
+    alloc: Global,
+    start: &Start,
+    disk: D,
+    workers: Vec<Worker<P, C>>,
+    dials: Dials<L>,
+    sink: &mut K,
+) -> Worked<D, P, L, C>
+    requires start { StartKeepsRules start.now }
+    requires server { IsSome dials.server }
+    requires seller { IsSome dials.seller }
+    ensures buys { BuysOver D.tells L.seen start.now disk result.disk dials result.dials (K.sent sink.old) (K.sent sink.new) (K.faults sink.old) (K.faults sink.new) result.ending }
+    ensures idle { (result.workers ≡ workers) × (result.lines.items ≡ []) × (result.ends.items ≡ []) }
+{
+    let Dials { server, seller } = dials;
+    let mut server = server.unwrap();
+    let mut seller = seller.unwrap();
+    let (ending, disk) = buy_with(alloc, start, disk, &mut server, &mut seller, sink);
+    let dials = Dials {
+        server: Some(server),
+        seller: Some(seller),
+    };
+    idle(alloc, disk, workers, dials, ending)
 }
 
 // Serves the links of all workers over the house on the disk.

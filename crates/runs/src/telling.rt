@@ -39,5 +39,17 @@ pub(crate) fn outcome(told: &mut Told, outcome: Outcome) {
             .show("", &workers)
             .show(" workers are to serve ", &sessions)
             .text(" sessions each"),
+        Outcome::Work(
+            Job::Buy {
+                merchant,
+                product,
+                limit,
+                transaction,
+            },
+        ) => told
+            .show("product ", &product)
+            .show(" of party ", &merchant.0)
+            .show(" is to be bought for at most ", &limit.0)
+            .show(" as ", &transaction),
     };
 }

@@ -1,10 +1,10 @@
 use Rattle.std.proofs.Common.{ℕ, List, Option, Some, length, ap, sym, subst, ◌∙◌, inl, inr, arith}
 use Rattle.std.specs.Prelude.{map, string_bytes}
 use Rattle.nb_units.specs.declared.ids.AcctId.{AcctId}
-use Rattle.nb_words.specs.Words.{CommandIs, IsMigrate, IsStatement, IsJudge}
+use Rattle.nb_words.specs.Words.{CommandIs, IsBuy, IsMigrate, IsStatement, IsJudge}
 use Rattle.nb_run.specs.Drill.{DrillIs}
 use Rattle.nb_run.specs.Run.{InitIs}
-use Rattle.nb_run.proofs.Numerals.{one_init, one_drill, one_job, one_migrate, one_statement, rate_small}
+use Rattle.nb_run.proofs.Numerals.{one_init, one_drill, one_job, one_purchase, same_purchase, one_migrate, one_statement, rate_small}
 use Rattle.nb_run.proofs.Making.{makes_clean}
 use Rattle.nb_run.proofs.Moving.{moves_clean}
 use Rattle.nb_run.proofs.Rulings.{rules_clean}
@@ -181,7 +181,7 @@ pub returns-in-Ok-Some-Judge-clause-none : goal.returns-in-Ok-Some-Judge-clause-
 returns-in-Ok-Some-Judge-clause-none g c = λ never.
     let words : List (List ℕ) = map string_bytes c.args.words.now in
     let j = c.in-Ok-Some-Judge in
-    absurd (never (inr (inr (inr (inr (inr (inr (subst (CommandIs words) (j.field-0-is ∙ ap Some j.field-0-0-is) j.ensures.command))))))))
+    absurd (never (inr (inr (inr (inr (inr (inr (inl (subst (CommandIs words) (j.field-0-is ∙ ap Some j.field-0-0-is) j.ensures.command)))))))))
 
 pub returns-in-Ok-Some-Judge-clause-judge : goal.returns-in-Ok-Some-Judge-clause-judge
 returns-in-Ok-Some-Judge-clause-judge g c = λ is. inl (c.rule_on-end.result, c.ending-in-Ok-Some-Judge.ensures, c.rule_on-end.ensures.judged)
@@ -199,12 +199,12 @@ returns-in-Ok-Some-Judge-clause-rules g c = λ is input no_source no_sink.
 pub returns-in-Ok-None-clause-judge : goal.returns-in-Ok-None-clause-judge
 returns-in-Ok-None-clause-judge g c = λ is.
     let words : List (List ℕ) = map string_bytes c.args.words.now in
-    absurd (subst (CommandIs words) c.in-Ok-None.field-0-is c.in-Ok-None.ensures.command (inr (inr (inr (inr (inr (inr is)))))))
+    absurd (subst (CommandIs words) c.in-Ok-None.field-0-is c.in-Ok-None.ensures.command (inr (inr (inr (inr (inr (inr (inl is))))))))
 
 pub returns-in-Ok-None-clause-rules : goal.returns-in-Ok-None-clause-rules
 returns-in-Ok-None-clause-rules g c = λ is input no_source no_sink.
     let words : List (List ℕ) = map string_bytes c.args.words.now in
-    absurd (subst (CommandIs words) c.in-Ok-None.field-0-is c.in-Ok-None.ensures.command (inr (inr (inr (inr (inr (inr is)))))))
+    absurd (subst (CommandIs words) c.in-Ok-None.field-0-is c.in-Ok-None.ensures.command (inr (inr (inr (inr (inr (inr (inl is))))))))
 
 pub returns-in-Ok-Some-Judge-clause-closed : goal.returns-in-Ok-Some-Judge-clause-closed
 returns-in-Ok-Some-Judge-clause-closed g c = λ why.
@@ -212,7 +212,31 @@ returns-in-Ok-Some-Judge-clause-closed g c = λ why.
     let j = c.in-Ok-Some-Judge in
     let is : IsJudge words = subst (CommandIs words) (j.field-0-is ∙ ap Some j.field-0-0-is) j.ensures.command in
     elim why [
-      | inl never ↦ absurd (never (inr (inr (inr (inr (inr (inr is)))))))
+      | inl never ↦ absurd (never (inr (inr (inr (inr (inr (inr (inl is))))))))
       | inr (inl batch) ↦ absurd (omega (arith, ap length (sym is ∙ batch.1.1)))
       | inr (inr work) ↦ let done = work.1 in absurd cc
     ]
+
+pub returns-in-Ok-Some-Buy-clause-none : goal.returns-in-Ok-Some-Buy-clause-none
+returns-in-Ok-Some-Buy-clause-none g c = λ never.
+    let words : List (List ℕ) = map string_bytes c.args.words.now in
+    let b = c.in-Ok-Some-Buy in
+    let is : IsBuy words b.merchant.0 b.product b.limit.0 b.transaction = subst (CommandIs words) (b.field-0-is ∙ ap Some b.field-0-0-is) b.ensures.command in
+    absurd (never (inr (inr (inr (inr (inr (inr (inr (b.merchant.0, b.product, b.limit.0, b.transaction, is)))))))))
+
+pub returns-in-Ok-Some-Buy-clause-buys : goal.returns-in-Ok-Some-Buy-clause-buys
+returns-in-Ok-Some-Buy-clause-buys g c = λ merchant product limit transaction same.
+    let words : List (List ℕ) = map string_bytes c.args.words.now in
+    let b = c.in-Ok-Some-Buy in
+    same_purchase words b.merchant merchant b.product product b.limit limit b.transaction transaction same (subst (CommandIs words) (b.field-0-is ∙ ap Some b.field-0-0-is) b.ensures.command)
+
+pub returns-in-Ok-Some-Buy-clause-buy : goal.returns-in-Ok-Some-Buy-clause-buy
+returns-in-Ok-Some-Buy-clause-buy g c = λ merchant product limit transaction is.
+    let words : List (List ℕ) = map string_bytes c.args.words.now in
+    let b = c.in-Ok-Some-Buy in
+    inl (one_purchase words b.merchant merchant b.product product b.limit limit b.transaction transaction (subst (CommandIs words) (b.field-0-is ∙ ap Some b.field-0-0-is) b.ensures.command) is)
+
+pub returns-in-Ok-None-clause-buy : goal.returns-in-Ok-None-clause-buy
+returns-in-Ok-None-clause-buy g c = λ merchant product limit transaction is.
+    let words : List (List ℕ) = map string_bytes c.args.words.now in
+    absurd (subst (CommandIs words) c.in-Ok-None.field-0-is c.in-Ok-None.ensures.command (inr (inr (inr (inr (inr (inr (inr (merchant.0, product, limit.0, transaction, is)))))))))
