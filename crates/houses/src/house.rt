@@ -106,12 +106,13 @@ impl House {
         Ok(link)
     }
 
-    /// `link STEP`: the next worker has one link more.
+    /// `link STEP CALL..`: the next worker has one link more, of which these calls fail.
     pub fn link(&mut self, told: &mut Told, words: &[&str]) -> Result<(), NoMemory> {
-        let [step] = words else {
+        let [step, calls @ ..] = words else {
             return told.unclear();
         };
-        let link = self.next_link(*step, &[])?;
+        let fails = nb_lines::numbers(self.alloc, calls, 0)?;
+        let link = self.next_link(*step, &fails)?;
         self.links.push(link)?;
         Ok(())
     }

@@ -9,7 +9,8 @@
 //! A [`FileDisk`] prepares its file before it reads or writes it: it syncs it, drops the pages that are kept in memory, and syncs its
 //! folder. Once that or a sync failed it makes no call of the file any more, and each call of it fails.
 //!
-//! What is trusted of [`StdFile`] and [`SystemClock`] is one line for each call of the system. [`SystemClock`] counts nothing.
+//! What is trusted of [`StdFile`] and [`SystemClock`] is one line for each call of the system, and that a write which begins at the limit of a
+//! file's size is not made. [`SystemClock`] counts nothing.
 #![tactic(auto)]
 
 mod clock;

@@ -8,6 +8,9 @@ use std::io;
 use std::os::fd::AsRawFd;
 use std::os::unix::fs::FileExt;
 
+// How the system names the limit of a file's size, where it is asked for a limit.
+const FILE_SIZE: i32 = 1;
+
 /// A file of std and its folder.
 #[derive(Drop)]
 pub struct StdFile {
@@ -45,7 +48,11 @@ impl PositionalFile for StdFile {
         }
     }
 
+    // A write that begins at the limit of a file's size, or behind it, would end the process by a signal. One that reaches it is cut there.
     fn write_at(&mut self, place: u64, piece: &[u8]) -> FileWrite {
+        if place >= longest_file() {
+            return FileWrite::Failed;
+        }
         match self.file.write_at(piece, place) {
             Ok(n) => FileWrite::Took(n),
             Err(error) if error.kind() == io::ErrorKind::Interrupted => FileWrite::Interrupted,
@@ -64,6 +71,18 @@ impl PositionalFile for StdFile {
     fn sync_folder(&mut self) -> DiskOut {
         done_if(self.folder.sync_all().is_ok())
     }
+}
+
+// How many bytes the system lets a file of this process have. Where it does not say there is no limit.
+fn longest_file() -> u64 {
+    let mut limit = libc::types::rlimit {
+        rlim_cur: u64::MAX,
+        rlim_max: u64::MAX,
+    };
+    if libc::getrlimit(FILE_SIZE, &mut limit) != 0 {
+        return u64::MAX;
+    }
+    limit.rlim_cur
 }
 
 // What a call that worked, or failed, gives.
