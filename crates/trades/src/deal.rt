@@ -1,8 +1,9 @@
-// Purchases over links in memory, with a wallet's journal on a disk in memory.
+// Purchases over links in memory, with a wallet's or a stall's journal on a disk in memory.
 
 ghost use Rattle.std.specs.Prelude.{◌<◌};
 
 mod making;
+mod selling;
 
 use crate::bytes;
 use nb_journal::{Journal, MAX_ITEM, Opened};
@@ -41,8 +42,8 @@ impl Side {
     }
 }
 
-/// What a purchase is made with: the content of the wallet's disk, what comes over the links of the house and the seller, and which calls of the disk,
-/// the links and the output fail.
+/// What a purchase is made with: the content of the wallet's disk, or of the stall's, what comes over the links of the house, the seller and the consumer, which
+/// calls of the disk, the links and the output fail, and what the clock gives.
 #[derive(Drop)]
 pub struct Deal {
     alloc: Global,
@@ -51,6 +52,9 @@ pub struct Deal {
     output: Vec<u64>,
     house: Side,
     seller: Side,
+    stall: Vec<u8>,
+    moments: Vec<u64>,
+    consumer: Side,
 }
 
 impl Deal {
@@ -63,6 +67,9 @@ impl Deal {
             output: Vec::new(alloc),
             house: Side::new(alloc),
             seller: Side::new(alloc),
+            stall: Vec::new(alloc),
+            moments: Vec::new(alloc),
+            consumer: Side::new(alloc),
         }
     }
 
@@ -75,7 +82,7 @@ impl Deal {
         Ok(())
     }
 
-    /// `comes house COUNT HEX`, `comes seller COUNT HEX`: these bytes come over the link so many times, behind the others.
+    /// `comes house COUNT HEX`, and of `seller` and `consumer`: these bytes come over the link so many times, behind the others.
     pub fn comes(&mut self, told: &mut Told, words: &[&str]) -> Result<(), NoMemory> {
         let [whose, count, text] = words else {
             return told.unclear();
@@ -85,11 +92,12 @@ impl Deal {
         match *whose {
             "house" => again(&mut self.house.comes, count, &bytes),
             "seller" => again(&mut self.seller.comes, count, &bytes),
+            "consumer" => again(&mut self.consumer.comes, count, &bytes),
             _ => told.unclear(),
         }
     }
 
-    /// `fails house CALL..`, and of `seller`, `disk` and `output`: these calls fail, of the disk those behind its opening, each from 1 on.
+    /// `fails house CALL..`, and of `seller`, `consumer`, `disk` and `output`: these calls fail, of the disk those behind its opening, each from 1 on.
     pub fn fails(&mut self, told: &mut Told, words: &[&str]) -> Result<(), NoMemory> {
         let [whose, calls @ ..] = words else {
             return told.unclear();
@@ -98,6 +106,7 @@ impl Deal {
         match *whose {
             "house" => self.house.fails = numbers,
             "seller" => self.seller.fails = numbers,
+            "consumer" => self.consumer.fails = numbers,
             "disk" => self.disk = numbers,
             "output" => self.output = numbers,
             _ => return told.unclear(),
@@ -114,7 +123,7 @@ impl Deal {
         };
         let wish = bytes::wish(nb_lines::number(*number), nb_lines::number(*limit));
         let step = step.parse::<usize>().unwrap_or(1).max(1);
-        let calls = self.opening_calls()?;
+        let calls = opening_calls(self.alloc, self.wallet.as_slice())?;
         let fails = behind(self.alloc, calls, self.disk.as_slice())?;
         self.disk.clear();
         let disk = MemDisk::new(self.alloc, self.wallet.as_slice(), fails.as_slice())?;
@@ -123,17 +132,17 @@ impl Deal {
             Err(_) => told.unclear(),
         }
     }
+}
 
-    // How many calls of the disk it takes to open the wallet.
-    fn opening_calls(&self) -> Result<u64, NoMemory> {
-        let disk = MemDisk::new(self.alloc, self.wallet.as_slice(), &[])?;
-        match Journal::open(self.alloc, disk, MAX_ITEM) {
-            Ok(opened) => {
-                let Opened { journal, .. } = opened;
-                Ok(journal.into_disk().calls())
-            }
-            Err((_, disk)) => Ok(disk.calls()),
+// How many calls of the disk it takes to open a journal.
+fn opening_calls(alloc: Global, content: &[u8]) -> Result<u64, NoMemory> {
+    let disk = MemDisk::new(alloc, content, &[])?;
+    match Journal::open(alloc, disk, MAX_ITEM) {
+        Ok(opened) => {
+            let Opened { journal, .. } = opened;
+            Ok(journal.into_disk().calls())
         }
+        Err((_, disk)) => Ok(disk.calls()),
     }
 }
 

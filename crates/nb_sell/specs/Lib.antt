@@ -1,0 +1,4 @@
+pub mod Run
+pub mod Sold
+pub mod Steps
+pub mod Laws
