@@ -73,10 +73,13 @@ STATUSES = {
     7: ("the journal's disk failed as it was opened or made", "", "look at the disk and its free room, then start again"),
     8: ("the file is no journal, has a bad entry, or is damaged", "place of the damage in the file, and else 0", "move the file aside, see what it holds with examples/show journal, and only then take the last copy: docs/OPERATING.md says what that forgets"),
     9: ("no journal is made: there is one, or the cap is out of its range", "", "take another file, or a cap from 1 to 1,000,000"),
+    10: ("a purchase is over and was not paid: the house refused it, or the key does not open the goods", "", "examples/show wallet says which; for a dispute examples/case writes the papers"),
     11: ("as many frames were answered as one run answers", "", "start again with the rest of the input"),
+    12: ("a purchase is not over, and nothing more came of the house or the seller", "", "run it again: it goes on from the wallet"),
     13: ("a port failed, with connections left", "", "start again"),
+    14: ("the wallet holds as many items as its cap says", "", "begin another wallet under the same head for further purchases"),
     15: ("nobody holds the account, and it is not the house's", "", "look for its number: examples/show journal has all accounts, and 0 is the house's"),
-    17: ("a file or a port could not be opened, or another process holds the journal", "", "see who holds it, its mode, and whether the port is free"),
+    17: ("a file or a port could not be opened, or another process holds the journal, or nobody listens at an address that is dialled", "", "see who holds it, its mode, whether the port is free, and whether the other side runs"),
 }
 
 OPEN, CLOSED = b"\xa5", b"\x00"
