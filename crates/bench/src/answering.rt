@@ -5,11 +5,13 @@ ghost use Rattle.std.specs.List.{All};
 ghost use Rattle.nb_vault.specs.Asking.{IsWithin};
 
 use anyhow::anyhow;
-use nb_msgs::REPLY_ROOM;
+use nb_endorse::KeptStates;
+use nb_escrow::OpenedOrder;
+use nb_msgs::{Draft, REPLY_ROOM, write_each};
 use nb_port::Clock;
 use nb_system::{FileDisk, StdFile, SystemClock};
 use nb_turns::MAX_REQUESTS;
-use nb_units::frames::HEADER;
+use nb_units::frames::{HEADER, ORDER_REQUEST};
 use nb_vault::{Answer, AnswerAll, AskAt, Vault};
 use std::alloc::Global;
 use std::fs::{File, OpenOptions};
@@ -97,6 +99,111 @@ fn answer_turns(
         told = told.saturating_add(out.len());
     }
     Ok(told)
+}
+
+/// Answers the frames on standard input as [`run`] does, so many in a turn, up to the drafts of their replies, which are written behind the
+/// turn with states of keys of the caller's own. Where `opens` says so each order is opened before its turn, as far as its keys are known.
+pub fn run_decided(
+    rt: &HostRuntime,
+    name: &str,
+    turn: usize,
+    opens: bool,
+) -> anyhow::Result<usize> {
+    let mut vault = opened(rt, name)?;
+    let told = decide_given(rt, &mut vault, turn, opens);
+    drop(vault);
+    told
+}
+
+fn decide_given(
+    rt: &HostRuntime,
+    vault: &mut Vault<FileDisk<StdFile>>,
+    turn: usize,
+    opens: bool,
+) -> anyhow::Result<usize> {
+    let bytes = given(rt)?;
+    let asks = asks_now(rt, &bytes)?;
+    let mut caller = Caller::new(rt.alloc())?;
+    let mut told = 0usize;
+    if turn == 0 {
+        return Err(anyhow!("a turn has from 1 to 32 requests"));
+    }
+    for group in asks.as_slice().chunks(turn) {
+        caller.decide_all(vault, &bytes, group, opens)?;
+        told = told.saturating_add(caller.out.len());
+    }
+    Ok(told)
+}
+
+// Who asks: the states of keys that it keeps, and the memory of a turn.
+#[derive(Drop)]
+struct Caller {
+    kept: KeptStates,
+    memos: Vec<Option<OpenedOrder>>,
+    ats: Vec<u64>,
+    drafts: Vec<Draft>,
+    out: Vec<u8>,
+}
+
+impl Caller {
+    fn new(alloc: Global) -> anyhow::Result<Caller> {
+        let Ok(kept) = KeptStates::new(alloc) else {
+            return Err(anyhow!("out of memory"));
+        };
+        Ok(Caller {
+            kept,
+            memos: Vec::with_capacity(alloc, MAX_REQUESTS)?,
+            ats: Vec::with_capacity(alloc, MAX_REQUESTS)?,
+            drafts: Vec::with_capacity(alloc, MAX_REQUESTS)?,
+            out: Vec::with_capacity(alloc, REPLY_ROOM * MAX_REQUESTS)?,
+        })
+    }
+
+    // Opens what may be opened of each request.
+    fn open_each(&mut self, bytes: &[u8], asks: &[AskAt]) -> anyhow::Result<()>
+        requires { All (IsWithin bytes.now) asks.now }
+    {
+        for ask in asks {
+            let body = bytes.split_at(ask.start).1.split_at(ask.len).0;
+            let memo = if ask.kind == ORDER_REQUEST {
+                OpenedOrder::of(body, &self.kept)
+            } else {
+                None
+            };
+            self.memos.push(memo)?;
+        }
+        Ok(())
+    }
+
+    // Answers the requests of a turn, and writes the replies behind it.
+    fn decide_all(
+        &mut self,
+        vault: &mut Vault<FileDisk<StdFile>>,
+        bytes: &[u8],
+        asks: &[AskAt],
+        opens: bool,
+    ) -> anyhow::Result<()> {
+        self.memos.clear();
+        if asks.is_empty() || asks.len() > MAX_REQUESTS || !are_within(bytes, asks) {
+            return Err(anyhow!("a turn has from 1 to 32 requests"));
+        }
+        if opens {
+            self.open_each(bytes, asks)?;
+        }
+        self.ats.clear();
+        self.ats.reserve(MAX_REQUESTS)?;
+        self.drafts.clear();
+        self.drafts.reserve(MAX_REQUESTS)?;
+        self.out.clear();
+        self.out.reserve(REPLY_ROOM * MAX_REQUESTS)?;
+        let memos = self.memos.as_slice();
+        match vault.decide_all(0, bytes, asks, memos, &mut self.ats, &mut self.drafts) {
+            AnswerAll::Answered => {}
+            _ => return Err(anyhow!("the disk failed")),
+        }
+        write_each(self.drafts.as_slice(), &mut self.kept, &mut self.out);
+        Ok(())
+    }
 }
 
 // The requests in these frames, one behind the other, all at one moment. A header has the kind in its fourth byte and the number of the

@@ -5,7 +5,8 @@
 //! how many keys there are, and of a shelf how many products. Each round works on what the last one made, so that none can be left out.
 //! `bench rows` does what each line of standard input says, in the same words.
 //! `bench answer JOURNAL REQUESTS` answers the frames on standard input over a journal, so many in a turn, and prints how many bytes their
-//! replies have; `bench ask JOURNAL REQUESTS THREADS` asks a desk for them, by 1, 2 or 4 threads. A file has one subject and its rows: a
+//! replies have; `bench decide JOURNAL REQUESTS plain` does so up to the drafts of the replies, which are written behind the turn, and with `opened` each order
+//! is opened before its turn; `bench ask JOURNAL REQUESTS THREADS` asks a desk for them, by 1, 2 or 4 threads. A file has one subject and its rows: a
 //! new row touches that file alone. How long a round takes is no claim of the proofs, and no clause says more than its safety needs:
 //! bench/run measures from outside. What the rows make is compared with other programs: the digests in `stdout` are from Python over hashlib, hmac
 //! and another ChaCha20, for parts from openssl, and sums of frames and of look-ups from ones that read no frames and have no index.
@@ -38,6 +39,7 @@ const USAGE: &str =
        bench writegoods|readgoods SIZE TIMES
        bench turn|lock THREADS TIMES
        bench answer JOURNAL REQUESTS
+       bench decide JOURNAL REQUESTS plain|opened
        bench ask JOURNAL REQUESTS THREADS
        bench rows";
 
@@ -92,6 +94,9 @@ fn told<R: Threads + Wait + Sync>(
 ) -> anyhow::Result<Option<usize>> {
     match words {
         [row, name, turn] if row.as_str() == "answer" => answered(rt, name.as_str(), turn.as_str()),
+        [row, name, turn, how] if row.as_str() == "decide" => {
+            decided(rt, name.as_str(), turn.as_str(), how.as_str())
+        }
         [row, name, turn, threads] if row.as_str() == "ask" => {
             asked(rt, many, name.as_str(), turn.as_str(), threads.as_str())
         }
@@ -104,6 +109,18 @@ fn answered(rt: &HostRuntime, name: &str, turn: &str) -> anyhow::Result<Option<u
         return Ok(None);
     };
     Ok(Some(answering::run(rt, name, turn)?))
+}
+
+fn decided(rt: &HostRuntime, name: &str, turn: &str, how: &str) -> anyhow::Result<Option<usize>> {
+    let Ok(turn) = turn.parse() else {
+        return Ok(None);
+    };
+    let opens = match how {
+        "plain" => false,
+        "opened" => true,
+        _ => return Ok(None),
+    };
+    Ok(Some(answering::run_decided(rt, name, turn, opens)?))
 }
 
 fn asked<R: Threads + Wait + Sync>(

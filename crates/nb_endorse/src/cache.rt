@@ -1,19 +1,26 @@
-ghost use Rattle.std.specs.Prelude.{◌≡◌};
+ghost use Rattle.std.specs.Prelude.{◌≡◌, IsTrue, Some};
 
 use crate::receipt::NO_KEY;
 use nb_seal::KeyState;
 use nb_units::{NoMemory, PartyId, Secret};
 use std::alloc::Global;
 
-/// The slots for merchants in [`KeptStates`], and as many for consumers.
+/// The slots for merchants in [`KeptStates`], as many for consumers, and as many for those who ask for a status.
 pub const PARTY_SLOTS: u32 = 256;
+
+// A state that is kept, and the number that it was asked for under, where it was.
+#[derive(Drop)]
+struct Slot {
+    number: Option<u32>,
+    state: KeyState,
+}
 
 /// States of keys that were asked for before: one on each slot, and a number falls on the slot of its remainder. A state is given only
 /// for its own key. Where the slot has the state of another, the one that was asked for is made and takes the slot.
 #[derive(Drop)]
 pub struct StateCache {
-    // The state on each slot. None: nothing is kept.
-    slots: Option<Vec<KeyState>>,
+    // What is kept on each slot. None: nothing is.
+    slots: Option<Vec<Slot>>,
     // Where there are no slots, the state that was asked for last.
     last: Option<KeyState>,
 }
@@ -22,17 +29,20 @@ impl StateCache {
     /// A cache of so many slots. It takes the memory for all of them, and answers [`NoMemory`] where there is none.
     pub fn new(alloc: Global, slots: u32) -> Result<StateCache, NoMemory> {
         let zeros = KeyState::new(&NO_KEY);
-        let mut states = Vec::with_capacity(alloc, slots as usize)?;
+        let mut empty = Vec::with_capacity(alloc, slots as usize)?;
         for _ in 0..slots {
-            states.push(zeros.copy())?;
+            empty.push(Slot {
+                number: None,
+                state: zeros.copy(),
+            })?;
         }
         Ok(StateCache {
-            slots: Some(states),
+            slots: Some(empty),
             last: None,
         })
     }
 
-    /// A cache that keeps nothing, and takes no memory.
+    /// A cache that keeps nothing but the last state, and takes no memory.
     pub fn none() -> StateCache {
         StateCache {
             slots: None,
@@ -45,26 +55,60 @@ impl StateCache {
         ensures { result.now ≡ key.now }
     {
         match &mut self.slots {
-            Some(states) if states.len() > 0 => {
-                let slot = number as usize % states.len();
-                if !states[slot].is_of(key) {
-                    states[slot] = KeyState::new(key);
+            Some(slots) if slots.len() > 0 => {
+                let slot = number as usize % slots.len();
+                if !slots[slot].state.is_of(key) {
+                    slots[slot] = Slot {
+                        number: Some(number),
+                        state: KeyState::new(key),
+                    };
                 }
-                &states[slot]
+                &slots[slot].state
             }
-            _ => self.last.insert(KeyState::new(key)),
+            _ => {
+                if !is_last(&self.last, key) {
+                    self.last = Some(KeyState::new(key));
+                }
+                self.last.as_ref().unwrap()
+            }
+        }
+    }
+
+    /// The state that is kept for the number, where one is. Whether it is of the right key is to be tested where it is used.
+    pub fn kept(&self, number: u32) -> Option<&KeyState> {
+        match &self.slots {
+            Some(slots) if slots.len() > 0 => {
+                let slot = &slots[number as usize % slots.len()];
+                if slot.number == Some(number) {
+                    Some(&slot.state)
+                } else {
+                    None
+                }
+            }
+            _ => None,
         }
     }
 }
 
-/// The states of keys that a house keeps from one request to the next: of its own key, of the operator's, and those of merchants and of
-/// consumers by their numbers, on [`PARTY_SLOTS`] slots each.
+// Whether the last state is that of the key.
+fn is_last(last: &Option<KeyState>, key: &Secret) -> bool
+    ensures { IsTrue result → last.now ≡ Some key.now }
+{
+    match last {
+        Some(state) => state.is_of(key),
+        None => false,
+    }
+}
+
+/// The states of keys that a house keeps from one request to the next: of its own key, of the operator's, those of merchants and of
+/// consumers by their numbers, and those of who asks for a status by the first bytes of their keys, on [`PARTY_SLOTS`] slots each.
 #[derive(Drop)]
 pub struct KeptStates {
     house: StateCache,
     operator: StateCache,
     merchants: StateCache,
     consumers: StateCache,
+    askers: StateCache,
 }
 
 impl KeptStates {
@@ -75,16 +119,18 @@ impl KeptStates {
             operator: StateCache::new(alloc, 1)?,
             merchants: StateCache::new(alloc, PARTY_SLOTS)?,
             consumers: StateCache::new(alloc, PARTY_SLOTS)?,
+            askers: StateCache::new(alloc, PARTY_SLOTS)?,
         })
     }
 
-    /// Keeps nothing, and takes no memory: each state is made when it is asked for.
+    /// Keeps nothing but the last state of each kind, and takes no memory: each state is made when it is asked for.
     pub fn none() -> KeptStates {
         KeptStates {
             house: StateCache::none(),
             operator: StateCache::none(),
             merchants: StateCache::none(),
             consumers: StateCache::none(),
+            askers: StateCache::none(),
         }
     }
 
@@ -114,5 +160,23 @@ impl KeptStates {
         ensures { result.now ≡ key.now }
     {
         self.consumers.state(id.0, key)
+    }
+
+    /// The state of the key of a party, in either role, that asks for a status.
+    pub fn asker(&mut self, key: &Secret) -> &KeyState
+        ensures { result.now ≡ key.now }
+    {
+        let number = u32::from_be_bytes([key[0], key[1], key[2], key[3]]);
+        self.askers.state(number, key)
+    }
+
+    /// The state that is kept for this merchant, where one is. Whether it is of the right key is to be tested where it is used.
+    pub fn kept_merchant(&self, id: PartyId) -> Option<&KeyState> {
+        self.merchants.kept(id.0)
+    }
+
+    /// The state that is kept for this consumer, where one is. Whether it is of the right key is to be tested where it is used.
+    pub fn kept_consumer(&self, id: PartyId) -> Option<&KeyState> {
+        self.consumers.kept(id.0)
     }
 }

@@ -5,8 +5,8 @@
 //! sealed under the merchant's key, and is held by its digest. A [`Receipt`] is what the house says of the order to one of
 //! its parties: [`Signed`] with the house's tag, and sealed under the party's key. A [`Refusal`] is a code and what the code
 //! shows: two numbers and 32 bytes, of which zeros are what it does not show. A [`Reply`] is what one request is answered,
-//! and [`ReplyKeys`] are the keys that it is made with: [`ReplyStates`] are their states, where they were made before. [`KeptStates`] are
-//! those that a house keeps from one request to the next, each in a [`StateCache`]: nothing that is answered depends on what one holds.
+//! and [`ReplyKeys`] are the keys that it is made with. [`KeptStates`] are the states of keys that a house, or who writes its replies, keeps from one
+//! request to the next, each in a [`StateCache`]: nothing that is answered depends on what one holds.
 //!
 //! The layouts stand in `specs/Spelling.antt`, each as a function of the value, and in `specs/Reading.antt`, field by field
 //! with the place of each. That they are the two sides of one thing is proved by the functions of [`laws`]: what was
@@ -40,8 +40,9 @@ pub use endorsement::{
 };
 pub use receipt::{
     ABSENT, NO_KEY, PAID_CODE, PRESENT, RECEIPT_BYTES, Receipt, SIGNED_BYTES, Signed, read_receipt,
-    read_signed, receipt_tag_ok, seal_receipt, sign_receipt, write_receipt,
+    read_signed, receipt_tag_ok, seal_receipt, sign_receipt, sign_receipt_with, write_receipt,
+    write_receipt_with,
 };
 pub use refusal::Refusal;
-pub use reply::{Reply, ReplyKeys, ReplyStates};
+pub use reply::{Reply, ReplyKeys};
 pub use sealed::SealedFault;

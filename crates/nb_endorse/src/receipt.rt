@@ -146,8 +146,8 @@ pub fn sign_receipt(r: &Receipt, house: &Secret) -> Signed
     sign_receipt_with(r, &KeyState::new(house))
 }
 
-// The receipt with its tag, as `sign_receipt` gives it, under the house's key of this state.
-pub(crate) fn sign_receipt_with(r: &Receipt, house: &KeyState) -> Signed
+/// The receipt with its tag, as [`sign_receipt`] gives it, under the house's key of this state.
+pub fn sign_receipt_with(r: &Receipt, house: &KeyState) -> Signed
     ensures { result ≡ signed_receipt house.now r.now }
 {
     let mut plain = Buffer::new();
@@ -192,8 +192,8 @@ pub fn write_receipt(s: &Signed, key: &Secret, out: &mut Vec<u8>)
     write_receipt_with(s, &KeyState::new(key), out);
 }
 
-// Appends the receipt and its tag, sealed in their place, as `write_receipt` does, under the key of this state.
-pub(crate) fn write_receipt_with(s: &Signed, key: &KeyState, out: &mut Vec<u8>)
+/// Appends the receipt and its tag, sealed in their place, as [`write_receipt`] does, under the key of this state.
+pub fn write_receipt_with(s: &Signed, key: &KeyState, out: &mut Vec<u8>)
     requires lawful { ReceiptKeepsRules s.now.receipt }
     requires room { RECEIPT_BYTES ≤ spare_of out.old }
     ensures bytes { out.new.items ≡ out.old.items ++ seal_of key.now (codes "rcpt") (spelling.signed_bytes s.now) }

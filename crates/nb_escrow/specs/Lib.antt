@@ -6,6 +6,7 @@ pub mod Fundings
 pub mod Settlements
 pub mod Payments
 pub mod Orders
+pub mod Opened
 pub mod Statuses
 pub mod Grants
 pub mod Tickets

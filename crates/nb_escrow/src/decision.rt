@@ -1,7 +1,6 @@
 ghost use Rattle.std.specs.Prelude.{◌≡◌, ◌<◌, length, IfOk, IfSome, IsOk, IsSome};
 ghost use Rattle.nb_units.specs.declared.frames.TheConstants.{STATUS_REQUEST};
 ghost use Rattle.nb_book.specs.Legal.{Legal, NextUnder};
-ghost use Rattle.nb_endorse.specs.Keys.{no_keys};
 ghost use Rattle.nb_endorse.specs.Replies.{HasLawfulReceipts};
 ghost use Rattle.nb_escrow.specs.Head.{IsRuling};
 ghost use Rattle.nb_escrow.specs.Held.{done as done_at};
@@ -11,12 +10,13 @@ ghost use Rattle.nb_escrow.specs.Verdict.{steps, verdict};
 use crate::enrolment::decide_enrolment;
 use crate::funding::decide_funding;
 use crate::head::Head;
+use crate::opened::OpenedOrder;
 use crate::order::decide_order;
 use crate::status::decide_status;
 use crate::ticket::decide_ticket;
 use nb_book::{Book, Entry};
 use nb_endorse::refusal::NOT_SERVED;
-use nb_endorse::{KeptStates, Refusal, Reply, ReplyKeys, ReplyStates};
+use nb_endorse::{KeptStates, Refusal, Reply, ReplyKeys};
 use nb_units::AcctId;
 use nb_units::frames::{
     ENROL_REQUEST, FUND_REQUEST, ORDER_REQUEST, STATUS_REQUEST, TICKET_REQUEST,
@@ -54,21 +54,21 @@ pub fn decide(book: &Book, head: &Head, kind: u8, body: &[u8], moment: u64) -> D
         kind,
         body,
         moment,
+        None,
         &mut KeptStates::none(),
-        &mut ReplyStates::none(),
     )
 }
 
-/// Decides as [`decide`] does, with the states of keys that are kept, and leaves those of the reply's keys. The state of a key that is not kept is
-/// made once for all codes of the request, and is kept then. What is decided does not depend on what is kept.
+/// Decides as [`decide`] does, with what was opened of an order before, and with the states of keys that are kept. The state of a key that is not
+/// kept is made once for all codes of the request, and is kept then. What is decided depends neither on what was opened nor on what is kept.
 pub fn decide_with(
     book: &Book,
     head: &Head,
     kind: u8,
     body: &[u8],
     moment: u64,
+    opened: Option<&OpenedOrder>,
     kept: &mut KeptStates,
-    states: &mut ReplyStates,
 ) -> Decision
     requires terms { IsRuling head.now }
     ensures verdict { result ≡ verdict book.now.entries head.now book.now.cap kind body.now moment }
@@ -82,19 +82,14 @@ pub fn decide_with(
     // To an authentic status query, over at least as many entries as it asks for, a key is given exactly where an entry pays the
     // order with it and names who asks.
     ensures key { kind ≡ STATUS_REQUEST → KeyWherePaid book.now.entries body.now result.reply }
-    ensures states { states.new ≡ result.keys }
 {
-    *states = ReplyStates::none();
-    match test(book, head, kind, body, moment, kept, states) {
+    match test(book, head, kind, body, moment, opened, kept) {
         Ok(decision) => decision,
-        Err(refusal) => {
-            *states = ReplyStates::none();
-            Decision {
-                reply: Reply::Refused(refusal),
-                keys: ReplyKeys::none(),
-                entry: None,
-            }
-        }
+        Err(refusal) => Decision {
+            reply: Reply::Refused(refusal),
+            keys: ReplyKeys::none(),
+            entry: None,
+        },
     }
 }
 
@@ -105,22 +100,20 @@ fn test(
     kind: u8,
     body: &[u8],
     moment: u64,
+    opened: Option<&OpenedOrder>,
     kept: &mut KeptStates,
-    states: &mut ReplyStates,
 ) -> Result<Decision, Refusal>
     requires terms { IsRuling head.now }
-    requires fresh { states.old ≡ no_keys }
     ensures steps { result ≡ steps book.now.entries head.now book.now.cap kind body.now moment }
     ensures legal { IfOk result (λ decision. IfSome decision.entry (NextUnder head.now.version head.now.rate book.now.entries)) }
     ensures room { IfOk result (λ decision. IsSome decision.entry → length book.now.entries < book.now.cap) }
     ensures receipts { IfOk result (λ decision. HasLawfulReceipts decision.reply) }
     ensures list { kind ≡ STATUS_REQUEST → IsOk result → Legal book.now.entries }
-    ensures states { IfOk result (λ decision. decision.keys ≡ states.new) }
 {
     match kind {
-        ORDER_REQUEST => decide_order(book, head, body, moment, kept, states),
-        STATUS_REQUEST => decide_status(book, head, body, kept, states),
-        TICKET_REQUEST => decide_ticket(book, head, body, moment, kept, states),
+        ORDER_REQUEST => decide_order(book, head, body, moment, opened, kept),
+        STATUS_REQUEST => decide_status(book, head, body, kept),
+        TICKET_REQUEST => decide_ticket(book, head, body, moment, kept),
         ENROL_REQUEST => decide_enrolment(book, head, body, kept),
         FUND_REQUEST => decide_funding(book, head, body, kept),
         _ => Err(Refusal::of(NOT_SERVED, u64::from(kind), 0)),

@@ -8,8 +8,9 @@
 //! `Settlements.antt`. The layout of what may be asked for is `nb_body`'s, and that of a request for a ticket `nb_ticket`'s. In `src/` each of these has its file: `order.rt`, `payment.rt`, `status.rt`, `ticket.rt`, `enrolment.rt`,
 //! `funding.rt`, `checks.rt`, `settlement.rt`.
 //!
-//! [`decide_with`] is the same, with states of keys that are kept from one request to the next, and leaves those of the reply's keys, which were made
-//! at most once for all codes of the request.
+//! [`decide_with`] is the same, with states of keys that are kept from one request to the next, and with what was opened of an order before its turn:
+//! an [`OpenedOrder`] holds what opening those bytes under those keys gave, and is used only where the request has these bytes and the parties these
+//! keys.
 //!
 //! A decision's entry is legal after those held, and within the journal's cap. No memory is taken. What holds of every
 //! verdict stands in `specs/Laws.antt` and `Replies.antt`, and is proved by the functions of [`laws`]. Among it stands, in words
@@ -27,6 +28,7 @@ mod funding;
 mod head;
 pub mod lasting;
 pub mod laws;
+mod opened;
 mod order;
 mod payment;
 mod settlement;
@@ -35,5 +37,6 @@ mod ticket;
 
 pub use decision::{Decision, decide, decide_with};
 pub use head::Head;
+pub use opened::OpenedOrder;
 pub use order::Presented;
 pub use settlement::{PaymentOutcome, RefusalReason, Settlement};

@@ -1,15 +1,7 @@
-ghost use Rattle.std.specs.Prelude.{◌≡◌, ◌≤◌, ◌<◌, length, IfOk, IfErr, IfSome, IsSome, IsNone, OnOk, None, Ok, Err};
+ghost use Rattle.std.specs.Prelude.{◌≡◌, ◌<◌, length, IfOk, IfSome, IsSome, IsNone, OnOk, None};
 ghost use Rattle.nb_book.specs.Legal.{NextUnder};
 ghost use Rattle.nb_book.specs.Searches.{order_in};
-ghost use Rattle.nb_units.specs.declared.limits.TheConstants.{MAX_HIDDEN};
-ghost use Rattle.nb_epo.specs.Reading.{order_of};
-ghost use Rattle.nb_epo.specs.Spelling.{order_bytes};
-ghost use Rattle.nb_epo.specs.Tags.{order_tag};
-ghost use Rattle.nb_endorse.specs.Tags.{endorsement_digest};
-ghost use Rattle.nb_endorse.specs.declared.endorsement.TheConstants.{MAX_SEALED};
-ghost use Rattle.nb_endorse.specs.declared.refusal.TheConstants.{IN_ORDER};
 ghost use Rattle.nb_endorse.specs.Replies.{HasLawfulReceipts};
-ghost use Rattle.nb_escrow.specs.Checks.{well_formed, right_tag};
 ghost use Rattle.nb_escrow.specs.Head.{IsRuling};
 ghost use Rattle.nb_escrow.specs.Orders as orders;
 ghost use Rattle.nb_escrow.specs.Settlements.{settlement_entry, settlement_in, IsPaymentOutcome};
@@ -17,21 +9,15 @@ ghost use Rattle.nb_escrow.specs.Settlements.{settlement_entry, settlement_in, I
 use crate::checks::{check_room, find_party_as};
 use crate::decision::Decision;
 use crate::head::Head;
+use crate::opened::{OpenedOrder, opened_endorsement, opened_hidden, read_endorsed, tested_tag};
 use crate::payment::outcome;
 use crate::settlement::{Settlement, settled_before};
 use nb_body::EndorsedBytes;
 use nb_book::{Book, CONSUMER, Entry, MERCHANT, Party};
-use nb_endorse::refusal::{
-    IDENTIFIER_USED, IN_ENDORSEMENT, IN_HIDDEN, IN_ORDER, MALFORMED, NOT_SEALED, OTHER_MERCHANT,
-    WRONG_TAG,
-};
-use nb_endorse::{
-    DigestedEndorsement, Endorsement, KeptStates, Refusal, Reply, ReplyKeys, ReplyStates,
-    SealedFault, read_sealed_with,
-};
-use nb_epo::{Hidden, Order, RevealFault, read_order, read_tag_ok, reveal_with};
-use nb_seal::KeyState;
-use nb_units::{Digest, Epoid, Malformed, PartyId, Small};
+use nb_endorse::refusal::{IDENTIFIER_USED, OTHER_MERCHANT};
+use nb_endorse::{Endorsement, KeptStates, Refusal, Reply, ReplyKeys};
+use nb_epo::{Hidden, Order};
+use nb_units::{Digest, PartyId};
 
 /// An order whose parties, seals, grammar and tag were tested: who takes part, and what each of them says. Whether it was
 /// settled before, and whether it is paid, is tested next.
@@ -56,31 +42,25 @@ pub(crate) fn decide_order(
     head: &Head,
     body: &[u8],
     moment: u64,
+    opened: Option<&OpenedOrder>,
     kept: &mut KeptStates,
-    states: &mut ReplyStates,
 ) -> Result<Decision, Refusal>
     requires { IsRuling head.now }
     ensures steps { result ≡ orders.order_steps book.now.entries head.now book.now.cap body.now moment }
     ensures legal { IfOk result (λ decision. IfSome decision.entry (NextUnder head.now.version head.now.rate book.now.entries)) }
     ensures room { IfOk result (λ decision. IsSome decision.entry → length book.now.entries < book.now.cap) }
     ensures receipts { IfOk result (λ decision. HasLawfulReceipts decision.reply) }
-    ensures states { IfOk result (λ decision. decision.keys ≡ states.new) }
 {
     let asked = EndorsedBytes::read(body)?;
     let merchant = find_party_as(book, MERCHANT, asked.merchant())?;
-    let merchant_key = kept.merchant(asked.merchant(), &merchant.key);
-    states.set_first(merchant_key);
-    let opened = open_endorsement(asked.sealed(), merchant_key)?;
-    let endorsement = opened.endorsement;
-    let digest = opened.digest;
+    let read = opened_endorsement(opened, &asked, &merchant.key, kept)?;
+    let endorsement = read.endorsement;
+    let digest = read.digest;
     let order = read_endorsed(&endorsement.order)?;
     let consumer = find_party_as(book, CONSUMER, order.consumer)?;
     check_merchant(asked.merchant(), &order)?;
-    let consumer_key = kept.consumer(order.consumer, &consumer.key);
-    states.set_second(consumer_key);
-    check_order_tag(&endorsement.order, &order, consumer_key)?;
-    let hidden = open_hidden(&order.hidden, consumer_key)?;
-    states.set_house(kept.house(&head.house));
+    tested_tag(opened, &endorsement.order, &order, &consumer.key, kept)?;
+    let hidden = opened_hidden(opened, &endorsement.order, &order, &consumer.key, kept)?;
     let presented = Presented {
         merchant,
         consumer,
@@ -156,64 +136,6 @@ impl Presented {
     }
 }
 
-// The endorsement that is sealed under the merchant's key.
-#[tactic(auto, unfolding(crate::specs::Orders::endorsement_in))]
-fn open_endorsement(sealed: &[u8], key: &KeyState) -> Result<DigestedEndorsement, Refusal>
-    requires { length sealed.now ≤ MAX_SEALED }
-    ensures read { IfOk result (λ opened. orders.endorsement_in key.now sealed.now ≡ Ok opened.endorsement) }
-    ensures refused { IfErr result (λ refusal. orders.endorsement_in key.now sealed.now ≡ Err refusal) }
-    ensures digest { IfOk result (λ opened. opened.digest ≡ endorsement_digest opened.endorsement) }
-{
-    match read_sealed_with(sealed, key) {
-        Ok(opened) => Ok(opened),
-        Err(fault) => Err(unread_endorsement(fault)),
-    }
-}
-
-// The refusal of an endorsement that was not read.
-fn unread_endorsement(fault: SealedFault) -> Refusal
-    ensures { result ≡ orders.unread_endorsement fault }
-{
-    match fault {
-        SealedFault::BadSeal { iv } => Refusal::with(NOT_SEALED, &iv),
-        SealedFault::Malformed { place } => Refusal::of(MALFORMED, place as u64, IN_ENDORSEMENT),
-    }
-}
-
-// The order that is endorsed.
-fn read_endorsed(bytes: &Small) -> Result<Order, Refusal>
-    ensures test { result ≡ well_formed IN_ORDER (order_of bytes.now) }
-    ensures spelled { IfOk result (λ order. bytes.now ≡ order_bytes order) }
-    ensures short { IfOk result (λ order. length order.hidden ≤ MAX_HIDDEN) }
-{
-    match read_order(bytes.as_slice()) {
-        Ok(order) => Ok(order),
-        Err(Malformed { place }) => Err(Refusal::of(MALFORMED, place as u64, IN_ORDER)),
-    }
-}
-
-// The hidden part that is sealed under the consumer's key.
-#[tactic(auto, unfolding(crate::specs::Orders::hidden_in))]
-fn open_hidden(sealed: &Small, key: &KeyState) -> Result<Hidden, Refusal>
-    requires { length sealed.now ≤ MAX_HIDDEN }
-    ensures { result ≡ orders.hidden_in key.now sealed.now }
-{
-    match reveal_with(sealed.as_slice(), key) {
-        Ok(hidden) => Ok(hidden),
-        Err(fault) => Err(unread_hidden(fault)),
-    }
-}
-
-// The refusal of a hidden part that was not read.
-fn unread_hidden(fault: RevealFault) -> Refusal
-    ensures { result ≡ orders.unread_hidden fault }
-{
-    match fault {
-        RevealFault::BadSeal { iv } => Refusal::with(NOT_SEALED, &iv),
-        RevealFault::Malformed { place } => Refusal::of(MALFORMED, place as u64, IN_HIDDEN),
-    }
-}
-
 #[tactic(auto, unfolding(crate::specs::Orders::same_merchant))]
 fn check_merchant(endorser: PartyId, order: &Order) -> Result<(), Refusal>
     ensures test { result ≡ orders.same_merchant endorser order.now }
@@ -231,18 +153,6 @@ fn check_named(endorser: PartyId, merchant: PartyId) -> Result<(), Refusal>
         Ok(())
     } else {
         Err(Refusal::of(OTHER_MERCHANT, u64::from(endorser.0), u64::from(merchant.0)))
-    }
-}
-
-#[tactic(auto, unfolding(crate::specs::Checks::right_tag))]
-fn check_order_tag(bytes: &Small, order: &Order, key: &KeyState) -> Result<(), Refusal>
-    requires read { bytes.now ≡ order_bytes order.now }
-    ensures { result ≡ right_tag order.now.tag (order_tag key.now order.now) }
-{
-    if read_tag_ok(bytes.as_slice(), order, key) {
-        Ok(())
-    } else {
-        Err(Refusal::with(WRONG_TAG, &order.tag))
     }
 }
 

@@ -9,10 +9,9 @@ use crate::decision::Decision;
 use crate::head::Head;
 use crate::settlement::settled_before;
 use nb_body::StatusQuery;
-use nb_book::{Book, MERCHANT, Party};
+use nb_book::{Book, Party};
 use nb_endorse::refusal::TOO_FEW_ENTRIES;
-use nb_endorse::{KeptStates, Refusal, Reply, ReplyKeys, ReplyStates};
-use nb_seal::KeyState;
+use nb_endorse::{KeptStates, Refusal, Reply, ReplyKeys};
 use nb_units::{Cut, Epoid, Malformed, PartyId, Tag};
 
 // What the tag of a status query is over begins with this.
@@ -25,34 +24,18 @@ pub(crate) fn decide_status(
     head: &Head,
     body: &[u8],
     kept: &mut KeptStates,
-    states: &mut ReplyStates,
 ) -> Result<Decision, Refusal>
-    requires fresh { states.old ≡ no_keys }
     ensures steps { result ≡ status_steps book.now.entries head.now body.now }
     ensures none { IfOk result (λ decision. IsNone decision.entry) }
     ensures receipts { IfOk result (λ decision. HasLawfulReceipts decision.reply) }
     ensures list { OnOk result (Legal book.now.entries) }
-    ensures states { IfOk result (λ decision. decision.keys ≡ states.new) }
 {
     let asked = StatusQuery::read(body)?;
     let asker = find_party(book, asked.asker)?;
-    let asker_key = asker_state(kept, asked.asker, &asker);
-    check_tag(&asked.tag, &asker_key.code(&STATUS_LABEL, signed(body)))?;
+    let wanted = kept.asker(&asker.key).code(&STATUS_LABEL, signed(body));
+    check_tag(&asked.tag, &wanted)?;
     check_entries(book, asked.least)?;
-    states.set_first(asker_key);
-    states.set_house(kept.house(&head.house));
     Ok(status_of(book, head, &asker, &asked))
-}
-
-// The state of the key of who asks, which is kept with those of its role.
-fn asker_state<'a>(kept: &'a mut KeptStates, id: PartyId, asker: &Party) -> &'a KeyState
-    ensures { result.now ≡ asker.now.key }
-{
-    if asker.role == MERCHANT {
-        kept.merchant(id, &asker.key)
-    } else {
-        kept.consumer(id, &asker.key)
-    }
 }
 
 #[tactic(auto, unfolding(crate::specs::Statuses::enough_entries))]

@@ -8,9 +8,9 @@ ghost use Rattle.nb_escrow.specs.Tickets.{ticket_steps};
 use crate::checks::find_party_as;
 use crate::decision::Decision;
 use crate::head::Head;
-use nb_book::{Book, CONSUMER, MERCHANT};
+use nb_book::{Book, CONSUMER, MERCHANT, Party};
 use nb_endorse::refusal::WRONG_TAG;
-use nb_endorse::{KeptStates, Refusal, Reply, ReplyKeys, ReplyStates};
+use nb_endorse::{KeptStates, Refusal, Reply, ReplyKeys};
 use nb_seal::KeyState;
 use nb_ticket::{TicketAsk, request_ok_with, session_key_with, until};
 
@@ -22,32 +22,32 @@ pub(crate) fn decide_ticket(
     body: &[u8],
     moment: u64,
     kept: &mut KeptStates,
-    states: &mut ReplyStates,
 ) -> Result<Decision, Refusal>
     ensures steps { result ≡ ticket_steps book.now.entries head.now body.now moment }
     ensures none { IfOk result (λ decision. IsNone decision.entry) }
     ensures receipts { IfOk result (λ decision. HasLawfulReceipts decision.reply) }
-    ensures states { IfOk result (λ decision. decision.keys ≡ states.new) }
 {
     let asked = TicketAsk::read(body)?;
     let consumer = find_party_as(book, CONSUMER, asked.consumer)?;
-    let consumer_key = kept.consumer(asked.consumer, &consumer.key);
-    states.set_first(consumer_key);
-    check_request_tag(&asked, consumer_key)?;
+    check_request_tag(&asked, kept.consumer(asked.consumer, &consumer.key))?;
     let merchant = find_party_as(book, MERCHANT, asked.merchant)?;
-    states.set_second(kept.merchant(asked.merchant, &merchant.key));
-    let house_key = kept.house(&head.house);
-    states.set_house(house_key);
-    let reply = granted(&asked, house_key, moment);
+    let reply = granted(&asked, kept.house(&head.house), moment);
     Ok(Decision {
         reply,
-        keys: ReplyKeys {
-            house: head.house,
-            first: consumer.key,
-            second: merchant.key,
-        },
+        keys: keys_of(head, &consumer, &merchant),
         entry: None,
     })
+}
+
+// The keys of a grant: it is sealed under the consumer's, and the ticket in it under the merchant's.
+fn keys_of(head: &Head, consumer: &Party, merchant: &Party) -> ReplyKeys
+    ensures { result ≡ record { house = head.now.house; first = consumer.now.key; second = merchant.now.key } }
+{
+    ReplyKeys {
+        house: head.house,
+        first: consumer.key,
+        second: merchant.key,
+    }
 }
 
 #[tactic(auto, unfolding(crate::specs::Checks::right_tag))]

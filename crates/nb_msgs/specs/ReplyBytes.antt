@@ -1,5 +1,6 @@
 -- The bytes of a reply: its one frame. What is for one party alone is sealed under that party's key.
 use Rattle.std.specs.Prelude.{ℕ, List, [], ◌∷◌, ◌++◌, codes, Option, Some, None}
+use Rattle.std.specs.List.{flat_map}
 use Rattle.nb_units.specs.Fields.{be4, be8, sized}
 use Rattle.nb_units.specs.Frames.{Frame, frame}
 use Rattle.nb_units.specs.declared.frames.TheConstants.{RESULT_REPLY, STATUS_REPLY, GRANT_REPLY, DONE_REPLY, REFUSED_REPLY}
@@ -8,6 +9,7 @@ use Rattle.nb_units.specs.declared.ids.PartyId.{PartyId}
 use Rattle.nb_units.specs.declared.epoid.Epoid.{Epoid}
 use Rattle.nb_seal.specs.Seal.{seal_of}
 use Rattle.nb_endorse.specs.declared.receipt.Receipt.{Receipt}
+use Rattle.nb_endorse.specs.declared.receipt.Signed.{Signed}
 use Rattle.nb_endorse.specs.declared.refusal.Refusal.{Refusal}
 use Rattle.nb_endorse.specs.declared.reply.Reply.{Reply}
 use Rattle.nb_endorse.specs.declared.reply.Reply.TheVariants.{Result, Status, Grant, Done, Refused}
@@ -21,6 +23,11 @@ use Rattle.nb_msgs.specs.StatusText.{text_bytes}
 -- a receipt, signed by the house and sealed for a party
 abbrev pub sealed_receipt : List ℕ → List ℕ → Receipt → List ℕ
 sealed_receipt house key r = seal_of key (codes "rcpt") (signed_bytes (signed_receipt house r))
+
+-- for the contracts of private functions alone: the other receipt, or the first one again
+abbrev pub or_first : Signed → Option Signed → Signed
+or_first first None = first
+or_first first (Some other) = other
 
 -- the merchant's receipt 167, behind its length | the consumer's 167, behind its length
 abbrev pub result_frame : ReplyKeys → Receipt → Receipt → Frame
@@ -62,3 +69,7 @@ reply_frame keys (Refused r) = refusal_frame r
 -- its frame's bytes
 abbrev pub reply_bytes : ReplyKeys → Reply → List ℕ
 reply_bytes keys reply = frame (reply_frame keys reply)
+
+-- the frames of replies, one behind the other
+abbrev pub joined : List (List ℕ) → List ℕ
+joined frames = flat_map (λ (bytes : List ℕ). bytes) frames

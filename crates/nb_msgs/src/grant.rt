@@ -5,7 +5,8 @@ ghost use Rattle.nb_ticket.specs.Sealed.{sealed_ticket};
 ghost use Rattle.nb_ticket.specs.Spelling.{IsTicket};
 ghost use Rattle.nb_msgs.specs.ReplyBytes.{grant_frame};
 
-use nb_endorse::ReplyStates;
+use nb_endorse::{KeptStates, ReplyKeys};
+use nb_seal::KeyState;
 use nb_ticket::{GRANT_BYTES, GRANT_LABEL, Granted, TICKET_BYTES, TICKET_LABEL, Ticket};
 use nb_units::{Buffer, PartyId, Secret, Small};
 
@@ -16,7 +17,8 @@ pub(crate) fn grant_body(
     nonce: u64,
     until: u64,
     session: &Secret,
-    keys: &ReplyStates,
+    keys: &ReplyKeys,
+    kept: &mut KeptStates,
 ) -> Buffer
     ensures bytes { result ≡ (grant_frame keys.now consumer merchant nonce until session.now).body }
     ensures fits { IsTicket (record { consumer = consumer; merchant = merchant; until = until; session = session.now }) × (nonce < 2 ^ 64) }
@@ -33,21 +35,22 @@ pub(crate) fn grant_body(
         nonce,
         until,
         session: *session,
-        ticket: seal_ticket(&ticket, keys),
+        ticket: seal_ticket(&ticket, kept.merchant(merchant, &keys.second)),
     };
     let mut sealed = [0u8; GRANT_BYTES];
-    let _all = keys.seal_text_first(&GRANT_LABEL, granted.spelled().as_slice(), &mut sealed);
+    let key = kept.consumer(consumer, &keys.first);
+    let _all = key.seal_to(&GRANT_LABEL, granted.spelled().as_slice(), &mut sealed);
     let mut body = Buffer::new();
     body.raw(&sealed);
     body
 }
 
 // The ticket that the consumer shows to the merchant, sealed for the merchant.
-fn seal_ticket(ticket: &Ticket, keys: &ReplyStates) -> Small
-    ensures sealed { result ≡ sealed_ticket keys.now.second ticket.now }
+fn seal_ticket(ticket: &Ticket, key: &KeyState) -> Small
+    ensures sealed { result ≡ sealed_ticket key.now ticket.now }
     ensures long { length result ≡ TICKET_BYTES }
 {
     let mut sealed = [0u8; TICKET_BYTES];
-    let _all = keys.seal_text_second(&TICKET_LABEL, ticket.spelled().as_slice(), &mut sealed);
+    let _all = key.seal_to(&TICKET_LABEL, ticket.spelled().as_slice(), &mut sealed);
     Small::of(&sealed).unwrap()
 }

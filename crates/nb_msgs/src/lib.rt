@@ -7,12 +7,14 @@
 //!
 //! [`write_reply`] appends the one frame of a reply. Which bytes these are stands in `specs/ReplyBytes.antt`, as a
 //! function of the reply and of the keys that it is signed and sealed under; no reply has more than [`LONGEST_REPLY`]
-//! bytes. No memory is taken. [`write_reply_with`] is the same where the states of the keys are at hand. A reply is a message
+//! bytes. No memory is taken. A [`Draft`] is a reply with its keys before a byte of it is made, seen as the bytes of its frame; it is written with
+//! the states of keys that are kept. A reply is a message
 //! ([`laws::reply_is_message`]). What is sealed in a status is a [`StatusText`], in `specs/StatusText.antt`.
 //!
 //! Left to others: what is replied, what is sealed in the other messages, keys and seals, and the reading of frames from a stream.
 #![tactic(auto)]
 
+mod draft;
 mod fault;
 mod grant;
 mod labels;
@@ -26,6 +28,7 @@ mod reply;
 mod status;
 mod writing;
 
+pub use draft::{Draft, write_each};
 pub use fault::BodyFault;
 pub use labels::{
     GOODS_HEAD_LABEL, GOODS_REQUEST_LABEL, PAYMENT_LABEL, PRICE_REQUEST_LABEL, QUOTE_LABEL,
@@ -39,6 +42,6 @@ pub use message::Message;
 pub use node::{End, Reason, RestartFault, Step, To};
 pub use opening::{open_receipt, sealed, unsealed};
 pub use reading::read_body;
-pub use reply::{LONGEST_REPLY, REPLY_ROOM, limits, write_reply, write_reply_with};
+pub use reply::{LONGEST_REPLY, REPLY_ROOM, limits, write_reply};
 pub use status::{MOST_STATUS, StatusText};
 pub use writing::write_message;

@@ -8,7 +8,7 @@ ghost use Rattle.nb_units.specs.declared.frames.TheConstants.{HEADER};
 ghost use Rattle.nb_units.specs.Epoid.{IsEpoid};
 ghost use Rattle.nb_endorse.specs.declared.reply.Reply.TheVariants as reply;
 ghost use Rattle.nb_endorse.specs.Replies.{HasLawfulReceipts, ReceiptKeepsRules};
-ghost use Rattle.nb_endorse.specs.Spelling.{IsReceipt, signed_bytes};
+ghost use Rattle.nb_endorse.specs.Spelling.{IsReceipt, IsSigned, signed_bytes};
 ghost use Rattle.nb_endorse.specs.Tags.{signed_receipt};
 ghost use Rattle.nb_msgs.specs.Bodies.{IsRefusal};
 ghost use Rattle.nb_msgs.specs.Limits.{ReplyLimitsAre};
@@ -20,13 +20,17 @@ ghost use Rattle.nb_msgs.specs.declared.status.TheConstants.{MOST_STATUS};
 use crate::grant::grant_body;
 use crate::labels::STATUS_LABEL;
 use crate::status::StatusText;
-use nb_endorse::{RECEIPT_BYTES, Receipt, Refusal, Reply, ReplyKeys, ReplyStates, Signed};
+use nb_endorse::{
+    KeptStates, RECEIPT_BYTES, Receipt, Refusal, Reply, ReplyKeys, Signed, sign_receipt_with,
+    write_receipt_with,
+};
 use nb_frame::{write_frame, write_header};
+use nb_seal::KeyState;
 use nb_units::frames::{
     DONE_REPLY, GRANT_REPLY, HEADER, REFUSED_REPLY, RESULT_REPLY, STATUS_REPLY,
 };
 use nb_units::width::{LENGTH, SEAL};
-use nb_units::{AcctId, Buffer, Epoid, Pen};
+use nb_units::{AcctId, Buffer, Epoid, Pen, Secret};
 
 /// The room that is asked for a reply's frame.
 pub const REPLY_ROOM: usize = 512;
@@ -48,11 +52,16 @@ pub fn write_reply(reply: &Reply, keys: &ReplyKeys, out: &mut Vec<u8>)
     ensures short { length (layout.reply_bytes keys.now reply.now) ≤ LONGEST_REPLY }
     ensures room { vec_capacity out.new ≡ vec_capacity out.old }
 {
-    write_reply_with(reply, &ReplyStates::of(keys), out);
+    write_reply_with(reply, keys, &mut KeptStates::none(), out);
 }
 
-/// Appends the frame of a reply as [`write_reply`] does, under the keys of these states.
-pub fn write_reply_with(reply: &Reply, keys: &ReplyStates, out: &mut Vec<u8>)
+// Appends the frame of a reply as `write_reply` does, with the states of keys that are kept. A state that is not is made, and is kept then.
+pub(crate) fn write_reply_with(
+    reply: &Reply,
+    keys: &ReplyKeys,
+    kept: &mut KeptStates,
+    out: &mut Vec<u8>,
+)
     requires lawful { HasLawfulReceipts reply.now }
     requires room { REPLY_ROOM ≤ spare_of out.old }
     ensures bytes { out.new.items ≡ out.old.items ++ layout.reply_bytes keys.now reply.now }
@@ -61,12 +70,12 @@ pub fn write_reply_with(reply: &Reply, keys: &ReplyStates, out: &mut Vec<u8>)
     ensures room { vec_capacity out.new ≡ vec_capacity out.old }
 {
     match reply {
-        Reply::Result { merchant, consumer } => write_result(merchant, consumer, keys, out),
+        Reply::Result { merchant, consumer } => write_result(merchant, consumer, keys, kept, out),
         Reply::Status {
             place,
             epoid,
             receipt,
-        } => write_status(*place, epoid, receipt, keys, out),
+        } => write_status(*place, epoid, receipt, keys, kept, out),
         Reply::Grant {
             consumer,
             merchant,
@@ -74,7 +83,7 @@ pub fn write_reply_with(reply: &Reply, keys: &ReplyStates, out: &mut Vec<u8>)
             until,
             session,
         } => {
-            let body = grant_body(*consumer, *merchant, *nonce, *until, session, keys);
+            let body = grant_body(*consumer, *merchant, *nonce, *until, session, keys, kept);
             write_frame(GRANT_REPLY, body.as_slice(), out);
         }
         Reply::Done { acct, at, balance } => {
@@ -88,7 +97,13 @@ pub fn write_reply_with(reply: &Reply, keys: &ReplyStates, out: &mut Vec<u8>)
 
 // Appends the frame that gives each party its receipt, signed by the house and sealed in its place behind the header. Receipts that are
 // equal, as those of a payment, are signed once.
-fn write_result(merchant: &Receipt, consumer: &Receipt, keys: &ReplyStates, out: &mut Vec<u8>)
+fn write_result(
+    merchant: &Receipt,
+    consumer: &Receipt,
+    keys: &ReplyKeys,
+    kept: &mut KeptStates,
+    out: &mut Vec<u8>,
+)
     requires merchant { ReceiptKeepsRules merchant.now }
     requires consumer { ReceiptKeepsRules consumer.now }
     requires room { REPLY_ROOM ≤ spare_of out.old }
@@ -97,28 +112,45 @@ fn write_result(merchant: &Receipt, consumer: &Receipt, keys: &ReplyStates, out:
     ensures short { length (layout.reply_bytes keys.now (reply.Result merchant.now consumer.now)) ≤ LONGEST_REPLY }
     ensures room { vec_capacity out.new ≡ vec_capacity out.old }
 {
-    let first = keys.sign(merchant);
+    let house = kept.house(&keys.house);
+    let first = sign_receipt_with(merchant, house);
+    let other = sign_other(&first, consumer, house);
     write_header(RESULT_REPLY, MOST_BODY as u32, out);
     write_length(out);
-    keys.write_first(&first, out);
+    write_receipt_with(&first, kept.merchant(merchant.merchant, &keys.first), out);
     write_length(out);
-    write_other(&first, consumer, keys, out);
+    write_other(
+        &first,
+        &other,
+        kept.consumer(consumer.consumer, &keys.second),
+        out,
+    );
 }
 
-// The other receipt, sealed under the second key. It is signed by itself where it is not the first one again.
-fn write_other(first: &Signed, receipt: &Receipt, keys: &ReplyStates, out: &mut Vec<u8>)
-    requires signed { first.now ≡ signed_receipt keys.now.house first.now.receipt }
-    requires lawful { ReceiptKeepsRules receipt.now }
+// The other receipt with its tag, where it is not the first one again.
+fn sign_other(first: &Signed, receipt: &Receipt, house: &KeyState) -> Option<Signed>
+    requires signed { first.now ≡ signed_receipt house.now first.now.receipt }
+    ensures { layout.or_first first.now result ≡ signed_receipt house.now receipt.now }
+{
+    if *receipt == first.receipt {
+        None
+    } else {
+        Some(sign_receipt_with(receipt, house))
+    }
+}
+
+// Appends the other receipt, sealed.
+fn write_other(first: &Signed, other: &Option<Signed>, key: &KeyState, out: &mut Vec<u8>)
+    requires lawful { ReceiptKeepsRules (layout.or_first first.now other.now).receipt }
     requires room { RECEIPT_BYTES ≤ spare_of out.old }
-    ensures bytes { out.new.items ≡ out.old.items ++ seal_of keys.now.second (codes "rcpt") (signed_bytes (signed_receipt keys.now.house receipt.now)) }
-    ensures fits { IsReceipt receipt.now }
+    ensures bytes { out.new.items ≡ out.old.items ++ seal_of key.now (codes "rcpt") (signed_bytes (layout.or_first first.now other.now)) }
+    ensures fits { IsSigned (layout.or_first first.now other.now) }
     ensures long { vec_len out.new ≡ vec_len out.old + RECEIPT_BYTES }
     ensures room { vec_capacity out.new ≡ vec_capacity out.old }
 {
-    if *receipt == first.receipt {
-        keys.write_second(first, out);
-    } else {
-        keys.write_second(&keys.sign(receipt), out);
+    match other {
+        Some(second) => write_receipt_with(second, key, out),
+        None => write_receipt_with(first, key, out),
     }
 }
 
@@ -137,7 +169,8 @@ fn write_status(
     place: u64,
     epoid: &Epoid,
     receipt: &Option<Receipt>,
-    keys: &ReplyStates,
+    keys: &ReplyKeys,
+    kept: &mut KeptStates,
     out: &mut Vec<u8>,
 )
     requires lawful { IfSome receipt.now ReceiptKeepsRules }
@@ -147,15 +180,22 @@ fn write_status(
     ensures short { length (layout.reply_bytes keys.now (reply.Status place epoid.now receipt.now)) ≤ HEADER + MOST_STATUS }
     ensures room { vec_capacity out.new ≡ vec_capacity out.old }
 {
-    let text = told(place, epoid, receipt, keys).spelled();
+    let text = told(place, epoid, receipt, &keys.house, kept).spelled();
     write_header(STATUS_REPLY, (SEAL + text.as_slice().len()) as u32, out);
-    keys.seal_text_spare(&STATUS_LABEL, text.as_slice(), out);
+    kept.asker(&keys.first)
+        .seal_spare(&STATUS_LABEL, text.as_slice(), out);
 }
 
 // What is told of an order. A receipt is signed by the house.
-fn told(place: u64, epoid: &Epoid, receipt: &Option<Receipt>, keys: &ReplyStates) -> StatusText
+fn told(
+    place: u64,
+    epoid: &Epoid,
+    receipt: &Option<Receipt>,
+    house: &Secret,
+    kept: &mut KeptStates,
+) -> StatusText
     requires { IfSome receipt.now ReceiptKeepsRules }
-    ensures told { result ≡ layout.told_status keys.now.house place epoid.now receipt.now }
+    ensures told { result ≡ layout.told_status house.now place epoid.now receipt.now }
     ensures lawful { IfSome result.receipt (λ s. ReceiptKeepsRules s.receipt) }
 {
     let epoid = *epoid;
@@ -168,7 +208,7 @@ fn told(place: u64, epoid: &Epoid, receipt: &Option<Receipt>, keys: &ReplyStates
         Some(receipt) => StatusText {
             place,
             epoid,
-            receipt: Some(keys.sign(receipt)),
+            receipt: Some(sign_receipt_with(receipt, kept.house(house))),
         },
     }
 }

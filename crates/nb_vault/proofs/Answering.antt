@@ -358,11 +358,12 @@ module _ {D : Type 0} (house : House) (tells : DiskTells D) (old new : Parts D) 
       let here : state_at new ≡ one_more (state_at old) = rw (u.entries, unready_doubt, u.faults) refl in
       here ∙ ap one_more (sym (state_seen tells old vault))
 
-  pub unready_went : IsVault tells new → Unwritten tells (disk_under old.records) (disk_under new.records) → (out : List ℕ) → WentBy house tells (seen_as old) (seen_as new) by requests (Fails counts.before counts.after) [] out out
-  unready_went done nothing out = record {
+  pub unready_went : IsVault tells new → Unwritten tells (disk_under old.records) (disk_under new.records) → (out out' : List ℕ) → out' ≡ out
+      → WentBy house tells (seen_as old) (seen_as new) by requests (Fails counts.before counts.after) [] out out'
+  unready_went done nothing out out' bytes = record {
     turn = (unready_few, inl (was_some, state_seen tells new done ∙ failed_more));
     found_is = refl;
-    out_is = sym (append-nil out);
+    out_is = bytes ∙ sym (append-nil out);
     added = Fault by (next_turn old.lines.items) counts.before counts.after ∷ [];
     behind = u.lines;
     lines = unready_adds;
@@ -381,11 +382,11 @@ module _ {D : Type 0} (house : House) (tells : DiskTells D) (old new : Parts D) 
 -- ---- a turn that was refused
 
 module _ {D : Type 0} (tells : DiskTells D) (p : Parts D) (vault : IsVault tells p) where
-  pub worn_went : (house : House) (by : ℕ) (requests : List Request) (out : List ℕ) → p.faults ≡ MAX_FAULTS → WentBy house tells (seen_as p) (seen_as p) by requests Refuses [] out out
-  worn_went house by requests out many = record {
+  pub worn_went : (house : House) (by : ℕ) (requests : List Request) (out out' : List ℕ) → out' ≡ out → p.faults ≡ MAX_FAULTS → WentBy house tells (seen_as p) (seen_as p) by requests Refuses [] out out'
+  worn_went house by requests out out' bytes many = record {
     turn = (sym vault.faults_are ∙ many, refl);
     found_is = refl;
-    out_is = sym (append-nil out);
+    out_is = bytes ∙ sym (append-nil out);
     added = [];
     behind = sym (append-nil p.lines.items);
     lines = (sym vault.faults_are ∙ many, refl);

@@ -10,6 +10,7 @@ use Rattle.nb_turns.specs.declared.mark.Mark.{Mark}
 use Rattle.nb_turns.specs.Turns.{Request, House, Answered, Decides, answer_over, decided, marks, place_of, places, recorded, replies}
 use Rattle.nb_turns.proofs.Single.{one_more}
 use Rattle.nb_turns.proofs.Telling.{each_is_answered}
+use Rattle.nb_msgs.specs.ReplyBytes.{joined}
 use Rattle.nb_port.specs.Tells.{DiskTells}
 use Rattle.nb_vault.specs.declared.answer.AnswerAll.{AnswerAll}
 use Rattle.nb_vault.specs.declared.answer.AnswerAll.TheVariants as all
@@ -62,6 +63,11 @@ goes_on new old front so now more step was is = step ∙ ap (λ (xs : List _). x
 
 pub comes_to : {A : Type 0} (new old so now more : List A) → new ≡ old ++ more → old ≡ so → now ≡ so ++ more → new ≡ now
 comes_to new old so now more step was is = step ∙ ap (λ (xs : List _). xs ++ more) was ∙ sym is
+
+-- one frame more
+pub joined_one : (new old : List (List ℕ)) (bytes : List ℕ) → new ≡ old ++ bytes ∷ [] → joined new ≡ joined old ++ bytes
+joined_one new old bytes is =
+    ap joined is ∙ flat_map-append (λ (b : List ℕ). b) old (bytes ∷ []) ∙ ap (λ (xs : List ℕ). joined old ++ xs) (append-nil bytes)
 
 -- the body of a request is cut out of the bytes
 pub asked : (bytes : List ℕ) (ask : AskAt) (body back : List ℕ) → body ≡ take ask.len back → back ≡ drop ask.start bytes → request_of ask.kind body ask.moment ≡ request_at bytes ask

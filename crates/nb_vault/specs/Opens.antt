@@ -14,6 +14,7 @@ use Rattle.nb_turns.specs.declared.limits.TheConstants.{MAX_REQUESTS}
 use Rattle.nb_vault.specs.declared.parts.Parts.{Parts}
 use Rattle.nb_vault.specs.declared.records.TheConstants.{ROOM}
 use Rattle.nb_vault.specs.declared.vault.opening.Room.{Room}
+use Rattle.nb_vault.specs.declared.vault.opening.ReplyRoom.{ReplyRoom}
 use Rattle.nb_vault.specs.declared.vault.opening.TurnRoom.{TurnRoom}
 use Rattle.nb_vault.specs.declared.vault.opening.VaultFault.{VaultFault}
 use Rattle.nb_vault.specs.declared.vault.opening.VaultFault.TheVariants as opens
@@ -100,6 +101,7 @@ pub record IsRoomFor (cap : ℕ) (room : Room) : Type 0 where
   pub entries : room.book.entries ≡ []
   pub cap_is : room.book.cap ≡ cap
   pub turn : IsRoomForTurn room.turn
+  pub drafts : MAX_REQUESTS ≤ vec_capacity room.replies.drafts
   pub told : room.lines.items ≡ []
   pub lines : most_lines cap ≤ vec_capacity room.lines
 
@@ -121,6 +123,6 @@ RestoreFails o disk (opens.BadEntry item) = FirstBad (charter_of o) o.cap o.item
 RestoreFails o disk opens.NoMemory = disk ≡ o.journal.disk
 RestoreFails o disk other = ⊥
 
-abbrev pub RestoreGives : {D : Type 0} → DiskTells D → Opened D → ℕ → Result (Parts D) (VaultFault × D) → Type 0
-RestoreGives tells o count (Ok p) = IsRestored tells o count p
+abbrev pub RestoreGives : {D : Type 0} → DiskTells D → Opened D → ℕ → Result (Parts D × ReplyRoom) (VaultFault × D) → Type 0
+RestoreGives tells o count (Ok r) = IsRestored tells o count r.0 × (MAX_REQUESTS ≤ vec_capacity r.1.drafts)
 RestoreGives tells o count (Err e) = RestoreFails o e.1 e.0

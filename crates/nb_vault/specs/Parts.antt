@@ -1,5 +1,6 @@
 -- A vault from within: its fields, and what holds of them. For the contracts of private functions.
 use Rattle.std.specs.Prelude.{◌≡◌, ◌≢◌, ◌⊎◌, ℕ, ◌+◌, ◌*◌, ◌≤◌, false, true, List, [], ◌∷◌, ◌++◌, length, take, map, Result, Ok, Err, vec_capacity}
+use Rattle.std.specs.Global.{Vec}
 use Rattle.nb_port.specs.Tells.{DiskTells}
 use Rattle.nb_port.specs.Faults.{Backed}
 use Rattle.nb_book.specs.declared.entry.Entry.{Entry}
@@ -59,6 +60,11 @@ pub record IsVault {D : Type 0} (tells : DiskTells D) (p : Parts D) : Type 0 whe
   pub keys : p.head ≡ head_of p.records.charter
   pub lawful : AreLegal p.records.book.cap (opening_of p) p.lines.items
   pub open_most : length (open_doubt p.lines.items) ≤ MAX_REQUESTS
+
+-- and there is room for the drafts of a turn whose replies the vault writes
+pub record IsWhole {D : Type 0} (tells : DiskTells D) (p : Parts D) (drafts : Vec (List ℕ)) : Type 0 where
+  pub vault : IsVault tells p
+  pub room : MAX_REQUESTS ≤ vec_capacity drafts
 
 -- what does not change
 pub record SameOrigin {D : Type 0} (old new : Parts D) : Type 0 where

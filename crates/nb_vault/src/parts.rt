@@ -1,12 +1,11 @@
 // The fields of a vault, and its turn.
 
-ghost use Rattle.std.specs.Prelude.{◌≡◌, ◌⊎◌, ◌≤◌, ◌<◌, ◌+◌, ◌*◌, ◌++◌, ◌∷◌, [], false, length, slice_index_or, vec_capacity, vec_len};
+ghost use Rattle.std.specs.Prelude.{◌≡◌, ◌⊎◌, ◌≤◌, ◌<◌, ◌+◌, ◌++◌, ◌∷◌, [], false, length, slice_index_or, vec_capacity, vec_len};
 ghost use Rattle.std.specs.List.{All};
 ghost use Rattle.nb_journal.specs.Time.{LeavesOnly, Unwritten};
-ghost use Rattle.nb_msgs.specs.declared.reply.TheConstants.{REPLY_ROOM};
+ghost use Rattle.nb_msgs.specs.ReplyBytes.{joined};
 ghost use Rattle.nb_turns.specs.declared.limits.TheConstants.{MAX_FAULTS, MAX_REQUESTS};
 ghost use Rattle.nb_turns.specs.declared.line.Line.TheVariants as line;
-ghost use Rattle.nb_units.specs.Room.{spare_of};
 ghost use Rattle.nb_vault.specs.Asking.{IsWithin, requests_of};
 ghost use Rattle.nb_vault.specs.Parts.{IsVault, HasLines, SameOrigin, ReadyGives, CommitGives, handed_in, seen_as};
 ghost use Rattle.nb_vault.specs.Records.{Rests, Gathers, RecordWrites, disk_under, over_of, EitherOf, WithOrWithout};
@@ -15,8 +14,10 @@ ghost use Rattle.nb_vault.specs.Vaults.{TurnOf, DurableWhere, SameWhere, FaultWi
 use crate::answer::{AnswerAll, AskAt};
 use crate::records::{Counts, Records};
 use crate::telling::{Fate, next_turn, push_lines};
-use nb_escrow::Head;
+use nb_endorse::KeptStates;
+use nb_escrow::{Head, OpenedOrder};
 use nb_journal::Settled;
+use nb_msgs::Draft;
 use nb_port::Disk;
 use nb_turns::{Line, MAX_FAULTS, MAX_REQUESTS};
 
@@ -40,20 +41,23 @@ pub(crate) struct Parts<D> {
 }
 
 impl<D: Disk> Parts<D> {
-    // Answers the requests of a turn, whose bodies stand in the bytes.
+    // Answers the requests of a turn, whose bodies stand in the bytes. Of their replies there are the drafts alone.
     pub(crate) fn answer_all(
         &mut self,
         by: u64,
         bytes: &[u8],
         asks: &[AskAt],
-        out: &mut Vec<u8>,
+        opened: &[Option<OpenedOrder>],
+        kept: &mut KeptStates,
+        drafts: &mut Vec<Draft>,
     ) -> AnswerAll
         requires vault { IsVault D.tells self.old }
         requires few { length asks.now ≤ MAX_REQUESTS }
         requires within { All (IsWithin bytes.now) asks.now }
-        requires room { REPLY_ROOM * length asks.now ≤ spare_of out.old }
+        requires none { drafts.old.items ≡ [] }
+        requires room { length asks.now ≤ vec_capacity drafts.old }
         ensures vault { IsVault D.tells self.new }
-        ensures turn { TurnOf D.tells (seen_as self.old) (seen_as self.new) by (requests_of bytes.now asks.now) (handed_in self.new.records.places.items result) out.old.items out.new.items result }
+        ensures turn { TurnOf D.tells (seen_as self.old) (seen_as self.new) by (requests_of bytes.now asks.now) (handed_in self.new.records.places.items result) [] (joined drafts.new.items) result }
         ensures origin { (seen_as self.new).origin ≡ (seen_as self.old).origin }
         ensures any_moment { LeavesOnly D.tells (disk_under self.old.records) (disk_under self.new.records)
             (λ image. StandsForState (seen_as self.old) image ⊎ StandsForState (seen_as self.new) image) }
@@ -62,7 +66,8 @@ impl<D: Disk> Parts<D> {
         ensures same { SameWhere (seen_as self.old) (seen_as self.new) result }
         ensures fault { FaultWithin D.tells (seen_as self.old) (seen_as self.new) result }
         ensures count { D.tells.faults (disk_under self.old.records) ≤ D.tells.faults (disk_under self.new.records) }
-        ensures room { vec_capacity out.new ≡ vec_capacity out.old }
+        ensures few { length drafts.new.items ≤ length asks.now }
+        ensures room { vec_capacity drafts.new ≡ vec_capacity drafts.old }
     {
         if self.faults >= MAX_FAULTS {
             return AnswerAll::Worn { faults: MAX_FAULTS };
@@ -72,12 +77,12 @@ impl<D: Disk> Parts<D> {
             Ok(()) => {}
             Err(Counts { before, after }) => return AnswerAll::DiskFault { before, after },
         }
-        let told = out.len();
-        self.records.decide_each(&self.head, bytes, asks, out);
+        self.records
+            .decide_each(&self.head, bytes, asks, opened, kept, drafts);
         match self.commit(by, turn) {
             Ok(()) => AnswerAll::Answered,
             Err(Counts { before, after }) => {
-                out.truncate(told);
+                drafts.clear();
                 AnswerAll::DiskFault { before, after }
             }
         }
@@ -171,7 +176,6 @@ impl<D> Parts<D> {
             item: _,
             places: _,
             base: _,
-            kept: _,
         } = records;
         (journal.into_disk(), lines)
     }

@@ -7,7 +7,6 @@ ghost use Rattle.nb_journal.specs.Time.{LeavesOnly, Unwritten};
 ghost use Rattle.nb_vault.specs.Records.{Rests, Gathers, RecordsSettle, RecordGives, RecordWrites, SameTerms, disk_under, over_of, EitherOf, WithOrWithout};
 
 use nb_book::{Book, Entry, MAX_ENTRY, MAX_ITEM_ENTRIES, write_entry};
-use nb_endorse::KeptStates;
 use nb_journal::{AppendFault, Journal, Settled, StillStale};
 use nb_port::Disk;
 use nb_units::Charter;
@@ -28,8 +27,6 @@ pub(crate) struct Records<D> {
     pub(crate) places: Vec<u64>,
     // In a turn, how many entries the journal holds.
     pub(crate) base: u32,
-    // The states of keys that are kept from one turn to the next.
-    pub(crate) kept: KeptStates,
 }
 
 // The disk's counts of faults before and behind a call that failed.

@@ -2,6 +2,7 @@ ghost use Rattle.std.specs.Prelude.{◌≡◌, ◌⊎◌, ◌≤◌, ◌+◌, �
 ghost use Rattle.std.specs.List.{All};
 ghost use Rattle.nb_turns.specs.declared.limits.TheConstants.{MAX_REQUESTS};
 ghost use Rattle.nb_journal.specs.Time.{LeavesOnly};
+ghost use Rattle.nb_msgs.specs.ReplyBytes.{joined};
 ghost use Rattle.nb_msgs.specs.declared.reply.TheConstants.{REPLY_ROOM};
 ghost use Rattle.nb_units.specs.Room.{spare_of};
 ghost use Rattle.nb_escrow.specs.Head.{head_of};
@@ -14,6 +15,9 @@ mod opening;
 use crate::answer::{Answer, AnswerAll, AskAt};
 use crate::parts::Parts;
 use nb_book::Entry;
+use nb_endorse::KeptStates;
+use nb_escrow::OpenedOrder;
+use nb_msgs::{Draft, write_each};
 use nb_port::Disk;
 use nb_turns::Line;
 use nb_units::Secret;
@@ -24,17 +28,20 @@ use std::marker::Model;
 #[derive(Drop)]
 pub struct Vault<D: Disk> {
     parts: Parts<D>,
+    // The states of keys that are kept from one turn to the next, and the drafts of a turn whose replies are written here.
+    kept: KeptStates,
+    drafts: Vec<Draft>,
 }
 
 impl<D: Disk> Model for Vault<D> {
     ghost use Rattle.nb_vault.specs.Vaults.{Chronicled};
-    ghost use Rattle.nb_vault.specs.Parts.{IsVault, seen_as};
+    ghost use Rattle.nb_vault.specs.Parts.{IsWhole, seen_as};
 
     ghost Value = { Chronicled D };
 
     ghost view = { λ v. seen_as v.parts };
 
-    ghost invariant = { λ v. IsVault D.tells v.parts };
+    ghost invariant = { λ v. IsWhole D.tells v.parts v.drafts };
 }
 
 impl<D: Disk> Vault<D> {
@@ -68,8 +75,15 @@ impl<D: Disk> Vault<D> {
             len: body.len(),
             moment,
         };
-        let answer = self.parts.answer_all(by, body, &[ask], out);
-        answer.of_one(self.parts.first_place())
+        let Vault {
+            parts,
+            kept,
+            drafts,
+        } = self;
+        drafts.clear();
+        let answer = parts.answer_all(by, body, &[ask], &[], kept, drafts);
+        write_each(drafts.as_slice(), kept, out);
+        answer.of_one(parts.first_place())
     }
 
     /// Answers from 1 to [`MAX_REQUESTS`](nb_turns::MAX_REQUESTS) requests in one turn, asked for by `by`, whose bodies stand within
@@ -102,7 +116,57 @@ impl<D: Disk> Vault<D> {
         ensures room { vec_capacity out.new ≡ vec_capacity out.old }
         ensures places { vec_capacity ats.new ≡ vec_capacity ats.old }
     {
-        let answer = self.parts.answer_all(by, bytes, asks, out);
+        self.drafts.clear();
+        let Vault {
+            parts,
+            kept,
+            drafts,
+        } = self;
+        let answer = parts.answer_all(by, bytes, asks, &[], kept, drafts);
+        hand_out(&answer, parts.records.places.as_slice(), ats);
+        write_each(drafts.as_slice(), kept, out);
+        answer
+    }
+
+    /// Answers requests as [`Vault::answer_all`] does, up to the bytes of their replies: of these there are the drafts alone, in the order of the
+    /// requests, and no byte of a reply is made, signed or sealed in the turn. They are written when the turn is over, by
+    /// [`write_each`](nb_msgs::write_each). What was opened of a request before the turn stands at its place in `opened`, if anything was; what is
+    /// answered does not depend on it. `drafts` is empty and needs room for one each.
+    pub fn decide_all(
+        &mut self,
+        by: u64,
+        bytes: &[u8],
+        asks: &[AskAt],
+        opened: &[Option<OpenedOrder>],
+        ats: &mut Vec<u64>,
+        drafts: &mut Vec<Draft>,
+    ) -> AnswerAll
+        requires some { 1 ≤ length asks.now }
+        requires most { length asks.now ≤ MAX_REQUESTS }
+        requires within { All (IsWithin bytes.now) asks.now }
+        requires places { vec_len ats.old + length asks.now ≤ vec_capacity ats.old }
+        requires none { drafts.old.items ≡ [] }
+        requires room { length asks.now ≤ vec_capacity drafts.old }
+        // The drafts, joined, are the replies that `answer_all` appends. At a fault, and of a worn vault, there are none.
+        ensures turn { TurnAll D.tells self.old self.new by (requests_of bytes.now asks.now) ats.old.items ats.new.items [] (joined drafts.new.items) result }
+        ensures origin { self.new.origin ≡ self.old.origin }
+        ensures any_moment { LeavesOnly D.tells self.old.disk self.new.disk
+            (λ image. StandsForState self.old image ⊎ StandsForState self.new image) }
+        // Where it answered, each image that a later stop leaves has the entries, and no byte of a reply exists yet: a reply is made of its draft,
+        // behind the sync of the gate. So what is handed out is durable before its first byte is made.
+        ensures durable { DurableWhere D.tells self.new result }
+        ensures quiet { state_of self.new ≡ state_of self.old → D.tells.content self.new.disk ≡ D.tells.content self.old.disk }
+        ensures same { SameWhere self.old self.new result }
+        ensures fault { FaultWithin D.tells self.old self.new result }
+        ensures keeps { Keeps D.tells self.new }
+        ensures count { D.tells.faults self.old.disk ≤ D.tells.faults self.new.disk }
+        ensures few { length drafts.new.items ≤ length asks.now }
+        ensures room { vec_capacity drafts.new ≡ vec_capacity drafts.old }
+        ensures places { vec_capacity ats.new ≡ vec_capacity ats.old }
+    {
+        let answer = self
+            .parts
+            .answer_all(by, bytes, asks, opened, &mut self.kept, drafts);
         hand_out(&answer, self.parts.records.places.as_slice(), ats);
         answer
     }
@@ -157,7 +221,11 @@ impl<D: Disk> Vault<D> {
         ensures lines { result.1.items ≡ self.lines }
         ensures room { most_lines self.origin.cap ≤ vec_capacity result.1 }
     {
-        let Vault { parts } = self;
+        let Vault {
+            parts,
+            kept: _,
+            drafts: _,
+        } = self;
         parts.into_parts()
     }
 

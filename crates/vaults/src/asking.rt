@@ -73,11 +73,15 @@ fn answer_all(
     let mut ats = Vec::with_capacity(told.alloc(), MAX_REQUESTS)?;
     let mut out = Vec::with_capacity(told.alloc(), REPLY_ROOM * MAX_REQUESTS)?;
     let answer = vault.answer_all(by, bytes, asks, &mut ats, &mut out);
-    let asked = match answer {
+    telling::asked_all(told, asked_by(answer), &ats, &out);
+    Ok(true)
+}
+
+// The answer of a vault, as a desk gives it.
+pub(crate) fn asked_by(answer: AnswerAll) -> AskedAll {
+    match answer {
         AnswerAll::Answered => AskedAll::Served,
         AnswerAll::DiskFault { before, after } => AskedAll::DiskFault { before, after },
         AnswerAll::Worn { faults } => AskedAll::Worn { faults },
-    };
-    telling::asked_all(told, asked, &ats, &out);
-    Ok(true)
+    }
 }

@@ -1,5 +1,6 @@
 use crate::names::Names;
 use crate::telling;
+use nb_endorse::KeptStates;
 use nb_lines::Told;
 use nb_port::MemDisk;
 use nb_units::NoMemory;
@@ -18,6 +19,8 @@ pub struct House {
     // How many lines of the vault were told.
     pub lines: u64,
     pub disk: Option<MemDisk>,
+    // The states of keys that who asks keeps, whatever vault is open.
+    pub kept: KeptStates,
 }
 
 impl House {
@@ -31,7 +34,15 @@ impl House {
             vault: None,
             lines: 0,
             disk: None,
+            kept: KeptStates::none(),
         }
+    }
+
+    /// `forget`: who asks knows no key any more, and keeps those that it learns from now on.
+    pub fn forget(&mut self) -> Result<(), NoMemory> {
+        let kept = KeptStates::new(self.alloc)?;
+        drop(mem::replace(&mut self.kept, kept));
+        Ok(())
     }
 
     /// `request NAME MOMENT HEX`: a request, which is asked at this moment, has a name.

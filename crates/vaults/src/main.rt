@@ -8,6 +8,7 @@ mod asking;
 mod batch;
 mod callers;
 mod crowd;
+mod deciding;
 mod desks;
 mod house;
 mod images;
@@ -89,6 +90,8 @@ fn done_by_word<R: Threads + Wait + Clock + Sync>(
         "crowd" => house.crowd(rt, told, words),
         "ask" => house.ask(told, words),
         "turn" => house.turn(told, words),
+        "decide" => house.decide(told, words),
+        "forget" => house.forget(),
         "stops" => house.stops(told, words),
         "statement" => house.statement(told, words),
         "open" | "close" => begin_or_end(house, told, word, words),

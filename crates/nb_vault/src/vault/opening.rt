@@ -1,4 +1,5 @@
-ghost use Rattle.std.specs.Prelude.{◌≤◌, IfOk};
+ghost use Rattle.std.specs.Prelude.{◌≤◌, IfOk, vec_capacity};
+ghost use Rattle.nb_turns.specs.declared.limits.TheConstants.{MAX_REQUESTS};
 ghost use Rattle.nb_units.specs.declared.limits.TheConstants.{MAX_CAP};
 ghost use Rattle.nb_journal.specs.Time.{Unwritten};
 ghost use Rattle.nb_vault.specs.Opens.{VaultOpenGives, WholeOpens, disk_in, IsOpened, IsRoomFor, IsRoomForTurn, RestoreGives};
@@ -11,6 +12,7 @@ use nb_book::{Book, Entry, MAX_ITEM_ENTRIES};
 use nb_endorse::KeptStates;
 use nb_escrow::Head;
 use nb_journal::{Journal, MAGIC_BYTES, OpenFault, Opened};
+use nb_msgs::Draft;
 use nb_port::Disk;
 use nb_turns::{Line, MAX_REQUESTS};
 use nb_units::{Charter, NoMemory};
@@ -60,7 +62,7 @@ impl fmt::Display for VaultFault {
 
 impl<D: Disk> Vault<D> {
     /// Opens the vault on a disk: all that was written is made to stay, and its entries are read. Nothing is written. All memory of
-    /// the vault is taken here: for as many entries as its cap says, for the lines of all turns that may come, and for the states of keys that are kept.
+    /// the vault is taken here: for as many entries as its cap says, for the lines of all turns that may come, for the drafts of a turn, and for the states of keys that are kept.
     pub fn open(alloc: Global, disk: D) -> Result<Vault<D>, (VaultFault, D)>
         ensures gives { VaultOpenGives D.tells disk result }
         ensures whole { WholeOpens (D.tells.content disk) result }
@@ -70,7 +72,11 @@ impl<D: Disk> Vault<D> {
         let count = disk.fault_count();
         match Journal::open(alloc, disk, ROOM) {
             Ok(opened) => match restored(alloc, opened, count) {
-                Ok(parts) => Ok(Vault { parts }),
+                Ok((parts, replies)) => Ok(Vault {
+                    parts,
+                    kept: replies.kept,
+                    drafts: replies.drafts,
+                }),
                 Err((fault, disk)) => Err((fault, disk)),
             },
             Err((OpenFault::Unborn { found }, disk)) => Err((VaultFault::Unborn { found }, disk)),
@@ -90,7 +96,7 @@ fn restored<D: Disk>(
     alloc: Global,
     opened: Opened<D>,
     count: u64,
-) -> Result<Parts<D>, (VaultFault, D)>
+) -> Result<(Parts<D>, ReplyRoom), (VaultFault, D)>
     requires opened { IsOpened D.tells opened }
     requires count { count ≤ D.tells.faults opened.journal.disk }
     ensures gives { RestoreGives D.tells opened count result }
@@ -120,7 +126,7 @@ fn restored<D: Disk>(
         }
     }
     let opening = room.book.len();
-    Ok(Parts {
+    let parts = Parts {
         records: Records {
             book: room.book,
             journal,
@@ -129,23 +135,22 @@ fn restored<D: Disk>(
             item: room.turn.item,
             places: room.turn.places,
             base: 0,
-            kept: room.turn.kept,
         },
         head: keys,
         opening,
         count,
         lines: room.lines,
         faults: 0,
-    })
+    };
+    Ok((parts, room.replies))
 }
 
-// The memory of a turn, and the states of keys that are kept from one to the next.
+// The memory of a turn.
 #[derive(Drop)]
 struct TurnRoom {
     group: Vec<Entry>,
     item: Vec<u8>,
     places: Vec<u64>,
-    kept: KeptStates,
 }
 
 impl TurnRoom {
@@ -156,7 +161,24 @@ impl TurnRoom {
             group: Vec::with_capacity(alloc, MAX_ITEM_ENTRIES)?,
             item: Vec::with_capacity(alloc, ROOM as usize)?,
             places: Vec::with_capacity(alloc, MAX_REQUESTS)?,
+        })
+    }
+}
+
+// The memory of replies: the states of keys that are kept from one turn to the next, and the drafts of a turn.
+#[derive(Drop)]
+struct ReplyRoom {
+    kept: KeptStates,
+    drafts: Vec<Draft>,
+}
+
+impl ReplyRoom {
+    fn new(alloc: Global) -> Result<ReplyRoom, NoMemory>
+        ensures { IfOk result (λ replies. MAX_REQUESTS ≤ vec_capacity replies.drafts) }
+    {
+        Ok(ReplyRoom {
             kept: KeptStates::new(alloc)?,
+            drafts: Vec::with_capacity(alloc, MAX_REQUESTS)?,
         })
     }
 }
@@ -166,6 +188,7 @@ impl TurnRoom {
 struct Room {
     book: Book,
     turn: TurnRoom,
+    replies: ReplyRoom,
     lines: Vec<Line>,
 }
 
@@ -179,6 +202,7 @@ impl Room {
         Ok(Room {
             book: Book::new(alloc, cap, key)?,
             turn: TurnRoom::new(alloc)?,
+            replies: ReplyRoom::new(alloc)?,
             lines: Vec::with_capacity(alloc, cap as usize + MOST_LINES)?,
         })
     }

@@ -1,8 +1,8 @@
-use Rattle.std.proofs.Common.{◌≡◌, inl, inr, ℕ, List, ◌++◌, refl, sym, ap, take, subst, ◌∙◌, arith}
-use Rattle.std.proofs.lemmas.List.{take_at}
+use Rattle.std.proofs.Common.{◌≡◌, inl, inr, ℕ, List, [], ◌++◌, refl, sym, ap, subst, ◌∙◌, arith}
 use Rattle.nb_book.specs.declared.entry.Entry.{Entry}
 use Rattle.nb_escrow.specs.Head.{head_of}
 use Rattle.nb_journal.specs.declared.journal.Journal.{Journal}
+use Rattle.nb_msgs.specs.ReplyBytes.{joined}
 use Rattle.nb_turns.specs.Turns.{House, decided, places, replies}
 use Rattle.nb_vault.specs.declared.parts.Parts.{Parts}
 use Rattle.nb_vault.specs.Asking.{requests_of}
@@ -38,7 +38,7 @@ returns-in-Err-clause-turn g c =
     let requests = requests_of c.args.bytes.now c.args.asks.now in
     let counts = c.in-Err.field-0 in
     let unready = subst (λ (n : ℕ). Unready tells old c.ready.new.self c.args.by n counts) c.next_turn-turn.ensures c.in-Err.ensures.gives in
-    unready_went (house_in (seen_as old)) tells old c.ready.new.self c.args.by requests counts c.requires.vault c.if-self-ge-MAX_FAULTS.false unready (unready_vault (house_in (seen_as old)) tells old c.ready.new.self c.args.by requests counts c.requires.vault c.if-self-ge-MAX_FAULTS.false unready c.ready.ensures.origin c.ready.ensures.rests c.ready.ensures.has) c.ready.ensures.nothing c.args.out.now.items
+    unready_went (house_in (seen_as old)) tells old c.ready.new.self c.args.by requests counts c.requires.vault c.if-self-ge-MAX_FAULTS.false unready (unready_vault (house_in (seen_as old)) tells old c.ready.new.self c.args.by requests counts c.requires.vault c.if-self-ge-MAX_FAULTS.false unready c.ready.ensures.origin c.ready.ensures.rests c.ready.ensures.has) c.ready.ensures.nothing [] _ (ap joined c.requires.none)
 
 pub returns-in-Err-clause-any_moment : goal.returns-in-Err-clause-any_moment
 returns-in-Err-clause-any_moment g c =
@@ -81,8 +81,8 @@ returns-in-Ok-commit-clause-turn g c =
     let same : decided (house_of mid.head mid.records.book.cap) mid.records.book.entries requests ≡ decided (house_in (seen_as old)) (over_of p.records) requests =
     ap (λ (h : House). decided h mid.records.book.entries requests) house ∙ ap (λ (es : List Entry). decided (house_in (seen_as old)) es requests) (sym c.decide_each.ensures.over) in (
       over_of p.records,
-      decided_went (house_in (seen_as old)) tells old mid p c.args.by requests steps c.commit.new.self done vault c.in-Ok-commit.ensures.writes c.commit.ensures.idle c.ready.ensures.any_moment c.commit.ensures.any_moment _ c.args.out.now.items c.decide_each.new.out.items
-          (ap (λ v. v.items) c.commit.ensures.places ∙ c.decide_each.ensures.places ∙ ap places same) (c.decide_each.ensures.out ∙ ap (λ answers. c.args.out.now.items ++ replies answers) same),
+      decided_went (house_in (seen_as old)) tells old mid p c.args.by requests steps c.commit.new.self done vault c.in-Ok-commit.ensures.writes c.commit.ensures.idle c.ready.ensures.any_moment c.commit.ensures.any_moment _ [] (joined c.decide_each.new.drafts.items)
+          (ap (λ v. v.items) c.commit.ensures.places ∙ c.decide_each.ensures.places ∙ ap places same) (c.decide_each.ensures.drafts ∙ ap (λ answers. replies answers) same),
     )
 
 pub returns-in-Ok-commit-clause-any_moment : goal.returns-in-Ok-commit-clause-any_moment
@@ -160,8 +160,7 @@ returns-in-Err-commit-clause-turn g c =
     let counts = c.in-Err-commit.field-0 in
     let done = subst (λ (n : ℕ). Doubted tells p c.commit.new.self c.args.by n counts) c.next_turn-turn.ensures c.in-Err-commit.ensures.gives in
     let vault = doubted_vault (house_in (seen_as old)) tells old mid p c.args.by requests steps c.commit.new.self counts done c.commit.ensures.origin c.commit.ensures.rests c.commit.ensures.has c.ready.ensures.count in
-    doubted_went (house_in (seen_as old)) tells old mid p c.args.by requests steps c.commit.new.self counts done vault c.in-Err-commit.ensures.writes c.ready.ensures.any_moment c.commit.ensures.any_moment c.args.out.now.items c.truncate.new.self.items
-    (c.truncate.ensures.items ∙ ap (take c.len-told.result) c.decide_each.ensures.out ∙ take_at c.args.out.now.items _ c.len-told.result (sym c.args.out.now.ok.0 ∙ sym c.len-told.ensures))
+    doubted_went (house_in (seen_as old)) tells old mid p c.args.by requests steps c.commit.new.self counts done vault c.in-Err-commit.ensures.writes c.ready.ensures.any_moment c.commit.ensures.any_moment [] (joined c.clear.new.self.items) (ap joined c.clear.ensures.items)
 
 pub returns-in-Err-commit-clause-any_moment : goal.returns-in-Err-commit-clause-any_moment
 returns-in-Err-commit-clause-any_moment g c =

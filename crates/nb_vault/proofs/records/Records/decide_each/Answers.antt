@@ -1,12 +1,14 @@
 use Rattle.std.proofs.Common.{◌≡◌, ◌+◌, ◌++◌, ◌∷◌, [], ℕ, List, length, take, get_or, sym, ap, ◌∙◌, arith}
 use Rattle.std.specs.Option.{option_to_list}
+use Rattle.std.proofs.lemmas.List.{length-append}
+use Rattle.nb_msgs.specs.ReplyBytes.{joined}
 use Rattle.nb_book.specs.declared.entry.Entry.{Entry}
 use Rattle.nb_escrow.specs.Head.{head_of}
 use Rattle.nb_turns.specs.Turns.{Request, Ruling, decided, places, recorded, replies}
 use Rattle.nb_vault.specs.declared.answer.AskAt.{AskAt}
 use Rattle.nb_vault.specs.Asking.{request_at, request_of, requests_of}
 use Rattle.nb_vault.specs.Rules.{house_of, house_rules}
-use Rattle.nb_vault.proofs.Verdicts.{asked, comes_to, few_recorded, goes_on, one_request, place_count, place_one, record_one, reply_one, request_count}
+use Rattle.nb_vault.proofs.Verdicts.{asked, comes_to, few_recorded, goes_on, joined_one, one_request, place_count, place_one, record_one, reply_one, request_count}
 use Rattle.nb_vault.proofs.records.Records.decide_each.Goals as goal
 
 pub decide_one-requires-clause-keys : goal.decide_one-requires-clause-keys
@@ -60,8 +62,9 @@ loop-ask-preserved g c =
           (step.group ∙ ap (λ (es : List Entry). c.loop-ask.self.group.items ++ es) entry) inv.group recorded_more;
       places = comes_to c.decide_one.new.self.places.items c.loop-ask.self.places.items (places (decided house over requests)) (places (decided house over (requests_of bytes (take (i + 1) asks)))) (length now ∷ [])
           step.places inv.places (ap (λ (rs : List Request). places (decided house over rs)) more ∙ place_one house over requests request now inv.entries);
-      out = goes_on c.decide_one.new.out.items c.loop-ask.out.items c.args.out.now.items (replies (decided house over requests)) (replies (decided house over (requests_of bytes (take (i + 1) asks)))) (house.rules now request).reply
-          (step.out ∙ ap (λ (r : Ruling). c.loop-ask.out.items ++ r.reply) rule) inv.out (ap (λ (rs : List Request). replies (decided house over rs)) more ∙ reply_one house over requests request now inv.entries);
-      long = omega (arith, step.long, inv.long);
+      drafts = comes_to (joined c.decide_one.new.drafts.items) (joined c.loop-ask.drafts.items) (replies (decided house over requests)) (replies (decided house over (requests_of bytes (take (i + 1) asks)))) (house.rules now request).reply
+          (joined_one c.decide_one.new.drafts.items c.loop-ask.drafts.items (house.rules now request).reply (step.drafts ∙ ap (λ (r : Ruling). c.loop-ask.drafts.items ++ r.reply ∷ []) rule)) inv.drafts
+          (ap (λ (rs : List Request). replies (decided house over rs)) more ∙ reply_one house over requests request now inv.entries);
+      count = omega (arith, ap length step.drafts, length-append c.loop-ask.drafts.items ((house_rules head c.loop-ask.self.book.cap now (request_of ask.kind body ask.moment)).reply ∷ []), inv.count);
       room = step.room ∙ inv.room;
     }

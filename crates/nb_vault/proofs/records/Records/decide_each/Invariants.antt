@@ -1,6 +1,6 @@
-use Rattle.std.proofs.Common.{◌≡◌, ◌+◌, ◌*◌, ◌≤◌, ◌++◌, length, take}
+use Rattle.std.proofs.Common.{◌≡◌, ◌++◌, length, take}
 use Rattle.std.specs.Vec.{vec_capacity}
-use Rattle.nb_msgs.specs.declared.reply.TheConstants.{REPLY_ROOM}
+use Rattle.nb_msgs.specs.ReplyBytes.{joined}
 use Rattle.nb_turns.specs.Turns.{decided, places, recorded, replies}
 use Rattle.nb_vault.specs.Asking.{requests_of}
 use Rattle.nb_vault.specs.Records.{Gathers, over_of}
@@ -17,7 +17,7 @@ invariant-loop-ask g l = record {
   entries : l.self.book.entries ≡ l.fn.self.book.entries ++ recorded (house_of l.head l.fn.self.book.cap) l.fn.self.book.entries (requests_of l.bytes (take l.ask-index l.asks));
   group : l.self.group.items ≡ recorded (house_of l.head l.fn.self.book.cap) l.fn.self.book.entries (requests_of l.bytes (take l.ask-index l.asks));
   places : l.self.places.items ≡ places (decided (house_of l.head l.fn.self.book.cap) l.fn.self.book.entries (requests_of l.bytes (take l.ask-index l.asks)));
-  out : l.out.items ≡ l.initial.out.items ++ replies (decided (house_of l.head l.fn.self.book.cap) l.fn.self.book.entries (requests_of l.bytes (take l.ask-index l.asks)));
-  long : length l.out.items ≤ length l.initial.out.items + REPLY_ROOM * l.ask-index;
-  room : vec_capacity l.out ≡ vec_capacity l.initial.out;
+  drafts : joined l.drafts.items ≡ replies (decided (house_of l.head l.fn.self.book.cap) l.fn.self.book.entries (requests_of l.bytes (take l.ask-index l.asks)));
+  count : length l.drafts.items ≡ l.ask-index;
+  room : vec_capacity l.drafts ≡ vec_capacity l.initial.drafts;
 }

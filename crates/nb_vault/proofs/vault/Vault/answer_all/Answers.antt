@@ -3,6 +3,8 @@ use Rattle.nb_journal.specs.Time.{LeavesOnly}
 use Rattle.nb_vault.specs.Asking.{requests_of}
 use Rattle.nb_vault.specs.Parts.{handed_in, seen_as}
 use Rattle.nb_vault.specs.Vaults.{Chronicled, StandsForState, TurnOf}
+use Rattle.nb_msgs.specs.ReplyBytes.{joined}
+use Rattle.nb_vault.proofs.Alone.{behind}
 use Rattle.nb_vault.proofs.Seeing.{keeps}
 use Rattle.nb_vault.proofs.Verdicts.{places_fit}
 use Rattle.nb_vault.proofs.vault.Vault.answer_all.Goals as goal
@@ -27,6 +29,6 @@ returns-clause-turn g c =
     let found : List ℕ = handed_in new.records.places.items answer in (
       found,
       c.hand_out.ensures.items ∙ ap (λ (xs : List ℕ). c.args.ats.now.items ++ handed_in xs answer) c.as_slice.ensures.value,
-      subst (λ (v : Chronicled _). TurnOf g.D.Disk.tells v (seen_as new) c.args.by (requests_of c.args.bytes.now c.args.asks.now) found c.args.out.now.items c.answer_all-answer.new.out.items answer) c.self.view_is
-          c.answer_all-answer.ensures.turn,
+      subst (λ (v : Chronicled _). TurnOf g.D.Disk.tells v (seen_as new) c.args.by (requests_of c.args.bytes.now c.args.asks.now) found c.args.out.now.items c.write_each.new.out.items answer) c.self.view_is
+          (behind g.D.Disk.tells _ _ c.args.by _ found c.args.out.now.items _ _ (c.write_each.ensures.bytes ∙ ap (λ (ds : List (List ℕ)). c.args.out.now.items ++ joined ds) c.as_slice-2.ensures.value) answer c.answer_all-answer.ensures.turn),
     )

@@ -11,7 +11,7 @@ pub returns-in-Ok-restored-clause-gives : goal.returns-in-Ok-restored-clause-giv
 returns-in-Ok-restored-clause-gives g c =
     let tells = g.D.Disk.tells in
     let p = c.in-Ok-restored.parts in
-    let r = c.in-Ok-restored.ensures.gives in
+    let r = c.in-Ok-restored.ensures.gives.0 in
     record {
       lines = r.lines;
       count = r.from ∙ c.fault_count-count.ensures;
@@ -24,7 +24,7 @@ pub returns-in-Ok-restored-clause-whole : goal.returns-in-Ok-restored-clause-who
 returns-in-Ok-restored-clause-whole g c =
     let tells = g.D.Disk.tells in
     let p = c.in-Ok-restored.parts in
-    let r = c.in-Ok-restored.ensures.gives in
+    let r = c.in-Ok-restored.ensures.gives.0 in
     opens_whole tells c.args.disk c.in-Ok.opened c.fault_count-count.result (seen_as p)
     (opens_stands tells c.args.disk c.in-Ok.opened c.fault_count-count.result p r c.in-Ok.ensures.nothing.same)
 

@@ -5,4 +5,4 @@ use Rattle.nb_vault.proofs.vault.Vault.witness.Goals as goal
 
 pub returns : goal.returns
 returns g c =
-    record { keeps = subst (Keeps g.D.Disk.tells) c.self.view_is (keeps g.D.Disk.tells c.self.inside.parts c.self.invariant) }
+    record { keeps = subst (Keeps g.D.Disk.tells) c.self.view_is (keeps g.D.Disk.tells c.self.inside.parts c.self.invariant.vault) }

@@ -1,6 +1,6 @@
 use Rattle.std.proofs.Common.{sym}
 use Rattle.nb_escrow.proofs.Unsealing.{endorsement_read, endorsement_unread}
-use Rattle.nb_escrow.proofs.order.open_endorsement.Goals as goal
+use Rattle.nb_escrow.proofs.opened.open_endorsement.Goals as goal
 
 pub returns-in-Ok-clause-read : goal.returns-in-Ok-clause-read
 returns-in-Ok-clause-read c = sym (endorsement_read c.args.key.now c.args.sealed.now c.in-Ok.opened.endorsement c.in-Ok.ensures.reads)

@@ -1,5 +1,5 @@
 use Rattle.nb_escrow.proofs.Unsealing.{hidden_read, hidden_unread}
-use Rattle.nb_escrow.proofs.order.open_hidden.Goals as goal
+use Rattle.nb_escrow.proofs.opened.open_hidden.Goals as goal
 
 pub returns-in-Ok : goal.returns-in-Ok
 returns-in-Ok c = rw (← c.as_slice.ensures.value) (hidden_read c.args.key.now c.as_slice.result.now c.in-Ok.hidden c.in-Ok.ensures.reveals)

@@ -1,0 +1,272 @@
+// What an endorsed order holds, opened: in its turn, or before it.
+
+ghost use Rattle.std.specs.Prelude.{◌≡◌, ◌≤◌, length, IfOk, IfErr, Ok, Err};
+ghost use Rattle.nb_units.specs.declared.limits.TheConstants.{MAX_HIDDEN};
+ghost use Rattle.nb_epo.specs.Reading.{order_of};
+ghost use Rattle.nb_epo.specs.Spelling.{order_bytes};
+ghost use Rattle.nb_epo.specs.Tags.{order_tag};
+ghost use Rattle.nb_endorse.specs.Tags.{endorsement_digest};
+ghost use Rattle.nb_endorse.specs.declared.endorsement.TheConstants.{MAX_SEALED};
+ghost use Rattle.nb_endorse.specs.declared.refusal.TheConstants.{IN_ORDER};
+ghost use Rattle.nb_escrow.specs.Checks.{well_formed, right_tag};
+ghost use Rattle.nb_escrow.specs.Orders as orders;
+
+use nb_body::EndorsedBytes;
+use nb_endorse::refusal::{IN_ENDORSEMENT, IN_HIDDEN, IN_ORDER, MALFORMED, NOT_SEALED, WRONG_TAG};
+use nb_endorse::{DigestedEndorsement, KeptStates, Refusal, SealedFault, read_sealed_with};
+use nb_epo::{Hidden, Order, RevealFault, read_order, read_tag_ok, reveal_with};
+use nb_seal::KeyState;
+use nb_units::{Buffer, Malformed, Secret, Small};
+use std::marker::Model;
+
+/// What was opened of an endorsed order before its turn, under the keys that were known then: what its sealed endorsement gave, and the
+/// tests of the order in it, refusals too. In the turn it is used only where its bytes are those that are asked for and its keys those of
+/// the parties; else the work is done there.
+///
+/// It promises nothing of the request that it was made of: what it holds of its own bytes and keys is its invariant, and what is decided
+/// does not depend on it.
+#[derive(Drop)]
+pub struct OpenedOrder {
+    endorsement: OpenedEndorsement,
+    order: Option<TestedOrder>,
+}
+
+impl OpenedOrder {
+    /// Opens what a body asks for, with the states of keys that are kept. `None` where the body is no endorsed order, or where no state is kept
+    /// for the merchant that it names. The order is tested where its endorsement opened and a state is kept for its consumer.
+    pub fn of(body: &[u8], kept: &KeptStates) -> Option<OpenedOrder> {
+        let Ok(asked) = EndorsedBytes::read(body) else {
+            return None;
+        };
+        let key = kept.kept_merchant(asked.merchant())?;
+        let endorsement = OpenedEndorsement::of(asked.sealed(), key);
+        let order = endorsement.tested(kept);
+        Some(OpenedOrder { endorsement, order })
+    }
+}
+
+// What opening these bytes under this key as an endorsement gave.
+#[derive(Drop)]
+struct OpenedEndorsement {
+    sealed: Buffer,
+    key: KeyState,
+    read: Result<DigestedEndorsement, Refusal>,
+}
+
+impl Model for OpenedEndorsement {
+    ghost use Rattle.std.specs.Prelude.{ℕ, List};
+    ghost use Rattle.nb_escrow.specs.Opened.{ReadsEndorsement};
+
+    ghost Value = { List ℕ };
+
+    ghost view = { λ m. m.sealed };
+
+    ghost invariant = { λ m. ReadsEndorsement m.key m.sealed m.read };
+}
+
+impl OpenedEndorsement {
+    fn of(bytes: &[u8], key: &KeyState) -> OpenedEndorsement
+        requires { length bytes.now ≤ MAX_SEALED }
+    {
+        let mut sealed = Buffer::new();
+        sealed.raw(bytes);
+        OpenedEndorsement {
+            sealed,
+            key: key.copy(),
+            read: open_endorsement(bytes, key),
+        }
+    }
+
+    // The order in it, tested, where it was read and a state is kept for the order's consumer.
+    fn tested(&self, kept: &KeptStates) -> Option<TestedOrder> {
+        match &self.read {
+            Ok(read) => TestedOrder::of(&read.endorsement.order, kept),
+            Err(_) => None,
+        }
+    }
+}
+
+// What testing the tag of the order that these bytes spell, and opening its hidden part, gave under this key.
+#[derive(Drop)]
+struct TestedOrder {
+    bytes: Small,
+    key: KeyState,
+    tag: Result<(), Refusal>,
+    hidden: Result<Hidden, Refusal>,
+}
+
+impl Model for TestedOrder {
+    ghost use Rattle.std.specs.Prelude.{ℕ, List};
+    ghost use Rattle.nb_escrow.specs.Opened.{TestsOrder};
+
+    ghost Value = { List ℕ };
+
+    ghost view = { λ m. m.bytes };
+
+    ghost invariant = { λ m. TestsOrder m.key m.bytes m.tag m.hidden };
+}
+
+impl TestedOrder {
+    fn of(bytes: &Small, kept: &KeptStates) -> Option<TestedOrder> {
+        let Ok(order) = read_endorsed(bytes) else {
+            return None;
+        };
+        let key = kept.kept_consumer(order.consumer)?;
+        Some(TestedOrder {
+            bytes: *bytes,
+            key: key.copy(),
+            tag: check_order_tag(bytes, &order, key),
+            hidden: open_hidden(&order.hidden, key),
+        })
+    }
+}
+
+// The endorsement that is sealed under the merchant's key: as it was opened before, where that was of these bytes under this key.
+pub(crate) fn opened_endorsement(
+    opened: Option<&OpenedOrder>,
+    asked: &EndorsedBytes,
+    key: &Secret,
+    kept: &mut KeptStates,
+) -> Result<DigestedEndorsement, Refusal>
+    requires { length asked.now.sealed ≤ MAX_SEALED }
+    ensures read { IfOk result (λ opened. orders.endorsement_in key.now asked.now.sealed ≡ Ok opened.endorsement) }
+    ensures refused { IfErr result (λ refusal. orders.endorsement_in key.now asked.now.sealed ≡ Err refusal) }
+    ensures digest { IfOk result (λ opened. opened.digest ≡ endorsement_digest opened.endorsement) }
+{
+    if let Some(
+        OpenedOrder {
+            endorsement: memo,
+            ..
+        },
+    ) = opened
+    {
+        if memo.key.is_of(key) && memo.sealed.as_slice() == asked.sealed() {
+            return memo.read;
+        }
+    }
+    open_endorsement(asked.sealed(), kept.merchant(asked.merchant(), key))
+}
+
+// Tests the tag of an order that was read from these bytes: as it was tested before, where that was of these bytes under this key.
+pub(crate) fn tested_tag(
+    opened: Option<&OpenedOrder>,
+    bytes: &Small,
+    order: &Order,
+    key: &Secret,
+    kept: &mut KeptStates,
+) -> Result<(), Refusal>
+    requires read { bytes.now ≡ order_bytes order.now }
+    requires found { order_of bytes.now ≡ Ok order.now }
+    ensures { result ≡ right_tag order.now.tag (order_tag key.now order.now) }
+{
+    if let Some(
+        OpenedOrder {
+            order: Some(memo),
+            ..
+        },
+    ) = opened
+    {
+        if memo.key.is_of(key) && memo.bytes == *bytes {
+            return memo.tag;
+        }
+    }
+    check_order_tag(bytes, order, kept.consumer(order.consumer, key))
+}
+
+// The hidden part, sealed under the consumer's key, of an order that was read from these bytes: as it was opened before, where that was of
+// these bytes under this key.
+pub(crate) fn opened_hidden(
+    opened: Option<&OpenedOrder>,
+    bytes: &Small,
+    order: &Order,
+    key: &Secret,
+    kept: &mut KeptStates,
+) -> Result<Hidden, Refusal>
+    requires short { length order.now.hidden ≤ MAX_HIDDEN }
+    requires found { order_of bytes.now ≡ Ok order.now }
+    ensures { result ≡ orders.hidden_in key.now order.now.hidden }
+{
+    if let Some(
+        OpenedOrder {
+            order: Some(memo),
+            ..
+        },
+    ) = opened
+    {
+        if memo.key.is_of(key) && memo.bytes == *bytes {
+            return memo.hidden;
+        }
+    }
+    open_hidden(&order.hidden, kept.consumer(order.consumer, key))
+}
+
+// The endorsement that is sealed under the merchant's key.
+#[tactic(auto, unfolding(crate::specs::Orders::endorsement_in))]
+fn open_endorsement(sealed: &[u8], key: &KeyState) -> Result<DigestedEndorsement, Refusal>
+    requires { length sealed.now ≤ MAX_SEALED }
+    ensures read { IfOk result (λ opened. orders.endorsement_in key.now sealed.now ≡ Ok opened.endorsement) }
+    ensures refused { IfErr result (λ refusal. orders.endorsement_in key.now sealed.now ≡ Err refusal) }
+    ensures digest { IfOk result (λ opened. opened.digest ≡ endorsement_digest opened.endorsement) }
+{
+    match read_sealed_with(sealed, key) {
+        Ok(opened) => Ok(opened),
+        Err(fault) => Err(unread_endorsement(fault)),
+    }
+}
+
+// The refusal of an endorsement that was not read.
+fn unread_endorsement(fault: SealedFault) -> Refusal
+    ensures { result ≡ orders.unread_endorsement fault }
+{
+    match fault {
+        SealedFault::BadSeal { iv } => Refusal::with(NOT_SEALED, &iv),
+        SealedFault::Malformed { place } => Refusal::of(MALFORMED, place as u64, IN_ENDORSEMENT),
+    }
+}
+
+// The order that is endorsed.
+pub(crate) fn read_endorsed(bytes: &Small) -> Result<Order, Refusal>
+    ensures test { result ≡ well_formed IN_ORDER (order_of bytes.now) }
+    ensures found { IfOk result (λ order. order_of bytes.now ≡ Ok order) }
+    ensures spelled { IfOk result (λ order. bytes.now ≡ order_bytes order) }
+    ensures short { IfOk result (λ order. length order.hidden ≤ MAX_HIDDEN) }
+{
+    match read_order(bytes.as_slice()) {
+        Ok(order) => Ok(order),
+        Err(Malformed { place }) => Err(Refusal::of(MALFORMED, place as u64, IN_ORDER)),
+    }
+}
+
+// The hidden part that is sealed under the consumer's key.
+#[tactic(auto, unfolding(crate::specs::Orders::hidden_in))]
+fn open_hidden(sealed: &Small, key: &KeyState) -> Result<Hidden, Refusal>
+    requires { length sealed.now ≤ MAX_HIDDEN }
+    ensures { result ≡ orders.hidden_in key.now sealed.now }
+{
+    match reveal_with(sealed.as_slice(), key) {
+        Ok(hidden) => Ok(hidden),
+        Err(fault) => Err(unread_hidden(fault)),
+    }
+}
+
+// The refusal of a hidden part that was not read.
+fn unread_hidden(fault: RevealFault) -> Refusal
+    ensures { result ≡ orders.unread_hidden fault }
+{
+    match fault {
+        RevealFault::BadSeal { iv } => Refusal::with(NOT_SEALED, &iv),
+        RevealFault::Malformed { place } => Refusal::of(MALFORMED, place as u64, IN_HIDDEN),
+    }
+}
+
+#[tactic(auto, unfolding(crate::specs::Checks::right_tag))]
+fn check_order_tag(bytes: &Small, order: &Order, key: &KeyState) -> Result<(), Refusal>
+    requires read { bytes.now ≡ order_bytes order.now }
+    ensures { result ≡ right_tag order.now.tag (order_tag key.now order.now) }
+{
+    if read_tag_ok(bytes.as_slice(), order, key) {
+        Ok(())
+    } else {
+        Err(Refusal::with(WRONG_TAG, &order.tag))
+    }
+}
