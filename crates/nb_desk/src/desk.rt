@@ -2,6 +2,7 @@ ghost use Rattle.std.specs.Prelude.{◌≡◌, ◌≢◌, ◌≤◌, ◌<◌, �
 ghost use Rattle.std.specs.List.{All};
 ghost use Rattle.nb_turns.specs.declared.limits.TheConstants.{MAX_REQUESTS};
 ghost use Rattle.nb_turns.specs.Lines.{maker_of};
+ghost use Rattle.nb_msgs.specs.ReplyBytes.{joined as joined_frames};
 ghost use Rattle.nb_msgs.specs.declared.reply.TheConstants.{REPLY_ROOM};
 ghost use Rattle.nb_units.specs.Room.{spare_of};
 ghost use Rattle.nb_vault.specs.Asking.{IsWithin, request_of, requests_of};
@@ -18,6 +19,8 @@ ghost use Rattle.nb_desk.specs.Desks.{IsAt, IsSameDesk, MeetsVault};
 
 use crate::asked::{Asked, AskedAll};
 use crate::handed::DeskVault;
+use nb_escrow::OpenedOrder;
+use nb_msgs::Draft;
 use nb_port::Disk;
 use nb_turn::{Busy, Held, NoMemory, SplitFault, Turn};
 use nb_vault::{AskAt, Vault};
@@ -192,6 +195,69 @@ impl<D: Disk + Drop> Desk<D> {
         self.ask_all_held(held, bytes, asks, ats, out)
     }
 
+    /// Asks for from 1 to [`MAX_REQUESTS`](nb_turns::MAX_REQUESTS) requests in one turn, as [`Vault::decide_all`] does, in the name of
+    /// the pass's number: up to the drafts of their replies, which are written when the turn was given back. It waits for nobody, and takes
+    /// no memory: `ats` needs room for one place each, and `drafts`, which is empty, for one draft each.
+    pub fn try_decide_all(
+        &self,
+        pass: Pass<D>,
+        bytes: &[u8],
+        asks: &[AskAt],
+        opened: &[Option<OpenedOrder>],
+        ats: &mut Vec<u64>,
+        drafts: &mut Vec<Draft>,
+    ) -> (Pass<D>, AskedAll)
+        requires desk { IsAt pass self.now }
+        requires some { 1 ≤ length asks.now }
+        requires most { length asks.now ≤ MAX_REQUESTS }
+        requires within { All (IsWithin bytes.now) asks.now }
+        requires places { vec_len ats.old + length asks.now ≤ vec_capacity ats.old }
+        requires none { drafts.old.items ≡ [] }
+        requires room { length asks.now ≤ vec_capacity drafts.old }
+        ensures desk { IsAt result.0 self.now }
+        ensures number { result.0.number ≡ pass.number }
+        ensures tries { (found : List ℕ) × (ats.new.items ≡ ats.old.items ++ found) × Tries D.tells pass.number (sees pass) (sees result.0) (requests_of bytes.now asks.now) found [] (joined_frames drafts.new.items) result.1 }
+        ensures few { length drafts.new.items ≤ length asks.now }
+        ensures room { vec_capacity drafts.new ≡ vec_capacity drafts.old }
+        ensures places { vec_capacity ats.new ≡ vec_capacity ats.old }
+    {
+        let tried = self.turn.try_take(pass);
+        match tried {
+            Ok(held) => self.decide_all_held(held, bytes, asks, opened, ats, drafts),
+            Err((Busy { word }, pass)) => (pass, AskedAll::Busy { word }),
+        }
+    }
+
+    /// Asks for several requests as [`Desk::try_decide_all`] does, and waits while another pass has the turn. It is never Busy.
+    pub fn decide_all<R: Wait>(
+        &self,
+        rt: &R,
+        pass: Pass<D>,
+        bytes: &[u8],
+        asks: &[AskAt],
+        opened: &[Option<OpenedOrder>],
+        ats: &mut Vec<u64>,
+        drafts: &mut Vec<Draft>,
+    ) -> (Pass<D>, AskedAll)
+        requires desk { IsAt pass self.now }
+        requires some { 1 ≤ length asks.now }
+        requires most { length asks.now ≤ MAX_REQUESTS }
+        requires within { All (IsWithin bytes.now) asks.now }
+        requires places { vec_len ats.old + length asks.now ≤ vec_capacity ats.old }
+        requires none { drafts.old.items ≡ [] }
+        requires room { length asks.now ≤ vec_capacity drafts.old }
+        ensures desk { IsAt result.0 self.now }
+        ensures number { result.0.number ≡ pass.number }
+        ensures goes_on { GoesOnAtLast (sees pass) (sees result.0) }
+        ensures gives { (found : List ℕ) × (ats.new.items ≡ ats.old.items ++ found) × Gives D.tells pass.number (sees pass) (sees result.0) (requests_of bytes.now asks.now) found [] (joined_frames drafts.new.items) result.1 }
+        ensures few { length drafts.new.items ≤ length asks.now }
+        ensures room { vec_capacity drafts.new ≡ vec_capacity drafts.old }
+        ensures places { vec_capacity ats.new ≡ vec_capacity ats.old }
+    {
+        let held = self.turn.take(rt, pass);
+        self.decide_all_held(held, bytes, asks, opened, ats, drafts)
+    }
+
     // Asks for a pass that has the turn, which it gives back.
     fn ask_held(
         &self,
@@ -242,6 +308,40 @@ impl<D: Disk + Drop> Desk<D> {
         let mut held = held;
         let by = held.number();
         let answer = held.value().answer_all(by, bytes, asks, ats, out);
+        (self.turn.give(held), AskedAll::of(answer))
+    }
+
+    // Asks for a pass that has the turn, which it gives back.
+    fn decide_all_held(
+        &self,
+        held: Held<DeskVault<D>>,
+        bytes: &[u8],
+        asks: &[AskAt],
+        opened: &[Option<OpenedOrder>],
+        ats: &mut Vec<u64>,
+        drafts: &mut Vec<Draft>,
+    ) -> (Pass<D>, AskedAll)
+        requires turn { IsOf held self.now.turn }
+        requires origin { (held_sees held).origin ≡ Some held.value.origin }
+        requires lines { held.value.lines ≡ (held_sees held).seen }
+        requires some { 1 ≤ length asks.now }
+        requires most { length asks.now ≤ MAX_REQUESTS }
+        requires within { All (IsWithin bytes.now) asks.now }
+        requires places { vec_len ats.old + length asks.now ≤ vec_capacity ats.old }
+        requires none { drafts.old.items ≡ [] }
+        requires room { length asks.now ≤ vec_capacity drafts.old }
+        ensures desk { IsAt result.0 self.now }
+        ensures number { result.0.number ≡ held.hold.number }
+        ensures answers { (found : List ℕ) × (ats.new.items ≡ ats.old.items ++ found) × AnswersHeld D.tells held.value held.hold.number (held_sees held) (sees result.0) (requests_of bytes.now asks.now) found [] (joined_frames drafts.new.items) result.1 }
+        ensures few { length drafts.new.items ≤ length asks.now }
+        ensures room { vec_capacity drafts.new ≡ vec_capacity drafts.old }
+        ensures places { vec_capacity ats.new ≡ vec_capacity ats.old }
+    {
+        let mut held = held;
+        let by = held.number();
+        let answer = held
+            .value()
+            .decide_all(by, bytes, asks, opened, ats, drafts);
         (self.turn.give(held), AskedAll::of(answer))
     }
 }

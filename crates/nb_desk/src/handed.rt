@@ -1,12 +1,15 @@
 ghost use Rattle.std.specs.Prelude.{◌≡◌, ◌≤◌, ◌+◌, ◌*◌, ◌++◌, ◌∷◌, [], ℕ, List, length, vec_capacity, vec_len};
 ghost use Rattle.std.specs.List.{All};
 ghost use Rattle.nb_turns.specs.declared.limits.TheConstants.{MAX_REQUESTS};
+ghost use Rattle.nb_msgs.specs.ReplyBytes.{joined};
 ghost use Rattle.nb_msgs.specs.declared.reply.TheConstants.{REPLY_ROOM};
 ghost use Rattle.nb_units.specs.Room.{spare_of};
 ghost use Rattle.nb_vault.specs.Asking.{IsWithin, request_of, requests_of};
 ghost use Rattle.nb_vault.specs.Vaults.{Keeps, all_of, place_in};
 ghost use Rattle.nb_desk.specs.Answers.{Answers};
 
+use nb_escrow::OpenedOrder;
+use nb_msgs::Draft;
 use nb_port::Disk;
 use nb_turn::Chronicle;
 use nb_turns::Line;
@@ -105,6 +108,33 @@ impl<D: Disk> DeskVault<D> {
     {
         self.vault.witness();
         let answer = self.vault.answer_all(by, bytes, asks, ats, out);
+        self.count = count_from(&self.vault, self.count);
+        answer
+    }
+
+    // Answers several requests in one turn up to the drafts of their replies as the vault does, and counts the lines.
+    pub(crate) fn decide_all(
+        &mut self,
+        by: u64,
+        bytes: &[u8],
+        asks: &[AskAt],
+        opened: &[Option<OpenedOrder>],
+        ats: &mut Vec<u64>,
+        drafts: &mut Vec<Draft>,
+    ) -> AnswerAll
+        requires some { 1 ≤ length asks.now }
+        requires most { length asks.now ≤ MAX_REQUESTS }
+        requires within { All (IsWithin bytes.now) asks.now }
+        requires places { vec_len ats.old + length asks.now ≤ vec_capacity ats.old }
+        requires none { drafts.old.items ≡ [] }
+        requires room { length asks.now ≤ vec_capacity drafts.old }
+        ensures answers { (found : List ℕ) × (ats.new.items ≡ ats.old.items ++ found) × Answers D.tells self.old self.new by (requests_of bytes.now asks.now) found [] (joined drafts.new.items) result }
+        ensures few { length drafts.new.items ≤ length asks.now }
+        ensures room { vec_capacity drafts.new ≡ vec_capacity drafts.old }
+        ensures places { vec_capacity ats.new ≡ vec_capacity ats.old }
+    {
+        self.vault.witness();
+        let answer = self.vault.decide_all(by, bytes, asks, opened, ats, drafts);
         self.count = count_from(&self.vault, self.count);
         answer
     }

@@ -140,17 +140,18 @@ module _ {D : Type 0} (tells : DiskTells D) (by : ℕ) (v w : View Origin Line) 
       g.1.went.out_is ∙ append-nil out ∙ none
 
   pub failed : (from to : ℕ) (sent : List ℕ) (told : Refusal) → answer ≡ asked.DiskFault from to → told ≡ refusal DISK_FAULT from to → behind ≡ before ++ map (λ (ask : AskAt). Fault from to) asks
-      → sent ≡ out' ++ flat_map (λ (ask : AskAt). reply_bytes no_keys (Refused told)) asks → AnswersTurn tells by v w (requests_of bytes asks) before behind sent
+      → sent ≡ flat_map (λ (ask : AskAt). reply_bytes no_keys (Refused told)) asks → AnswersTurn tells by v w (requests_of bytes asks) before behind sent
   failed from to sent told is made marked put =
       let g = subst (λ (a : AskedAll). Gives tells by v w (requests_of bytes asks) gives.0 out out' a) is gives.2 in
-      failed_turn tells by v w bytes asks gives.0 out out' before behind from to sent none g goes_on marked (put ∙ ap (λ (r : Refusal). out' ++ flat_map (λ (ask : AskAt). reply_bytes no_keys (Refused r)) asks) made)
+      failed_turn tells by v w bytes asks gives.0 out out' before behind from to sent none g goes_on marked
+      (put ∙ ap (λ (xs : List ℕ). xs ++ flat_map (λ (ask : AskAt). reply_bytes no_keys (Refused told)) asks) (sym (refused_empty from to is)) ∙ ap (λ (r : Refusal). out' ++ flat_map (λ (ask : AskAt). reply_bytes no_keys (Refused r)) asks) made)
 
   pub worn : (count number : ℕ) (sent : List ℕ) (told : Refusal) → answer ≡ asked.Worn count → number ≡ count → told ≡ refusal WORN number 0 → behind ≡ before ++ map (λ (ask : AskAt). Worn) asks
-      → sent ≡ out' ++ flat_map (λ (ask : AskAt). reply_bytes no_keys (Refused told)) asks → AnswersTurn tells by v w (requests_of bytes asks) before behind sent
+      → sent ≡ flat_map (λ (ask : AskAt). reply_bytes no_keys (Refused told)) asks → AnswersTurn tells by v w (requests_of bytes asks) before behind sent
   worn count number sent told is same made marked put =
       let g = subst (λ (a : AskedAll). Gives tells by v w (requests_of bytes asks) gives.0 out out' a) is gives.2 in
       worn_turn tells by v w bytes asks gives.0 out out' before behind count sent none g.0 (subst (λ (n : ℕ). Asks tells by v w (requests_of bytes asks) Refuses gives.0 out out' (all.Worn n)) g.0 g.1) goes_on marked
-      (put ∙ ap (λ (r : Refusal). out' ++ flat_map (λ (ask : AskAt). reply_bytes no_keys (Refused r)) asks) (made ∙ ap (λ (n : ℕ). refusal WORN n 0) same))
+      (put ∙ ap (λ (xs : List ℕ). xs ++ flat_map (λ (ask : AskAt). reply_bytes no_keys (Refused told)) asks) (sym (worn_empty count is)) ∙ ap (λ (r : Refusal). out' ++ flat_map (λ (ask : AskAt). reply_bytes no_keys (Refused r)) asks) (made ∙ ap (λ (n : ℕ). refusal WORN n 0) same))
 
 -- ---- what a turn leaves to send
 

@@ -31,6 +31,7 @@ use Rattle.nb_session.specs.declared.ended.SessionEnd.TheVariants.{Clean, Cut}
 use Rattle.nb_session.specs.declared.gathering.Gathered.{Gathered}
 use Rattle.nb_session.specs.declared.gathering.Gathered.TheVariants as gathered
 use Rattle.nb_session.specs.declared.linked.Work.{Work}
+use Rattle.nb_session.specs.declared.outside.Outside.{Outside}
 use Rattle.nb_wire.specs.declared.sending.Sent.{Sent}
 use Rattle.nb_wire.specs.declared.sending.Sent.TheVariants as sends
 
@@ -118,9 +119,15 @@ pub record TurnIs {D : Type 0} (tells : DiskTells D) (by : ℕ) (p q : Point) (g
 
 -- ---- memory
 
+-- there is room for what was opened of the requests of a turn, and for the drafts of their replies
+pub record HasPlaces (outside : Outside) : Type 0 where
+  pub opened : MAX_REQUESTS ≤ vec_capacity outside.opened
+  pub drafts : MAX_REQUESTS ≤ vec_capacity outside.drafts
+
 -- there is room for a turn and for all that is told
 pub record HasRoom (work : Work) : Type 0 where
   pub asks : MAX_REQUESTS ≤ vec_capacity work.asks
+  pub outside : HasPlaces work.outside
   pub ats : MAX_REQUESTS ≤ vec_capacity work.ats
   pub out : MAX_REQUESTS * REPLY_ROOM ≤ vec_capacity work.out
   pub moments : MOST_FRAMES ≤ vec_capacity work.moments

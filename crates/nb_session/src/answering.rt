@@ -11,25 +11,27 @@ ghost use Rattle.nb_turns.specs.declared.mark.Mark.TheVariants.{At};
 ghost use Rattle.nb_vault.specs.declared.answer.AskAt.{AskAt};
 ghost use Rattle.nb_vault.specs.Asking.{IsWithin, requests_of};
 ghost use Rattle.nb_desk.specs.Desks.{IsAt};
-ghost use Rattle.nb_session.specs.Steps.{AnswersTurn};
+ghost use Rattle.nb_session.specs.Steps.{AnswersTurn, HasPlaces};
 
+use crate::outside::Outside;
 use nb_desk::{AskedAll, Desk, Pass};
 use nb_endorse::refusal::{DISK_FAULT, WORN};
 use nb_endorse::{Refusal, Reply, ReplyKeys};
-use nb_msgs::{REPLY_ROOM, write_reply};
+use nb_msgs::{REPLY_ROOM, write_each, write_reply};
 use nb_port::Disk;
 use nb_turns::Mark;
 use nb_vault::AskAt;
 use std::sync::Wait;
 
 /// Has requests answered by one turn of the desk, each by its reply or by the refusal that says why there is none. Their marks stand
-/// behind `marks`, and the replies in `out`.
+/// behind `marks`, and the replies in `out`, where they are written when the turn was given back.
 pub fn answer<R: Wait, D: Disk + Drop>(
     rt: &R,
     desk: &Desk<D>,
     pass: Pass<D>,
     bytes: &[u8],
     asks: &[AskAt],
+    outside: &mut Outside,
     ats: &mut Vec<u64>,
     marks: &mut Vec<Mark>,
     out: &mut Vec<u8>,
@@ -38,6 +40,7 @@ pub fn answer<R: Wait, D: Disk + Drop>(
     requires some { 1 ≤ length asks.now }
     requires most { length asks.now ≤ MAX_REQUESTS }
     requires within { All (IsWithin bytes.now) asks.now }
+    requires outside { HasPlaces outside.old }
     requires none { ats.old.items ≡ [] }
     requires empty { out.old.items ≡ [] }
     requires places { length asks.now ≤ vec_capacity ats.old }
@@ -46,12 +49,20 @@ pub fn answer<R: Wait, D: Disk + Drop>(
     ensures desk { IsAt result desk.now }
     ensures number { result.number ≡ pass.number }
     ensures answers { AnswersTurn D.tells pass.number (sees pass) (sees result) (requests_of bytes.now asks.now) marks.old.items marks.new.items out.new.items }
+    ensures outside { HasPlaces outside.new }
     ensures room { (vec_capacity ats.new ≡ vec_capacity ats.old) × (vec_capacity marks.new ≡ vec_capacity marks.old) × (vec_capacity out.new ≡ vec_capacity out.old) }
 {
-    let (pass, asked) = desk.ask_all(rt, pass, bytes, asks, ats, out);
+    let Outside {
+        opened,
+        drafts,
+        kept,
+    } = outside;
+    drafts.clear();
+    let (pass, asked) = desk.decide_all(rt, pass, bytes, asks, opened.as_slice(), ats, drafts);
     match asked {
         AskedAll::Served => {
             mark_places(ats.as_slice(), marks);
+            write_each(drafts.as_slice(), kept, out);
             pass
         }
         AskedAll::DiskFault { before, after } => {

@@ -1,7 +1,9 @@
 //! One session: the frames of one link are answered against one desk, in turns that frames already read share.
 //!
 //! [`session`] takes all its memory at its start. Then it gathers the frames that it has read, up to as many as a turn has requests,
-//! asks the clock once for each, has them answered in one turn of the desk, and sends the replies, each by writes of its own. Where no
+//! asks the clock once for each, opens the orders among them as far as it knows the keys, has them answered in one turn of the desk, up to
+//! the drafts of their replies, and writes and sends the replies, each by writes of its own. So most of the hashing of an order is done
+//! before its turn and behind it, beside the turns of others. Where no
 //! whole frame is left it reads on, a piece at a time. It ends where the link ends or fails, where what was read is no frame, or where
 //! as many frames were answered as one session answers.
 //!
@@ -23,6 +25,7 @@ mod ended;
 mod gathering;
 pub mod laws;
 mod linked;
+mod outside;
 mod sending;
 
 pub use ended::{MOST_FRAMES, Record, SessionEnd};

@@ -11,6 +11,7 @@ ghost use Rattle.nb_session.specs.declared.ended.SessionEnd.TheVariants as ends;
 use crate::answering::answer;
 use crate::ended::{MOST_FRAMES, Record, SessionEnd};
 use crate::gathering::{Gathered, gather};
+use crate::outside::Outside;
 use crate::sending::send_replies;
 use nb_desk::{Desk, Pass};
 use nb_frame::{Frames, MAX_PIECE};
@@ -24,11 +25,13 @@ use nb_wire::{ReadOn, Sent, read_on};
 use std::alloc::Global;
 use std::sync::Wait;
 
-// All memory of a session: the reader of frames; the requests of a turn, their places and the replies; the moments and marks so far.
+// All memory of a session: the reader of frames; the requests of a turn, what is made of it outside, their places and the replies; the
+// moments and marks so far.
 #[derive(Drop)]
 struct Work {
     frames: Frames,
     asks: Vec<AskAt>,
+    outside: Outside,
     ats: Vec<u64>,
     out: Vec<u8>,
     moments: Vec<u64>,
@@ -42,6 +45,7 @@ impl Work {
         Ok(Work {
             frames: Frames::new(alloc)?,
             asks: Vec::with_capacity(alloc, MAX_REQUESTS)?,
+            outside: Outside::new(alloc)?,
             ats: Vec::with_capacity(alloc, MAX_REQUESTS)?,
             out: Vec::with_capacity(alloc, MAX_REQUESTS * REPLY_ROOM)?,
             moments: Vec::with_capacity(alloc, MOST_FRAMES)?,
@@ -156,7 +160,7 @@ fn serve<R: Wait, D: Disk + Drop, L: Link, C: Clock, G: Gate>(
     }
 }
 
-// Gathers frames that were read, and where there are some has them answered in one turn, and sends the replies.
+// Gathers frames that were read, and where there are some opens what it can of them, has them answered in one turn, and sends the replies.
 fn turn<R: Wait, D: Disk + Drop, L: Link, C: Clock, G: Gate>(
     rt: &R,
     desk: &Desk<D>,
@@ -194,6 +198,8 @@ fn turn<R: Wait, D: Disk + Drop, L: Link, C: Clock, G: Gate>(
     if work.asks.is_empty() {
         return (pass, gathered, Sent::All);
     }
+    work.outside
+        .open_each(work.frames.bytes(), work.asks.as_slice());
     gate.at(worker, number, Point::BeforeTurn);
     let pass = answer(
         rt,
@@ -201,6 +207,7 @@ fn turn<R: Wait, D: Disk + Drop, L: Link, C: Clock, G: Gate>(
         pass,
         work.frames.bytes(),
         work.asks.as_slice(),
+        &mut work.outside,
         &mut work.ats,
         &mut work.marks,
         &mut work.out,

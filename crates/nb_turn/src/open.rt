@@ -9,6 +9,7 @@ use crate::words::FREE;
 use atomic_table::{Refused, Table};
 use std::alloc::Global;
 use std::snapshot::Snapshot;
+use std::sync::atomic::AtomicU64;
 
 // The one value in the slots that came back.
 fn first_of<T: Drop>(mut slots: Vec<Option<T>>) -> T
@@ -36,7 +37,10 @@ impl<T: Chronicle + Drop> Turn<T> {
         slots.push_reserved(Some(value));
         match Table::new(alloc, &[FREE, 0, 1], slots, &about) {
             Ok((table, seat)) => Ok((
-                Turn { table },
+                Turn {
+                    table,
+                    sleepers: AtomicU64::new(0),
+                },
                 Pass {
                     seat,
                     number: 0,

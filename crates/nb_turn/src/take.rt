@@ -87,6 +87,7 @@ impl<T: Chronicle + Drop> Turn<T> {
         self.table
             .shared
             .swap::<Free<T>>(&mut seat, TURN_WORD, FREE);
+        self.wake();
         Pass {
             seat,
             number,

@@ -6,11 +6,14 @@ use crate::plays::Law;
 use atomic_table::{Seat, Table};
 use std::alloc::Global;
 use std::snapshot::Snapshot;
+use std::sync::atomic::AtomicU64;
 
 /// A value that passes take in turn. It waits for nobody, and no lock is in it.
 #[derive(Drop)]
 pub struct Turn<T: Chronicle> {
     pub(crate) table: Table<Option<T>, View<T::Origin, T::Line>, Snapshot<T>, Law<T>, Global>,
+    // How many threads sleep until the turn is given back, or are about to.
+    pub(crate) sleepers: AtomicU64,
     ghost sized: { (table.shared.table_id.words ≡ 3) × (table.shared.table_id.slots ≡ 1) },
 }
 

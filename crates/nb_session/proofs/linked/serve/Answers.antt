@@ -75,7 +75,7 @@ serving-preserved g c =
       ran = ran_fed g.D.Disk.tells c.args.pass.number (sees c.args.pass) (g.L.Link.seen c.args.link.now) (g.C.Clock.moments c.args.clock.now) r (g.L.Link.seen c.read_on.new.link) c.read_on.new.frames c.in-Fed.ensures.0 (ran_turn g.D.Disk.tells c.args.pass.number (sees c.args.pass) (g.L.Link.seen c.args.link.now) (g.C.Clock.moments c.args.clock.now) q r c.serving.invariant.ran _ c.serving.invariant.few t) c.in-Fed.ensures.3 c.in-Fed.ensures.4 t.to.1;
       desk = c.turn-next.ensures.desk;
       number = c.turn-next.ensures.pass ∙ c.serving.invariant.number;
-      room = record { asks = c.turn-next.ensures.room.asks; ats = c.turn-next.ensures.room.ats; out = c.turn-next.ensures.room.out; moments = c.turn-next.ensures.room.moments; marks = c.turn-next.ensures.room.marks };
+      room = record { asks = c.turn-next.ensures.room.asks; outside = c.turn-next.ensures.room.outside; ats = c.turn-next.ensures.room.ats; out = c.turn-next.ensures.room.out; moments = c.turn-next.ensures.room.moments; marks = c.turn-next.ensures.room.marks };
       few = few_more g.D.Disk.tells c.args.pass.number (sees c.args.pass) (g.L.Link.seen c.args.link.now) (g.C.Clock.moments c.args.clock.now) q r c.serving.invariant.few t;
     }
 
