@@ -12,11 +12,14 @@ use Rattle.nb_buy.specs.declared.ended.Lost.TheVariants as lost
 use Rattle.nb_buy.specs.declared.ended.BuyEnd.{BuyEnd}
 use Rattle.nb_buy.specs.declared.ended.BuyEnd.TheVariants as ends
 use Rattle.nb_buy.specs.declared.sides.Sides.{Sides}
-use Rattle.nb_buy.specs.Run.{Act, Waits, outset, Obeys}
+use Rattle.nb_units.specs.Frames.{Frame}
+use Rattle.nb_buy.specs.declared.peer.Peer.{Peer}
+use Rattle.nb_buy.specs.Run.{Act, Hears, Waits, outset, Obeys}
 use Rattle.nb_buy.specs.Lines.{Lines}
 use Rattle.nb_buy.specs.Bought.{Point, point, Traded, AreFew, Finished, TradeLost, Around, around, first_point, EndsAt, Bought, WritesGoods}
 use Rattle.nb_buy.specs.Steps.{AreBegun, Finishes, lines_of}
 use Rattle.nb_buy.proofs.OverLines.{line_none}
+use Rattle.nb_buy.proofs.Failing.{all_first}
 use Rattle.nb_buy.proofs.Rounds.{traded_none, few_none}
 
 module _ {D : Type 0} (tells : DiskTells D) (s : Start) where
@@ -31,8 +34,12 @@ module _ {D : Type 0} (tells : DiskTells D) (s : Start) where
     obeys = subst (Obeys s p.buyer outset) (sym (append-nil t.acts)) t.obeys;
     loses = record { journal = refl; buyer = inl refl; house = line_none q.lines.house; seller = line_none q.lines.seller };
     asks = λ e awaits. absurd (apart e);
+    hears = λ from f e. absurd (silent from f e);
   }
     where
+      silent : (from : Peer) (f : Frame) → ◌≡◌ {A = List Act} [] (Hears from f ∷ []) → ⊥
+      silent from f e = cc
+
       apart : ◌≡◌ {A = List Act} [] (Waits ∷ []) → ⊥
       apart e = cc
 
@@ -40,7 +47,7 @@ module _ {D : Type 0} (tells : DiskTells D) (s : Start) where
   bought_nothing a = record {
     last = first_point a;
     last_is = record { journal = refl; buyer = refl; house = refl; seller = refl };
-    ended = lost_nothing (first_point a) (first_point a) (traded_none tells s (first_point a)) (few_none tells s (first_point a));
+    ended = lost_nothing (first_point a) (first_point a) (traded_none tells s (first_point a) (all_first a)) (few_none tells s (first_point a) (all_first a));
   }
 
   -- the lines at the outset are those of what is held beside the links then

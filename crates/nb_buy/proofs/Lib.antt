@@ -3,6 +3,7 @@ pub mod OverLines
 pub mod Carrying
 pub mod Rows
 pub mod HowFar
+pub mod Failing
 pub mod Rounds
 pub mod NextTime
 pub mod Ends

@@ -16,6 +16,8 @@ use Rattle.nb_wire.specs.Sent.{WroteOn}
 use Rattle.nb_wire.specs.declared.sending.Sent.{Sent}
 use Rattle.nb_wire.specs.declared.sending.Sent.TheVariants.{All, Failed}
 use Rattle.nb_wallet.specs.declared.wallet.Start.{Start}
+use Rattle.nb_consumer.specs.declared.phase.Phase.{Phase}
+use Rattle.nb_consumer.specs.declared.phase.Phase.TheVariants as phase
 use Rattle.nb_consumer.specs.Goods.{IsOpen, HasEnded}
 use Rattle.nb_consumer.specs.State.{Buyer}
 use Rattle.nb_consumer.specs.Table.{step_of}
@@ -30,11 +32,12 @@ use Rattle.nb_buy.specs.declared.ended.TheConstants.{MOST_FRAMES}
 use Rattle.nb_buy.specs.declared.ended.Lost.{Lost}
 use Rattle.nb_buy.specs.Run.{Act, Starts, Hears, Waits, act_row, asks, step_at, peer_of, bytes_in, frames_on, frames_of, phase_for, IsOrdered, Way, outset, awaited, onward, MayAct, Obeys}
 use Rattle.nb_buy.specs.Lines.{Lines, line_at, HasRefusal}
-use Rattle.nb_buy.specs.Bought.{Point, Went, way_of, AskedFor, IsSpoilt, HadItsTurn, Traded, AreFew, Finished, Stopped, Spent, Loses, TradeLost}
-use Rattle.nb_buy.specs.Steps.{Carries, HeardAs, Listens, Ran, peer_in, OverIs, IsOfSeller, IsKnown, next_sent, next_behind, next_heard, frames_heard}
+use Rattle.nb_buy.specs.Bought.{Point, Went, way_of, AskedFor, IsSpoilt, FailedWithin, HadItsTurn, Traded, AreFew, Finished, Stopped, Spent, Loses, TradeLost}
+use Rattle.nb_buy.specs.Steps.{Carries, HeardAs, Listens, Ran, peer_in, OverIs, IsClear, IsOfSeller, IsKnown, next_sent, next_behind, next_heard, frames_heard}
 use Rattle.nb_buy.proofs.Runs.{way_both, obeys_both, frames_both, heard_both}
 use Rattle.nb_buy.proofs.OverLines.{sent_same, refusal_either, refusal_later, over_from}
 use Rattle.nb_buy.proofs.Carrying.{went_none, went_both}
+use Rattle.nb_buy.proofs.Failing.{AllSent, sent_or_failed, HearsNoFailed, hears_sent, clear_move, clear_on, line_went, failed_on, failed_still}
 use Rattle.nb_buy.proofs.Rows.{refusal_row, row_known, started_known}
 use Rattle.nb_buy.proofs.HowFar.{open_known}
 
@@ -64,6 +67,17 @@ sent_on from (step.Ignored why) old new wrote fails = inl (sym (sent_same old.se
 sent_on from (step.Move keep to.Server sent) old new wrote fails = inl (sym (sent_same old.seller.sent new.seller.sent old.seller.wire.link new.seller.wire.link wrote) ∙ fails)
 sent_on from (step.Move keep (to.Merchant party) sent) old new wrote fails = inr (subst (λ (so : Sent). IsOfSeller (next_sent Seller so)) (sym fails) tt)
 sent_on from (step.Move keep (to.Consumer party) sent) old new wrote fails = inr (subst (λ (so : Sent). IsOfSeller (next_sent Seller so)) (sym fails) tt)
+
+-- a purchase that was ordered is going on
+ordered_open : (told : Option Phase) → IsOrdered told → IsOpen told
+ordered_open (Some phase.Ordered) is = tt
+ordered_open None is = absurd is
+ordered_open (Some phase.Ticketing) is = absurd is
+ordered_open (Some phase.Asked) is = absurd is
+ordered_open (Some phase.Wanted) is = absurd is
+ordered_open (Some (phase.Paid len)) is = absurd is
+ordered_open (Some (phase.Refused code)) is = absurd is
+ordered_open (Some phase.Foul) is = absurd is
 
 abbrev pub next_rank : Next → ℕ
 next_rank (next.Awaits peer) = 1
@@ -111,12 +125,13 @@ module _ {D : Type 0} (tells : DiskTells D) (s : Start) where
   }
 
   -- an act by which the house is not asked for want of an answer
-  traded_on : (p q r : Point D) (t : Traded tells s p q) (a : Act) → MayAct (phase_for s q.buyer) (way_of s p.buyer t.acts) a → Went tells s q r (a ∷ [])
+  traded_on : (p q r : Point D) (t : Traded tells s p q) (a : Act) → MayAct (phase_for s q.buyer) (way_of s p.buyer t.acts) a → Went tells s q r (a ∷ []) → HearsNoFailed q.lines a
       → ((way_of s p.buyer (t.acts ++ a ∷ [])).asked ≡ true → (way_of s p.buyer t.acts).asked ≡ true) → Traded tells s p r
-  traded_on p q r t a may went stays = record {
+  traded_on p q r t a may went none stays = record {
     acts = t.acts ++ a ∷ [];
     obeys = obeys_on p q t.acts a t.obeys t.went may;
     went = went_both tells s p q r t.acts (a ∷ []) t.went went;
+    failed = failed_on tells s p q r t a went none;
     asked_for = λ is. asked_more p q r t.acts (a ∷ []) (t.asked_for (stays is)) went;
   }
 
@@ -126,15 +141,22 @@ module _ {D : Type 0} (tells : DiskTells D) (s : Start) where
     acts = t.acts;
     obeys = t.obeys;
     went = subst (Went tells s p r) (append-nil t.acts) (went_both tells s p q r t.acts [] t.went went);
+    failed = failed_still tells s p q r t went;
     asked_for = λ is. subst (AskedFor tells s p r) (append-nil t.acts) (asked_more p q r t.acts [] (t.asked_for is) went);
   }
 
-  pub traded_none : (p : Point D) → Traded tells s p p
-  traded_none p = record { acts = []; obeys = tt; went = went_none tells s p; asked_for = λ is. absurd (false≢true is) }
+  pub traded_none : (p : Point D) → AllSent p.lines → Traded tells s p p
+  traded_none p all = record {
+    acts = [];
+    obeys = tt;
+    went = went_none tells s p;
+    failed = λ peer fails. absurd (sent_or_failed (all peer) fails);
+    asked_for = λ is. absurd (false≢true is);
+  }
 
-  pub few_none : (p : Point D) → AreFew (traded_none p).acts
+  pub few_none : (p : Point D) (all : AllSent p.lines) → AreFew (traded_none p all).acts
   unfolding traded_none
-  few_none p = omega arith
+  few_none p all = omega arith
 
   known_on : (q r : Point D) (a : Act) → Went tells s q r (a ∷ []) → IsKnown (phase_for s q.buyer) → IsKnown (phase_for s r.buyer)
   known_on q r a went known = subst (λ (b : Buyer). IsKnown (phase_for s b)) (sym went.buyer) (row_known q.buyer s.transaction (act_row s q.buyer a) known)
@@ -165,58 +187,67 @@ module _ {D : Type 0} (tells : DiskTells D) (s : Start) where
 
   -- ---- at the outset
 
-  pub ran_started : (p q : Point D) (n : Next) → phase_for s p.buyer ≡ None → p.lines.seller.sent ≡ All → Carries tells s p q House Starts (Ok n) → Ran tells s p q false n 0
+  -- behind an act that hears nothing
+  failed_first : (p q : Point D) (a : Act) → AllSent p.lines → Went tells s p q (a ∷ []) → (peer : Peer) → (line_at peer q.lines).sent ≡ Failed
+      → FailedWithin s p.buyer peer (line_at peer p.lines) (line_at peer q.lines) (a ∷ [])
+  unfolding traded_none
+  failed_first p q a all went = failed_on tells s p p q (traded_none p all) a went (λ peer fails. absurd (sent_or_failed (all peer) fails))
+
+  pub ran_started : (p q : Point D) (n : Next) → phase_for s p.buyer ≡ None → AllSent p.lines → Carries tells s p q House Starts (Ok n) → Ran tells s p q false n 0
   ran_started p q n none all c =
       let moves = start_moves p.buyer s none in
       record {
-        traded = record { acts = Starts ∷ []; obeys = ((refl, none), tt); went = c.0; asked_for = λ is. absurd (false≢true is) };
+        traded = record { acts = Starts ∷ []; obeys = ((refl, none), tt); went = c.0; failed = failed_first p q Starts all c.0; asked_for = λ is. absurd (false≢true is) };
         awaits = awaits_move None House (step_at s p.buyer Starts) q.lines _ to.Server _ moves ∙ ap (λ (x : Next). Some (peer_in x)) (sym c.1);
         asked_is = refl;
         known = subst (λ (b : Buyer). IsKnown (phase_for s b)) (sym c.0.buyer) (started_known p.buyer s none);
         over = subst (OverIs p q (Starts ∷ [])) (sym c.1) (over_on p q (Starts ∷ []) House (step_at s p.buyer Starts));
-        told = told_first p q Starts n all c (λ has. absurd has);
+        clear = subst (IsClear q.lines false) (sym c.1) (clear_move House (step_at s p.buyer Starts) q.lines false _ to.Server _ moves refl);
+        told = told_first p q Starts n (all Seller) c (λ has. absurd has);
         count = refl;
       }
 
-  pub ran_waited : (p q : Point D) (n : Next) → IsOpen (phase_for s p.buyer) → p.lines.seller.sent ≡ All → Carries tells s p q House Waits (Ok n) → Ran tells s p q false n 0
+  pub ran_waited : (p q : Point D) (n : Next) → IsOpen (phase_for s p.buyer) → AllSent p.lines → Carries tells s p q House Waits (Ok n) → Ran tells s p q false n 0
   ran_waited p q n going all c =
       let moves = silent_moves p.buyer s.transaction going in
       record {
-        traded = record { acts = Waits ∷ []; obeys = (going, tt); went = c.0; asked_for = λ is. absurd (false≢true is) };
+        traded = record { acts = Waits ∷ []; obeys = (going, tt); went = c.0; failed = failed_first p q Waits all c.0; asked_for = λ is. absurd (false≢true is) };
         awaits = awaits_move None House (step_at s p.buyer Waits) q.lines None moves.0 moves.1 moves.2 ∙ ap (λ (x : Next). Some (peer_in x)) (sym c.1);
         asked_is = refl;
         known = known_on p q Waits c.0 (open_known (phase_for s p.buyer) going);
         over = subst (OverIs p q (Waits ∷ [])) (sym c.1) (over_on p q (Waits ∷ []) House (step_at s p.buyer Waits));
-        told = told_first p q Waits n all c (λ has. absurd has);
+        clear = subst (IsClear q.lines false) (sym c.1) (clear_move House (step_at s p.buyer Waits) q.lines false None moves.0 moves.1 moves.2 refl);
+        told = told_first p q Waits n (all Seller) c (λ has. absurd has);
         count = refl;
       }
 
-  lost_first : (p q : Point D) (a : Act) (why : Lost) → AreFew (a ∷ []) → MayAct (phase_for s p.buyer) outset a → Loses tells s p q (a ∷ []) why → TradeLost tells s p q why
+  lost_first : (p q : Point D) (a : Act) (why : Lost) → AllSent p.lines → AreFew (a ∷ []) → MayAct (phase_for s p.buyer) outset a → Loses tells s p q (a ∷ []) why → TradeLost tells s p q why
   unfolding traded_none
-  lost_first p q a why few may loses = record {
+  lost_first p q a why all few may loses = record {
     mid = p;
-    traded = traded_none p;
+    traded = traded_none p all;
     last = a ∷ [];
     one = omega arith;
     few = few;
     obeys = (may, tt);
     loses = loses;
     asks = λ e awaits. absurd (apart awaits);
+    hears = λ from f e. all from;
   }
     where
       apart : ◌≡◌ {A = Option Peer} None (Some Seller) → ⊥
       apart e = cc
 
-  pub lost_started : (p q : Point D) (why : Lost) → phase_for s p.buyer ≡ None → Carries tells s p q House Starts (Err why) → TradeLost tells s p q why
-  lost_started p q why none loses = lost_first p q Starts why (omega arith) (refl, none) loses
+  pub lost_started : (p q : Point D) (why : Lost) → phase_for s p.buyer ≡ None → AllSent p.lines → Carries tells s p q House Starts (Err why) → TradeLost tells s p q why
+  lost_started p q why none all loses = lost_first p q Starts why all (omega arith) (refl, none) loses
 
-  pub lost_waited : (p q : Point D) (why : Lost) → IsOpen (phase_for s p.buyer) → Carries tells s p q House Waits (Err why) → TradeLost tells s p q why
-  lost_waited p q why going loses = lost_first p q Waits why (omega arith) going loses
+  pub lost_waited : (p q : Point D) (why : Lost) → IsOpen (phase_for s p.buyer) → AllSent p.lines → Carries tells s p q House Waits (Err why) → TradeLost tells s p q why
+  lost_waited p q why going all loses = lost_first p q Waits why all (omega arith) going loses
 
   -- nothing is done where the purchase is over at the outset
-  pub finished_first : (p : Point D) → HasEnded (phase_for s p.buyer) → Finished tells s p p
+  pub finished_first : (p : Point D) → AllSent p.lines → HasEnded (phase_for s p.buyer) → Finished tells s p p
   unfolding traded_none
-  finished_first p over = record { traded = traded_none p; few = omega arith; over = over }
+  finished_first p all over = record { traded = traded_none p all; few = omega arith; over = over }
 
   -- ---- the house is asked
 
@@ -226,18 +257,20 @@ module _ {D : Type 0} (tells : DiskTells D) (s : Start) where
       subst (λ (w : Way). MayAct (phase_for s q.buyer) w Waits) (λ i. way (sym ran.awaits i) (sym ran.asked_is i)) (ordered, refl)
     where
       way : Option Peer → Bool → Way
-      way awaits asked = record { awaits = awaits; asked = asked }
+      way awaits asked = record { awaits = awaits; asked = asked; refused = (way_of s p.buyer ran.traded.acts).refused }
 
   pub ran_asks : (p q r : Point D) (why : Over) (n : Next) (read : ℕ) → Ran tells s p q false (next.Over Seller why) read → IsOrdered (phase_for s q.buyer)
       → Carries tells s q r Seller Waits (Ok n) → Ran tells s p r true n read
   ran_asks p q r why n read ran ordered c =
       let acts = ran.traded.acts in
       let way : way_of s p.buyer (acts ++ Waits ∷ []) ≡ onward (way_of s p.buyer acts) Waits (step_at s q.buyer Waits) = way_on p q acts Waits ran.traded.went in
+      let moves = silent_moves q.buyer s.transaction (ordered_open (phase_for s q.buyer) ordered) in
       record {
         traded = record {
           acts = acts ++ Waits ∷ [];
           obeys = obeys_on p q acts Waits ran.traded.obeys ran.traded.went (may_wait p q why read ran ordered);
           went = went_both tells s p q r acts (Waits ∷ []) ran.traded.went c.0;
+          failed = failed_on tells s p q r ran.traded Waits c.0 (λ peer fails. refl);
           asked_for = λ is. record {
             before = acts;
             later = [];
@@ -254,6 +287,8 @@ module _ {D : Type 0} (tells : DiskTells D) (s : Start) where
         asked_is = ap (λ (w : Way). w.asked) way ∙ ap (asks (way_of s p.buyer acts).asked Waits) ran.awaits;
         known = known_on q r Waits c.0 ran.known;
         over = subst (OverIs p r (acts ++ Waits ∷ [])) (sym c.1) (over_on p r (acts ++ Waits ∷ []) Seller (step_at s q.buyer Waits));
+        clear = subst (λ (x : Next). IsClear r.lines (way_of s p.buyer (acts ++ Waits ∷ [])).refused x) (sym c.1)
+            (clear_move Seller (step_at s q.buyer Waits) r.lines (way_of s p.buyer (acts ++ Waits ∷ [])).refused None moves.0 moves.1 moves.2 (ap (λ (w : Way). w.refused) way));
         told = λ spoilt. inl refl;
         count = count_on acts Waits read ran.count ∙ none_more read;
       }
@@ -272,7 +307,11 @@ module _ {D : Type 0} (tells : DiskTells D) (s : Start) where
     obeys = obeys_on p q ran.traded.acts Waits ran.traded.obeys ran.traded.went (may_wait p q why read ran ordered);
     loses = loses;
     asks = λ e awaits. (why, ran.over);
+    hears = λ from f e. absurd (apart from f e);
   }
+    where
+      apart : (from : Peer) (f : Frame) → Waits ∷ [] ≡ Hears from f ∷ [] → ⊥
+      apart from f e = cc
 
   -- ---- a frame is heard
 
@@ -280,11 +319,12 @@ module _ {D : Type 0} (tells : DiskTells D) (s : Start) where
   record Led (p q r : Point D) (acts : List Act) (from : Peer) (f : Frame) (n : Next) : Type 0 where
     awaits : awaited (Some from) (step_at s q.buyer (Hears from f)) ≡ Some (peer_in n)
     over : OverIs p r (acts ++ Hears from f ∷ []) n
+    clear : IsClear r.lines (f.kind == REFUSED_REPLY) n
     spoilt : IsSpoilt r (acts ++ Hears from f ∷ []) → IsSpoilt q acts ⊎ IsOfSeller n
 
-  led : (p q r : Point D) (acts : List Act) (from : Peer) (f : Frame) → Went tells s q r (Hears from f ∷ [])
+  led : (p q r : Point D) (acts : List Act) (from : Peer) (f : Frame) → Went tells s q r (Hears from f ∷ []) → (line_at from q.lines).sent ≡ All
       → Led p q r acts from f (next_heard from f.kind (next_behind from (step_at s q.buyer (Hears from f)) r.lines))
-  led p q r acts from f went = by (f.kind == REFUSED_REPLY) refl
+  led p q r acts from f went all = by (f.kind == REFUSED_REPLY) refl
     where
       behind : Next
       behind = next_behind from (step_at s q.buyer (Hears from f)) r.lines
@@ -309,11 +349,13 @@ module _ {D : Type 0} (tells : DiskTells D) (s : Start) where
           record {
             awaits = ap (awaited (Some from)) ignored;
             over = subst HasRefusal (sym (frames_both from acts (Hears from f ∷ []))) (refusal_later (frames_on from acts) (frames_on from (Hears from f ∷ [])) (is_refused from kind));
+            clear = tt;
             spoilt = spoilt_on p q r acts (Hears from f) from (next.Over from over.Refused) (λ now. absurd (subst IsOfSeller (ap (λ (st : Step). next_behind from st r.lines) ignored) now)) went (of_seller from);
           }
       by false is = record {
         awaits = awaits_on from (step_at s q.buyer (Hears from f)) r.lines;
         over = over_on p r (acts ++ Hears from f ∷ []) from (step_at s q.buyer (Hears from f));
+        clear = clear_on from (step_at s q.buyer (Hears from f)) q.lines r.lines (f.kind == REFUSED_REPLY) (λ peer. (line_went tells s q r (Hears from f ∷ []) peer went).wrote) all is;
         spoilt = spoilt_on p q r acts (Hears from f) from behind (λ now. now) went (λ has. absurd (false≢true (sym is ∙ eq-eqb f.kind REFUSED_REPLY (not_refused from has))));
       }
 
@@ -336,6 +378,7 @@ module _ {D : Type 0} (tells : DiskTells D) (s : Start) where
             known = subst (λ (b : Buyer). IsKnown (phase_for s b)) (sym h.0.buyer) ran.known;
             over = subst (OverIs p r ran.traded.acts) (sym h.1.1)
                 (over_from (line_at from p.lines) (line_at from q.lines) (line_at from r.lines) (frames_on from ran.traded.acts) [] (over.Ended h.1.0) (count_at from p q ran.traded.acts ran.traded.went) h.1.2);
+            clear = subst (IsClear r.lines (way_of s p.buyer ran.traded.acts).refused) (sym h.1.1) tt;
             told = λ spoilt. ⊎_elim (λ is. inl is) (λ now. absurd now) (ran.told (⊎_elim (λ has. inl has) (λ fails. inr (same ∙ fails)) spoilt));
             count = ran.count ∙ sym (e ∙ none_more read);
           }
@@ -344,14 +387,15 @@ module _ {D : Type 0} (tells : DiskTells D) (s : Start) where
           none_more k = omega arith
       by (Some f) h e =
           let acts = ran.traded.acts in
-          let l = subst (Led p q r acts from f) (sym h.1) (led p q r acts from f h.0) in
+          let l = subst (Led p q r acts from f) (sym h.1) (led p q r acts from f h.0 ran.clear.0) in
           let way : way_of s p.buyer (acts ++ Hears from f ∷ []) ≡ onward (way_of s p.buyer acts) (Hears from f) (step_at s q.buyer (Hears from f)) = way_on p q acts (Hears from f) ran.traded.went in
           record {
-            traded = traded_on p q r ran.traded (Hears from f) (ran.awaits, going) h.0 (λ is. sym (ap (λ (w : Way). w.asked) way) ∙ is);
+            traded = traded_on p q r ran.traded (Hears from f) (ran.awaits, going, ran.clear.1) h.0 (hears_sent q.lines from f ran.clear.0) (λ is. sym (ap (λ (w : Way). w.asked) way) ∙ is);
             awaits = ap (λ (w : Way). w.awaits) way ∙ ap (λ (o : Option Peer). awaited o (step_at s q.buyer (Hears from f))) ran.awaits ∙ l.awaits;
             asked_is = ap (λ (w : Way). w.asked) way ∙ ran.asked_is;
             known = known_on q r (Hears from f) h.0 ran.known;
             over = l.over;
+            clear = subst (λ (test : Bool). IsClear r.lines test n) (sym (ap (λ (w : Way). w.refused) way)) l.clear;
             told = λ spoilt. ⊎_elim (λ before. ⊎_elim (λ is. inl is) (λ now. absurd now) (ran.told before)) (λ now. inr now) (l.spoilt spoilt);
             count = count_on acts (Hears from f) read ran.count ∙ sym e;
           }
@@ -364,11 +408,15 @@ module _ {D : Type 0} (tells : DiskTells D) (s : Start) where
     last = Hears from heard.0 ∷ [];
     one = omega arith;
     few = omega (arith, most, count_on ran.traded.acts (Hears from heard.0) read ran.count);
-    obeys = obeys_on p q ran.traded.acts (Hears from heard.0) ran.traded.obeys ran.traded.went (ran.awaits, going);
+    obeys = obeys_on p q ran.traded.acts (Hears from heard.0) ran.traded.obeys ran.traded.went (ran.awaits, going, ran.clear.1);
     loses = heard.1;
     asks = λ e awaits. absurd (apart e);
+    hears = λ peer f e. subst (λ (x : Peer). (line_at x q.lines).sent ≡ All) (same peer f e) ran.clear.0;
   }
     where
+      same : (peer : Peer) (f : Frame) → Hears from heard.0 ∷ [] ≡ Hears peer f ∷ [] → from ≡ peer
+      same peer f e = cc
+
       apart : Hears from heard.0 ∷ [] ≡ Waits ∷ [] → ⊥
       apart e = cc
 

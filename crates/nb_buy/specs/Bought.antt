@@ -14,7 +14,7 @@ use Rattle.nb_consumer.specs.declared.phase.Phase.TheVariants as phase
 use Rattle.nb_consumer.specs.State.{Buyer, purchase_of}
 use Rattle.nb_consumer.specs.Goods.{IsOpen, HasEnded, goods_in}
 use Rattle.nb_wire.specs.Sent.{SentPart}
-use Rattle.nb_wire.specs.declared.sending.Sent.TheVariants.{Failed}
+use Rattle.nb_wire.specs.declared.sending.Sent.TheVariants.{All, Failed}
 use Rattle.nb_buy.specs.declared.peer.Peer.{Peer}
 use Rattle.nb_buy.specs.declared.peer.Peer.TheVariants.{House, Seller}
 use Rattle.nb_buy.specs.declared.peer.Over.{Over}
@@ -23,8 +23,9 @@ use Rattle.nb_buy.specs.declared.ended.Lost.{Lost}
 use Rattle.nb_buy.specs.declared.ended.Lost.TheVariants as lost
 use Rattle.nb_buy.specs.declared.ended.BuyEnd.{BuyEnd}
 use Rattle.nb_buy.specs.declared.ended.BuyEnd.TheVariants as ends
-use Rattle.nb_buy.specs.Run.{Act, Waits, buyer_behind, kept_by, AreSpelled, bytes_to, frames_on, frames_of, phase_for, IsOrdered, Way, outset, way_behind, Obeys}
-use Rattle.nb_buy.specs.Lines.{Lines, line_at, begun, LineGoes, HasRefusal, IsOver}
+use Rattle.nb_units.specs.Frames.{Frame}
+use Rattle.nb_buy.specs.Run.{Act, Hears, Waits, buyer_behind, kept_by, AreSpelled, bytes_to, frames_on, frames_of, phase_for, IsOrdered, Way, outset, way_behind, Obeys}
+use Rattle.nb_buy.specs.Lines.{Line, Lines, line_at, begun, LineGoes, HasRefusal, IsOver}
 
 -- what a purchase is made with
 pub record Point (D : Type 0) : Type 0 where
@@ -78,11 +79,24 @@ HadItsTurn told asked Seller = IsOrdered told → asked ≡ true
 
 -- ---- how it went
 
--- acts that each may come where it comes were carried out
+-- A write to a peer failed: it was of one of these acts or of a later one, what those before it send to the peer was sent, and behind it no frame of that peer was heard
+pub record FailedWithin (s : Start) (b : Buyer) (peer : Peer) (old new : Line) (acts : List Act) : Type 0 where
+  pub before : List Act
+  pub act : Act
+  pub later : List Act
+  pub mid : Line
+  pub acts_are : acts ≡ before ++ act ∷ later
+  pub first : LineGoes old mid (frames_on peer before) (bytes_to peer s b before)
+  pub all : mid.sent ≡ All
+  pub more : LineGoes mid new (frames_on peer (act ∷ later)) (bytes_to peer s (buyer_behind s b before) (act ∷ later))
+  pub unheard : frames_on peer later ≡ []
+
+-- acts that each may come where it comes were carried out, and no peer was heard behind a write to it that failed
 pub record Traded {D : Type 0} (tells : DiskTells D) (s : Start) (p q : Point D) : Type 0 where
   pub acts : List Act
   pub obeys : Obeys s p.buyer outset acts
   pub went : Went tells s p q acts
+  pub failed : (peer : Peer) → (line_at peer q.lines).sent ≡ Failed → FailedWithin s p.buyer peer (line_at peer p.lines) (line_at peer q.lines) acts
   pub asked_for : (way_of s p.buyer acts).asked ≡ true → AskedFor tells s p q acts
 
 -- no more frames were heard than are read for one purchase
@@ -137,7 +151,8 @@ pub record Loses {D : Type 0} (tells : DiskTells D) (s : Start) (p q : Point D) 
   pub house : LineGoes p.lines.house q.lines.house (frames_on House acts) []
   pub seller : LineGoes p.lines.seller q.lines.seller (frames_on Seller acts) []
 
--- acts were carried out, and the last, if there is one, was not. Where it asks the house for want of the seller's answer, nothing more came of that
+-- Acts were carried out, and the last, if there is one, was not. Where it asks the house for want of the seller's answer, nothing more came of that, and where it
+-- hears a peer, no write to that failed
 pub record TradeLost {D : Type 0} (tells : DiskTells D) (s : Start) (p q : Point D) (why : Lost) : Type 0 where
   pub mid : Point D
   pub traded : Traded tells s p mid
@@ -147,6 +162,7 @@ pub record TradeLost {D : Type 0} (tells : DiskTells D) (s : Start) (p q : Point
   pub obeys : Obeys s p.buyer outset (traded.acts ++ last)
   pub loses : Loses tells s mid q last why
   pub asks : last ≡ Waits ∷ [] → (way_of s p.buyer traded.acts).awaits ≡ Some Seller → (over : Over) × IsOverAt p mid traded.acts Seller over
+  pub hears : (from : Peer) (f : Frame) → last ≡ Hears from f ∷ [] → (line_at from mid.lines).sent ≡ All
 
 -- ---- buying
 

@@ -1,7 +1,8 @@
 -- A purchase as a run: what is done, one thing after another, what each of these keeps and sends, and what may come next.
-use Rattle.std.specs.Prelude.{◌≡◌, ℕ, Bool, true, false, List, [], ◌∷◌, Option, Some, None, Result, Ok, Err, IfOk}
+use Rattle.std.specs.Prelude.{◌≡◌, ℕ, ◌==◌, Bool, true, false, List, [], ◌∷◌, Option, Some, None, Result, Ok, Err, IfOk}
 use Rattle.std.specs.List.{flat_map}
 use Rattle.nb_units.specs.Frames.{Frame}
+use Rattle.nb_units.specs.declared.frames.TheConstants.{REFUSED_REPLY}
 use Rattle.nb_msgs.specs.Bodies.{message_bytes}
 use Rattle.nb_msgs.specs.Reading.{message_of}
 use Rattle.nb_msgs.specs.declared.message.Message.{Message}
@@ -125,14 +126,15 @@ abbrev pub IsOrdered : Option Phase → Type 0
 IsOrdered (Some phase.Ordered) = Unit {0}
 IsOrdered other = ⊥
 
--- whose answer is waited for, and whether the house was asked for want of the seller's
+-- whose answer is waited for, whether the house was asked for want of the seller's, and whether a refusal came just now
 pub record Way : Type 0 where
   pub awaits : Option Peer
   pub asked : Bool
+  pub refused : Bool
 
 -- nothing was done yet
 abbrev pub outset : Way
-outset = record { awaits = None; asked = false }
+outset = record { awaits = None; asked = false; refused = false }
 
 -- behind a step: the answer of the peer that a message is sent to, and else of the one before
 abbrev pub awaited : Option Peer → Step → Option Peer
@@ -148,9 +150,15 @@ asks before Waits (Some Seller) = true
 asks before Waits (Some House) = before
 asks before Waits None = before
 
+-- an act hears a refusal
+abbrev pub is_refusal : Act → Bool
+is_refusal Starts = false
+is_refusal (Hears from f) = f.kind == REFUSED_REPLY
+is_refusal Waits = false
+
 -- behind one act, which does this
 abbrev pub onward : Way → Act → Step → Way
-onward w a done = record { awaits = awaited w.awaits done; asked = asks w.asked a w.awaits }
+onward w a done = record { awaits = awaited w.awaits done; asked = asks w.asked a w.awaits; refused = is_refusal a }
 
 -- behind acts
 abbrev pub way_behind : Start → Buyer → Way → List Act → Way
@@ -164,10 +172,11 @@ MayWait told None asked = IsOpen told
 MayWait told (Some House) asked = ⊥
 MayWait told (Some Seller) asked = IsOrdered told × (asked ≡ false)
 
--- a purchase that is not known is started, and a frame is read from the peer whose answer is waited for, while the purchase is going on
+-- A purchase that is not known is started, and a frame is read from the peer whose answer is waited for, while the purchase is going on and no refusal came of
+-- that peer
 abbrev pub MayAct : Option Phase → Way → Act → Type 0
 MayAct told w Starts = (w.awaits ≡ None) × (told ≡ None)
-MayAct told w (Hears from f) = (w.awaits ≡ Some from) × IsOpen told
+MayAct told w (Hears from f) = (w.awaits ≡ Some from) × IsOpen told × (w.refused ≡ false)
 MayAct told w Waits = MayWait told w.awaits w.asked
 
 -- each act may come where it comes

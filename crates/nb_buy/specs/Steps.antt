@@ -205,6 +205,11 @@ abbrev pub OverIs : {D : Type 0} → Point D → Point D → List Act → Next �
 OverIs p q acts (next.Awaits peer) = Unit {0}
 OverIs p q acts (next.Over peer why) = IsOverAt p q acts peer why
 
+-- an answer that is waited for was asked for: no write to its peer failed, and the last frame was no refusal
+abbrev pub IsClear : Lines → Bool → Next → Type 0
+IsClear lines refused (next.Awaits peer) = ((line_at peer lines).sent ≡ All) × (refused ≡ false)
+IsClear lines refused (next.Over peer why) = Unit {0}
+
 -- nothing more comes of the seller
 abbrev pub IsOfSeller : Next → Type 0
 IsOfSeller (next.Awaits peer) = ⊥
@@ -223,6 +228,7 @@ pub record Ran {D : Type 0} (tells : DiskTells D) (s : Start) (p q : Point D) (a
   pub asked_is : (way_of s p.buyer traded.acts).asked ≡ asked
   pub known : IsKnown (phase_for s q.buyer)
   pub over : OverIs p q traded.acts next
+  pub clear : IsClear q.lines (way_of s p.buyer traded.acts).refused next
   pub told : IsSpoilt q traded.acts → (asked ≡ true) ⊎ IsOfSeller next
   pub count : length (frames_of traded.acts) ≡ read
 

@@ -9,8 +9,8 @@
 //! What is done is seen as a list of acts (`specs/Run.antt`): a start, a frame that is heard, a word that nothing is waited for any more. What each keeps and sends
 //! is the row of the consumer's table, and which may come next is a rule over the acts alone, so that the order in which frames were read is the list itself. What
 //! is promised (`specs/Bought.antt`): the journal grew by what the acts of such a list keep; the frames that they hear are the first that came over each link, and
-//! what they send was sent to each, up to a write that failed; and each end says exactly why nothing more was done. Where a step could not be taken nothing of it
-//! was sent. [`laws`] say what a stop leaves, also where an append failed, that a wallet goes on from there next time, that a purchase that was paid has the same
+//! what they send was sent to each, up to a write that failed; no peer is heard behind its refusal or behind a write to it that failed; and each end says exactly
+//! why nothing more was done. Where a step could not be taken nothing of it was sent. [`laws`] say what a stop leaves, also where an append failed, that a wallet goes on from there next time, that a purchase that was paid has the same
 //! goods each time, that one of which a receipt was heard is over as that says, and that one whose links give the frames that bring it to its end comes to it.
 //!
 //! That a message is sent behind its item is said so: where an append fails nothing of that act was sent. Links and disks tell no time that they share.

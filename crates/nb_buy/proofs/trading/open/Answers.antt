@@ -1,6 +1,7 @@
 use Rattle.nb_buy.specs.Bought.{point}
 use Rattle.nb_buy.specs.Run.{phase_for}
 use Rattle.nb_buy.specs.Steps.{lines_of}
+use Rattle.nb_buy.proofs.Failing.{all_begun}
 use Rattle.nb_buy.proofs.HowFar.{going_is}
 use Rattle.nb_buy.proofs.Rounds.{ran_started, ran_waited, lost_started, lost_waited, finished_first}
 use Rattle.nb_buy.proofs.trading.open.Goals as goal
@@ -10,31 +11,31 @@ returns-in-Ok-clause-opens g c =
     ran_started g.D.Disk.tells c.args.start.now
     (point c.args.journal.now c.args.consumer.now (lines_of (g.L.Link.seen c.args.server.now) (g.L.Link.seen c.args.seller.now) c.args.sides.now))
     (point c.begin.new.journal c.begin.new.consumer (lines_of (g.L.Link.seen c.begin.new.server) (g.L.Link.seen c.begin.new.seller) c.begin.new.sides))
-    c.in-Ok.next c.in-Unknown.ensures c.requires.begun.seller_sent c.in-Ok.ensures.carries
+    c.in-Ok.next c.in-Unknown.ensures (all_begun (g.L.Link.seen c.args.server.now) (g.L.Link.seen c.args.seller.now) c.args.sides.now c.requires.begun) c.in-Ok.ensures.carries
 
 pub returns-in-Err-clause-opens : goal.returns-in-Err-clause-opens
 returns-in-Err-clause-opens g c =
     lost_started g.D.Disk.tells c.args.start.now
     (point c.args.journal.now c.args.consumer.now (lines_of (g.L.Link.seen c.args.server.now) (g.L.Link.seen c.args.seller.now) c.args.sides.now))
     (point c.begin.new.journal c.begin.new.consumer (lines_of (g.L.Link.seen c.begin.new.server) (g.L.Link.seen c.begin.new.seller) c.begin.new.sides))
-    c.in-Err.why c.in-Unknown.ensures c.in-Err.ensures.carries
+    c.in-Err.why c.in-Unknown.ensures (all_begun (g.L.Link.seen c.args.server.now) (g.L.Link.seen c.args.seller.now) c.args.sides.now c.requires.begun) c.in-Err.ensures.carries
 
 pub returns-in-Ok-go_on-clause-opens : goal.returns-in-Ok-go_on-clause-opens
 returns-in-Ok-go_on-clause-opens g c =
     ran_waited g.D.Disk.tells c.args.start.now
     (point c.args.journal.now c.args.consumer.now (lines_of (g.L.Link.seen c.args.server.now) (g.L.Link.seen c.args.seller.now) c.args.sides.now))
     (point c.go_on.new.journal c.go_on.new.consumer (lines_of (g.L.Link.seen c.go_on.new.server) (g.L.Link.seen c.go_on.new.seller) c.go_on.new.sides))
-    c.in-Ok-go_on.next (going_is (phase_for c.args.start.now c.args.consumer.now) c.in-Going.ordered c.in-Going.ensures) c.requires.begun.seller_sent c.in-Ok-go_on.ensures.carries
+    c.in-Ok-go_on.next (going_is (phase_for c.args.start.now c.args.consumer.now) c.in-Going.ordered c.in-Going.ensures) (all_begun (g.L.Link.seen c.args.server.now) (g.L.Link.seen c.args.seller.now) c.args.sides.now c.requires.begun) c.in-Ok-go_on.ensures.carries
 
 pub returns-in-Err-go_on-clause-opens : goal.returns-in-Err-go_on-clause-opens
 returns-in-Err-go_on-clause-opens g c =
     lost_waited g.D.Disk.tells c.args.start.now
     (point c.args.journal.now c.args.consumer.now (lines_of (g.L.Link.seen c.args.server.now) (g.L.Link.seen c.args.seller.now) c.args.sides.now))
     (point c.go_on.new.journal c.go_on.new.consumer (lines_of (g.L.Link.seen c.go_on.new.server) (g.L.Link.seen c.go_on.new.seller) c.go_on.new.sides))
-    c.in-Err-go_on.why (going_is (phase_for c.args.start.now c.args.consumer.now) c.in-Going.ordered c.in-Going.ensures) c.in-Err-go_on.ensures.carries
+    c.in-Err-go_on.why (going_is (phase_for c.args.start.now c.args.consumer.now) c.in-Going.ordered c.in-Going.ensures) (all_begun (g.L.Link.seen c.args.server.now) (g.L.Link.seen c.args.seller.now) c.args.sides.now c.requires.begun) c.in-Err-go_on.ensures.carries
 
 pub returns-in-Ended-clause-opens : goal.returns-in-Ended-clause-opens
 returns-in-Ended-clause-opens g c =
     finished_first g.D.Disk.tells c.args.start.now
     (point c.args.journal.now c.args.consumer.now (lines_of (g.L.Link.seen c.args.server.now) (g.L.Link.seen c.args.seller.now) c.args.sides.now))
-    c.in-Ended.ensures
+    (all_begun (g.L.Link.seen c.args.server.now) (g.L.Link.seen c.args.seller.now) c.args.sides.now c.requires.begun) c.in-Ended.ensures
