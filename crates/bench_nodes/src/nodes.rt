@@ -5,7 +5,7 @@ ghost use Rattle.std.specs.Prelude.{IfOk};
 ghost use Rattle.nb_msgs.specs.Bodies.{MessageKeepsRules};
 ghost use Rattle.nb_wallet.specs.Spelling.{StartKeepsRules, PassKeepsRules};
 
-use crate::Made;
+use crate::{Made, sale};
 use nb_consumer::Consumer;
 use nb_merchant::Merchant;
 use nb_msgs::{Message, Step};
@@ -29,20 +29,21 @@ const SHELF: &[u8] = b"7;300;goods;2\nhi";
 
 const PRODUCT: u32 = 7;
 
-// The moment of all messages, and the last second of the ticket.
-const MOMENT: u64 = 1000;
+/// The moment of all messages, and the last second of the ticket.
+pub const MOMENT: u64 = 1000;
 
-/// The rows `consumer` and `merchant`: SIZE purchases.
+/// The rows `consumer` and `merchant`: SIZE purchases. The row `sell`: goods of SIZE bytes.
 pub fn run(alloc: Global, row: &str, size: u32, times: u32) -> Result<Made, NoMemory> {
     match row {
         "consumer" => asked_again(alloc, size, times),
         "merchant" => told_again(alloc, size, times),
+        "sell" => sale::run(alloc, size, times),
         _ => Ok(Made::Unknown),
     }
 }
 
-// The start of the purchase of this number.
-fn start_of(number: u32) -> Start
+/// The start of the purchase of this number.
+pub fn start_of(number: u32) -> Start
     ensures { StartKeepsRules result }
 {
     let nothing = Small::of(&[]).unwrap();
@@ -85,8 +86,8 @@ fn sum_asked(consumer: &mut Consumer, size: u32, times: u32) -> Result<u64, nb_u
     Ok(sum)
 }
 
-// The ticket of all purchases, and the key that it brings.
-fn pass() -> SessionTicket
+/// The ticket of all purchases, and the key that it brings.
+pub fn pass() -> SessionTicket
     ensures { PassKeepsRules result }
 {
     let ticket = Ticket {
@@ -108,7 +109,8 @@ fn price_asked(alloc: Global, number: u32) -> Result<Message, nb_units::NoMemory
     price_request(alloc, &pass(), &start_of(number))
 }
 
-const STALL: Stall = Stall {
+/// The merchant.
+pub const STALL: Stall = Stall {
     id: MERCHANT,
     acct: AcctId(2),
     key: KEY,

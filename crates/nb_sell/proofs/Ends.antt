@@ -41,6 +41,7 @@ module _ {D : Type 0} (tells : DiskTells D) where
           sent = record { house = refl; consumer = refl };
           last = [];
           one = omega arith;
+          few = omega arith;
           obeys = tt;
           loses = record { journal = refl; shop = inl refl; house = line_none p.lines.house; consumer = line_none p.lines.consumer; clock = gave_none p.clock };
         };

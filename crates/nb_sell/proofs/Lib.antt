@@ -6,3 +6,4 @@ pub mod Rounds
 pub mod Ends
 pub mod NextTime
 pub mod Again
+pub mod Faults

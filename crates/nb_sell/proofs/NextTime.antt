@@ -1,5 +1,5 @@
 -- A merchant goes on next time: what a stop leaves, and what starts again with it.
-use Rattle.std.proofs.Common.{◌≡◌, ℕ, zero, suc, ◌+◌, ◌-◌, ◌≤◌, List, [], ◌∷◌, ◌++◌, map, length, take, Option, Some, None, Result, Ok, Err, refl, sym, ap, subst, ◌∙◌, append_assoc, append-nil, length-append, arith}
+use Rattle.std.proofs.Common.{◌≡◌, ◌⊎◌, inl, inr, ⊎_elim, ℕ, zero, suc, ◌+◌, ◌-◌, ◌≤◌, List, [], ◌∷◌, ◌++◌, map, length, take, Option, Some, None, Result, Ok, Err, refl, sym, ap, subst, ◌∙◌, append_assoc, append-nil, length-append, arith}
 use Rattle.std.specs.List.{AllByRecursion}
 use Rattle.std.proofs.lemmas.List.{map-append, take-append-le}
 use Rattle.std.proofs.Math.Seq.{take-append-add}
@@ -27,8 +27,8 @@ use Rattle.nb_trade.proofs.Stopping.{lost_stops, stops_leave}
 use Rattle.nb_sell.specs.declared.ended.SellEnd.{SellEnd}
 use Rattle.nb_sell.specs.declared.ended.SellEnd.TheVariants as ends
 use Rattle.nb_sell.specs.Run.{Act, Hears, Told, Way, heard_as, told_as, heard_row, told_row, act_row, outset, onward, behind, kept, AreItems}
-use Rattle.nb_sell.specs.Sold.{Point, Went, SellLost, EndsAt, Around, first_point}
-use Rattle.nb_sell.specs.Laws.{acts_at, StopLeavesFirst, GoesOn, GoesOnNextTime, StaysKept}
+use Rattle.nb_sell.specs.Sold.{Point, Went, SellLost, EndsAt, Around, Sold, first_point}
+use Rattle.nb_sell.specs.Laws.{acts_at, acts_of, StopLeavesFirst, GoesOn, GoesOnNextTime, StaysKept}
 use Rattle.nb_sell.proofs.Runs.{kept_both, items_both}
 
 -- ---- the merchant behind acts
@@ -211,6 +211,55 @@ module _ {D : Type 0} (tells : DiskTells D) (only_now : (d : D) (c : List ℕ) �
       goes_on_at old.shop (first_point old) s.last end s.ended refl front rest is image
       (subst (λ (j : Journal D). tells.left j.disk (tells.moment old.journal.disk) image) s.last_is.journal left)
 
+-- ---- a stop since any moment before
+
+module _ {D : Type 0} (tells : DiskTells D) where
+  went_since : (shop : Shop) (p q : Point D) (acts : List Act) → p.way ≡ outset shop → Went tells p q acts → (front : List ℕ) → AtRest tells front (kept_bytes shop) p.journal → IsKept shop
+      → (t : ℕ) (image : List ℕ) → t ≤ tells.moment p.journal.disk → tells.left q.journal.disk t image → tells.left p.journal.disk t image ⊎ GoesOn shop acts front image
+  went_since shop p q acts way went front rest is t image le left =
+      ⊎_elim (λ past. inl past)
+      (λ some. inr
+      (goes_on shop acts front image is (subst (λ (w : Way). AreItems w acts) way went.items)
+      (subst (λ (w : Way). StandsAmong front (kept_bytes shop) (map item_bytes (kept w acts)) image) way some)))
+      ((went.journal.stops front (kept_bytes shop) rest).since t image le left)
+
+  -- where the journal is as it was behind the last act
+  same_since : (shop : Shop) (p q : Point D) (why : Lost) (x : SellLost tells p q why) → q.journal ≡ x.mid.journal → p.way ≡ outset shop → (front : List ℕ) → AtRest tells front (kept_bytes shop) p.journal → IsKept shop
+      → (t : ℕ) (image : List ℕ) → t ≤ tells.moment p.journal.disk → tells.left q.journal.disk t image → tells.left p.journal.disk t image ⊎ GoesOn shop (x.served.acts ++ x.last) front image
+  same_since shop p q why x same way front rest is t image le left =
+      ⊎_elim (λ past. inl past) (λ on. inr (goes_on_more shop x.served.acts x.last front image on))
+      (went_since shop p x.mid x.served.acts way x.served.went front rest is t image le (subst (λ (j : Journal D). tells.left j.disk t image) same left))
+
+  fault_since : (shop : Shop) (p q : Point D) (before after : ℕ) (x : SellLost tells p q (lost.DiskFault before after)) → p.way ≡ outset shop → (front : List ℕ) → AtRest tells front (kept_bytes shop) p.journal → IsKept shop
+      → (t : ℕ) (image : List ℕ) → t ≤ tells.moment p.journal.disk → tells.left q.journal.disk t image → tells.left p.journal.disk t image ⊎ GoesOn shop (x.served.acts ++ x.last) front image
+  fault_since shop p q before after x way front rest is t image le left =
+      let first = map item_bytes (kept p.way x.served.acts) in
+      let more = map item_bytes (kept x.mid.way x.last) in
+      let all : map item_bytes (kept p.way (x.served.acts ++ x.last)) ≡ first ++ more =
+      kept_both p.way x.served.acts x.last ∙ ap (λ (w : Way). first ++ map item_bytes (kept w x.last)) (sym x.served.went.way) in
+      let items : AreItems p.way (x.served.acts ++ x.last) =
+      items_both p.way x.served.acts x.last x.served.went.items (subst (λ (w : Way). AreItems w x.last) x.served.went.way x.loses.shop.1) in
+      ⊎_elim (λ past. inl past)
+      (λ some. inr
+      (goes_on shop (x.served.acts ++ x.last) front image is (subst (λ (w : Way). AreItems w (x.served.acts ++ x.last)) way items)
+      (subst (λ (w : Way). StandsAmong front (kept_bytes shop) (map item_bytes (kept w (x.served.acts ++ x.last))) image) way
+      (subst (λ (xs : List (List ℕ)). StandsAmong front (kept_bytes shop) xs image) (sym all) some))))
+      ((lost_stops tells p.journal x.mid.journal q.journal first more (lost.DiskFault before after) x.served.went.journal x.loses.journal front (kept_bytes shop) rest).since t image le left)
+
+  since_at : (shop : Shop) (p q : Point D) (end : SellEnd) (e : EndsAt tells p q end) → p.way ≡ outset shop → (front : List ℕ) → AtRest tells front (kept_bytes shop) p.journal → IsKept shop
+      → (t : ℕ) (image : List ℕ) → t ≤ tells.moment p.journal.disk → tells.left q.journal.disk t image → tells.left p.journal.disk t image ⊎ GoesOn shop (acts_at tells p q end e) front image
+  since_at shop p q ends.Ended e way = went_since shop p q e.stopped.served.acts way e.stopped.served.went
+  since_at shop p q ends.ServerFault e way = went_since shop p q e.stopped.served.acts way e.stopped.served.went
+  since_at shop p q (ends.DiskFault before after) e way = fault_since shop p q before after e way
+  since_at shop p q (ends.Full cap) e way = same_since shop p q (lost.Full cap) e e.loses.journal.0 way
+  since_at shop p q ends.NoMemory e way = same_since shop p q lost.NoMemory e e.loses.journal way
+
+  -- what a stop since any moment up to the start of a link leaves
+  pub goes_on_since : (old new : Around D) (end : SellEnd) (s : Sold tells old new end) (front : List ℕ) → AtRest tells front (kept_bytes old.shop) old.journal → IsKept old.shop
+      → (t : ℕ) (image : List ℕ) → t ≤ tells.moment old.journal.disk → tells.left new.journal.disk t image → tells.left old.journal.disk t image ⊎ GoesOn old.shop (acts_of tells old new end s) front image
+  goes_on_since old new end s front rest is t image le left =
+      since_at old.shop (first_point old) s.last end s.ended refl front rest is t image le (subst (λ (j : Journal D). tells.left j.disk t image) s.last_is.journal left)
+
 -- ---- the journal holds what was kept
 
 module _ {D : Type 0} (tells : DiskTells D) where
@@ -223,6 +272,11 @@ module _ {D : Type 0} (tells : DiskTells D) where
             (went.journal.items front (kept_bytes old.shop) rest),
         subst IsKept (sym now) (all_kept w acts is went.items),
       )
+
+  -- its disk's time goes on
+  pub moves_on : (old new : Around D) → Sold tells old new ends.Ended → (front : List ℕ) → AtRest tells front (kept_bytes old.shop) old.journal → tells.moment old.journal.disk ≤ tells.moment new.journal.disk
+  moves_on old new s front rest =
+      subst (λ (j : Journal D). tells.moment old.journal.disk ≤ tells.moment j.disk) (sym s.last_is.journal) (s.ended.stopped.served.went.journal.stops front (kept_bytes old.shop) rest).later
 
   pub stays_kept : StaysKept tells
   stays_kept old new ends.Ended s done front rest is = went_stays old new s.last s.ended.stopped.served.acts s.ended.stopped.served.went s.last_is.journal s.last_is.shop front rest is

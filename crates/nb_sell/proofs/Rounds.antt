@@ -169,14 +169,15 @@ module _ {D : Type 0} (tells : DiskTells D) where
             count = count_on ran.served.acts a read ran.count ∙ sym e;
           }
 
-  pub lost_on : (p q r : Point D) (from : Peer) (why : Lost) (read read' : ℕ) → Ran tells p q (next.Awaits from) read → q.way.awaits ≡ Some from
+  pub lost_on : (p q r : Point D) (from : Peer) (why : Lost) (read read' : ℕ) → Ran tells p q (next.Awaits from) read → q.way.awaits ≡ Some from → FewMore from read
       → Listens tells q r from read read' (Err why) → SellLost tells p r why
-  lost_on p q r from why read read' ran awaits heard = record {
+  lost_on p q r from why read read' ran awaits few heard = record {
     mid = q;
     served = ran.served;
     sent = ran.stands;
     last = heard.0 ∷ [];
     one = omega arith;
+    few = omega (arith, few_on from heard.0 read heard.1 few, count_on ran.served.acts heard.0 read ran.count);
     obeys = obeys_on p q ran.served.acts heard.0 ran.served.obeys ran.served.went (awaits ∙ ap Some heard.1);
     loses = heard.2;
   }

@@ -124,13 +124,14 @@ pub record Loses {D : Type 0} (tells : DiskTells D) (p q : Point D) (acts : List
   pub consumer : LineGoes p.lines.consumer q.lines.consumer (frames_on Consumer acts) []
   pub clock : Gave p.clock q.clock (moments_of acts)
 
--- acts were carried out, all that they send was sent, and the last, if there is one, was not carried out
+-- Acts were carried out, all that they send was sent, and the last, if there is one, was not carried out. No more of the consumer's frames were heard than are read
 pub record SellLost {D : Type 0} (tells : DiskTells D) (p q : Point D) (why : Lost) : Type 0 where
   pub mid : Point D
   pub served : Served tells p mid
   pub sent : AllSent mid.lines
   pub last : List Act
   pub one : length last ≤ 1
+  pub few : length (frames_on Consumer (served.acts ++ last)) ≤ MOST_FRAMES
   pub obeys : Obeys p.way (served.acts ++ last)
   pub loses : Loses tells mid q last why
 

@@ -52,5 +52,6 @@ pub returns-in-Err : goal.returns-in-Err
 returns-in-Err g c =
     let p = at c.args.journal.now c.args.merchant.now (lines_of (g.M.Link.seen c.args.server.now) (g.L.Link.seen c.args.link.now) c.args.sides.now) (g.C.Clock.moments c.args.clock.now) c.args.sides.now.last (Some Consumer) in
     let q = λ (n : Next). at c.serving.journal c.serving.merchant (lines_of (g.M.Link.seen c.serving.server) (g.L.Link.seen c.serving.link) c.serving.sides) (g.C.Clock.moments c.serving.clock) c.serving.sides.last (next_awaits n) in
+    let near : IsNear c.in-Awaits.from c.serving.sides = subst (λ (n : Next). IsNearAt n c.serving.sides) c.in-Awaits.is c.serving.invariant.near in
     lost_on g.D.Disk.tells p (q (next.Awaits c.in-Awaits.from)) (at c.listen.new.journal c.listen.new.merchant (lines_of (g.M.Link.seen c.listen.new.server) (g.L.Link.seen c.listen.new.link) c.listen.new.sides) (g.C.Clock.moments c.listen.new.clock) c.listen.new.sides.last None) c.in-Awaits.from c.in-Err.why c.serving.sides.read c.listen.new.sides.read
-    (subst (λ (n : Next). Ran g.D.Disk.tells p (q n) n c.serving.sides.read) c.in-Awaits.is c.serving.invariant.ran) refl c.in-Err.ensures.listens
+    (subst (λ (n : Next). Ran g.D.Disk.tells p (q n) n c.serving.sides.read) c.in-Awaits.is c.serving.invariant.ran) refl (c.is_spent.ensures.few c.if-is_spent.false near.few) c.in-Err.ensures.listens
