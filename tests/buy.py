@@ -4,10 +4,10 @@ layouts of docs/FORMATS.md. The test holds the program to this:
 - A purchase of goods of 0, 1 and 1,200,000 bytes from an honest seller ends with status 0 and the goods. Run again, over links that end at once,
   it writes the same goods.
 - The seller does harm: it sends each frame twice, sends what is no frame, half a frame, a frame of a wrong kind or of another purchase, a
-  refusal, frames without end, or ends the link. A purchase that did not end says so with status 12 and writes nothing, and the wallet goes on
+  refusal behind which it keeps the link, frames without end, or ends the link. A purchase that did not end says so with status 12 and writes nothing, and the wallet goes on
   next time, at an honest seller, to the goods. Where the order was sent the house is asked, and the purchase ends by its answer.
 - A seller that endorses with a wrong key, and one whose buyer has too little money: status 10. A house that refuses: 12.
-- A wallet of cap 1 that is full: 14. One that holds something else, one damaged at any place of its front and its items, and one of a house: 8.
+- A wallet of cap 1 that is full, and one that is full behind its order: 14. One that holds something else, one damaged at any place of its front and its items, and one of a house: 8.
   A wallet that another process holds, an address where nobody listens, a wallet that is not there: 17.
 - An output that fails: 4, and the goods next time.
 - The program is killed at 20 moments, before and behind each message of a purchase, and started again, until the goods are there.
@@ -31,60 +31,19 @@ import tempfile
 import threading
 import time
 
-TOP = pathlib.Path(__file__).resolve().parent.parent
 sys.dont_write_bytecode = True
-sys.path.insert(0, str(TOP / "examples"))
-import formats
 
-PROGRAM = TOP / "crates/netbill/out/netbill"
-HOUSE, OPERATOR, MASTER, SESSION = (bytes([byte]) * 32 for byte in (0x11, 0x22, 0x66, 0x99))
-HEAD = formats.head(HOUSE, OPERATOR, bytes([0x33]) * 16)
-CONSUMER = formats.Party(1, formats.CONSUMER, 1, 7, bytes([0x44]) * 32)
-MERCHANT = formats.Party(2, formats.MERCHANT, 2, 0, bytes([0x55]) * 32)
-STRANGER = formats.Party(3, formats.CONSUMER, 3, 8, bytes([0x46]) * 32)
-CAP, FUNDS, PRICE, PRODUCT, KILLS = 1000, 100_000, 300, 7, 20
+from parties import CONSUMER, FUNDS, LONGEST_RUN, MASTER, MERCHANT, PART, PRICE, PRODUCT, PROGRAM, STRANGER, Served, ends_each, fail, fields, formats, made, settled, take, wallet
 
-# The bytes of sealed goods in one part, and the frames that are read for one purchase.
-PART, MOST_FRAMES = 1_000_000, 10_000
+KILLS = 20
 
-# In seconds: the whole test, and one run of the program.
-SECONDS, LONGEST_RUN = 300, 60
+# The frames that are read for one purchase.
+MOST_FRAMES = 10_000
 
-# Ports below those that the system gives out by itself.
-FIRST_PORT, LAST_PORT = 20000, 30000
+# In seconds: the whole test.
+SECONDS = 300
 
 PRICE_ASKED, QUOTE, GOODS_ASKED, GOODS, ORDER, PASSED_ON = 0x01, 0x02, 0x03, 0x04, 0x05, 0x08
-
-
-def fail(why):
-    """Ends the test, from whatever thread."""
-    print(f"tests/buy: {why}", file=sys.stderr, flush=True)
-    signal.raise_signal(signal.SIGTERM)
-    sys.exit(1)
-
-
-def made(size):
-    """Goods of so many bytes."""
-    return bytes(place * place % 251 for place in range(size))
-
-
-def take(stream):
-    """The next whole frame of a stream, its kind and its body, or nothing."""
-    head = stream.read(8)
-    if len(head) < 8:
-        return None
-    body = stream.read(formats.number(head[4:]))
-    return head[3], body
-
-
-def fields(body, count):
-    """So many texts behind their lengths."""
-    found = []
-    for _ in range(count):
-        size = formats.number(body[:4])
-        found.append(body[4 : 4 + size])
-        body = body[4 + size :]
-    return found
 
 
 class Sale:
@@ -156,8 +115,10 @@ class Seller:
         elif self.mode == "half":
             link.sendall(answer[: len(answer) // 2])
         elif self.mode == "refuses":
+            # the link stays open: the buyer ends it
             link.sendall(formats.refusal(53, 1, 0, bytes(32)))
-            time.sleep(0.2)
+            if link.recv(1):
+                fail("a message came behind a refusal")
         elif self.mode == "others":
             # a wrong kind, a body that is none, another purchase, and then the answer
             link.sendall(formats.frame(formats.DONE, bytes(20)) + formats.frame(QUOTE, b"xx") + formats.frame(QUOTE, bytes(8) + formats.sized(bytes(52))))
@@ -212,57 +173,19 @@ class Seller:
         return fields(body, 2)[1]
 
 
-class Served:
-    """The house's program, serving."""
-
-    def __init__(self, folder, draw):
-        self.journal = folder / "house"
-        self.journal.write_bytes(b"")
-        parties = [party.entry() for party in (CONSUMER, MERCHANT, STRANGER)]
-        self.first = [*parties, formats.Fund(CONSUMER.account, FUNDS, 1).entry()]
-        self.journal.write_bytes(formats.journal(HEAD, CAP, self.first))
-        for _ in range(100):
-            self.port = draw.randrange(FIRST_PORT, LAST_PORT)
-            self.process = subprocess.Popen([PROGRAM, "serve", self.journal, f"127.0.0.1:{self.port}", "2", "5000"], stderr=subprocess.DEVNULL)
-            while self.process.poll() is None:
-                if self.listens(self.port) and self.listens(self.port + 1):
-                    return
-                time.sleep(0.01)
-        fail("no port could be had")
-
-    def listens(self, port):
-        wanted = f"0100007F:{port:04X}"
-        lines = pathlib.Path("/proc/net/tcp").read_text().splitlines()[1:]
-        return any(line.split()[1] == wanted and line.split()[3] == "0A" for line in lines)
-
-    def entries(self):
-        """The entries that stand in its journal."""
-        read = formats.read_journal(self.journal.read_bytes(), formats.journal(HEAD, CAP, [])[:-1])
-        return read[0] if read else fail("the front of the house's journal has changed")
-
-
 class Shop:
     """All that a purchase needs."""
 
     def __init__(self, folder, draw):
         self.folder, self.house, self.seller = folder, Served(folder, draw), Seller()
         self.seller.house = ("127.0.0.1", self.house.port + 1)
-        self.server, self.wallets, self.paid = f"127.0.0.1:{self.house.port}", 0, set()
-        closing = socket.create_server(("127.0.0.1", 0))
-        self.ends = f"127.0.0.1:{closing.getsockname()[1]}"
-        threading.Thread(target=self.end_each, args=(closing,), daemon=True).start()
+        self.server, self.wallets, self.paid = self.house.address(), 0, set()
+        self.ends = ends_each()
 
-    def end_each(self, closing):
-        """Ends each link at once."""
-        while True:
-            closing.accept()[0].close()
-
-    def wallet(self, cap=100, party=CONSUMER, items=()):
+    def wallet(self, cap=100, party=CONSUMER):
         """A wallet's file."""
         self.wallets += 1
-        path = self.folder / f"wallet{self.wallets}"
-        path.write_bytes(formats.journal(formats.wallet_head(party.id, party.account, party.nonce, party.key), cap, items))
-        return path
+        return wallet(self.folder / f"wallet{self.wallets}", party, cap)
 
     def words(self, wallet, tid, limit=400, server=None, seller=None):
         at = seller or f"127.0.0.1:{self.seller.port}"
@@ -349,6 +272,11 @@ def wallets(shop, tid):
     full = shop.wallet(cap=1)
     shop.buys(full, tid, 14)
     shop.buys(full, tid + 1, 14)
+    # full behind the order: the money has moved, and there is no room for the receipt
+    ordered = shop.wallet(cap=4)
+    shop.buys(ordered, tid + 4, 14)
+    shop.buys(ordered, tid + 4, 14, seller=shop.ends)
+    shop.paid.add(tid + 4)
     good = shop.wallet()
     shop.buys(good, tid + 2, 0)
     image = good.read_bytes()
@@ -379,7 +307,7 @@ def wallets(shop, tid):
     shop.buys(good, tid + 3, 17, seller=f"127.0.0.1:{port}")
     shop.buys(good, tid + 3, 17, server=f"127.0.0.1:{port}")
     shop.buys(shop.folder / "nowhere", tid + 3, 17)
-    return tid + 4
+    return tid + 5
 
 
 def outputs(shop, tid):
@@ -436,24 +364,6 @@ def killed(shop, tid, draw):
     return tid + 1, kills
 
 
-def settled(shop):
-    """Each order was paid once, and the balances are those of what was paid."""
-    entries = shop.house.entries()
-    if entries[: len(shop.house.first)] != shop.house.first:
-        fail("what the house recorded first has changed")
-    orders = [entry[33:49] for entry in entries if entry[0] in (formats.PAID, formats.REFUSED)]
-    if len(orders) != len(set(orders)):
-        fail("an order was settled twice")
-    count = sum(entry[0] == formats.PAID for entry in entries)
-    if count != len(shop.paid):
-        fail(f"{count} payments, where {len(shop.paid)} purchases were paid")
-    left = formats.balance(entries, struct.pack(">I", CONSUMER.account))
-    had = formats.balance(entries, struct.pack(">I", MERCHANT.account))
-    if (left, had) != (FUNDS - PRICE * count, PRICE * count):
-        fail(f"balances {left} and {had} behind {count} payments")
-    return count
-
-
 def main(seed):
     signal.alarm(SECONDS)
     draw = random.Random(seed)
@@ -466,7 +376,7 @@ def main(seed):
             tid = wallets(shop, tid)
             tid = outputs(shop, tid)
             tid, kills = killed(shop, tid, draw)
-            count = settled(shop)
+            count = settled(shop.house, [PRICE] * len(shop.paid))
         finally:
             shop.house.process.kill()
     print(f"tests/buy: {tid - 1} purchases, {count} paid, {kills} kills, seed {seed}")

@@ -31,6 +31,9 @@ pub struct House {
     pub piece: Vec<u8>,
     pub links: Vec<MemLink>,
     pub workers: Vec<Worker<MemPort, MemClock>>,
+    // What the next stall sells, and the link of its house.
+    pub shelf: Vec<u8>,
+    pub server: Option<MemLink>,
     // What the last session left, and the last server.
     pub left: Option<Left>,
     pub came: Option<Came>,
@@ -47,6 +50,8 @@ impl House {
             piece: Vec::new(alloc),
             links: Vec::new(alloc),
             workers: Vec::new(alloc),
+            shelf: Vec::new(alloc),
+            server: None,
             left: None,
             came: None,
         }

@@ -8,6 +8,7 @@ mod frames;
 mod house;
 mod images;
 mod jobs;
+mod selling;
 mod servers;
 mod sessions;
 mod standing;
@@ -85,6 +86,7 @@ fn done_by_word<R: Threads + Wait + Clock + Sync>(
         "session" => house.session(rt, told, words),
         "frames" => house.frames(told, words),
         "work" => house.work(rt, told, words),
+        "sell" => house.sell(rt, told, words),
         "serve" => house.serve(rt, told, words),
         "image" => house.image(told, words),
         "entries" => house.entries(told, words),
@@ -105,6 +107,8 @@ fn set(house: &mut House, told: &mut Told, word: &str, words: &[&str]) -> Result
         "send" => house.send(told, words),
         "link" => house.link(told, words),
         "worker" => house.worker(told, words),
+        "shelf" => house.shelf(told, words),
+        "server" => house.server(told, words),
         _ => told.unclear(),
     }
 }

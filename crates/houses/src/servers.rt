@@ -19,12 +19,60 @@ use std::time::{Clock, Duration};
 // How often a gate looks for what another session does, and sleeps for 100 microseconds where it is not done.
 const MOST_LOOKS: u32 = 100_000;
 
-// A gate that keeps which workers and which sessions passed it, a bit for each. Where it holds, the session that is the first to come
-// before a turn waits until another one has sent a reply, for so many looks at most.
+// Whom a gate holds before a turn: the session that is the first to come, or one worker in this turn of it, counted from 0.
+#[derive(Clone, Copy)]
+enum Hold {
+    Nobody,
+    First,
+    Turn { worker: u32, turn: u64 },
+}
+
+impl Hold {
+    // By the words `free`, `hold`, or `hold WORKER TURN`.
+    fn of(words: &[&str]) -> Option<Hold> {
+        match words {
+            ["free"] => Some(Hold::Nobody),
+            ["hold"] => Some(Hold::First),
+            ["hold", worker, turn] => Some(Hold::Turn {
+                worker: nb_lines::number(*worker).min(63) as u32,
+                turn: nb_lines::number(*turn),
+            }),
+            _ => None,
+        }
+    }
+
+    // Whether this worker's turns are counted.
+    fn counts(self, by: u32) -> bool {
+        match self {
+            Hold::Nobody => false,
+            Hold::First => true,
+            Hold::Turn { worker, .. } => worker == by,
+        }
+    }
+
+    // Which of the turns that are counted is held.
+    fn turn(self) -> u64 {
+        match self {
+            Hold::Turn { turn, .. } => turn,
+            _ => 0,
+        }
+    }
+
+    // Whether a reply of this worker ends the waiting.
+    fn ends(self, by: u32) -> bool {
+        match self {
+            Hold::Turn { worker, .. } => worker != by,
+            _ => true,
+        }
+    }
+}
+
+// A gate that keeps which workers and which sessions passed it, a bit for each. Who is held before a turn waits until another one has sent a
+// reply, for so many looks at most.
 #[derive(Drop)]
 struct Hall<'a, R: Clock> {
     rt: &'a R,
-    holds: bool,
+    hold: Hold,
     workers: AtomicU64,
     sessions: AtomicU64,
     came: AtomicU64,
@@ -33,10 +81,10 @@ struct Hall<'a, R: Clock> {
 }
 
 impl<'a, R: Clock> Hall<'a, R> {
-    fn new(rt: &'a R, holds: bool) -> Hall<'a, R> {
+    fn new(rt: &'a R, hold: Hold) -> Hall<'a, R> {
         Hall {
             rt,
-            holds,
+            hold,
             workers: AtomicU64::new(0),
             sessions: AtomicU64::new(0),
             came: AtomicU64::new(0),
@@ -45,7 +93,7 @@ impl<'a, R: Clock> Hall<'a, R> {
         }
     }
 
-    fn hold(&self) {
+    fn wait(&self) {
         for _ in 0..MOST_LOOKS {
             if self.answered.load(Ordering::SeqCst) != 0 {
                 return;
@@ -69,12 +117,18 @@ impl<'a, R: Clock + Sync> Gate for Hall<'a, R> {
             .fetch_or(1 << session.min(63), Ordering::SeqCst);
         match point {
             Point::BeforeTurn => {
-                let came = self.came.fetch_add(1, Ordering::SeqCst);
-                if self.holds && came == 0 {
-                    self.hold();
+                if self.hold.counts(worker) {
+                    let came = self.came.fetch_add(1, Ordering::SeqCst);
+                    if came == self.hold.turn() {
+                        self.wait();
+                    }
                 }
             }
-            Point::AfterReply => self.answered.store(1, Ordering::SeqCst),
+            Point::AfterReply => {
+                if self.hold.ends(worker) {
+                    self.answered.store(1, Ordering::SeqCst);
+                }
+            }
         }
     }
 }
@@ -88,20 +142,20 @@ pub struct Came {
 }
 
 impl House {
-    /// `serve free` or `serve hold`: a server of these workers. Where it is held, the first session to come waits until another one has its
-    /// reply: workers that served one after another would never get there.
+    /// `serve free`, `serve hold` or `serve hold WORKER TURN`: a server of these workers. Where it is held, the first session to come, or this worker
+    /// in this turn, waits until another one has its reply: workers that served one after another would never get there.
     pub fn serve<R: Threads + Wait + Clock + Sync>(
         &mut self,
         rt: &R,
         told: &mut Told,
         words: &[&str],
     ) -> Result<(), NoMemory> {
-        let [hold] = words else {
+        let Some(hold) = Hold::of(words) else {
             return told.unclear();
         };
         let disk = self.disk()?;
         let workers = mem::replace(&mut self.workers, Vec::new(self.alloc));
-        let came = served(rt, told, disk, workers, *hold == "hold");
+        let came = served(rt, told, disk, workers, hold);
         drop(mem::replace(&mut self.came, came));
         told.done()
     }
@@ -141,9 +195,9 @@ fn served<R: Threads + Wait + Clock + Sync>(
     told: &mut Told,
     disk: MemDisk,
     workers: Vec<Worker<MemPort, MemClock>>,
-    holds: bool,
+    hold: Hold,
 ) -> Option<Came> {
-    let gate = Hall::new(rt, holds);
+    let gate = Hall::new(rt, hold);
     let came = serve_links(rt, told.alloc(), disk, workers, &gate);
     gate.passed(told);
     if let Some(came) = &came {

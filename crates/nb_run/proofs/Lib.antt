@@ -8,3 +8,4 @@ pub mod Drilling
 pub mod Moving
 pub mod Stating
 pub mod Rulings
+pub mod Stocking

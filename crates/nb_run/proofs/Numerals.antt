@@ -8,7 +8,7 @@ use Rattle.nb_units.specs.declared.ids.Price.{Price}
 use Rattle.nb_units.specs.declared.limits.TheConstants.{MAX_RATE}
 use Rattle.nb_run.specs.declared.ending.Outcome.TheVariants.{Work}
 use Rattle.nb_run.specs.declared.ending.Job.TheVariants.{Buy, Serve}
-use Rattle.nb_words.specs.Words.{IsBuy, IsDrill, IsInit, IsMigrate, IsServe, IsStatement}
+use Rattle.nb_words.specs.Words.{IsBuy, IsDrill, IsInit, IsMigrate, IsSell, IsServe, IsStatement}
 use Rattle.nb_words.proofs.Whole.{sessions_small}
 
 -- words that are the same have the same number at a place
@@ -72,3 +72,7 @@ one_migrate words r q is other = same_number 2 _ _ r q (omega (arith, is.3)) (om
 pub one_statement : (words : List (List ℕ)) (a b : AcctId) → IsStatement words a.0 → IsStatement words b.0 → a ≡ b
 one_statement words a b is other =
     ap (λ (n : ℕ). let acct : AcctId = record { 0 = n } in acct) (same_number 2 _ _ a.0 b.0 (omega (arith, is.3)) (omega (arith, other.3)) (sym is.1 ∙ other.1) refl refl)
+
+-- words have one number of links of one who sells
+pub one_sale : (words : List (List ℕ)) (l k : ℕ) → IsSell words l → IsSell words k → l ≡ k
+one_sale words l k is other = same_number 4 _ _ l k (omega (arith, is.7)) (omega (arith, other.7)) (sym is.3 ∙ other.3) refl refl

@@ -7,3 +7,4 @@ pub mod Input
 pub mod Migrate
 pub mod Statement
 pub mod Judge
+pub mod Selling

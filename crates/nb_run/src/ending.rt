@@ -5,6 +5,7 @@ ghost use Rattle.nb_run.specs.Ending.{at_no_place};
 ghost use Rattle.nb_run.specs.Run.{unopened};
 ghost use Rattle.nb_run.specs.Numbers.{StatusesAre};
 
+use nb_price::Catalogue;
 use nb_units::{PartyId, Price};
 use nb_vault::VaultFault;
 
@@ -20,7 +21,7 @@ pub const SOURCE_FAILED: u8 = 3;
 /// The sink failed.
 pub const SINK_FAILED: u8 = 4;
 
-/// The input ended within a frame, or holds what is no frame, or is no head of 80 bytes, or no journal that can be moved.
+/// The input ended within a frame, or holds what is no frame, or is no head of 80 bytes, no journal that can be moved, or no shelf.
 pub const BAD_INPUT: u8 = 5;
 
 /// There was no memory.
@@ -106,6 +107,13 @@ pub enum Job {
         /// The consumer's own number of the purchase. One that the wallet knows is gone on with.
         transaction: u64,
     },
+    /// `sell STALL ADDRESS SERVER LINKS`: sell over links of consumers, one after the other, and one to the house.
+    Sell {
+        /// How many consumers' links.
+        links: u32,
+        /// What is sold, and at which price.
+        shelf: Catalogue,
+    },
 }
 
 /// What a run of the program came to.
@@ -113,7 +121,7 @@ pub enum Job {
 pub enum Outcome {
     /// It is over.
     Done(Ending),
-    /// A job is left to do, and nothing was touched.
+    /// A job is left to do, and nothing was touched but the input of one who sells, which was read to its end.
     Work(Job),
 }
 

@@ -2,12 +2,12 @@
 //! frames of the input, in order, over the house that the journal holds, `drill SEED ORDERS` makes a journal, answers the frames that the seed gives,
 //! and sends one line of what came of them, `serve JOURNAL ADDRESS WORKERS SESSIONS` is told as a [`Job`], `migrate JOURNAL PERMILLE` makes a
 //! journal with fees of one without them, which is the input, `statement JOURNAL ACCT` writes the statement of an account to the
-//! output, and `judge` rules on the case that is the input.
+//! output, `judge` rules on the case that is the input, and `buy` and `sell` are told as a [`Job`], too, `sell` with the shelf that is the input.
 //!
 //! [`nb_words::command_of`] reads the words. For `init` the head is read and the journal made; for `batch` the vault is opened, and
 //! [`nb_batch::serve`] answers; for `drill` both are done, over a source of its frames; for `migrate` the input is opened as a vault opens a journal, and laid on the disk; for `statement` the vault is opened, and
-//! [`nb_statement::write`] tells its entries; for `judge` the input is read as a [`nb_judge::CaseBytes`], which rules. [`run`] is all of it over any source, sink, disk and clock. Its contract says how it ends and why
-//! (`specs/Run.antt`, `specs/Init.antt`, `specs/Drill.antt`, `specs/Migrate.antt`, `specs/Statement.antt`, `specs/Judge.antt`), what is written to the output, byte for byte, and what a stop at any moment of a batch
+//! [`nb_statement::write`] tells its entries; for `judge` the input is read as a [`nb_judge::CaseBytes`], which rules; for `sell` it is read as a [`nb_price::Catalogue`]. [`run`] is all of it over any source, sink, disk and clock. Its contract says how it ends and why
+//! (`specs/Run.antt`, `specs/Init.antt`, `specs/Drill.antt`, `specs/Migrate.antt`, `specs/Statement.antt`, `specs/Judge.antt`, `specs/Selling.antt`), what is written to the output, byte for byte, and what a stop at any moment of a batch
 //! leaves of the disk.
 //!
 //! Left to others: the real terminal, file and clock, and the lock on the file.
@@ -20,6 +20,7 @@ mod input;
 mod judging;
 mod migrate;
 mod program;
+mod selling;
 mod statement;
 mod tally;
 

@@ -1,4 +1,4 @@
-ghost use Rattle.std.specs.Prelude.{◌≡◌, ◌≢◌, ◌≤◌, ◌⊎◌, ℕ, Option, map, string_bytes};
+ghost use Rattle.std.specs.Prelude.{◌≡◌, ◌≢◌, ◌≤◌, ◌⊎◌, ℕ, List, Option, map, string_bytes};
 ghost use Rattle.nb_port.specs.Faults.{Rose};
 ghost use Rattle.nb_journal.specs.Making.{SparesJournal, IsCap};
 ghost use Rattle.nb_run.specs.declared.ending.TheConstants.{CLEAN, BAD_WORDS, SOURCE_FAILED, SINK_FAILED, OUT_OF_MEMORY, DISK_FAILED, NO_JOURNAL, NO_ACCOUNT};
@@ -11,12 +11,14 @@ ghost use Rattle.nb_run.specs.Ending as endings;
 ghost use Rattle.nb_units.specs.declared.ids.AcctId.{AcctId};
 ghost use Rattle.nb_units.specs.declared.ids.PartyId.{PartyId};
 ghost use Rattle.nb_units.specs.declared.ids.Price.{Price};
-ghost use Rattle.nb_words.specs.Words.{IsBatch, IsBuy, IsDrill, IsInit, IsMigrate, IsServe, IsStatement, IsJudge, IsCommand, MayBeRead};
+ghost use Rattle.nb_words.specs.Words.{IsBatch, IsBuy, IsDrill, IsInit, IsMigrate, IsServe, IsStatement, IsJudge, IsSell, IsCommand, MayBeRead};
 ghost use Rattle.nb_run.specs.Init.{IsHeadInput, HasNoJournal};
 ghost use Rattle.nb_run.specs.Drill as drills;
 ghost use Rattle.nb_run.specs.Judge as judges;
 ghost use Rattle.nb_run.specs.Migrate as moves;
+ghost use Rattle.nb_price.specs.Products.{Product};
 ghost use Rattle.nb_run.specs.Run as runs;
+ghost use Rattle.nb_run.specs.Selling as sales;
 ghost use Rattle.nb_run.specs.Statement as states;
 
 use crate::drill::drill;
@@ -27,6 +29,7 @@ use crate::ending::{
 use crate::init::make_journal;
 use crate::judging::rule_on;
 use crate::migrate::move_journal;
+use crate::selling::take_stock;
 use crate::statement::write_statement;
 use nb_batch::{BatchEnd, serve};
 use nb_port::{Clock, Disk, Sink, Source};
@@ -42,7 +45,8 @@ use std::alloc::Global;
 /// input in order; `serve JOURNAL ADDRESS WORKERS SESSIONS` is work over links, which is left to do; `migrate JOURNAL PERMILLE` makes a journal
 /// whose house keeps a fee of that rate, with the cap, the head and the entries of the input, which is a journal without fees;
 /// `statement JOURNAL ACCT` writes the statement of the account, 0 being the house's own, to the output; `judge` writes what is ruled of the case that is
-/// the input; `buy WALLET SERVER SELLER MERCHANT PRODUCT LIMIT TID` is work over links, too.
+/// the input; `buy WALLET SERVER SELLER MERCHANT PRODUCT LIMIT TID` is work over links, too, and so is
+/// `sell STALL ADDRESS SERVER LINKS`, with the shelf that is the input.
 pub fn run<S: Source, K: Sink, D: Disk, C: Clock>(
     alloc: Global,
     words: &[String],
@@ -51,8 +55,8 @@ pub fn run<S: Source, K: Sink, D: Disk, C: Clock>(
     disk: D,
     clock: &mut C,
 ) -> (Outcome, D)
-    // Where it ends, with one of these statuses; else the work of a server or of a purchase is left to do, at such words alone, and there always,
-    // unless there was no memory to read them.
+    // Where it ends, with one of these statuses; else the work of a server, of a purchase or of one who sells is left to do, at such words alone, and there
+    // always, unless there was no memory to read them, and for one who sells where its shelf is good.
     ensures status { (status : ℕ) → EndsWith result.0 status → runs.IsStatus status }
     ensures work { (workers sessions : ℕ) → result.0 ≡ outcomes.Work (jobs.Serve workers sessions) → IsServe (map string_bytes words.now) workers sessions }
     ensures serve { (workers sessions : ℕ) → IsServe (map string_bytes words.now) workers sessions
@@ -61,6 +65,19 @@ pub fn run<S: Source, K: Sink, D: Disk, C: Clock>(
         → IsBuy (map string_bytes words.now) merchant.0 product limit.0 transaction }
     ensures buy { (merchant : PartyId) (product : ℕ) (limit : Price) (transaction : ℕ) → IsBuy (map string_bytes words.now) merchant.0 product limit.0 transaction
         → (result.0 ≡ outcomes.Work (jobs.Buy merchant product limit transaction)) ⊎ runs.Unbegun result.0 source.old source.new sink.old sink.new disk result.1 clock.old clock.new }
+    ensures sells { (links : ℕ) (products : List Product) → result.0 ≡ outcomes.Work (jobs.Sell links products)
+        → IsSell (map string_bytes words.now) links × sales.IsStock (S.left source.old) (S.left source.new) products }
+    ensures sell { (links : ℕ) → IsSell (map string_bytes words.now) links
+        → sales.StocksAs (S.left source.old) (S.left source.new) (S.faults source.old) (S.faults source.new) links result.0
+        ⊎ runs.Unbegun result.0 source.old source.new sink.old sink.new disk result.1 clock.old clock.new }
+
+    // Who sells touches nothing but the input as its shelf is read, whatever that comes to.
+    ensures aside { (links : ℕ) → IsSell (map string_bytes words.now) links → (result.1 ≡ disk) × (sink.new ≡ sink.old) × (clock.new ≡ clock.old) }
+
+    // A shelf alone, and a source that does not fail: it is sold, unless memory is wanting.
+    ensures stocks { (links : ℕ) (products : List Product) → IsSell (map string_bytes words.now) links → sales.IsShelfInput (S.left source.old) products
+        → (Rose (S.faults source.old) (S.faults source.new) → ⊥)
+        → (result.0 ≡ outcomes.Work (jobs.Sell links products)) ⊎ EndsWith result.0 OUT_OF_MEMORY }
 
     // Status 2: the words, and nothing else; and there always, unless there was no memory to read them, which is not told of no words, a word
     // that is no name and a call for help. Nothing is touched at words that are no command, and where work is left to do.
@@ -153,9 +170,9 @@ pub fn run<S: Source, K: Sink, D: Disk, C: Clock>(
         → (Rose (K.faults sink.old) (K.faults sink.new) → ⊥) → (Rose (D.tells.faults disk) (D.tells.faults result.1) → ⊥)
         → EndsWith result.0 CLEAN ⊎ EndsWith result.0 OUT_OF_MEMORY }
 
-    // Nothing is taken, sent or asked for where the words are no command, work is left to do, or a batch ends with 6, 7 or 8; and such a batch
-    // wrote nothing.
-    ensures closed { (IsCommand (map string_bytes words.now) → ⊥) ⊎ (Ends result.0 EndsEarly × IsBatch (map string_bytes words.now)) ⊎ ((job : Job) × (result.0 ≡ outcomes.Work job))
+    // Nothing is taken, sent or asked for where the words are no command, work is left to do that takes no input, or a batch ends with 6, 7 or 8; and
+    // such a batch wrote nothing.
+    ensures closed { (IsCommand (map string_bytes words.now) → ⊥) ⊎ (Ends result.0 EndsEarly × IsBatch (map string_bytes words.now)) ⊎ ((job : Job) × (result.0 ≡ outcomes.Work job) × sales.IsUnread job)
         → (source.new ≡ source.old) × (sink.new ≡ sink.old) × (clock.new ≡ clock.old) }
 
     ensures unwritten { IsBatch (map string_bytes words.now) → Ends result.0 EndsEarly → Unwritten D.tells disk result.1 }
@@ -213,6 +230,7 @@ pub fn run<S: Source, K: Sink, D: Disk, C: Clock>(
             };
             (Outcome::Work(job), disk)
         }
+        Ok(Some(Command::Sell { links })) => (take_stock(alloc, links, source), disk),
         Ok(None) => (Outcome::Done(Ending::at_no_place(BAD_WORDS)), disk),
         Err(NoMemory) => (Outcome::Done(Ending::at_no_place(OUT_OF_MEMORY)), disk),
     }

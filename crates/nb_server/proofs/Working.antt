@@ -18,19 +18,19 @@ use Rattle.nb_server.specs.Steps.{Sessions, HasServed, IsOwn}
 
 -- ---- the links
 
-given_none : (told : Option (List LinkSeen)) → told ≡ with_given [] told
+pub given_none : (told : Option (List LinkSeen)) → told ≡ with_given [] told
 given_none None = refl
 given_none (Some links) = refl
 
-taken_none : (told : Option (List LinkSeen)) → told ≡ with_taken [] told
+pub taken_none : (told : Option (List LinkSeen)) → told ≡ with_taken [] told
 taken_none None = refl
 taken_none (Some links) = ap Some (sym (append-nil links))
 
-given_more : (gs : List LinkSeen) (g : LinkSeen) (a b c : Option (List LinkSeen)) → a ≡ with_given gs b → b ≡ with_first g c → a ≡ with_given (gs ++ g ∷ []) c
+pub given_more : (gs : List LinkSeen) (g : LinkSeen) (a b c : Option (List LinkSeen)) → a ≡ with_given gs b → b ≡ with_first g c → a ≡ with_given (gs ++ g ∷ []) c
 given_more gs g a b None is first = is ∙ ap (with_given gs) first
 given_more gs g a b (Some rest) is first = is ∙ ap (with_given gs) first ∙ ap Some (sym (append_assoc gs (g ∷ []) rest))
 
-taken_more : (ts : List LinkSeen) (t : LinkSeen) (a b c : Option (List LinkSeen)) → b ≡ with_taken ts a → c ≡ with_last t b → c ≡ with_taken (ts ++ t ∷ []) a
+pub taken_more : (ts : List LinkSeen) (t : LinkSeen) (a b c : Option (List LinkSeen)) → b ≡ with_taken ts a → c ≡ with_last t b → c ≡ with_taken (ts ++ t ∷ []) a
 taken_more ts t None b c is last = last ∙ ap (with_last t) is
 taken_more ts t (Some before) b c is last = last ∙ ap (with_last t) is ∙ ap Some (append_assoc before ts (t ∷ []))
 

@@ -2,4 +2,5 @@ pub mod Reading
 pub mod Listing
 pub mod Commands
 pub mod Buying
+pub mod Selling
 pub mod Whole

@@ -15,18 +15,19 @@ use Rattle.clap.specs.Words.{subcommand_of, kind_of}
 use Rattle.clap.specs.declared.error.kind.ErrorKind.TheVariants.{UnknownArgument, InvalidSubcommand, OutOfMemory}
 use Rattle.clap.proofs.OnLiterals.{clap_on_literals}
 use Rattle.nb_words.specs.declared.words.Command.{Command}
-use Rattle.nb_words.specs.declared.words.Command.TheVariants.{Init, Batch, Drill, Serve, Migrate, Statement, Judge, Buy}
+use Rattle.nb_words.specs.declared.words.Command.TheVariants.{Init, Batch, Drill, Serve, Migrate, Statement, Judge, Buy, Sell}
 use Rattle.nb_words.specs.Words.{IsName, IsInit, IsBuy, IsCommand, CommandIs}
 use Rattle.nb_words.specs.Table.{program, InitIn, RateIn, BuyIn, CommandIn}
 use Rattle.nb_words.proofs.Reading.{names, turned, entered_as}
 use Rattle.nb_words.proofs.Commands.{begins, not_nothing, faulty, number_named, init_named, AreInit, init_fits, init_read, init_all_read, batch_named, batch_fits, batch_read, drill_named, drill_fits, drill_read, serve_named, serve_fits, serve_read, migrate_named, migrate_fits, migrate_read, statement_named, statement_fits, statement_read, judge_named, judge_fits, judge_read}
 use Rattle.nb_words.proofs.Buying.{buy_named, buy_fits, buy_read}
+use Rattle.nb_words.proofs.Selling.{sell_named, sell_fits, sell_read}
 
 -- ---- a first word that is no command's
 
-stranger : (w : Text) → bytes_eq (codes "init") w ≡ false → bytes_eq (codes "batch") w ≡ false → bytes_eq (codes "drill") w ≡ false → bytes_eq (codes "serve") w ≡ false → bytes_eq (codes "migrate") w ≡ false → bytes_eq (codes "statement") w ≡ false → bytes_eq (codes "judge") w ≡ false → bytes_eq (codes "buy") w ≡ false → subcommand_met names idle w ≡ None
+stranger : (w : Text) → bytes_eq (codes "init") w ≡ false → bytes_eq (codes "batch") w ≡ false → bytes_eq (codes "drill") w ≡ false → bytes_eq (codes "serve") w ≡ false → bytes_eq (codes "migrate") w ≡ false → bytes_eq (codes "statement") w ≡ false → bytes_eq (codes "judge") w ≡ false → bytes_eq (codes "buy") w ≡ false → bytes_eq (codes "sell") w ≡ false → subcommand_met names idle w ≡ None
 unfolding clap_on_literals
-stranger w i b d s m t j y = rw (i, b, d, s, m, t, j, y) refl
+stranger w i b d s m t j y l = rw (i, b, d, s, m, t, j, y, l) refl
 
 refused : (x : ℕ) (xs : Text) (words : List Text) → IsName (x ∷ xs) → subcommand_met names idle (x ∷ xs) ≡ None → fault_of program ((x ∷ xs) ∷ words) ≡ [] → ⊥
 unfolding walk_fault
@@ -41,14 +42,18 @@ refused x xs words is met none =
 
 -- the first word is the name of one
 abbrev IsKnown : Text → Type 0
-IsKnown w = (w ≡ codes "init") ⊎ (w ≡ codes "batch") ⊎ (w ≡ codes "drill") ⊎ (w ≡ codes "serve") ⊎ (w ≡ codes "migrate") ⊎ (w ≡ codes "statement") ⊎ (w ≡ codes "judge") ⊎ (w ≡ codes "buy")
+IsKnown w = (w ≡ codes "init") ⊎ (w ≡ codes "batch") ⊎ (w ≡ codes "drill") ⊎ (w ≡ codes "serve") ⊎ (w ≡ codes "migrate") ⊎ (w ≡ codes "statement") ⊎ (w ≡ codes "judge") ⊎ (w ≡ codes "buy") ⊎ (w ≡ codes "sell")
 
 known : (x : ℕ) (xs : Text) (words : List Text) → IsName (x ∷ xs) → fault_of program ((x ∷ xs) ∷ words) ≡ [] → IsKnown (x ∷ xs)
 known x xs words is none = first (bytes_eq (codes "init") (x ∷ xs)) refl
   where
+    ninth : (v : Bool) → bytes_eq (codes "init") (x ∷ xs) ≡ false → bytes_eq (codes "batch") (x ∷ xs) ≡ false → bytes_eq (codes "drill") (x ∷ xs) ≡ false → bytes_eq (codes "serve") (x ∷ xs) ≡ false → bytes_eq (codes "migrate") (x ∷ xs) ≡ false → bytes_eq (codes "statement") (x ∷ xs) ≡ false → bytes_eq (codes "judge") (x ∷ xs) ≡ false → bytes_eq (codes "buy") (x ∷ xs) ≡ false → bytes_eq (codes "sell") (x ∷ xs) ≡ v → IsKnown (x ∷ xs)
+    ninth true e f g h i j k l m = inr (inr (inr (inr (inr (inr (inr (inr (sym ((bytes_eq-Decides _ _).0 m)))))))))
+    ninth false e f g h i j k l m = absurd (refused x xs words is (stranger (x ∷ xs) e f g h i j k l m) none)
+
     eighth : (v : Bool) → bytes_eq (codes "init") (x ∷ xs) ≡ false → bytes_eq (codes "batch") (x ∷ xs) ≡ false → bytes_eq (codes "drill") (x ∷ xs) ≡ false → bytes_eq (codes "serve") (x ∷ xs) ≡ false → bytes_eq (codes "migrate") (x ∷ xs) ≡ false → bytes_eq (codes "statement") (x ∷ xs) ≡ false → bytes_eq (codes "judge") (x ∷ xs) ≡ false → bytes_eq (codes "buy") (x ∷ xs) ≡ v → IsKnown (x ∷ xs)
-    eighth true e f g h i j k l = inr (inr (inr (inr (inr (inr (inr (sym ((bytes_eq-Decides _ _).0 l))))))))
-    eighth false e f g h i j k l = absurd (refused x xs words is (stranger (x ∷ xs) e f g h i j k l) none)
+    eighth true e f g h i j k l = inr (inr (inr (inr (inr (inr (inr (inl (sym ((bytes_eq-Decides _ _).0 l)))))))))
+    eighth false e f g h i j k l = ninth (bytes_eq (codes "sell") (x ∷ xs)) e f g h i j k l refl
 
     seventh : (v : Bool) → bytes_eq (codes "init") (x ∷ xs) ≡ false → bytes_eq (codes "batch") (x ∷ xs) ≡ false → bytes_eq (codes "drill") (x ∷ xs) ≡ false → bytes_eq (codes "serve") (x ∷ xs) ≡ false → bytes_eq (codes "migrate") (x ∷ xs) ≡ false → bytes_eq (codes "statement") (x ∷ xs) ≡ false → bytes_eq (codes "judge") (x ∷ xs) ≡ v → IsKnown (x ∷ xs)
     seventh true e f g h i j k = inr (inr (inr (inr (inr (inr (inl (sym ((bytes_eq-Decides _ _).0 k))))))))
@@ -91,7 +96,8 @@ named_by ((x ∷ xs) ∷ words) all some none name rows told = elim (known x xs 
   | inr (inr (inr (inr (inl is)))) ↦ by (codes "migrate") is (entered_as (codes "migrate") _ _ migrate_named words)
   | inr (inr (inr (inr (inr (inl is))))) ↦ by (codes "statement") is (entered_as (codes "statement") _ _ statement_named words)
   | inr (inr (inr (inr (inr (inr (inl is)))))) ↦ by (codes "judge") is (entered_as (codes "judge") _ _ judge_named words)
-  | inr (inr (inr (inr (inr (inr (inr is)))))) ↦ by (codes "buy") is (entered_as (codes "buy") _ _ buy_named words)
+  | inr (inr (inr (inr (inr (inr (inr (inl is))))))) ↦ by (codes "buy") is (entered_as (codes "buy") _ _ buy_named words)
+  | inr (inr (inr (inr (inr (inr (inr (inr is))))))) ↦ by (codes "sell") is (entered_as (codes "sell") _ _ sell_named words)
 ]
   where
     by : (first : Text) → (x ∷ xs) ≡ first → {other : List Row} → subcommand_of program (first ∷ words) ≡ Some (first, other) → (behind : List Text) × ((x ∷ xs) ∷ words ≡ name ∷ behind) × AllByRecursion IsName behind
@@ -135,6 +141,9 @@ judge_name = (omega arith, λ e. omega (arith, e))
 buy_name : IsName (codes "buy")
 buy_name = (omega arith, λ e. omega (arith, e))
 
+sell_name : IsName (codes "sell")
+sell_name = (omega arith, λ e. omega (arith, e))
+
 init_taken : (words : List Text) (cap : ℕ) (rate : Option ℕ) → IsInit words cap rate → IsTaken words
 init_taken words cap None is =
     let number = number_named cap (omega (arith, is.3)) in
@@ -177,7 +186,11 @@ taken words (inr (inr (inr (inr (inr (inl t)))))) =
     let number = number_named t.0 (omega (arith, is.3)) in
     subst IsTaken (sym is.1) ((statement_name, (is.2, (number, tt))), (statement_read is.0 (decimal t.0) is.2 number).0, omega arith)
 taken words (inr (inr (inr (inr (inr (inr (inl is))))))) = subst IsTaken (sym is) ((judge_name, tt), judge_read.0, omega arith)
-taken words (inr (inr (inr (inr (inr (inr (inr b))))))) = buy_taken words b.0 b.1 b.2 b.3 b.4
+taken words (inr (inr (inr (inr (inr (inr (inr (inl b)))))))) = buy_taken words b.0 b.1 b.2 b.3 b.4
+taken words (inr (inr (inr (inr (inr (inr (inr (inr l)))))))) =
+    let is = l.1 in
+    let number = number_named l.0 (omega (arith, is.7)) in
+    subst IsTaken (sym is.3) ((sell_name, (is.4, (is.5, (is.6, (number, tt))))), (sell_read is.0 is.1 is.2 (decimal l.0) is.4 is.5 is.6 number).0, omega arith)
 
 -- ---- what was told is the command
 
@@ -305,6 +318,26 @@ told_buy words all none rows told =
       subst (λ (rs : List Row). first_of (codes "TID") rs ≡ Some fits.6) same read.5,
     )
 
+told_sell : (words : List Text) → AllByRecursion IsName words → fault_of program (codes "sell" ∷ words) ≡ [] → (rows : List Row) → subcommand_of program (codes "sell" ∷ words) ≡ Some (codes "sell", rows)
+    → (stall address server links : Text) × (words ≡ stall ∷ address ∷ server ∷ links ∷ []) × IsName stall × IsName address × IsName server
+    × (first_of (codes "LINKS") rows ≡ Some links)
+told_sell words all none rows told =
+    let fits = sell_fits words all none in
+    let P : List Text → Type 0 = λ ws. AllByRecursion IsName ws in
+    let each = subst P fits.4 all in
+    let read = (sell_read fits.0 fits.1 fits.2 fits.3 each.0 each.1.0 each.1.1.0 each.1.1.1.0).1 in
+    let same = same_rows (subcommand_of program (codes "sell" ∷ words)) (codes "sell") read.0 rows (ap (λ (ws : List Text). subcommand_of program (codes "sell" ∷ ws)) fits.4 ∙ read.1) told in (
+      fits.0,
+      fits.1,
+      fits.2,
+      fits.3,
+      fits.4,
+      fits.5,
+      fits.6,
+      fits.7,
+      subst (λ (rs : List Row). first_of (codes "LINKS") rs ≡ Some fits.3) same read.2,
+    )
+
 -- what is read of the words of init
 init_rows : (words : List Text) (cap : ℕ) (rate : Option ℕ) → IsInit words cap rate → (rows : List Row) × (subcommand_of program words ≡ Some (codes "init", rows)) × InitIn rows cap × RateIn rows rate
 init_rows words cap None is =
@@ -343,7 +376,11 @@ untold words none (inr (inr (inr (inr (inr (inl t)))))) =
     let read = (statement_read is.0 (decimal t.0) is.2 (number_named t.0 (omega (arith, is.3)))).1 in
     none.5 read.0 t.0 (ap (subcommand_of program) is.1 ∙ read.1) (read.2, is.3)
 untold words none (inr (inr (inr (inr (inr (inr (inl is))))))) = none.6 judge_read.1.0 (ap (subcommand_of program) is ∙ judge_read.1.1)
-untold words none (inr (inr (inr (inr (inr (inr (inr b))))))) =
+untold words none (inr (inr (inr (inr (inr (inr (inr (inr l)))))))) =
+    let is = l.1 in
+    let read = (sell_read is.0 is.1 is.2 (decimal l.0) is.4 is.5 is.6 (number_named l.0 (omega (arith, is.7)))).1 in
+    none.8 read.0 l.0 (ap (subcommand_of program) is.3 ∙ read.1) (read.2, is.7)
+untold words none (inr (inr (inr (inr (inr (inr (inr (inl b)))))))) =
     let rows = buy_rows words b.0 b.1 b.2 b.3 b.4 in
     none.7 rows.0 b.0 b.1 b.2 b.3 rows.1 rows.2
 
@@ -430,6 +467,19 @@ command_is words all some none (Some (Buy merchant product limit transaction)) i
       is.2.5,
       is.2.6,
       is.2.7,
+    )
+command_is words all some none (Some (Sell links)) is =
+    let n = named_by words all some none (codes "sell") is.0 is.1 in
+    let told = told_sell n.0 n.2 (ap (fault_of program) (sym n.1) ∙ none) is.0 (ap (subcommand_of program) (sym n.1) ∙ is.1) in
+    let same = same_Some _ _ (sym told.8 ∙ is.2.0) in (
+      told.0,
+      told.1,
+      told.2,
+      n.1 ∙ ap (λ (ws : List Text). codes "sell" ∷ ws) told.4 ∙ ap (λ (w : Text). codes "sell" ∷ told.0 ∷ told.1 ∷ told.2 ∷ w ∷ []) same,
+      told.5,
+      told.6,
+      told.7,
+      is.2.1,
     )
 
 -- clap refused the words, and so they are no command, unless there was no memory

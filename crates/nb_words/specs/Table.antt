@@ -6,7 +6,7 @@ use Rattle.clap.specs.Simple.{App, Shape, new_rule, new_shape, on_top, with_subc
 use Rattle.nb_units.specs.declared.limits.TheConstants.{MAX_RATE}
 use Rattle.nb_play.specs.declared.frames.TheConstants.{MAX_ORDERS}
 use Rattle.nb_words.specs.declared.words.Command.{Command}
-use Rattle.nb_words.specs.declared.words.Command.TheVariants.{Init, Batch, Drill, Serve, Migrate, Statement, Judge, Buy}
+use Rattle.nb_words.specs.declared.words.Command.TheVariants.{Init, Batch, Drill, Serve, Migrate, Statement, Judge, Buy, Sell}
 use Rattle.nb_words.specs.Words.{AreServed}
 
 -- ---- for the contracts of private functions alone
@@ -47,12 +47,14 @@ program =
     (with_subcommand
     (with_subcommand
     (with_subcommand
+    (with_subcommand
     (with_subcommand first_commands
     (shape (codes "serve") (codes "JOURNAL" ∷ codes "ADDRESS" ∷ codes "WORKERS" ∷ codes "SESSIONS" ∷ []) []))
     (shape (codes "migrate") (codes "JOURNAL" ∷ codes "PERMILLE" ∷ []) []))
     (shape (codes "statement") (codes "JOURNAL" ∷ codes "ACCT" ∷ []) []))
     (shape (codes "judge") [] []))
-    (shape (codes "buy") (codes "WALLET" ∷ codes "SERVER" ∷ codes "SELLER" ∷ codes "MERCHANT" ∷ codes "PRODUCT" ∷ codes "LIMIT" ∷ codes "TID" ∷ []) [])
+    (shape (codes "buy") (codes "WALLET" ∷ codes "SERVER" ∷ codes "SELLER" ∷ codes "MERCHANT" ∷ codes "PRODUCT" ∷ codes "LIMIT" ∷ codes "TID" ∷ []) []))
+    (shape (codes "sell") (codes "STALL" ∷ codes "ADDRESS" ∷ codes "SERVER" ∷ codes "LINKS" ∷ []) [])
 
 -- a number that is at most this was read at a position
 abbrev pub IsSmallAt : Text → List Row → ℕ → ℕ → Type 0
@@ -83,10 +85,19 @@ BuyIn rows merchant product limit transaction =
     × (first_of (codes "LIMIT") rows ≡ Some (decimal limit)) × (first_of (codes "TID") rows ≡ Some (decimal transaction))
     × (merchant < 2 ^ 32) × (product < 2 ^ 32) × (limit < 2 ^ 64) × (transaction < 2 ^ 64)
 
+-- a number of links was read
+abbrev pub SellIn : List Row → ℕ → Type 0
+SellIn rows links = (first_of (codes "LINKS") rows ≡ Some (decimal links)) × (links < 2 ^ 32)
+
 -- no rate was read, or one of at most 1,000
 abbrev pub RateIn : List Row → Option ℕ → Type 0
 RateIn rows None = first_of (codes "PERMILLE") rows ≡ None
 RateIn rows (Some rate) = IsSmallAt (codes "PERMILLE") rows MAX_RATE rate
+
+-- the command is a server whose numbers were read
+abbrev pub IsServerIn : List Row → Command → Type 0
+IsServerIn rows (Serve workers sessions) = ServeIn rows workers sessions
+IsServerIn rows other = ⊥
 
 -- the command is a purchase whose numbers were read
 abbrev pub IsPurchaseIn : List Row → Command → Type 0
@@ -103,6 +114,7 @@ CommandIn told (Some (Migrate rate)) = (rows : List Row) × (told ≡ Some (code
 CommandIn told (Some (Statement acct)) = (rows : List Row) × (told ≡ Some (codes "statement", rows)) × StatementIn rows acct.0
 CommandIn told (Some Judge) = (rows : List Row) × (told ≡ Some (codes "judge", rows))
 CommandIn told (Some (Buy merchant product limit transaction)) = (rows : List Row) × (told ≡ Some (codes "buy", rows)) × BuyIn rows merchant.0 product limit.0 transaction
+CommandIn told (Some (Sell links)) = (rows : List Row) × (told ≡ Some (codes "sell", rows)) × SellIn rows links
 CommandIn told None =
     ((rows : List Row) (cap : ℕ) (rate : Option ℕ) → told ≡ Some (codes "init", rows) → InitIn rows cap → RateIn rows rate → ⊥)
     × ((rows : List Row) → told ≡ Some (codes "batch", rows) → ⊥)
@@ -112,3 +124,4 @@ CommandIn told None =
     × ((rows : List Row) (acct : ℕ) → told ≡ Some (codes "statement", rows) → StatementIn rows acct → ⊥)
     × ((rows : List Row) → told ≡ Some (codes "judge", rows) → ⊥)
     × ((rows : List Row) (merchant product limit transaction : ℕ) → told ≡ Some (codes "buy", rows) → BuyIn rows merchant product limit transaction → ⊥)
+    × ((rows : List Row) (links : ℕ) → told ≡ Some (codes "sell", rows) → SellIn rows links → ⊥)

@@ -6,7 +6,7 @@ use Rattle.nb_units.specs.declared.limits.TheConstants.{MAX_RATE}
 use Rattle.nb_play.specs.declared.frames.TheConstants.{MAX_ORDERS}
 use Rattle.nb_words.specs.declared.words.TheConstants.{MAX_WORKERS, MAX_LINKS}
 use Rattle.nb_words.specs.declared.words.Command.{Command}
-use Rattle.nb_words.specs.declared.words.Command.TheVariants.{Init, Batch, Drill, Serve, Migrate, Statement, Judge, Buy}
+use Rattle.nb_words.specs.declared.words.Command.TheVariants.{Init, Batch, Drill, Serve, Migrate, Statement, Judge, Buy, Sell}
 
 -- the byte of a minus
 abbrev pub minus : ℕ
@@ -59,12 +59,18 @@ IsBuy words merchant product limit transaction =
     (wallet server seller : List ℕ) × (words ≡ codes "buy" ∷ wallet ∷ server ∷ seller ∷ decimal merchant ∷ decimal product ∷ decimal limit ∷ decimal transaction ∷ [])
     × IsName wallet × IsName server × IsName seller × (merchant < 2 ^ 32) × (product < 2 ^ 32) × (limit < 2 ^ 64) × (transaction < 2 ^ 64)
 
+-- sell STALL ADDRESS SERVER LINKS: the number of the links is below 2^32, in decimal
+abbrev pub IsSell : List (List ℕ) → ℕ → Type 0
+IsSell words links =
+    (stall address server : List ℕ) × (words ≡ codes "sell" ∷ stall ∷ address ∷ server ∷ decimal links ∷ [])
+    × IsName stall × IsName address × IsName server × (links < 2 ^ 32)
+
 -- one of these
 abbrev pub IsCommand : List (List ℕ) → Type 0
 IsCommand words =
     IsBatch words ⊎ ((cap : ℕ) × (rate : Option ℕ) × IsInit words cap rate) ⊎ ((seed orders : ℕ) × IsDrill words seed orders) ⊎ ((workers : ℕ) × (sessions : ℕ) × IsServe words workers sessions)
     ⊎ ((rate : ℕ) × IsMigrate words rate) ⊎ ((acct : ℕ) × IsStatement words acct) ⊎ IsJudge words
-    ⊎ ((merchant product limit transaction : ℕ) × IsBuy words merchant product limit transaction)
+    ⊎ ((merchant product limit transaction : ℕ) × IsBuy words merchant product limit transaction) ⊎ ((links : ℕ) × IsSell words links)
 
 -- the words are this command, or none
 abbrev pub CommandIs : List (List ℕ) → Option Command → Type 0
@@ -76,6 +82,7 @@ CommandIs words (Some (Migrate rate)) = IsMigrate words rate
 CommandIs words (Some (Statement acct)) = IsStatement words acct.0
 CommandIs words (Some Judge) = IsJudge words
 CommandIs words (Some (Buy merchant product limit transaction)) = IsBuy words merchant.0 product limit.0 transaction
+CommandIs words (Some (Sell links)) = IsSell words links
 CommandIs words None = IsCommand words → ⊥
 
 -- words at which want of memory may be told: there are some, each is a name, and the first does not ask for help

@@ -28,13 +28,20 @@ pub(crate) fn program<'a>(alloc: Global) -> Result<Shape<'a>, AllocError>
     let program = with(alloc, program, "migrate", &["JOURNAL", "PERMILLE"], &[])?;
     let program = with(alloc, program, "statement", &["JOURNAL", "ACCT"], &[])?;
     let program = with(alloc, program, "judge", &[], &[])?;
-    with(
+    let program = with(
         alloc,
         program,
         "buy",
         &[
             "WALLET", "SERVER", "SELLER", "MERCHANT", "PRODUCT", "LIMIT", "TID",
         ],
+        &[],
+    )?;
+    with(
+        alloc,
+        program,
+        "sell",
+        &["STALL", "ADDRESS", "SERVER", "LINKS"],
         &[],
     )
 }
@@ -72,11 +79,7 @@ pub(crate) fn command_in(matches: &ArgMatches<'_>) -> Option<Command>
         return Some(Command::Drill { seed, orders });
     }
     if is_serve(name) {
-        let workers = small_in(given, "WORKERS", MAX_WORKERS)?;
-        let sessions = small_in(given, "SESSIONS", MAX_LINKS)?;
-        if is_served(workers, sessions) {
-            return Some(Command::Serve { workers, sessions });
-        }
+        return server_in(given);
     }
     if is_migrate(name) {
         let rate = permille_in(given)?;
@@ -92,7 +95,24 @@ pub(crate) fn command_in(matches: &ArgMatches<'_>) -> Option<Command>
     if is_buy(name) {
         return purchase_in(given);
     }
+    if is_sell(name) {
+        let links = small_in(given, "LINKS", u32::MAX)?;
+        return Some(Command::Sell { links });
+    }
     None
+}
+
+// The server whose numbers were read, where there may be such a one.
+fn server_in(given: &ArgMatches<'_>) -> Option<Command>
+    ensures some { IfSome result (table.IsServerIn (rows_of (found_of given.now))) }
+    ensures each { (workers sessions : ℕ) → table.ServeIn (rows_of (found_of given.now)) workers sessions → IsSome result }
+{
+    let workers = small_in(given, "WORKERS", MAX_WORKERS)?;
+    let sessions = small_in(given, "SESSIONS", MAX_LINKS)?;
+    if !is_served(workers, sessions) {
+        return None;
+    }
+    Some(Command::Serve { workers, sessions })
 }
 
 // The purchase whose numbers were read.
@@ -238,6 +258,12 @@ fn is_buy(word: &str) -> bool
     ensures { IsTrue result ↔ (word.now ≡ codes "buy") }
 {
     word == "buy"
+}
+
+fn is_sell(word: &str) -> bool
+    ensures { IsTrue result ↔ (word.now ≡ codes "sell") }
+{
+    word == "sell"
 }
 
 // Whether a server may have so many workers of so many links.

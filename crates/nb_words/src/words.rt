@@ -51,6 +51,10 @@ pub enum Command {
         limit: Price,
         transaction: u64,
     },
+    /// `sell STALL ADDRESS SERVER LINKS`: sell what the input has to so many consumers, one after the other.
+    Sell {
+        links: u32,
+    },
 }
 
 /// The most workers of a server.
@@ -65,7 +69,7 @@ pub fn limits()
 {}
 
 /// The command that the words are, where they are one. A name is not empty and does not begin with `-`, and so is an address; a number is
-/// decimal, and has no sign and no leading zero: a cap, an account, a merchant and a product are below 2^32, the limit and the number of a purchase below 2^64, a rate at most [`MAX_RATE`](nb_units::MAX_RATE) and a seed below 2^64, a
+/// decimal, and has no sign and no leading zero: a cap, an account, a merchant, a product and how many links a seller takes are below 2^32, the limit and the number of a purchase below 2^64, a rate at most [`MAX_RATE`](nb_units::MAX_RATE) and a seed below 2^64, a
 /// drill has at most [`nb_play::MAX_ORDERS`] orders, and a server from 1 to [`MAX_WORKERS`] workers, of at least one link each and at most
 /// [`MAX_LINKS`] over all.
 pub fn command_of(alloc: Global, words: &[String]) -> Result<Option<Command>, NoMemory>

@@ -1,3 +1,5 @@
 pub mod Stopping
 pub mod Completing
 pub mod Purchases
+pub mod Sales
+pub mod Stalls

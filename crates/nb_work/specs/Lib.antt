@@ -1,3 +1,4 @@
 pub mod Work
 pub mod Buying
 pub mod Laws
+pub mod Selling

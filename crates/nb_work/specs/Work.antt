@@ -15,23 +15,26 @@ use Rattle.nb_server.specs.declared.worker.Worker.{Worker}
 use Rattle.nb_server.specs.Served.{WorkerSeen, AllSessions, worker_seen}
 use Rattle.nb_run.specs.declared.ending.Ending.{Ending}
 use Rattle.nb_run.specs.declared.ending.Job.{Job}
-use Rattle.nb_run.specs.declared.ending.Job.TheVariants.{Serve, Buy}
+use Rattle.nb_run.specs.declared.ending.Job.TheVariants.{Serve, Buy, Sell}
 use Rattle.nb_run.specs.declared.ending.TheConstants.{CLEAN, OUT_OF_MEMORY, PORT_FAILED}
 use Rattle.nb_run.specs.Ending.{at_no_place}
 use Rattle.nb_run.specs.Run.{unopened}
 use Rattle.nb_words.specs.declared.words.TheConstants.{MAX_WORKERS}
 use Rattle.nb_work.specs.declared.working.Dials.{Dials}
 use Rattle.nb_work.specs.Buying.{BuysOver, start_of}
+use Rattle.nb_work.specs.Selling.{SellsOver}
 
--- there are as many workers as the job says, and as many as a server may have
+-- there are as many workers as the job says, and as many as a server may have; one who sells has one
 abbrev pub IsStaffed : Job → ℕ → Type 0
 IsStaffed (Serve workers sessions) count = (count ≡ workers) × (1 ≤ workers) × (workers ≤ MAX_WORKERS)
 IsStaffed (Buy merchant product limit transaction) count = Unit {0}
+IsStaffed (Sell links shelf) count = count ≡ 1
 
 -- the links were dialled that the job needs
 abbrev pub IsDialled : {L : Type 0} → Job → Dials L → Type 0
 IsDialled (Serve workers sessions) dials = Unit {0}
 IsDialled (Buy merchant product limit transaction) dials = IsSome dials.server × IsSome dials.seller
+IsDialled (Sell links shelf) dials = IsSome dials.server
 
 -- one of the workers stopped so
 abbrev pub AnyStopped : How → List WorkerEnd → Type 0
@@ -81,10 +84,13 @@ ServesAs tells sees old new before after lines ends ending =
     ⊎ ((ending ≡ at_no_place OUT_OF_MEMORY) × IsIdle tells old new before after lines ends)
     ⊎ (IsServed tells old new (sees before) (sees after) lines ends × StoppedAs ends ending)
 
--- What a job comes to. A server touches neither the dialled links nor the output; a purchase has no workers and tells no lines
+-- What a job comes to. A server touches neither the dialled links nor the output; a purchase has no workers and tells no lines; who sells touches neither the link to a seller nor the output,
+-- and tells no lines
 abbrev pub WorksAs : {D P C L : Type 0} → DiskTells D → (List (Worker P C) → List WorkerSeen) → (L → LinkSeen) → Job → D → D → List (Worker P C) → List (Worker P C) → Dials L → Dials L
     → Option (List ℕ) → Option (List ℕ) → ℕ → ℕ → List Line → List WorkerEnd → Ending → Type 0
 WorksAs tells sees seen (Serve workers sessions) old new before after dials dials' sent sent' faults faults' lines ends ending =
     ServesAs tells sees old new before after lines ends ending × (dials' ≡ dials) × (sent' ≡ sent) × (faults' ≡ faults)
 WorksAs tells sees seen (Buy merchant product limit transaction) old new before after dials dials' sent sent' faults faults' lines ends ending =
     BuysOver tells seen (start_of merchant product limit transaction) old new dials dials' sent sent' faults faults' ending × (after ≡ before) × (lines ≡ []) × (ends ≡ [])
+WorksAs tells sees seen (Sell links shelf) old new before after dials dials' sent sent' faults faults' lines ends ending =
+    SellsOver tells seen shelf old new (sees before) (sees after) dials dials' ending × (sent' ≡ sent) × (faults' ≡ faults) × (lines ≡ []) × (ends ≡ [])

@@ -68,8 +68,8 @@ pub fn buy_with<D: Disk, L: Link, K: Sink>(
     (ended(end), journal.into_disk())
 }
 
-// How the job ends where the wallet's journal was not opened.
-fn unopened(fault: OpenFault) -> Ending
+// How the job ends where the journal of a wallet or of a stall was not opened.
+pub fn unopened(fault: OpenFault) -> Ending
     ensures { result ≡ not_opened fault }
 {
     match fault {

@@ -24,3 +24,21 @@ pub fn stops_go_on<D: Disk>()
 pub fn purchases_complete<D: Disk>()
     ensures { law.PurchasesComplete D.tells }
 {}
+
+/// A law: what a stop since before a job of selling leaves is what might have been left before it, or a stall that goes on from there: the items that it held with the first of
+/// those that the merchant kept, on whichever link.
+pub fn sales_go_on<D: Disk>()
+    ensures { law.SalesGoOn D.tells }
+{}
+
+/// A law: selling ends with 13 only where a count of the port or of the link to the house rose, with 7 only where that of the disk did, and with 0 only where the port has no
+/// link left.
+pub fn sales_are_told<D: Disk>()
+    ensures { law.SalesAreTold D.tells }
+{}
+
+/// A law: selling with a stall that stands and fits the shelf, where no count of the disk, of the port and of the link to the house rises, ends with 0 behind the last link that the
+/// port had, whatever consumers do; or with 14 where the stall is full, or with 6 for want of memory.
+pub fn sales_complete<D: Disk>()
+    ensures { law.SalesComplete D.tells }
+{}

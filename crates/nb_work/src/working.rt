@@ -2,11 +2,14 @@ ghost use Rattle.std.specs.Prelude.{◌≡◌, ◌≤◌, [], None, IsSome, vec_
 ghost use Rattle.nb_words.specs.declared.words.TheConstants.{MAX_WORKERS};
 ghost use Rattle.nb_wallet.specs.Spelling.{StartKeepsRules};
 ghost use Rattle.nb_work.specs.Buying.{BuysOver};
+ghost use Rattle.nb_work.specs.Selling.{SellsOver};
 ghost use Rattle.nb_work.specs.Work.{IsStaffed, IsDialled, WorksAs, ServesAs, StoppedAs, workers_seen};
 
 use crate::buying::{buy_with, nothing};
+use crate::selling::sell_with;
 use nb_link::{Gate, Link, Port};
 use nb_port::{Clock, Disk, Sink};
+use nb_price::Catalogue;
 use nb_run::{CLEAN, Ending, Job, OUT_OF_MEMORY, PORT_FAILED};
 use nb_server::{How, Served, Worker, WorkerEnd, serve_all};
 use nb_turns::Line;
@@ -66,6 +69,12 @@ pub struct Worked<D, P, L, C> {
 /// journal that was not opened, 7, 8 or 6; 8 where an item of it is none of a wallet's, and 6 where there is no memory, both with nothing begun; else 0 where the
 /// goods were written, 4 where the output failed, 10 where the purchase is over and was not paid, 12 where it is not over and nothing more came of a
 /// link or 10,000 frames were read, 14 where the wallet is full, 7 where its disk failed and 6 where there was no memory. The workers and the clock are not touched.
+///
+/// `Sell`: opens the stall on the disk, starts its merchant again with the shelf, and sells by [`nb_sell::sell_link`] on the links that the port of the one worker
+/// gives, one after the other, each of which goes back to the port then; how many those are is the port's own matter. The status is that of a journal that was not
+/// opened, 7, 8 or 6; 8 where an item of it is none of a stall's with this shelf, and 6 where there is no memory, both with nothing begun; else 0 where the port has no
+/// link left, 13 where it or the link to the house failed, 14 where the stall is full, 7 where its disk failed and 6 where there was no memory. The link to a seller, the
+/// gate and the output are not touched.
 pub fn work<
     R: Threads + Wait + Sync,
     D: Disk + Drop + Send,
@@ -84,11 +93,11 @@ pub fn work<
     gate: &G,
     sink: &mut K,
 ) -> Worked<D, P, L, C>
-    // A server has as many workers as the job says.
+    // A server has as many workers as the job says, and who sells has one.
     requires staffed { IsStaffed job (vec_len workers) }
-    // For a purchase both links were dialled.
+    // For a purchase both links were dialled, and for who sells that to the house.
     requires dialled { IsDialled job dials }
-    // What it comes to, by the job: a server's end, or a purchase's.
+    // What it comes to, by the job: a server's end, a purchase's, or that of who sells.
     ensures works { WorksAs D.tells (workers_seen P.seen C.moments) L.seen job disk result.disk workers.items result.workers.items dials result.dials
         (K.sent sink.old) (K.sent sink.new) (K.faults sink.old) (K.faults sink.new) result.lines.items result.ends.items result.ending }
 {
@@ -110,7 +119,32 @@ pub fn work<
             };
             purchase(alloc, &start, disk, workers, dials, sink)
         }
+        Job::Sell { shelf, .. } => sell(alloc, shelf, disk, workers, dials),
     }
+}
+
+// Sells to the links of the one worker.
+fn sell<D: Disk, P: Port, L: Link, C: Clock>(
+    alloc: Global,
+    shelf: Catalogue,
+    disk: D,
+    workers: Vec<Worker<P, C>>,
+    dials: Dials<L>,
+) -> Worked<D, P, L, C>
+    requires one { vec_len workers ≡ 1 }
+    requires server { IsSome dials.server }
+    ensures sells { SellsOver D.tells L.seen shelf disk result.disk (workers_seen P.seen C.moments workers.items) (workers_seen P.seen C.moments result.workers.items) dials result.dials result.ending }
+    ensures idle { (result.lines.items ≡ []) × (result.ends.items ≡ []) }
+{
+    let Dials { server, seller } = dials;
+    let mut server = server.unwrap();
+    let mut workers = workers;
+    let (ending, disk) = sell_with(alloc, shelf, disk, &mut workers[0], &mut server);
+    let dials = Dials {
+        server: Some(server),
+        seller,
+    };
+    idle(alloc, disk, workers, dials, ending)
 }
 
 // Makes a purchase over both links.

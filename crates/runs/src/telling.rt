@@ -1,6 +1,7 @@
 // What a run does, in words.
 
 use nb_lines::Told;
+use nb_price::Catalogue;
 use nb_run::{Ending, Job, Outcome};
 use nb_units::NoMemory;
 use std::alloc::Global;
@@ -51,5 +52,26 @@ pub(crate) fn outcome(told: &mut Told, outcome: Outcome) {
             .show(" of party ", &merchant.0)
             .show(" is to be bought for at most ", &limit.0)
             .show(" as ", &transaction),
+        Outcome::Work(Job::Sell { links, shelf }) => {
+            told.show("", &links).text(" links are to be sold on");
+            for product in [7, 9] {
+                tell_product(told, &shelf, product);
+            }
+            told
+        }
     };
+}
+
+// A product of a shelf: its price, and its goods.
+fn tell_product(told: &mut Told, shelf: &Catalogue, product: u32) {
+    match (shelf.quote(product), shelf.goods(product)) {
+        (Ok(price), Some(goods)) => {
+            told.show(", product ", &product)
+                .show(" at ", &price.0)
+                .bytes_up_to(": ", goods, SHOWN);
+        }
+        _ => {
+            told.show(", no product ", &product);
+        }
+    }
 }

@@ -1,15 +1,17 @@
 use Rattle.std.proofs.Common.{ℕ, List, Option, Some, length, ap, sym, subst, ◌∙◌, inl, inr, arith}
 use Rattle.std.specs.Prelude.{map, string_bytes}
 use Rattle.nb_units.specs.declared.ids.AcctId.{AcctId}
-use Rattle.nb_words.specs.Words.{CommandIs, IsBuy, IsMigrate, IsStatement, IsJudge}
+use Rattle.nb_words.specs.Words.{CommandIs, IsBuy, IsMigrate, IsSell, IsStatement, IsJudge}
 use Rattle.nb_run.specs.Drill.{DrillIs}
 use Rattle.nb_run.specs.Run.{InitIs}
-use Rattle.nb_run.proofs.Numerals.{one_init, one_drill, one_job, one_purchase, same_purchase, one_migrate, one_statement, rate_small}
+use Rattle.nb_run.proofs.Numerals.{one_init, one_drill, one_job, one_purchase, one_sale, same_purchase, one_migrate, one_statement, rate_small}
 use Rattle.nb_run.proofs.Making.{makes_clean}
 use Rattle.nb_run.proofs.Moving.{moves_clean}
 use Rattle.nb_run.proofs.Rulings.{rules_clean}
+use Rattle.nb_run.proofs.Stocking.{stocks_clean, not_unread}
 use Rattle.nb_run.specs.Init.{MakesAs}
 use Rattle.nb_run.specs.Migrate.{MigrateIs}
+use Rattle.nb_run.specs.Selling.{StocksAs}
 use Rattle.nb_run.specs.Statement.{StatementIs}
 use Rattle.nb_run.proofs.program.run.Goals as goal
 
@@ -222,7 +224,7 @@ returns-in-Ok-Some-Buy-clause-none g c = λ never.
     let words : List (List ℕ) = map string_bytes c.args.words.now in
     let b = c.in-Ok-Some-Buy in
     let is : IsBuy words b.merchant.0 b.product b.limit.0 b.transaction = subst (CommandIs words) (b.field-0-is ∙ ap Some b.field-0-0-is) b.ensures.command in
-    absurd (never (inr (inr (inr (inr (inr (inr (inr (b.merchant.0, b.product, b.limit.0, b.transaction, is)))))))))
+    absurd (never (inr (inr (inr (inr (inr (inr (inr (inl (b.merchant.0, b.product, b.limit.0, b.transaction, is))))))))))
 
 pub returns-in-Ok-Some-Buy-clause-buys : goal.returns-in-Ok-Some-Buy-clause-buys
 returns-in-Ok-Some-Buy-clause-buys g c = λ merchant product limit transaction same.
@@ -239,4 +241,52 @@ returns-in-Ok-Some-Buy-clause-buy g c = λ merchant product limit transaction is
 pub returns-in-Ok-None-clause-buy : goal.returns-in-Ok-None-clause-buy
 returns-in-Ok-None-clause-buy g c = λ merchant product limit transaction is.
     let words : List (List ℕ) = map string_bytes c.args.words.now in
-    absurd (subst (CommandIs words) c.in-Ok-None.field-0-is c.in-Ok-None.ensures.command (inr (inr (inr (inr (inr (inr (inr (merchant.0, product, limit.0, transaction, is)))))))))
+    absurd (subst (CommandIs words) c.in-Ok-None.field-0-is c.in-Ok-None.ensures.command (inr (inr (inr (inr (inr (inr (inr (inl (merchant.0, product, limit.0, transaction, is))))))))))
+
+pub returns-in-Ok-Some-Sell-clause-none : goal.returns-in-Ok-Some-Sell-clause-none
+returns-in-Ok-Some-Sell-clause-none g c = λ never.
+    let words : List (List ℕ) = map string_bytes c.args.words.now in
+    let s = c.in-Ok-Some-Sell in
+    absurd (never (inr (inr (inr (inr (inr (inr (inr (inr (s.links, subst (CommandIs words) (s.field-0-is ∙ ap Some s.field-0-0-is) s.ensures.command))))))))))
+
+pub returns-in-Ok-Some-Sell-clause-sell : goal.returns-in-Ok-Some-Sell-clause-sell
+returns-in-Ok-Some-Sell-clause-sell g c = λ links is.
+    let words : List (List ℕ) = map string_bytes c.args.words.now in
+    let s = c.in-Ok-Some-Sell in
+    let t = c.take_stock in
+    let same = one_sale words s.links links (subst (CommandIs words) (s.field-0-is ∙ ap Some s.field-0-0-is) s.ensures.command) is in
+    inl (subst (λ (n : ℕ). StocksAs (g.S.Source.left c.args.source.now) (g.S.Source.left t.new.source) (g.S.Source.faults c.args.source.now) (g.S.Source.faults t.new.source) n t.result) same t.ensures.stocks)
+
+pub returns-in-Ok-Some-Sell-clause-stocks : goal.returns-in-Ok-Some-Sell-clause-stocks
+returns-in-Ok-Some-Sell-clause-stocks g c = λ links products is input no_source.
+    let words : List (List ℕ) = map string_bytes c.args.words.now in
+    let s = c.in-Ok-Some-Sell in
+    let t = c.take_stock in
+    let same = one_sale words s.links links (subst (CommandIs words) (s.field-0-is ∙ ap Some s.field-0-0-is) s.ensures.command) is in
+    stocks_clean (g.S.Source.left c.args.source.now) (g.S.Source.left t.new.source) (g.S.Source.faults c.args.source.now) (g.S.Source.faults t.new.source) links products t.result
+    (subst (λ (n : ℕ). StocksAs (g.S.Source.left c.args.source.now) (g.S.Source.left t.new.source) (g.S.Source.faults c.args.source.now) (g.S.Source.faults t.new.source) n t.result) same t.ensures.stocks)
+    input no_source
+
+pub returns-in-Ok-Some-Sell-clause-closed : goal.returns-in-Ok-Some-Sell-clause-closed
+returns-in-Ok-Some-Sell-clause-closed g c = λ why.
+    let words : List (List ℕ) = map string_bytes c.args.words.now in
+    let s = c.in-Ok-Some-Sell in
+    let t = c.take_stock in
+    let is : IsSell words s.links = subst (CommandIs words) (s.field-0-is ∙ ap Some s.field-0-0-is) s.ensures.command in
+    elim why [
+      | inl never ↦ absurd (never (inr (inr (inr (inr (inr (inr (inr (inr (s.links, is))))))))))
+      | inr (inl batch) ↦ absurd (omega (arith, ap length (sym is.3 ∙ batch.1.1)))
+      | inr (inr work) ↦
+          absurd
+          (not_unread (g.S.Source.left c.args.source.now) (g.S.Source.left t.new.source) (g.S.Source.faults c.args.source.now) (g.S.Source.faults t.new.source) s.links t.result work.0 work.1 t.ensures.only work.2)
+    ]
+
+pub returns-in-Ok-None-clause-sell : goal.returns-in-Ok-None-clause-sell
+returns-in-Ok-None-clause-sell g c = λ links is.
+    let words : List (List ℕ) = map string_bytes c.args.words.now in
+    absurd (subst (CommandIs words) c.in-Ok-None.field-0-is c.in-Ok-None.ensures.command (inr (inr (inr (inr (inr (inr (inr (inr (links, is))))))))))
+
+pub returns-in-Ok-None-clause-stocks : goal.returns-in-Ok-None-clause-stocks
+returns-in-Ok-None-clause-stocks g c = λ links products is input no_source.
+    let words : List (List ℕ) = map string_bytes c.args.words.now in
+    absurd (subst (CommandIs words) c.in-Ok-None.field-0-is c.in-Ok-None.ensures.command (inr (inr (inr (inr (inr (inr (inr (inr (links, is))))))))))

@@ -30,3 +30,12 @@ returns-in-Buy g c = record {
         c.purchase.ensures.idle.2,
       );
 }
+
+pub returns-in-Sell : goal.returns-in-Sell
+returns-in-Sell g c = record {
+  works = subst (λ (job : Job). WorksAs g.D.Disk.tells (workers_seen g.P.Port.seen g.C.Clock.moments) g.L.Link.seen job c.args.disk c.sell.result.disk
+      c.args.workers.items c.sell.result.workers.items c.args.dials c.sell.result.dials (g.K.Sink.sent c.args.sink.now) (g.K.Sink.sent c.args.sink.now)
+      (g.K.Sink.faults c.args.sink.now) (g.K.Sink.faults c.args.sink.now) c.sell.result.lines.items c.sell.result.ends.items c.sell.result.ending)
+      (sym c.in-Sell.is)
+      (c.sell.ensures.sells, refl, refl, c.sell.ensures.idle.0, c.sell.ensures.idle.1);
+}
