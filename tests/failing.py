@@ -23,6 +23,7 @@ import random
 import resource
 import shutil
 import signal
+import struct
 import subprocess
 import sys
 import tempfile
@@ -121,9 +122,9 @@ def frames_of(stream):
     return found
 
 
-def is_in_doubt(reply):
-    """Whether a reply says that the disk failed."""
-    return reply[3] == formats.REFUSAL and reply[8] in (50, 51)
+def is_in_doubt(reply, before):
+    """Whether a reply says that the disk failed, behind so many calls of it that did: with code 50, and that one more did."""
+    return reply[3] == formats.REFUSAL and reply[8:25] == bytes([50]) + struct.pack(">QQ", before, before + 1)
 
 
 def is_given(reply, asked, entries):
@@ -146,9 +147,9 @@ def see_replies(what, asked, journal, sent):
     entries, doubts = entries_of(what, journal), 0
     for place, reply in enumerate(frames_of(sent)):
         refuses = doubts and reply[3] == formats.REFUSAL and (callable(asked[place]) or place_of(asked[place], entries) is None)
-        if not is_in_doubt(reply) and not refuses and not is_given(reply, asked[place], entries):
+        if not is_in_doubt(reply, doubts) and not refuses and not is_given(reply, asked[place], entries):
             fail(f"{what}: reply {place} was handed out, and the journal does not give it: {reply.hex()}")
-        doubts += is_in_doubt(reply)
+        doubts += is_in_doubt(reply, doubts)
     return doubts
 
 
@@ -206,8 +207,11 @@ def builds(folder):
     if built.returncode != 0:
         return f"cc builds no library of the system's calls here: {built.stderr.splitlines()[:1]}"
     journal = folder / "first.journal"
-    if counted(folder, ["init", journal, str(CAP)], HEAD)["fsync"] == 0:
+    counts = counted(folder, ["init", journal, str(CAP)], HEAD)
+    if counts["pread"] + counts["pwrite"] == 0:
         return "the program does not make its calls through the C library"
+    if counts["fsync"] == 0:
+        fail("the program makes a journal, and syncs nothing")
     return None
 
 
@@ -231,6 +235,8 @@ def batches(folder):
             fail(f"{words}: a batch ended with status {status} and the line {line!r}")
         if way not in MOVES and status == 0 and not doubts:
             fail(f"{words}: a call that failed was passed over")
+        if way not in MOVES and name == "pwrite" and doubts != 1:
+            fail(f"{words}: one write that failed left {doubts} requests in doubt")
         if repaired and (doubts or len(frames_of(sent)) != len(asked)):
             fail(f"{words}: a call that can be made again left {doubts} requests in doubt, and {len(frames_of(sent))} replies")
         if status == 0 and len(frames_of(sent)) != len(asked) or status == 7 and sent:
@@ -278,7 +284,7 @@ def statements(folder):
     for told, name, way in failing(counted(folder, words, b"")):
         status, sent, line = run(words, b"", told)
         repaired = way in MOVES and name not in ("fsync", "posix_fadvise")
-        if status not in ((0,) if repaired else (0, TOLD[name]) if way in MOVES else (TOLD[name],)) or not text.startswith(sent) or (sent == text) != (status == 0):
+        if status not in ((0,) if repaired else (0, TOLD[name]) if way in MOVES else (TOLD[name],)) or not text.startswith(sent) or (sent == text) != (status == 0) or sent and status not in (0, 4):
             fail(f"{told}: a statement ended with status {status}, {line!r}, and {len(sent)} bytes")
         if journal.read_bytes() != image:
             fail(f"{told}: a statement changed its journal")

@@ -32,7 +32,8 @@ def refusing(count):
 
 def growths(folder, words, text):
     """How often a run that is left alone asks for memory."""
-    return failing.counted(folder, words, text)["memory"]
+    count = failing.counted(folder, words, text)["memory"]
+    return count or fail(f"{words[0]} asks for no memory through the C library")
 
 
 def batches(folder, asked):
@@ -45,7 +46,7 @@ def batches(folder, asked):
         journal.write_bytes(empty)
         status, sent, line = run(["batch", journal], text, words)
         whole = len(failing.frames_of(sent)) == len(asked)
-        if failing.see_replies(words, [it for _, it in asked], journal, sent) or status not in (0, 6) or (status == 0) != whole:
+        if failing.see_replies(words, [it for _, it in asked], journal, sent) or status not in (0, 6) or (status == 0) != whole or sent and status == 6:
             fail(f"{words}: a batch ended with status {status}, {line!r}, and {len(failing.frames_of(sent))} replies")
         failing.see_all(words, asked, journal)
     return count
