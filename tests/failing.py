@@ -47,8 +47,8 @@ CALLS = {"read": (*ERRORS, HALF), "write": (*ERRORS, HALF), "pread": (*ERRORS, H
 # The status of a batch where a call fails for good, beside 0.
 TOLD = {"read": 3, "write": 4, "pread": 7, "pwrite": 0, "fsync": 7, "posix_fadvise": 7}
 
-# So many of the last bytes of a journal the disk fills up at; and in seconds, when no further one is tried, and the whole test.
-LAST_BYTES, LONGEST, SECONDS = 2000, 20, 60
+# So many of the last bytes of a journal the disk fills up at; and in seconds, when no further one is tried, and the whole test at most, of which it takes a quarter where nothing else runs.
+LAST_BYTES, LONGEST, SECONDS = 2000, 20, 180
 
 CONSUMER = formats.Party(1, formats.CONSUMER, 1, 7, bytes([0x44]) * 32)
 MERCHANT = formats.Party(2, formats.MERCHANT, 2, 0, bytes([0x55]) * 32)
