@@ -5,8 +5,11 @@ use nb_seal::KeyState;
 use nb_units::{NoMemory, PartyId, Secret};
 use std::alloc::Global;
 
-/// The slots for merchants in [`KeptStates`], as many for consumers, and as many for those who ask for a status.
+/// The slots for merchants in [`KeptStates`], and as many for consumers.
 pub const PARTY_SLOTS: u32 = 256;
+
+/// The slots in [`KeptStates`] for those who ask for a status.
+pub const ASKER_SLOTS: u32 = 64;
 
 // A state that is kept, and the number that it was asked for under, where it was.
 #[derive(Drop)]
@@ -101,7 +104,7 @@ fn is_last(last: &Option<KeyState>, key: &Secret) -> bool
 }
 
 /// The states of keys that a house keeps from one request to the next: of its own key, of the operator's, those of merchants and of
-/// consumers by their numbers, and those of who asks for a status by the first bytes of their keys, on [`PARTY_SLOTS`] slots each.
+/// consumers by their numbers, on [`PARTY_SLOTS`] slots each, and those of who asks for a status by the first bytes of their keys, on [`ASKER_SLOTS`].
 #[derive(Drop)]
 pub struct KeptStates {
     house: StateCache,
@@ -119,7 +122,7 @@ impl KeptStates {
             operator: StateCache::new(alloc, 1)?,
             merchants: StateCache::new(alloc, PARTY_SLOTS)?,
             consumers: StateCache::new(alloc, PARTY_SLOTS)?,
-            askers: StateCache::new(alloc, PARTY_SLOTS)?,
+            askers: StateCache::new(alloc, ASKER_SLOTS)?,
         })
     }
 

@@ -33,7 +33,7 @@ pub mod refusal;
 mod reply;
 mod sealed;
 
-pub use cache::{KeptStates, PARTY_SLOTS, StateCache};
+pub use cache::{ASKER_SLOTS, KeptStates, PARTY_SLOTS, StateCache};
 pub use endorsement::{
     DigestedEndorsement, Endorsement, MAX_SEALED, digest_of, read_sealed, read_sealed_with,
     write_sealed,

@@ -9,8 +9,7 @@
 //! `funding.rt`, `checks.rt`, `settlement.rt`.
 //!
 //! [`decide_with`] is the same, with states of keys that are kept from one request to the next, and with what was opened of an order before its turn:
-//! an [`OpenedOrder`] holds what opening those bytes under those keys gave, and is used only where the request has these bytes and the parties these
-//! keys.
+//! an [`OpenedOrder`] holds what opening those bytes under those keys gave, and what is decided does not depend on it.
 //!
 //! A decision's entry is legal after those held, and within the journal's cap. No memory is taken. What holds of every
 //! verdict stands in `specs/Laws.antt` and `Replies.antt`, and is proved by the functions of [`laws`]. Among it stands, in words

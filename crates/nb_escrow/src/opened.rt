@@ -20,11 +20,8 @@ use nb_units::{Buffer, Malformed, Secret, Small};
 use std::marker::Model;
 
 /// What was opened of an endorsed order before its turn, under the keys that were known then: what its sealed endorsement gave, and the
-/// tests of the order in it, refusals too. In the turn it is used only where its bytes are those that are asked for and its keys those of
-/// the parties; else the work is done there.
-///
-/// It promises nothing of the request that it was made of: what it holds of its own bytes and keys is its invariant, and what is decided
-/// does not depend on it.
+/// tests of the order in it, refusals too. It promises nothing of the request that it was made of: what it holds of its own bytes and keys is its
+/// invariant, and what is decided does not depend on it. Where a turn has other bytes, or parties of other keys, the work is done there.
 #[derive(Drop)]
 pub struct OpenedOrder {
     endorsement: OpenedEndorsement,

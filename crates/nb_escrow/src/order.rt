@@ -54,18 +54,16 @@ pub(crate) fn decide_order(
     let asked = EndorsedBytes::read(body)?;
     let merchant = find_party_as(book, MERCHANT, asked.merchant())?;
     let read = opened_endorsement(opened, &asked, &merchant.key, kept)?;
-    let endorsement = read.endorsement;
-    let digest = read.digest;
-    let order = read_endorsed(&endorsement.order)?;
+    let order = read_endorsed(&read.endorsement.order)?;
     let consumer = find_party_as(book, CONSUMER, order.consumer)?;
     check_merchant(asked.merchant(), &order)?;
-    tested_tag(opened, &endorsement.order, &order, &consumer.key, kept)?;
-    let hidden = opened_hidden(opened, &endorsement.order, &order, &consumer.key, kept)?;
+    tested_tag(opened, &read.endorsement.order, &order, &consumer.key, kept)?;
+    let hidden = opened_hidden(opened, &read.endorsement.order, &order, &consumer.key, kept)?;
     let presented = Presented {
         merchant,
         consumer,
-        endorsement,
-        digest,
+        endorsement: read.endorsement,
+        digest: read.digest,
         order,
         hidden,
     };

@@ -8,8 +8,8 @@ use crate::reply::write_reply_with;
 use nb_endorse::{KeptStates, Reply, ReplyKeys};
 use std::marker::Model;
 
-/// A reply that is decided and not written yet, with the keys that it is to be signed and sealed under: no byte of its frame is made, and no
-/// hash. It is seen as the bytes of its frame, whatever keeps states of keys when it is written.
+/// A reply that is decided and not written yet, with the keys that it is to be signed and sealed under. It is seen as the bytes of its frame,
+/// whatever keeps states of keys when it is written.
 #[derive(Drop)]
 pub struct Draft {
     reply: Reply,

@@ -14,7 +14,7 @@ const MOST_YIELDS: u32 = 32;
 
 impl<T: Chronicle + Drop> Turn<T> {
     /// Takes the turn as [`Turn::try_take`] does, again and again while another pass has it. Between the first tries it lets other threads
-    /// run; behind them it sleeps until the turn is given back.
+    /// run; between those behind them it sleeps, and who gives the turn back wakes one of those that sleep. No clause says when it is woken.
     pub fn take<R: Wait>(&self, rt: &R, pass: Pass<T>) -> Held<T>
         requires { Belongs pass self.now }
         ensures turn { IsOf result self.now }

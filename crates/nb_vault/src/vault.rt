@@ -129,7 +129,7 @@ impl<D: Disk> Vault<D> {
     }
 
     /// Answers requests as [`Vault::answer_all`] does, up to the bytes of their replies: of these there are the drafts alone, in the order of the
-    /// requests, and no byte of a reply is made, signed or sealed in the turn. They are written when the turn is over, by
+    /// requests. They are signed, sealed and written when the turn is over, by
     /// [`write_each`](nb_msgs::write_each). What was opened of a request before the turn stands at its place in `opened`, if anything was; what is
     /// answered does not depend on it. `drafts` is empty and needs room for one each.
     pub fn decide_all(
