@@ -2,7 +2,7 @@
 
 - 20 purchases of goods of 0 bytes to 3 MB by two buyers at once, while buyers, the seller and the house are killed, each by its own number, at
   random moments, and started again until every purchase has ended; and 6 more through relays between the buyer, the seller and the house that give frames
-  twice, cut them into pieces, and end the link where they swallow one. Then every purchase wrote exactly the goods and is paid as its wallet says, each
+  of the buyer's links twice, cut frames into pieces, and end the link where they swallow one. Then every purchase wrote exactly the goods and is paid as its wallet says, each
   order was paid once, the balances are those of the prices, and the stall has every sale up to the order that it endorsed, and the result where it was told.
 - A house that refuses orders, that ends the link within a sale, and that is gone between two sales and comes back: the seller serves on, and ends with 13
   where it is not there, and the next one goes on from the stall.
@@ -206,8 +206,8 @@ class Relay:
     """Passes frames on from who dials it to an address, and back. By chance it gives one twice, cuts it into pieces, or swallows it and ends the link. It may
     be told to swallow the frames of a kind, or to hear nobody."""
 
-    def __init__(self, target, draw, chance=0.0):
-        self.target, self.draw, self.chance, self.swallows, self.kept = target, draw, chance, None, 0
+    def __init__(self, target, draw, chance=0.0, repeats=True):
+        self.target, self.draw, self.chance, self.repeats, self.swallows, self.kept = target, draw, chance, repeats, None, 0
         self.listener = socket.create_server(("127.0.0.1", 0))
         self.address = f"127.0.0.1:{self.listener.getsockname()[1]}"
         threading.Thread(target=self.run, daemon=True).start()
@@ -236,7 +236,7 @@ class Relay:
                         self.kept += 1
                         break
                     piece = self.draw.randrange(1, 4096) if self.draw.random() < self.chance else len(frame)
-                    for _ in range(2 if self.draw.random() < self.chance else 1):
+                    for _ in range(2 if self.repeats and self.draw.random() < self.chance else 1):
                         for place in range(0, len(frame), max(piece, len(frame) // 64)):
                             other.sendall(frame[place : place + max(piece, len(frame) // 64)])
         except OSError:
@@ -254,17 +254,20 @@ class Relay:
 
 
 def relayed(folder, draw):
-    """Purchases through relays that repeat, cut and swallow."""
+    """Purchases through relays that repeat, cut and swallow. Between the seller and the house nothing is repeated: a seller reads one reply for each
+    order, so that behind one reply too many it hears each time of the order before, passes that on to the same consumer, and both wait as long as links do."""
     house = Served(folder, draw, workers=2)
-    server = Relay(house.address(), draw, 0.1)
+    server = Relay(house.address(), draw, 0.1, repeats=False)
     seller = Seller(folder, draw, server.address, shelf(GOODS))
     relays = Relay(house.address(1), draw, 0.1), Relay(seller.address, draw, 0.3)
     buyer = Purchases(wallet(folder / "wallet"), relays[0].address, relays[1].address, range(RELAYED))
     thread = threading.Thread(target=buyer.run, daemon=True)
     thread.start()
     while thread.is_alive():
-        if seller.process.poll() is not None and (seller.process.returncode not in (13, 17) or not seller.starts()):
-            continue
+        if seller.process.poll() is not None:
+            if seller.process.returncode not in (13, 17):
+                fail(f"the seller behind a relay ended with {seller.process.returncode}")
+            seller.starts()
         time.sleep(0.05)
     buyer.again(ends_each())
     seller.process.kill()
@@ -403,6 +406,7 @@ class Dear(threading.Thread):
 
 
 def main(seed):
+    signal.signal(signal.SIGALRM, lambda *_: fail(f"no end came in {SECONDS} seconds; seed {seed}"))
     signal.alarm(SECONDS)
     draw = random.Random(seed)
     with tempfile.TemporaryDirectory() as room:
