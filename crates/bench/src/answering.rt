@@ -11,6 +11,7 @@ use nb_msgs::{Draft, REPLY_ROOM, write_each};
 use nb_port::Clock;
 use nb_system::{FileDisk, StdFile, SystemClock};
 use nb_turns::MAX_REQUESTS;
+use nb_units::NoMemory;
 use nb_units::frames::{HEADER, ORDER_REQUEST};
 use nb_vault::{Answer, AnswerAll, AskAt, Vault};
 use std::alloc::Global;
@@ -109,6 +110,9 @@ pub fn run_decided(
     turn: usize,
     opens: bool,
 ) -> anyhow::Result<usize> {
+    if turn == 0 {
+        return Err(anyhow!("a turn has from 1 to 32 requests"));
+    }
     let mut vault = opened(rt, name)?;
     let told = decide_given(rt, &mut vault, turn, opens);
     drop(vault);
@@ -120,19 +124,15 @@ fn decide_given(
     vault: &mut Vault<FileDisk<StdFile>>,
     turn: usize,
     opens: bool,
-) -> anyhow::Result<usize> {
+) -> anyhow::Result<usize>
+    requires { 0 < turn }
+{
     let bytes = given(rt)?;
     let asks = asks_now(rt, &bytes)?;
-    let mut caller = Caller::new(rt.alloc())?;
-    let mut told = 0usize;
-    if turn == 0 {
-        return Err(anyhow!("a turn has from 1 to 32 requests"));
-    }
-    for group in asks.as_slice().chunks(turn) {
-        caller.decide_all(vault, &bytes, group, opens)?;
-        told = told.saturating_add(caller.out.len());
-    }
-    Ok(told)
+    let Ok(mut caller) = Caller::new(rt.alloc()) else {
+        return Err(anyhow!("out of memory"));
+    };
+    caller.decide_turns(vault, &bytes, asks.as_slice(), turn, opens)
 }
 
 // Who asks: the states of keys that it keeps, and the memory of a turn.
@@ -146,17 +146,33 @@ struct Caller {
 }
 
 impl Caller {
-    fn new(alloc: Global) -> anyhow::Result<Caller> {
-        let Ok(kept) = KeptStates::new(alloc) else {
-            return Err(anyhow!("out of memory"));
-        };
+    fn new(alloc: Global) -> Result<Caller, NoMemory> {
         Ok(Caller {
-            kept,
-            memos: Vec::with_capacity(alloc, MAX_REQUESTS)?,
-            ats: Vec::with_capacity(alloc, MAX_REQUESTS)?,
-            drafts: Vec::with_capacity(alloc, MAX_REQUESTS)?,
-            out: Vec::with_capacity(alloc, REPLY_ROOM * MAX_REQUESTS)?,
+            kept: KeptStates::new(alloc)?,
+            memos: Vec::new(alloc),
+            ats: Vec::new(alloc),
+            drafts: Vec::new(alloc),
+            out: Vec::new(alloc),
         })
+    }
+
+    // Answers the requests, so many in a turn.
+    fn decide_turns(
+        &mut self,
+        vault: &mut Vault<FileDisk<StdFile>>,
+        bytes: &[u8],
+        asks: &[AskAt],
+        turn: usize,
+        opens: bool,
+    ) -> anyhow::Result<usize>
+        requires { 0 < turn }
+    {
+        let mut told = 0usize;
+        for group in asks.chunks(turn) {
+            self.decide_all(vault, bytes, group, opens)?;
+            told = told.saturating_add(self.out.len());
+        }
+        Ok(told)
     }
 
     // Opens what may be opened of each request.
