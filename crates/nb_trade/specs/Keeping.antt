@@ -41,3 +41,7 @@ Keeps tells old new items (Err why) = NotKept tells old new items why
 abbrev pub StopLeavesFirst : {D : Type 0} → DiskTells D → Type 0
 StopLeavesFirst {D} tells = (old mid new : Journal D) (front : List ℕ) (items kept more : List (List ℕ)) (why : Lost) → AtRest tells front items old → Grows tells old mid kept
     → NotKept tells mid new more why → (image : List ℕ) → tells.left new.disk (tells.moment old.disk) image → StandsAmong front items (kept ++ more) image
+
+-- what a journal holds behind items that it grew by is never more than its cap
+abbrev pub GrowsWithin : {D : Type 0} → DiskTells D → Type 0
+GrowsWithin {D} tells = (old new : Journal D) (front : List ℕ) (items kept : List (List ℕ)) → AtRest tells front items old → Grows tells old new kept → length (items ++ kept) ≤ old.cap
