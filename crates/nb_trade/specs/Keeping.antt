@@ -31,10 +31,12 @@ NotKept {D} tells old new items (lost.DiskFault before after) =
     × ((front : List ℕ) (held : List (List ℕ)) → AtRest tells front held old
     → InDoubt tells front held item new × StopsIn tells old.disk new.disk (BeforeOrAfter front held item)))
 
--- the journal grew by the items, one or none, or they were not kept
+-- the journal grew by the items, one or none, or they were not kept. It takes no memory
 abbrev pub Keeps : {D : Type 0} → DiskTells D → Journal D → Journal D → List (List ℕ) → Result (Unit {0}) Lost → Type 0
 Keeps tells old new items (Ok done) = Grows tells old new items
-Keeps tells old new items (Err why) = NotKept tells old new items why
+Keeps tells old new items (Err lost.NoMemory) = ⊥
+Keeps tells old new items (Err (lost.Full cap)) = NotKept tells old new items (lost.Full cap)
+Keeps tells old new items (Err (lost.DiskFault before after)) = NotKept tells old new items (lost.DiskFault before after)
 
 -- a stop at any moment since a journal was at rest, while it grew by some items and then an item was not kept, leaves its items with the first so many of all
 -- these
