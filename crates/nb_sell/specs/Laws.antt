@@ -24,7 +24,7 @@ use Rattle.nb_merchant.specs.Laws.{kept_bytes}
 use Rattle.nb_sell.specs.declared.ended.TheConstants.{MOST_FRAMES}
 use Rattle.nb_sell.specs.declared.ended.SellEnd.{SellEnd}
 use Rattle.nb_sell.specs.declared.ended.SellEnd.TheVariants as ends
-use Rattle.nb_sell.specs.Run.{Act, Hears, Told, act_row, awaited, outset, behind, kept}
+use Rattle.nb_sell.specs.Run.{Act, Hears, Told, act_row, awaited, outset, behind, kept, AreItems}
 use Rattle.nb_sell.specs.Sold.{Point, Around, first_point, EndsAt, IsCarriedOut, Sold}
 
 -- the acts on a link, with the one that was not carried out, if there is one
@@ -90,12 +90,18 @@ pub record ServesAgain (shop : Shop) (p : Purchase) (order : List ℕ) (m : Mess
   pub answers : (ordered shop p sale order sale.progress ≡ Ok (record { keep = None; to = to.Server; message = m }))
       ⊎ ((part : List ℕ) × (ordered shop p sale order sale.progress ≡ Ok (passes_again p part)))
 
+-- what this merchant endorsed is served again where it started again with what was kept behind these acts and with the shelf of any other
+abbrev pub ServesAfresh : Shop → List Act → Purchase → List ℕ → Message → Type 0
+ServesAfresh shop acts p order m = (other fresh : Shop) → AreItems (outset shop) acts
+    → restarted (new_shop shop.stall other.products) 0 (kept_bytes (behind (outset shop) acts).shop) ≡ Ok fresh → ServesAgain fresh p order m
+
 -- an endorsement that an act sent is sent again with the same bytes for the same order, behind whatever acts came before it and came later, and so by a merchant
--- that started again with what was kept then
+-- that started again with what was kept then, with whatever shelf
 abbrev pub EndorsesAgain : Type 0
 EndorsesAgain = (shop : Shop) (before later : List Act) (a : Act) (answer : Answer) (merchant : PartyId) (sealed : List ℕ) → IsKept shop
     → act_row (behind (outset shop) before).shop a ≡ Ok answer → answer.message ≡ message.Endorsed merchant sealed
-    → (p : Purchase) × ((epoid : Epoid) × ((order : List ℕ) × (answer.message ≡ endorsed_message shop.stall epoid order) × ServesAgain (behind (outset shop) (before ++ a ∷ later)).shop p order answer.message))
+    → (p : Purchase) × ((epoid : Epoid) × ((order : List ℕ) × (answer.message ≡ endorsed_message shop.stall epoid order) × ServesAgain (behind (outset shop) (before ++ a ∷ later)).shop p order answer.message
+    × ServesAfresh shop (before ++ a ∷ later) p order answer.message))
 
 -- a refusal, of the consumer or of the house, is ignored, and so it ends
 abbrev pub RefusalEnds : Type 0
