@@ -224,7 +224,7 @@ module _ {D : Type 0} (tells : DiskTells D) where
     full = ap length (sym (append_assoc items more f.more)) ∙ f.full ∙ same;
   }
 
-  pub full_in : (first last : Standing D) (all : List (Sale D)) (stop : Stop) → AreSold tells first all last → StopsFor all stop → stop ≡ stops.Full → (front : List ℕ) (items : List (List ℕ)) → AtRest tells front items first.journal
+  full_in : (first last : Standing D) (all : List (Sale D)) (stop : Stop) → AreSold tells first all last → StopsFor all stop → stop ≡ stops.Full → (front : List ℕ) (items : List (List ℕ)) → AtRest tells front items first.journal
       → Filled tells front items last first.journal.cap
   full_in first last [] stop are why full front items rest = absurd (port_not_full stop why full)
   full_in first last (s ∷ all) stop are why full front items rest =

@@ -1,19 +1,17 @@
-use Rattle.std.proofs.Common.{◌≡◌, ℕ, List, Ok, refl, sym, subst, inr, ◌∙◌}
+use Rattle.std.proofs.Common.{◌≡◌, ℕ, List, Ok, refl, subst, inr, ◌∙◌}
 use Rattle.nb_journal.specs.Layout.{front_bytes}
 use Rattle.nb_journal.specs.Opening.{charter_of}
-use Rattle.nb_journal.specs.States.{AtRest}
 use Rattle.nb_stall.specs.declared.stall.Stall.{Stall}
 use Rattle.nb_merchant.specs.Shop.{new_shop}
 use Rattle.nb_merchant.specs.Keeping.{restarted}
 use Rattle.nb_work.specs.Selling.{standing}
+use Rattle.nb_work.proofs.Sales.{journal_of}
 use Rattle.nb_work.proofs.selling.sell_with.Goals as goal
 
 pub serve_links-stop-requires-clause-kept : goal.serve_links-stop-requires-clause-kept
 serve_links-stop-requires-clause-kept g c =
-    let o = c.in-Ok.opened in (
-      front_bytes o.cap (charter_of o),
-      subst (λ (xs : List (List ℕ)). AtRest g.D.Disk.tells (front_bytes o.cap (charter_of o)) xs o.journal) (sym (c.in-Ok-started.ensures.kept ∙ c.as_slice.ensures.value)) c.in-Ok.ensures.gives.rest,
-    )
+    let o = c.in-Ok.opened in
+    journal_of g.D.Disk.tells o.journal c.in-Ok-started.merchant (front_bytes o.cap (charter_of o)) o.items.items c.in-Ok.ensures.gives.rest (c.in-Ok-started.ensures.kept ∙ c.as_slice.ensures.value)
 
 pub returns : goal.returns
 returns g c =
