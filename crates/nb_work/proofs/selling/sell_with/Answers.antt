@@ -11,7 +11,7 @@ use Rattle.nb_work.proofs.selling.sell_with.Goals as goal
 pub serve_links-stop-requires-clause-kept : goal.serve_links-stop-requires-clause-kept
 serve_links-stop-requires-clause-kept g c =
     let o = c.in-Ok.opened in
-    journal_of g.D.Disk.tells o.journal c.in-Ok-started.merchant (front_bytes o.cap (charter_of o)) o.items.items c.in-Ok.ensures.gives.rest (c.in-Ok-started.ensures.kept ∙ c.as_slice.ensures.value)
+    λ others within. journal_of g.D.Disk.tells o.journal c.in-Ok-started.merchant (front_bytes o.cap (charter_of o)) o.items.items c.in-Ok.ensures.gives.rest (c.in-Ok-started.ensures.kept ∙ c.as_slice.ensures.value)
 
 pub returns : goal.returns
 returns g c =
