@@ -1,9 +1,10 @@
-ghost use Rattle.std.specs.Prelude.{◌≡◌, ◌≤◌, ◌<◌, ◌^◌, length, true, Some, None, Ok, Err, IfOk, IfErr, IfSome, OnOk, OnErr, option_map};
+ghost use Rattle.std.specs.Prelude.{◌≡◌, ◌≤◌, ◌<◌, ◌^◌, ◌∷◌, ◌++◌, [], length, true, Some, None, Ok, Err, IfOk, IfErr, IfSome, OnOk, OnErr, option_map};
 ghost use Rattle.std.specs.List.{AllByRecursion};
 ghost use Rattle.nb_ticket.specs.declared.ticket.TheConstants.{TICKET_BYTES};
 ghost use Rattle.nb_endorse.specs.declared.receipt.TheConstants.{RECEIPT_BYTES};
 ghost use Rattle.nb_msgs.specs.declared.lengths.TheConstants.{MAX_SEALED_PRICE_REQUEST, MAX_SEALED_GOODS_REQUEST, MAX_SEALED_PAYMENT};
 ghost use Rattle.nb_msgs.specs.Bodies.{MessageKeepsRules};
+ghost use Rattle.nb_merchant.specs.Laws.{kept_bytes};
 ghost use Rattle.nb_merchant.specs.Keeping.{follows, order_follows, taken_up, restarted, IsKept};
 ghost use Rattle.nb_stall.specs.Reading.{item_of};
 ghost use Rattle.nb_stall.specs.Tests.{ticket_in};
@@ -214,7 +215,9 @@ impl Merchant {
         items: &[Blob],
     ) -> Result<Merchant, RestartFault>
         requires few { length items.now ≤ 2 ^ 32 }
-        ensures { Restarts (restarted (new_shop stall catalogue) 0 items.now) result }
+        ensures restarts { Restarts (restarted (new_shop stall catalogue) 0 items.now) result }
+        // It kept exactly these.
+        ensures kept { IfOk result (λ merchant. kept_bytes merchant ≡ items.now) }
     {
         let mut merchant = Merchant::new(alloc, stall, catalogue);
         merchant.take_all(items)?;
@@ -226,6 +229,8 @@ impl Merchant {
     pub fn start_again(&mut self, items: &[Blob]) -> Result<(), RestartFault>
         requires few { length items.now ≤ 2 ^ 32 }
         ensures taken { TakesAll (restarted (new_shop self.old.stall self.old.products) 0 items.now) self.new result }
+        // It kept exactly these then.
+        ensures kept { OnOk result (kept_bytes self.new ≡ items.now) }
         ensures err { OnErr result (self.new ≡ self.old) }
     {
         let alloc = *self.items.allocator();
@@ -247,6 +252,7 @@ impl Merchant {
     fn take_all(&mut self, items: &[Blob]) -> Result<(), RestartFault>
         requires few { length items.now ≤ 2 ^ 32 }
         ensures taken { TakesAll (restarted self.old 0 items.now) self.new result }
+        ensures kept { OnOk result (kept_bytes self.new ≡ kept_bytes self.old ++ items.now) }
         ensures same { IsSameMerchant self.old self.new }
     {
         for i in 0..items.len() {
@@ -258,6 +264,7 @@ impl Merchant {
     // Keeps the item that the bytes spell, where it may stand next. This is its number.
     fn take_up(&mut self, number: u32, bytes: &[u8]) -> Result<(), RestartFault>
         ensures taken { TakesUp (taken_up self.old (item_of bytes.now)) self.new number result }
+        ensures kept { OnOk result (kept_bytes self.new ≡ kept_bytes self.old ++ bytes.now ∷ []) }
         ensures same { IsSameMerchant self.old self.new }
     {
         let bad = RestartFault::BadItem { item: number };

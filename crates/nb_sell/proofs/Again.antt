@@ -1,6 +1,7 @@
 -- What is served again with the same bytes, and what ends a link.
-use Rattle.std.proofs.Common.{◌≡◌, ◌⊎◌, inl, inr, ⊎_elim, ℕ, Bool, true, false, cond, List, [], ◌∷◌, ◌++◌, Option, Some, None, Result, Ok, Err, refl, sym, ap, subst, ◌∙◌}
+use Rattle.std.proofs.Common.{◌≡◌, ◌⊎◌, inl, inr, ⊎_elim, ℕ, ◌+◌, Bool, true, false, cond, List, [], ◌∷◌, ◌++◌, map, append_assoc, append-nil, Option, Some, None, Result, Ok, Err, refl, sym, ap, subst, ◌∙◌}
 use Rattle.std.specs.Prelude.{IfOk}
+use Rattle.std.specs.List.{AllByRecursion}
 use Rattle.std.specs.Str.{bytes_eq}
 use Rattle.std.proofs.lemmas.Slice.Eq.{bytes_eq-Decides}
 use Rattle.nb_units.specs.Fields.{◌>>=◌, u8_at, u64_at, raw_at, done_at, or_place}
@@ -22,16 +23,19 @@ use Rattle.nb_stall.specs.Messages.{endorsed_message}
 use Rattle.nb_stall.specs.Reading.{purchase_of}
 use Rattle.nb_stall.specs.Sales.{is_same, progressed, moved, told, sale_from, sale_in}
 use Rattle.nb_merchant.specs.declared.answer.Answer.{Answer}
-use Rattle.nb_merchant.specs.Shop.{Shop}
+use Rattle.nb_merchant.specs.Shop.{Shop, new_shop, with_item}
 use Rattle.nb_merchant.specs.Table.{ordered, order_again, order_settled, endorses_again, passes_again, after}
-use Rattle.nb_merchant.specs.Keeping.{AllFollow}
+use Rattle.nb_merchant.specs.Keeping.{AllFollow, IsKept, follows, or_bad, restarted, taken_up}
 use Rattle.nb_merchant.specs.Laws.{Word, OfConsumer, OfHouse, done_at as row_at}
 use Rattle.nb_merchant.specs.Sending.{MessageIs, Endorses, EndorsesKept}
+use Rattle.nb_stall.specs.Spelling.{IsItem, item_bytes}
+use Rattle.nb_stall.proofs.Layouts.{item_reads_back}
+use Rattle.nb_merchant.proofs.Restarting.{shop_is}
 use Rattle.nb_merchant.proofs.Running.{after_follows, word_follows, sent_follows}
 use Rattle.nb_sell.specs.Run.{Act, Hears, Told, Way, heard_as, told_as, heard_row, told_row, act_row, awaited, outset, onward, behind, kept}
 use Rattle.nb_sell.specs.Laws.{ServesAgain, EndorsesAgain, RefusalEnds}
 use Rattle.nb_sell.proofs.Runs.{behind_both}
-use Rattle.nb_sell.proofs.NextTime.{shop_items, same_stall}
+use Rattle.nb_sell.proofs.NextTime.{shop_items, same_stall, all_kept}
 
 -- ---- a refusal
 
@@ -181,6 +185,31 @@ answers_again : (shop : Shop) (p : Purchase) (sale : Sale) (epoid : Epoid) (orde
 answers_again shop p sale epoid order (inl is) = inl (ap (ordered shop p sale order) is ∙ again_is shop.stall epoid order)
 answers_again shop p sale epoid order (inr is) = inr (is.0, ap (ordered shop p sale order) is.1 ∙ settled_is p order is.0)
 
+serves : (shop : Shop) (p : Purchase) (sale : Sale) (epoid : Epoid) (order : List ℕ) (m : Message) → sale_in shop.items p ≡ Some sale → WasEndorsed epoid order sale.progress
+    → m ≡ endorsed_message shop.stall epoid order → ServesAgain shop p order m
+serves shop p sale epoid order m there was is = record {
+  sale = sale;
+  known = there;
+  answers = ⊎_elim
+      (λ again. inl (again ∙ ap (λ (x : Message). let r : Result Answer Reason = Ok (record { keep = None; to = to.Server; message = x }) in r) (sym is)))
+      (λ passed. inr passed)
+      (answers_again shop p sale epoid order was);
+}
+
+-- ---- with whatever shelf
+
+-- a merchant that starts with the bytes of some items kept these
+fresh_is : (start : Shop) (items : List Item) (i : ℕ) (fresh : Shop) → AllByRecursion IsItem items → restarted start i (map item_bytes items) ≡ Ok fresh → fresh ≡ record start { items = start.items ++ items }
+fresh_is start [] i fresh all e = shop_is start fresh e ∙ ap (λ (xs : List Item). record start { items = xs }) (sym (append-nil start.items))
+fresh_is start (x ∷ items) i fresh all e =
+    by (λ rest. fresh_is (with_item start x) items (i + 1) fresh all.1 rest) (follows start x)
+    (subst (λ (r : Result Item ℕ). or_bad i (λ next. restarted next (i + 1) (map item_bytes items)) (taken_up start r) ≡ Ok fresh) (item_reads_back x all.0) e)
+  where
+    by : (restarted (with_item start x) (i + 1) (map item_bytes items) ≡ Ok fresh → fresh ≡ record start { items = (start.items ++ x ∷ []) ++ items }) → (b : Bool)
+        → or_bad i (λ next. restarted next (i + 1) (map item_bytes items)) (cond b (Some (with_item start x)) None) ≡ Ok fresh → fresh ≡ record start { items = start.items ++ x ∷ items }
+    by rest true e = rest e ∙ ap (λ (xs : List Item). record start { items = xs }) (append_assoc start.items (x ∷ []) items)
+    by rest false e = absurd cc
+
 pub endorsed_again : EndorsesAgain
 endorsed_again shop before later a answer merchant sealed is row sends =
     let w : Way = behind (outset shop) before in
@@ -207,14 +236,13 @@ endorsed_again shop before later a answer merchant sealed is row sends =
         (
           e.order,
           first,
-          subst (λ (x : Way). ServesAgain x.shop e.purchase e.order answer.message) (sym whole) (record {
-            sale = r.sale;
-            known = there;
-            answers = ⊎_elim
-                (λ again. inl (again ∙ ap (λ (m : Message). let x : Result Answer Reason = Ok (record { keep = None; to = to.Server; message = m }) in x) (sym then)))
-                (λ passed. inr passed)
-                (answers_again last.shop e.purchase r.sale e.epoid e.order r.was);
-          }),
+          subst (λ (x : Way). ServesAgain x.shop e.purchase e.order answer.message) (sym whole) (serves last.shop e.purchase r.sale e.epoid e.order answer.message there r.was then),
+          λ other fresh items again.
+              let items' : List Item = (behind (outset shop) (before ++ a ∷ later)).shop.items in
+              let kept_then : IsKept (behind (outset shop) (before ++ a ∷ later)).shop = all_kept (outset shop) (before ++ a ∷ later) is items in
+              let with_shelf : Shop = record { stall = shop.stall; products = other.products; items = items' } in
+              subst (λ (x : Shop). ServesAgain x e.purchase e.order answer.message) (sym (fresh_is (new_shop shop.stall other.products) items' 0 fresh kept_then.all again))
+              (serves with_shelf e.purchase r.sale e.epoid e.order answer.message (ap (λ (x : Way). sale_in x.shop.items e.purchase) whole ∙ there) r.was first),
         ),
       ),
     )

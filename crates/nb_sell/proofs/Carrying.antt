@@ -90,17 +90,6 @@ module _ {D : Type 0} (tells : DiskTells D) where
     clock = gave_none p.clock;
   }
 
-  -- nothing but reads
-  pub went_still : (p : Point D) (lines : Lines) → LineGoes p.lines.house lines.house [] [] → LineGoes p.lines.consumer lines.consumer [] [] → Went tells p (point p.journal p.way lines p.clock) []
-  went_still p lines house consumer = record {
-    journal = stays_grows tells p.journal p.journal refl;
-    way = refl;
-    items = tt;
-    house = house;
-    consumer = consumer;
-    clock = gave_none p.clock;
-  }
-
   pub went_both : (p q r : Point D) (acts more : List Act) → Went tells p q acts → Went tells q r more → Went tells p r (acts ++ more)
   went_both p q r acts more first then = record {
     journal = subst (Grows tells p.journal r.journal) (sym (kept_both p.way acts more))

@@ -2,8 +2,10 @@ pub mod Runs
 pub mod Clocks
 pub mod Rows
 pub mod Carrying
+pub mod Over
 pub mod Rounds
 pub mod Ends
 pub mod NextTime
 pub mod Again
 pub mod Faults
+pub mod Within

@@ -27,8 +27,10 @@ use Rattle.nb_trade.proofs.Stopping.{lost_stops, stops_leave}
 use Rattle.nb_sell.specs.declared.ended.SellEnd.{SellEnd}
 use Rattle.nb_sell.specs.declared.ended.SellEnd.TheVariants as ends
 use Rattle.nb_sell.specs.Run.{Act, Hears, Told, Way, heard_as, told_as, heard_row, told_row, act_row, outset, onward, behind, kept, AreItems}
-use Rattle.nb_sell.specs.Sold.{Point, Went, SellLost, EndsAt, Around, Sold, first_point}
+use Rattle.nb_sell.specs.declared.peer.Over.{Over}
+use Rattle.nb_sell.specs.Sold.{Point, Went, Stopped, SellLost, EndsAt, Around, IsLast, IsCarriedOut, Sold, first_point}
 use Rattle.nb_sell.specs.Laws.{acts_at, acts_of, StopLeavesFirst, GoesOn, GoesOnNextTime, StaysKept}
+use Rattle.nb_sell.proofs.Over.{over_journal, over_shop}
 use Rattle.nb_sell.proofs.Runs.{kept_both, items_both}
 
 -- ---- the merchant behind acts
@@ -151,6 +153,13 @@ module _ {D : Type 0} (tells : DiskTells D) (only_now : (d : D) (c : List ℕ) �
   went_leaves p q acts went front items rest image left =
       stops_leave tells only_now p.journal q.journal front items (map item_bytes (kept p.way acts)) rest (went.journal.stops front items rest) image left
 
+  -- where nothing more was done behind the acts
+  stopped_leaves : (p q : Point D) (why : Over) (s : Stopped tells p q why) (front : List ℕ) (items : List (List ℕ)) → AtRest tells front items p.journal
+      → (image : List ℕ) → tells.left q.journal.disk (tells.moment p.journal.disk) image → StandsAmong front items (map item_bytes (kept p.way s.served.acts)) image
+  stopped_leaves p q why s front items rest image left =
+      went_leaves p s.mid s.served.acts s.served.went front items rest image
+      (subst (λ (j : Journal D). tells.left j.disk (tells.moment p.journal.disk) image) (over_journal tells p s.mid q s.served.acts why s.over) left)
+
   lost_leaves : (p q : Point D) (why : Lost) (t : SellLost tells p q why) (front : List ℕ) (items : List (List ℕ)) → AtRest tells front items p.journal
       → (image : List ℕ) → tells.left q.journal.disk (tells.moment p.journal.disk) image → StandsAmong front items (map item_bytes (kept p.way (t.served.acts ++ t.last))) image
   lost_leaves p q why t front items rest image left =
@@ -164,8 +173,8 @@ module _ {D : Type 0} (tells : DiskTells D) (only_now : (d : D) (c : List ℕ) �
 
   leaves_at : (p q : Point D) (end : SellEnd) (e : EndsAt tells p q end) (front : List ℕ) (items : List (List ℕ)) → AtRest tells front items p.journal
       → (image : List ℕ) → tells.left q.journal.disk (tells.moment p.journal.disk) image → StandsAmong front items (map item_bytes (kept p.way (acts_at tells p q end e))) image
-  leaves_at p q ends.Ended e = went_leaves p q e.stopped.served.acts e.stopped.served.went
-  leaves_at p q ends.ServerFault e = went_leaves p q e.stopped.served.acts e.stopped.served.went
+  leaves_at p q ends.Ended e = stopped_leaves p q e.why e.stopped
+  leaves_at p q ends.ServerFault e = stopped_leaves p q e.why e.stopped
   leaves_at p q (ends.DiskFault before after) e = lost_leaves p q (lost.DiskFault before after) e
   leaves_at p q (ends.Full cap) e = lost_leaves p q (lost.Full cap) e
   leaves_at p q ends.NoMemory e = lost_leaves p q lost.NoMemory e
@@ -181,6 +190,12 @@ module _ {D : Type 0} (tells : DiskTells D) (only_now : (d : D) (c : List ℕ) �
   went_goes_on shop p q acts way went front rest is image left =
       goes_on shop acts front image is (subst (λ (w : Way). AreItems w acts) way went.items)
       (subst (λ (w : Way). StandsAmong front (kept_bytes shop) (map item_bytes (kept w acts)) image) way (went_leaves p q acts went front (kept_bytes shop) rest image left))
+
+  stopped_goes_on : (shop : Shop) (p q : Point D) (why : Over) (s : Stopped tells p q why) → p.way ≡ outset shop → (front : List ℕ) → AtRest tells front (kept_bytes shop) p.journal → IsKept shop
+      → (image : List ℕ) → tells.left q.journal.disk (tells.moment p.journal.disk) image → GoesOn shop s.served.acts front image
+  stopped_goes_on shop p q why s way front rest is image left =
+      went_goes_on shop p s.mid s.served.acts way s.served.went front rest is image
+      (subst (λ (j : Journal D). tells.left j.disk (tells.moment p.journal.disk) image) (over_journal tells p s.mid q s.served.acts why s.over) left)
 
   -- where the journal is as it was behind the last act
   same_goes_on : (shop : Shop) (p q : Point D) (why : Lost) (t : SellLost tells p q why) → q.journal ≡ t.mid.journal → p.way ≡ outset shop → (front : List ℕ) → AtRest tells front (kept_bytes shop) p.journal → IsKept shop
@@ -200,8 +215,8 @@ module _ {D : Type 0} (tells : DiskTells D) (only_now : (d : D) (c : List ℕ) �
 
   goes_on_at : (shop : Shop) (p q : Point D) (end : SellEnd) (e : EndsAt tells p q end) → p.way ≡ outset shop → (front : List ℕ) → AtRest tells front (kept_bytes shop) p.journal → IsKept shop
       → (image : List ℕ) → tells.left q.journal.disk (tells.moment p.journal.disk) image → GoesOn shop (acts_at tells p q end e) front image
-  goes_on_at shop p q ends.Ended e way = went_goes_on shop p q e.stopped.served.acts way e.stopped.served.went
-  goes_on_at shop p q ends.ServerFault e way = went_goes_on shop p q e.stopped.served.acts way e.stopped.served.went
+  goes_on_at shop p q ends.Ended e way = stopped_goes_on shop p q e.why e.stopped way
+  goes_on_at shop p q ends.ServerFault e way = stopped_goes_on shop p q e.why e.stopped way
   goes_on_at shop p q (ends.DiskFault before after) e way = fault_goes_on shop p q before after e way
   goes_on_at shop p q (ends.Full cap) e way = same_goes_on shop p q (lost.Full cap) e e.loses.journal.0 way
   goes_on_at shop p q ends.NoMemory e way = same_goes_on shop p q lost.NoMemory e e.loses.journal way
@@ -222,6 +237,12 @@ module _ {D : Type 0} (tells : DiskTells D) where
       (goes_on shop acts front image is (subst (λ (w : Way). AreItems w acts) way went.items)
       (subst (λ (w : Way). StandsAmong front (kept_bytes shop) (map item_bytes (kept w acts)) image) way some)))
       ((went.journal.stops front (kept_bytes shop) rest).since t image le left)
+
+  stopped_since : (shop : Shop) (p q : Point D) (why : Over) (s : Stopped tells p q why) → p.way ≡ outset shop → (front : List ℕ) → AtRest tells front (kept_bytes shop) p.journal → IsKept shop
+      → (t : ℕ) (image : List ℕ) → t ≤ tells.moment p.journal.disk → tells.left q.journal.disk t image → tells.left p.journal.disk t image ⊎ GoesOn shop s.served.acts front image
+  stopped_since shop p q why s way front rest is t image le left =
+      went_since shop p s.mid s.served.acts way s.served.went front rest is t image le
+      (subst (λ (j : Journal D). tells.left j.disk t image) (over_journal tells p s.mid q s.served.acts why s.over) left)
 
   -- where the journal is as it was behind the last act
   same_since : (shop : Shop) (p q : Point D) (why : Lost) (x : SellLost tells p q why) → q.journal ≡ x.mid.journal → p.way ≡ outset shop → (front : List ℕ) → AtRest tells front (kept_bytes shop) p.journal → IsKept shop
@@ -248,8 +269,8 @@ module _ {D : Type 0} (tells : DiskTells D) where
 
   since_at : (shop : Shop) (p q : Point D) (end : SellEnd) (e : EndsAt tells p q end) → p.way ≡ outset shop → (front : List ℕ) → AtRest tells front (kept_bytes shop) p.journal → IsKept shop
       → (t : ℕ) (image : List ℕ) → t ≤ tells.moment p.journal.disk → tells.left q.journal.disk t image → tells.left p.journal.disk t image ⊎ GoesOn shop (acts_at tells p q end e) front image
-  since_at shop p q ends.Ended e way = went_since shop p q e.stopped.served.acts way e.stopped.served.went
-  since_at shop p q ends.ServerFault e way = went_since shop p q e.stopped.served.acts way e.stopped.served.went
+  since_at shop p q ends.Ended e way = stopped_since shop p q e.why e.stopped way
+  since_at shop p q ends.ServerFault e way = stopped_since shop p q e.why e.stopped way
   since_at shop p q (ends.DiskFault before after) e way = fault_since shop p q before after e way
   since_at shop p q (ends.Full cap) e way = same_since shop p q (lost.Full cap) e e.loses.journal.0 way
   since_at shop p q ends.NoMemory e way = same_since shop p q lost.NoMemory e e.loses.journal way
@@ -273,14 +294,32 @@ module _ {D : Type 0} (tells : DiskTells D) where
         subst IsKept (sym now) (all_kept w acts is went.items),
       )
 
+  -- the journal is that behind the last act, and so is the merchant
+  pub last_journal : (old new : Around D) (q : Point D) (why : Over) → IsLast q new → (s : Stopped tells (first_point old) q why) → new.journal ≡ s.mid.journal
+  last_journal old new q why last s = last.journal ∙ over_journal tells (first_point old) s.mid q s.served.acts why s.over
+
+  stopped_stays : (old new : Around D) (q : Point D) (why : Over) → IsLast q new → Stopped tells (first_point old) q why → (front : List ℕ)
+      → AtRest tells front (kept_bytes old.shop) old.journal → IsKept old.shop → AtRest tells front (kept_bytes new.shop) new.journal × IsKept new.shop
+  stopped_stays old new q why last s =
+      went_stays old new s.mid s.served.acts s.served.went (last_journal old new q why last s) (last.shop ∙ over_shop tells (first_point old) s.mid q s.served.acts why s.over)
+
   -- its disk's time goes on
   pub moves_on : (old new : Around D) → Sold tells old new ends.Ended → (front : List ℕ) → AtRest tells front (kept_bytes old.shop) old.journal → tells.moment old.journal.disk ≤ tells.moment new.journal.disk
   moves_on old new s front rest =
-      subst (λ (j : Journal D). tells.moment old.journal.disk ≤ tells.moment j.disk) (sym s.last_is.journal) (s.ended.stopped.served.went.journal.stops front (kept_bytes old.shop) rest).later
+      subst (λ (j : Journal D). tells.moment old.journal.disk ≤ tells.moment j.disk) (sym (last_journal old new s.last s.ended.why s.last_is s.ended.stopped))
+      (s.ended.stopped.served.went.journal.stops front (kept_bytes old.shop) rest).later
 
   pub stays_kept : StaysKept tells
-  stays_kept old new ends.Ended s done front rest is = went_stays old new s.last s.ended.stopped.served.acts s.ended.stopped.served.went s.last_is.journal s.last_is.shop front rest is
-  stays_kept old new ends.ServerFault s done front rest is = went_stays old new s.last s.ended.stopped.served.acts s.ended.stopped.served.went s.last_is.journal s.last_is.shop front rest is
-  stays_kept old new (ends.DiskFault before after) s done front rest is = absurd done
-  stays_kept old new (ends.Full cap) s done front rest is = absurd done
-  stays_kept old new ends.NoMemory s done front rest is = absurd done
+  stays_kept old new ends.Ended s done = stopped_stays old new s.last s.ended.why s.last_is s.ended.stopped
+  stays_kept old new ends.ServerFault s done = stopped_stays old new s.last s.ended.why s.last_is s.ended.stopped
+  stays_kept old new (ends.DiskFault before after) s done = absurd done
+  stays_kept old new (ends.Full cap) s done = absurd done
+  stays_kept old new ends.NoMemory s done = absurd done
+
+  -- and it has the room that it had
+  pub room_stays : (old new : Around D) (end : SellEnd) → Sold tells old new end → IsCarriedOut end → new.journal.room ≡ old.journal.room
+  room_stays old new ends.Ended s done = ap (λ (j : Journal D). j.room) (last_journal old new s.last s.ended.why s.last_is s.ended.stopped) ∙ s.ended.stopped.served.went.journal.room
+  room_stays old new ends.ServerFault s done = ap (λ (j : Journal D). j.room) (last_journal old new s.last s.ended.why s.last_is s.ended.stopped) ∙ s.ended.stopped.served.went.journal.room
+  room_stays old new (ends.DiskFault before after) s done = absurd done
+  room_stays old new (ends.Full cap) s done = absurd done
+  room_stays old new ends.NoMemory s done = absurd done

@@ -24,8 +24,8 @@ use Rattle.nb_merchant.specs.Laws.{kept_bytes}
 use Rattle.nb_sell.specs.declared.ended.TheConstants.{MOST_FRAMES}
 use Rattle.nb_sell.specs.declared.ended.SellEnd.{SellEnd}
 use Rattle.nb_sell.specs.declared.ended.SellEnd.TheVariants as ends
-use Rattle.nb_sell.specs.Run.{Act, Hears, Told, act_row, awaited, outset, behind, kept}
-use Rattle.nb_sell.specs.Sold.{Point, Around, first_point, EndsAt, Sold}
+use Rattle.nb_sell.specs.Run.{Act, Hears, Told, act_row, awaited, outset, behind, kept, AreItems}
+use Rattle.nb_sell.specs.Sold.{Point, Around, first_point, EndsAt, IsCarriedOut, Sold}
 
 -- the acts on a link, with the one that was not carried out, if there is one
 abbrev pub acts_at : {D : Type 0} (tells : DiskTells D) (p q : Point D) (end : SellEnd) → EndsAt tells p q end → List Act
@@ -59,11 +59,24 @@ abbrev pub GoesOnNextTime : {D : Type 0} → DiskTells D → Type 0
 GoesOnNextTime {D} tells = (old new : Around D) (end : SellEnd) (s : Sold tells old new end) (front : List ℕ) → AtRest tells front (kept_bytes old.shop) old.journal → IsKept old.shop
     → (image : List ℕ) → tells.left new.journal.disk (tells.moment old.journal.disk) image → GoesOn old.shop (acts_of tells old new end s) front image
 
--- each step was carried out
-abbrev pub IsCarriedOut : SellEnd → Type 0
-IsCarriedOut ends.Ended = Unit {0}
-IsCarriedOut ends.ServerFault = Unit {0}
-IsCarriedOut other = ⊥
+-- of these acts those that were carried out
+abbrev pub done_at : {D : Type 0} (tells : DiskTells D) (p q : Point D) (end : SellEnd) → EndsAt tells p q end → List Act
+done_at tells p q ends.Ended e = e.stopped.served.acts
+done_at tells p q ends.ServerFault e = e.stopped.served.acts
+done_at tells p q (ends.DiskFault before after) e = e.served.acts
+done_at tells p q (ends.Full cap) e = e.served.acts
+done_at tells p q ends.NoMemory e = e.served.acts
+
+-- what the journal held, and what was kept on the link, is never more than its cap
+abbrev pub KeepsWithin : {D : Type 0} → DiskTells D → Type 0
+KeepsWithin {D} tells = (old new : Around D) (end : SellEnd) (s : Sold tells old new end) (front : List ℕ) (items : List (List ℕ)) → AtRest tells front items old.journal
+    → length (items ++ map item_bytes (kept (outset old.shop) (done_at tells (first_point old) s.last end s.ended))) ≤ old.journal.cap
+
+-- it ends as full only where it is: what the journal held, and what was kept on the link, is as much as its cap
+abbrev pub FullIsFull : {D : Type 0} → DiskTells D → Type 0
+FullIsFull {D} tells = (old new : Around D) (cap : ℕ) (s : Sold tells old new (ends.Full cap)) (front : List ℕ) (items : List (List ℕ)) → AtRest tells front items old.journal
+    → AtRest tells front (items ++ map item_bytes (kept (outset old.shop) s.ended.served.acts)) new.journal
+    × (length (items ++ map item_bytes (kept (outset old.shop) s.ended.served.acts)) ≡ cap) × (new.journal.cap ≡ old.journal.cap) × (cap ≡ old.journal.cap)
 
 -- where the journal held what the merchant kept, and each step was carried out, it holds what the merchant kept, so that another link may be served
 abbrev pub StaysKept : {D : Type 0} → DiskTells D → Type 0
@@ -77,12 +90,18 @@ pub record ServesAgain (shop : Shop) (p : Purchase) (order : List ℕ) (m : Mess
   pub answers : (ordered shop p sale order sale.progress ≡ Ok (record { keep = None; to = to.Server; message = m }))
       ⊎ ((part : List ℕ) × (ordered shop p sale order sale.progress ≡ Ok (passes_again p part)))
 
+-- what this merchant endorsed is served again where it started again with what was kept behind these acts and with the shelf of any other
+abbrev pub ServesAfresh : Shop → List Act → Purchase → List ℕ → Message → Type 0
+ServesAfresh shop acts p order m = (other fresh : Shop) → AreItems (outset shop) acts
+    → restarted (new_shop shop.stall other.products) 0 (kept_bytes (behind (outset shop) acts).shop) ≡ Ok fresh → ServesAgain fresh p order m
+
 -- an endorsement that an act sent is sent again with the same bytes for the same order, behind whatever acts came before it and came later, and so by a merchant
--- that started again with what was kept then
+-- that started again with what was kept then, with whatever shelf
 abbrev pub EndorsesAgain : Type 0
 EndorsesAgain = (shop : Shop) (before later : List Act) (a : Act) (answer : Answer) (merchant : PartyId) (sealed : List ℕ) → IsKept shop
     → act_row (behind (outset shop) before).shop a ≡ Ok answer → answer.message ≡ message.Endorsed merchant sealed
-    → (p : Purchase) × ((epoid : Epoid) × ((order : List ℕ) × (answer.message ≡ endorsed_message shop.stall epoid order) × ServesAgain (behind (outset shop) (before ++ a ∷ later)).shop p order answer.message))
+    → (p : Purchase) × ((epoid : Epoid) × ((order : List ℕ) × (answer.message ≡ endorsed_message shop.stall epoid order) × ServesAgain (behind (outset shop) (before ++ a ∷ later)).shop p order answer.message
+    × ServesAfresh shop (before ++ a ∷ later) p order answer.message))
 
 -- a refusal, of the consumer or of the house, is ignored, and so it ends
 abbrev pub RefusalEnds : Type 0

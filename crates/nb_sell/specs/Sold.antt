@@ -3,13 +3,16 @@ use Rattle.std.specs.Prelude.{◌≡◌, ◌⊎◌, ℕ, ◌≤◌, List, [], �
 use Rattle.nb_port.specs.Tells.{DiskTells}
 use Rattle.nb_journal.specs.declared.journal.Journal.{Journal}
 use Rattle.nb_journal.specs.Growing.{Grows}
+use Rattle.nb_journal.specs.States.{AtRest}
 use Rattle.nb_link.specs.Link.{LinkSeen}
-use Rattle.nb_wire.specs.Received.{EndsAs}
+use Rattle.nb_wire.specs.declared.receiving.Fetched.TheVariants as fetched
+use Rattle.nb_wire.specs.declared.receiving.LinkEnd.{LinkEnd}
 use Rattle.nb_wire.specs.declared.receiving.LinkEnd.TheVariants.{Ended, BadFrame, ReadFault}
 use Rattle.nb_wire.specs.declared.sending.Sent.TheVariants.{All, Failed}
 use Rattle.nb_stall.specs.Spelling.{item_bytes}
+use Rattle.nb_merchant.specs.Laws.{kept_bytes}
 use Rattle.nb_merchant.specs.Shop.{Shop}
-use Rattle.nb_trade.specs.Lines.{Line, begun, LineGoes}
+use Rattle.nb_trade.specs.Lines.{Line, begun, LineGoes, FetchesOn}
 use Rattle.nb_trade.specs.Keeping.{NotKept}
 use Rattle.nb_trade.specs.declared.lost.Lost.{Lost}
 use Rattle.nb_trade.specs.declared.lost.Lost.TheVariants as lost
@@ -32,6 +35,11 @@ abbrev pub line_at : Peer → Lines → Line
 line_at House lines = lines.house
 line_at Consumer lines = lines.consumer
 
+-- that of the other peer
+abbrev pub other_line : Peer → Lines → Line
+other_line House lines = lines.consumer
+other_line Consumer lines = lines.house
+
 -- what is sold with: the journal, the way, the two lines, and the moments that the clock gave
 pub record Point (D : Type 0) : Type 0 where
   pub journal : Journal D
@@ -50,7 +58,7 @@ Gave None (Some given) moments = ⊥
 Gave (Some before) (Some given) moments = given ≡ before ++ moments
 
 -- These acts were carried out, and nothing else: the journal grew by what they keep, the frames that they hear are those that came over each link, in order,
--- what they send was sent to each, up to a write that failed, and their moments are what the clock gave
+-- and no read was for another, what they send was sent to each, up to a write that failed, and their moments are what the clock gave
 pub record Went {D : Type 0} (tells : DiskTells D) (p q : Point D) (acts : List Act) : Type 0 where
   pub journal : Grows tells p.journal q.journal (map item_bytes (kept p.way acts))
   pub way : q.way ≡ behind p.way acts
@@ -63,6 +71,11 @@ pub record Went {D : Type 0} (tells : DiskTells D) (p q : Point D) (acts : List 
 pub record AllSent (lines : Lines) : Type 0 where
   pub house : lines.house.sent ≡ All
   pub consumer : lines.consumer.sent ≡ All
+
+-- one behind the other: each from where the one before it came to, and only where all that was to be sent before it was
+abbrev pub OneByOne : {D : Type 0} → DiskTells D → Point D → Point D → List Act → Type 0
+OneByOne tells p q [] = q ≡ p
+OneByOne {D} tells p q (a ∷ acts) = AllSent p.lines × ((mid : Point D) × Went tells p mid (a ∷ []) × OneByOne tells mid q acts)
 
 -- ---- why nothing more is done
 
@@ -77,13 +90,21 @@ pub record Unsent {D : Type 0} (tells : DiskTells D) (p q : Point D) (acts : Lis
   pub sent : AllSent mid.lines
   pub failed : (line_at peer q.lines).sent ≡ Failed
 
--- no frame comes any more over the link that is read; a write to a link failed; the last frame was ignored; as many frames of the consumer's link as are
--- read were read, and the next would be one
-abbrev pub IsOverAt : {D : Type 0} → DiskTells D → Point D → Point D → List Act → Over → Type 0
-IsOverAt tells p q acts (over.NoFrame peer end) = AllSent q.lines × (q.way.awaits ≡ Some peer) × EndsAs (line_at peer p.lines).wire (line_at peer q.lines).wire end
-IsOverAt tells p q acts (over.WriteFault peer) = Unsent tells p q acts peer
-IsOverAt tells p q acts over.Ignored = AllSent q.lines × (q.way.awaits ≡ None)
-IsOverAt tells p q acts over.Spent = AllSent q.lines × (q.way.awaits ≡ Some Consumer) × (length (frames_on Consumer acts) ≡ MOST_FRAMES)
+-- the link of a peer was read up to where no frame comes any more, and nothing else was done
+pub record LineEnds {D : Type 0} (p q : Point D) (peer : Peer) (end : LinkEnd) : Type 0 where
+  pub line : FetchesOn (line_at peer p.lines) (line_at peer q.lines) (fetched.End end)
+  pub other : other_line peer q.lines ≡ other_line peer p.lines
+  pub journal : q.journal ≡ p.journal
+  pub way : q.way ≡ p.way
+  pub clock : q.clock ≡ p.clock
+
+-- Behind these acts, which came to a middle point: no frame comes any more over the link that is read, which was read up to there; a write to a link failed; the
+-- last frame was ignored; as many frames of the consumer's link as are read were read, and the next would be one. At the last three nothing more was done
+abbrev pub IsOverAt : {D : Type 0} → DiskTells D → (p mid q : Point D) → List Act → Over → Type 0
+IsOverAt tells p mid q acts (over.NoFrame peer end) = LineEnds mid q peer end × AllSent mid.lines × (mid.way.awaits ≡ Some peer)
+IsOverAt tells p mid q acts (over.WriteFault peer) = (q ≡ mid) × Unsent tells p mid acts peer
+IsOverAt tells p mid q acts over.Ignored = (q ≡ mid) × AllSent mid.lines × (mid.way.awaits ≡ None)
+IsOverAt tells p mid q acts over.Spent = (q ≡ mid) × AllSent mid.lines × (mid.way.awaits ≡ Some Consumer) × (length (frames_on Consumer acts) ≡ MOST_FRAMES)
 
 -- how selling ends then: only a fault of the house's link is one of its own
 abbrev pub end_for : Over → SellEnd
@@ -96,17 +117,19 @@ end_for (over.WriteFault Consumer) = ends.Ended
 end_for over.Ignored = ends.Ended
 end_for over.Spent = ends.Ended
 
--- acts that each may come where it comes were carried out
+-- acts that each may come where it comes were carried out, one behind the other
 pub record Served {D : Type 0} (tells : DiskTells D) (p q : Point D) : Type 0 where
   pub acts : List Act
   pub obeys : Obeys p.way acts
   pub went : Went tells p q acts
+  pub each : OneByOne tells p q acts
   pub few : length (frames_on Consumer acts) ≤ MOST_FRAMES
 
 -- and nothing more is done, for this reason
 pub record Stopped {D : Type 0} (tells : DiskTells D) (p q : Point D) (why : Over) : Type 0 where
-  pub served : Served tells p q
-  pub over : IsOverAt tells p q served.acts why
+  pub mid : Point D
+  pub served : Served tells p mid
+  pub over : IsOverAt tells p mid q served.acts why
 
 -- ---- an act that was not carried out
 
@@ -136,6 +159,10 @@ pub record SellLost {D : Type 0} (tells : DiskTells D) (p q : Point D) (why : Lo
   pub loses : Loses tells mid q last why
 
 -- ---- selling
+
+-- the journal is at rest with what the merchant kept and with nothing else, so that a merchant that starts again with its items is this one
+abbrev pub IsJournalOf : {D : Type 0} → DiskTells D → Journal D → Shop → Type 0
+IsJournalOf tells journal shop = (front : List ℕ) × AtRest tells front (kept_bytes shop) journal
 
 -- what stands around selling, before it or behind it
 pub record Around (D : Type 0) : Type 0 where
@@ -174,6 +201,12 @@ EndsAt tells p q ends.ServerFault = StoppedAs tells p q ends.ServerFault
 EndsAt tells p q (ends.DiskFault before after) = SellLost tells p q (lost.DiskFault before after)
 EndsAt tells p q (ends.Full cap) = SellLost tells p q (lost.Full cap)
 EndsAt tells p q ends.NoMemory = SellLost tells p q lost.NoMemory
+
+-- each step was carried out
+abbrev pub IsCarriedOut : SellEnd → Type 0
+IsCarriedOut ends.Ended = Unit {0}
+IsCarriedOut ends.ServerFault = Unit {0}
+IsCarriedOut other = ⊥
 
 -- it was sold on a link, and ended so
 pub record Sold {D : Type 0} (tells : DiskTells D) (old new : Around D) (end : SellEnd) : Type 0 where

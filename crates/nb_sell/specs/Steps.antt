@@ -13,7 +13,6 @@ use Rattle.nb_msgs.specs.declared.node.Reason.{Reason}
 use Rattle.nb_msgs.specs.declared.node.Step.{Step}
 use Rattle.nb_msgs.specs.declared.node.Step.TheVariants as step
 use Rattle.nb_msgs.specs.declared.node.To.TheVariants as to
-use Rattle.nb_wire.specs.Received.{EndsAs}
 use Rattle.nb_wire.specs.declared.receiving.LinkEnd.{LinkEnd}
 use Rattle.nb_wire.specs.declared.sending.Sent.{Sent}
 use Rattle.nb_wire.specs.declared.sending.Sent.TheVariants.{All, Failed}
@@ -37,18 +36,13 @@ use Rattle.nb_sell.specs.declared.ended.TheConstants.{MOST_FRAMES}
 use Rattle.nb_sell.specs.declared.hearing.Stepped.{Stepped}
 use Rattle.nb_sell.specs.declared.sides.Sides.{Sides}
 use Rattle.nb_sell.specs.Run.{Act, way, last_in, act_row, only_of, link_for, peer_in, frame_in, frames_on}
-use Rattle.nb_sell.specs.Sold.{Lines, line_at, Point, point, Went, AllSent, IsOverAt, Served, Stopped, Loses, SellLost}
+use Rattle.nb_sell.specs.Sold.{Lines, line_at, other_line, Point, point, Went, AllSent, LineEnds, IsOverAt, Served, Stopped, Loses, SellLost}
 
 -- ---- the two lines
 
 -- both links, with what is held beside them
 abbrev pub lines_of : LinkSeen → LinkSeen → Sides → Lines
 lines_of server link sides = record { house = line_of server sides.house; consumer = line_of link sides.consumer }
-
--- that of the other peer
-abbrev pub other_line : Peer → Lines → Line
-other_line House lines = lines.consumer
-other_line Consumer lines = lines.house
 
 -- nothing was received and sent
 pub record AreBegun (sides : Sides) : Type 0 where
@@ -196,7 +190,7 @@ next_behind last (Err why) lines = next.Over over.Ignored
 
 -- a frame of a peer was heard, or none comes any more, and nothing was done
 abbrev pub HeardAs : {D : Type 0} → DiskTells D → Point D → Point D → Peer → Next → Option Act → Type 0
-HeardAs tells p q from n None = Went tells p q [] × ((end : LinkEnd) × (n ≡ next.Over (over.NoFrame from end)) × EndsAs (line_at from p.lines).wire (line_at from q.lines).wire end)
+HeardAs tells p q from n None = (end : LinkEnd) × (n ≡ next.Over (over.NoFrame from end)) × LineEnds p q from end
 HeardAs tells p q from n (Some a) = (from ≡ peer_in a) × Went tells p q (a ∷ []) × (n ≡ next_behind (last_in p.way a) (act_row p.way.shop a) q.lines)
 
 -- how many frames of the consumer's link these are
@@ -212,14 +206,15 @@ Listens tells p q from read read' (Err why) = (a : Act) × (from ≡ peer_in a) 
 -- ---- the way of a link
 
 -- all was sent, or nothing more is done
-abbrev pub StandsAt : {D : Type 0} → DiskTells D → Point D → Point D → List Act → Next → Type 0
-StandsAt tells p q acts (next.Awaits peer) = AllSent q.lines
-StandsAt tells p q acts (next.Over why) = IsOverAt tells p q acts why
+abbrev pub StandsAt : {D : Type 0} → DiskTells D → (p mid q : Point D) → List Act → Next → Type 0
+StandsAt tells p mid q acts (next.Awaits peer) = (q ≡ mid) × AllSent mid.lines
+StandsAt tells p mid q acts (next.Over why) = IsOverAt tells p mid q acts why
 
 -- it came from one point to another, so many frames of the consumer's link were read, and this is done next
 pub record Ran {D : Type 0} (tells : DiskTells D) (p q : Point D) (n : Next) (read : ℕ) : Type 0 where
-  pub served : Served tells p q
-  pub stands : StandsAt tells p q served.acts n
+  pub mid : Point D
+  pub served : Served tells p mid
+  pub stands : StandsAt tells p mid q served.acts n
   pub count : length (frames_on Consumer served.acts) ≡ read
 
 -- a link was served up to where nothing more is done, or a step was lost

@@ -19,8 +19,18 @@ pub fn stays_kept<D: Disk>()
     ensures { law.StaysKept D.tells }
 {}
 
+/// A law: the items of the stall's journal are never more than its cap.
+pub fn keeps_within<D: Disk>()
+    ensures { law.KeepsWithin D.tells }
+{}
+
+/// A law: selling ends with a full journal only where that holds as many items as its cap says.
+pub fn full_is_full<D: Disk>()
+    ensures { law.FullIsFull D.tells }
+{}
+
 /// A law: what was endorsed is endorsed again with the same bytes for the same order, or, where it was settled since, answered with the kept result, behind
-/// whatever came later, and so also by a merchant that started again.
+/// whatever came later, and so also by a merchant that started again with what was kept, with whatever shelf it was taken up.
 pub fn endorses_again()
     ensures { law.EndorsesAgain }
 {}

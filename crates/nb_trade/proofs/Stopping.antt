@@ -1,5 +1,5 @@
--- What a stop leaves of a journal that grew, and to which then an item was not kept.
-use Rattle.std.proofs.Common.{◌≡◌, inl, inr, ⊎_elim, ℕ, ◌+◌, List, [], ◌∷◌, ◌++◌, length, take, sym, subst, ◌∙◌, ap, arith, append-nil, append_assoc, length-append}
+-- What a stop leaves of a journal that grew, and to which then an item was not kept, and how many items it has.
+use Rattle.std.proofs.Common.{◌≡◌, inl, inr, ⊎_elim, ℕ, ◌+◌, List, [], ◌∷◌, ◌++◌, Err, length, take, sym, subst, ◌∙◌, ap, arith, append-nil, append_assoc, length-append}
 use Rattle.std.proofs.lemmas.List.{take-append-le}
 use Rattle.std.proofs.Math.Seq.{take-append-add}
 use Rattle.nb_port.specs.Tells.{DiskTells}
@@ -9,7 +9,7 @@ use Rattle.nb_journal.specs.States.{AtRest}
 use Rattle.nb_journal.specs.Growing.{StandsAmong, StopsIn, Grows}
 use Rattle.nb_journal.proofs.Appending.{stands_now}
 use Rattle.nb_journal.proofs.Growing.{stops_both}
-use Rattle.nb_trade.specs.Keeping.{NotKept, StopLeavesFirst}
+use Rattle.nb_trade.specs.Keeping.{NotKept, Keeps, StopLeavesFirst, GrowsWithin}
 use Rattle.nb_trade.specs.declared.lost.Lost.{Lost}
 use Rattle.nb_trade.specs.declared.lost.Lost.TheVariants as lost
 
@@ -69,3 +69,15 @@ module _ {D : Type 0} (tells : DiskTells D) where
   pub stop_leaves_first : ((d : D) (c : List ℕ) → tells.left d (tells.moment d) c → tells.allowed d c) → StopLeavesFirst tells
   stop_leaves_first only_now old mid new front items kept more why rest grows not image left =
       stops_leave only_now old new front items (kept ++ more) rest (lost_stops old mid new kept more why grows not front items rest) image left
+
+  -- ---- why items were not kept
+
+  pub not_kept : (old new : Journal D) (items : List (List ℕ)) (why : Lost) → Keeps tells old new items (Err why) → NotKept tells old new items why
+  not_kept old new items lost.NoMemory keeps = absurd keeps
+  not_kept old new items (lost.Full cap) keeps = keeps
+  not_kept old new items (lost.DiskFault before after) keeps = keeps
+
+  -- ---- its cap
+
+  pub grows_within : GrowsWithin tells
+  grows_within old new front items kept rest grows = omega (arith, (grows.items front items rest).count, new.counted, grows.cap)

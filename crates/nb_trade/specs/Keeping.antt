@@ -31,13 +31,19 @@ NotKept {D} tells old new items (lost.DiskFault before after) =
     × ((front : List ℕ) (held : List (List ℕ)) → AtRest tells front held old
     → InDoubt tells front held item new × StopsIn tells old.disk new.disk (BeforeOrAfter front held item)))
 
--- the journal grew by the items, one or none, or they were not kept
+-- the journal grew by the items, one or none, or they were not kept. It takes no memory
 abbrev pub Keeps : {D : Type 0} → DiskTells D → Journal D → Journal D → List (List ℕ) → Result (Unit {0}) Lost → Type 0
 Keeps tells old new items (Ok done) = Grows tells old new items
-Keeps tells old new items (Err why) = NotKept tells old new items why
+Keeps tells old new items (Err lost.NoMemory) = ⊥
+Keeps tells old new items (Err (lost.Full cap)) = NotKept tells old new items (lost.Full cap)
+Keeps tells old new items (Err (lost.DiskFault before after)) = NotKept tells old new items (lost.DiskFault before after)
 
 -- a stop at any moment since a journal was at rest, while it grew by some items and then an item was not kept, leaves its items with the first so many of all
 -- these
 abbrev pub StopLeavesFirst : {D : Type 0} → DiskTells D → Type 0
 StopLeavesFirst {D} tells = (old mid new : Journal D) (front : List ℕ) (items kept more : List (List ℕ)) (why : Lost) → AtRest tells front items old → Grows tells old mid kept
     → NotKept tells mid new more why → (image : List ℕ) → tells.left new.disk (tells.moment old.disk) image → StandsAmong front items (kept ++ more) image
+
+-- what a journal holds behind items that it grew by is never more than its cap
+abbrev pub GrowsWithin : {D : Type 0} → DiskTells D → Type 0
+GrowsWithin {D} tells = (old new : Journal D) (front : List ℕ) (items kept : List (List ℕ)) → AtRest tells front items old → Grows tells old new kept → length (items ++ kept) ≤ old.cap

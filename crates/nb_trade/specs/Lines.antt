@@ -1,8 +1,10 @@
 -- A line to a peer: a wire, what was received over it and what was sent to it.
-use Rattle.std.specs.Prelude.{◌≡◌, ℕ, List, [], ◌++◌}
+use Rattle.std.specs.Prelude.{◌≡◌, ℕ, ◌<◌, List, [], ◌∷◌, ◌++◌, ⊤, length, take}
+use Rattle.std.specs.List.{flat_map}
 use Rattle.nb_link.specs.Link.{LinkSeen}
-use Rattle.nb_units.specs.Frames.{Frame}
-use Rattle.nb_frame.specs.State.{unfed}
+use Rattle.nb_units.specs.Frames.{Frame, frame, front_of}
+use Rattle.nb_frame.specs.State.{unfed, waiting}
+use Rattle.nb_frame.specs.Looks.{IsShort}
 use Rattle.nb_wire.specs.Received.{Wire, wire, Received, Fetches}
 use Rattle.nb_wire.specs.Sent.{WroteOn, OnlyWrites}
 use Rattle.nb_wire.specs.declared.sending.Sent.{Sent}
@@ -28,9 +30,23 @@ pub record IsBegun (side : Side) : Type 0 where
   pub frames : side.frames ≡ unfed
   pub sent : side.sent ≡ All
 
--- exactly these frames were received, and these bytes sent, or where a write failed a part from their front
+-- the bytes are some of the frames from the first on, not all of them, and less than a frame behind these
+pub record WantsMore (frames : List Frame) (bytes : List ℕ) : Type 0 where
+  pub count : ℕ
+  pub fewer : count < length frames
+  pub rest : List ℕ
+  pub is : bytes ≡ flat_map frame (take count frames) ++ rest
+  pub short : IsShort (front_of rest)
+
+-- each piece was read for one of the frames, which had not come: so with what waited and the pieces before it
+abbrev pub AreWanted : List Frame → List ℕ → List (List ℕ) → Type 0
+AreWanted frames waits [] = ⊤
+AreWanted frames waits (piece ∷ pieces) = WantsMore frames waits × AreWanted frames (waits ++ piece) pieces
+
+-- exactly these frames were received, by reads for them alone, and these bytes sent, or where a write failed a part from their front
 pub record LineGoes (old new : Line) (frames : List Frame) (bytes : List ℕ) : Type 0 where
   pub received : Received old.wire new.wire frames
+  pub wanted : AreWanted frames (waiting old.wire.held) received.pieces
   pub wrote : WroteOn old.sent new.sent old.wire.link new.wire.link bytes
 
 -- what comes next over a line, and nothing was sent

@@ -14,3 +14,8 @@ pub fn goes_in_parts()
 pub fn stop_leaves_first<D: Disk>()
     ensures { keeping.StopLeavesFirst D.tells }
 {}
+
+/// A law: the items of a journal that grew are never more than its cap.
+pub fn grows_within<D: Disk>()
+    ensures { keeping.GrowsWithin D.tells }
+{}

@@ -4,11 +4,15 @@ use Rattle.std.specs.List.{AllByRecursion}
 use Rattle.std.proofs.lemmas.List.{length-append, map-append}
 use Rattle.nb_port.specs.Tells.{DiskTells}
 use Rattle.nb_port.specs.Faults.{Rose}
+use Rattle.nb_journal.specs.declared.journal.Journal.{Journal}
+use Rattle.nb_journal.specs.States.{AtRest}
+use Rattle.nb_merchant.specs.Shop.{Shop}
+use Rattle.nb_merchant.specs.Laws.{kept_bytes}
 use Rattle.nb_link.specs.Link.{LinkSeen}
 use Rattle.nb_link.specs.Port.{PortSeen, GivesLink, FailsToGive, TakesBack, with_first, with_last}
 use Rattle.nb_sell.specs.declared.ended.SellEnd.{SellEnd}
 use Rattle.nb_sell.specs.declared.ended.SellEnd.TheVariants as ends
-use Rattle.nb_sell.specs.Sold.{Sold}
+use Rattle.nb_sell.specs.Sold.{IsJournalOf, Sold}
 use Rattle.nb_server.specs.Served.{with_given, with_taken}
 use Rattle.nb_work.specs.declared.selling.Stop.{Stop}
 use Rattle.nb_work.specs.declared.selling.Stop.TheVariants as stops
@@ -55,6 +59,12 @@ taken_more ts t (Some before) b c is last = last ∙ ap (with_last t) is ∙ ap 
 all_more : {A : Type 0} (P : A → Type 0) (xs : List A) (x : A) → AllByRecursion P xs → P x → AllByRecursion P (xs ++ x ∷ [])
 all_more P [] x all is = (is, tt)
 all_more P (y ∷ xs) x all is = (all.0, all_more P xs x all.1 is)
+
+-- ---- at the outset
+
+-- a journal that is at rest with what the merchant started again with is that of the merchant
+pub journal_of : {D : Type 0} (tells : DiskTells D) (journal : Journal D) (shop : Shop) (front : List ℕ) (items : List (List ℕ)) → AtRest tells front items journal → kept_bytes shop ≡ items → IsJournalOf tells journal shop
+journal_of tells journal shop front items rest kept = (front, subst (λ (xs : List (List ℕ)). AtRest tells front xs journal) (sym kept) rest)
 
 module _ {D : Type 0} (tells : DiskTells D) where
   sold_more : (first mid : Standing D) (sales : List (Sale D)) (s : Sale D) → AreSold tells first sales mid → Sold tells (with_link mid s.given) (with_link s.behind s.taken) s.end → AreSold tells first (sales ++ s ∷ []) s.behind

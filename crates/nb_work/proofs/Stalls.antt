@@ -1,8 +1,6 @@
 -- A job of selling: what a stop leaves goes on, what each refusal tells, and that what stands is sold.
-use Rattle.std.proofs.Common.{◌≡◌, ◌⊎◌, inl, inr, ⊎_elim, ℕ, ◌≤◌, List, [], ◌∷◌, Option, Some, None, Ok, Err, refl, sym, ap, subst, ◌∙◌, arith}
+use Rattle.std.proofs.Common.{◌≡◌, ◌⊎◌, inl, inr, ⊎_elim, ℕ, ◌≤◌, List, [], ◌∷◌, ◌++◌, length, map, append_assoc, Option, Some, None, Ok, Err, refl, sym, ap, subst, ◌∙◌, arith}
 use Rattle.std.specs.Prelude.{IfSome, Result}
-use Rattle.std.specs.List.{AllByRecursion}
-use Rattle.nb_units.specs.Frames.{AreBytes}
 use Rattle.nb_units.specs.declared.charter.Charter.{Charter}
 use Rattle.nb_port.specs.Tells.{DiskTells}
 use Rattle.nb_port.specs.Faults.{Rose}
@@ -12,19 +10,22 @@ use Rattle.nb_journal.specs.declared.opening.OpenFault.TheVariants as opens
 use Rattle.nb_journal.specs.Layout.{front_bytes}
 use Rattle.nb_journal.specs.Opening.{OpenFails}
 use Rattle.nb_journal.specs.Reading.{Holds, IsUnborn, IsDamaged}
+use Rattle.nb_journal.specs.Stands.{Stands}
 use Rattle.nb_journal.specs.States.{AtRest}
 use Rattle.nb_journal.proofs.ReadingLaws.{one_journal, whole_not_damaged, unborn_is_neither}
 use Rattle.nb_vault.proofs.Founding.{told_of}
 use Rattle.nb_price.specs.Products.{Product}
 use Rattle.nb_stall.specs.Head.{stall_of}
+use Rattle.nb_stall.specs.Spelling.{item_bytes}
 use Rattle.nb_merchant.specs.Shop.{Shop, new_shop}
 use Rattle.nb_merchant.specs.Keeping.{IsKept, restarted}
 use Rattle.nb_merchant.specs.Laws.{kept_bytes}
-use Rattle.nb_merchant.proofs.Restarting.{restart_keeps_items}
 use Rattle.nb_sell.specs.declared.ended.SellEnd.{SellEnd}
 use Rattle.nb_sell.specs.declared.ended.SellEnd.TheVariants as ends
+use Rattle.nb_sell.specs.Run.{kept, outset}
 use Rattle.nb_sell.specs.Sold.{Sold}
 use Rattle.nb_sell.proofs.NextTime.{goes_on_since, moves_on, stays_kept}
+use Rattle.nb_sell.proofs.Within.{ended_holds, full_is_full}
 use Rattle.nb_sell.proofs.Faults.{NoneFell, none_fell, house_rose, disk_rose}
 use Rattle.nb_link.specs.Link.{LinkSeen}
 use Rattle.nb_run.specs.declared.ending.Ending.{Ending}
@@ -34,7 +35,7 @@ use Rattle.nb_work.specs.declared.selling.Stop.{Stop}
 use Rattle.nb_work.specs.declared.selling.Stop.TheVariants as stops
 use Rattle.nb_work.specs.Buying.{not_opened}
 use Rattle.nb_work.specs.Selling.{Outside, Standing, Sale, AreSold, IsLastFor, IsNoStall, LeavesAs, Serves, SoldWith, StopsFor, standing, status_of, stop_for, with_link}
-use Rattle.nb_work.specs.Laws.{GoesOnIn, IsStall, NoneFails, SalesGoOn, SalesAreTold, SalesComplete}
+use Rattle.nb_work.specs.Laws.{GoesOnIn, IsFilled, IsStall, NoneFails, SalesGoOn, SalesAreTold, SalesComplete}
 
 -- ---- a stop
 
@@ -79,13 +80,12 @@ module _ {D : Type 0} (tells : DiskTells D) where
       behind ends.NoMemory ended onward = inl (last_one stops.NoMemory (ap stop_for ended))
 
   pub sales_go_on : ((d : D) (c : List ℕ) → tells.left d (tells.moment d) c → tells.allowed d c) → SalesGoOn tells
-  sales_go_on only_now shelf old new stop s bytes image left =
-      let kept = restart_keeps_items (stall_of s.charter.head) shelf s.items s.shop bytes s.starts in
-      let rest = subst (λ (xs : List (List ℕ)). AtRest tells (front_bytes s.cap s.charter) xs s.opened) (sym kept.2) s.rest in
+  sales_go_on only_now shelf old new stop s image left =
+      let rest = subst (λ (xs : List (List ℕ)). AtRest tells (front_bytes s.cap s.charter) xs s.opened) (sym s.kept) s.rest in
       ⊎_elim
       (λ past. inl (⊎_elim (only_now old.disk image) (λ now. now) (s.unwritten.time.each (tells.moment old.disk) image (omega arith) past)))
       (λ on. inr on)
-      (goes_on_in (standing s.opened s.shop old.house old.worker.clock) s.last s.serves.sales stop s.serves.are s.serves.why (front_bytes s.cap s.charter) rest kept.3
+      (goes_on_in (standing s.opened s.shop old.house old.worker.clock) s.last s.serves.sales stop s.serves.are s.serves.why (front_bytes s.cap s.charter) rest s.is
       (tells.moment old.disk) image s.unwritten.time.later (subst (λ (d : D). tells.left d (tells.moment old.disk) image) s.handed_back left))
 
 -- ---- what is told of faults
@@ -204,7 +204,66 @@ sales_are_told {D} tells shelf old new ending sells = (told.port, told.disk, tol
       | inr (inr (inr sold)) ↦ same_ending tells shelf old new ending (at_no_place (status_of sold.0)) sold.1 (by_sold tells shelf old new sold.0 sold.2)
     ]
 
+-- ---- a stall that is full
+
+-- the journal is at rest with some items more, as many as may be
+record Filled {D : Type 0} (tells : DiskTells D) (front : List ℕ) (items : List (List ℕ)) (last : Standing D) (cap : ℕ) : Type 0 where
+  more : List (List ℕ)
+  rest : AtRest tells front (items ++ more) last.journal
+  full : length (items ++ more) ≡ cap
+
+module _ {D : Type 0} (tells : DiskTells D) where
+  port_not_full : (stop : Stop) → (stop ≡ stops.Closed) ⊎ (stop ≡ stops.PortFault) → stop ≡ stops.Full → ⊥
+  port_not_full stop (inl is) full = cc
+  port_not_full stop (inr is) full = cc
+
+  filled_behind : (front : List ℕ) (items more : List (List ℕ)) (last : Standing D) (cap cap' : ℕ) → cap' ≡ cap → Filled tells front (items ++ more) last cap' → Filled tells front items last cap
+  filled_behind front items more last cap cap' same f = record {
+    more = more ++ f.more;
+    rest = subst (λ (xs : List (List ℕ)). AtRest tells front xs last.journal) (append_assoc items more f.more) f.rest;
+    full = ap length (sym (append_assoc items more f.more)) ∙ f.full ∙ same;
+  }
+
+  full_in : (first last : Standing D) (all : List (Sale D)) (stop : Stop) → AreSold tells first all last → StopsFor all stop → stop ≡ stops.Full → (front : List ℕ) (items : List (List ℕ)) → AtRest tells front items first.journal
+      → Filled tells front items last first.journal.cap
+  full_in first last [] stop are why full front items rest = absurd (port_not_full stop why full)
+  full_in first last (s ∷ all) stop are why full front items rest =
+      by s.end refl (λ whys now rests. full_in s.behind last all stop are.1 whys full front now rests)
+    where
+      alone : (reason : Stop) → stop_for s.end ≡ Some reason → (all ≡ []) × (reason ≡ stop)
+      alone reason is = subst (λ (o : Option Stop). IsLastFor o all stop (StopsFor all stop)) is why
+
+      by : (end : SellEnd) → s.end ≡ end
+          → (StopsFor all stop → (now : List (List ℕ)) → AtRest tells front now s.behind.journal → Filled tells front now last s.behind.journal.cap)
+          → Filled tells front items last first.journal.cap
+      by ends.Ended is onward =
+          let sold = subst (λ (e : SellEnd). Sold tells (with_link first s.given) (with_link s.behind s.taken) e) is are.0 in
+          let holds = ended_holds tells (with_link first s.given) (with_link s.behind s.taken) sold front items rest in
+          filled_behind front items holds.0 last first.journal.cap s.behind.journal.cap holds.2
+          (onward (subst (λ (o : Option Stop). IsLastFor o all stop (StopsFor all stop)) (ap stop_for is) why) (items ++ holds.0) holds.1)
+      by (ends.Full cap) is onward =
+          let sold = subst (λ (e : SellEnd). Sold tells (with_link first s.given) (with_link s.behind s.taken) e) is are.0 in
+          let holds = full_is_full tells (with_link first s.given) (with_link s.behind s.taken) cap sold front items rest in
+          subst (λ (x : Standing D). Filled tells front items x first.journal.cap) (sym (none_follow tells s.behind last all (alone stops.Full (ap stop_for is)).0 are.1))
+          (record { more = map item_bytes (kept (outset first.shop) sold.ended.served.acts); rest = holds.0; full = holds.1 ∙ holds.3 })
+      by ends.ServerFault is onward = absurd (apart stop (alone stops.ServerFault (ap stop_for is)).1 full)
+        where
+          apart : (x : Stop) → stops.ServerFault ≡ x → x ≡ stops.Full → ⊥
+          apart x e f = cc
+      by (ends.DiskFault before after) is onward = absurd (apart stop (alone stops.DiskFault (ap stop_for is)).1 full)
+        where
+          apart : (x : Stop) → stops.DiskFault ≡ x → x ≡ stops.Full → ⊥
+          apart x e f = cc
+      by ends.NoMemory is onward = absurd (apart stop (alone stops.NoMemory (ap stop_for is)).1 full)
+        where
+          apart : (x : Stop) → stops.NoMemory ≡ x → x ≡ stops.Full → ⊥
+          apart x e f = cc
+
 -- ---- a stall that stands
+
+some_so : {A : Type 0} (o : Option A) (P Q : A → Type 0) → ((x : A) → P x → Q x) → IfSome o P → IfSome o Q
+some_so None P Q each is = tt
+some_so (Some x) P Q each is = each x is
 
 module _ {D : Type 0} (tells : DiskTells D) (shelf : List Product) (old new : Outside D) (image : List ℕ) (cap : ℕ) (items : List (List ℕ)) (shop : Shop) (content : tells.content old.disk ≡ Some image) (is : IsStall shelf image cap items shop)
     (none : NoneFails tells old new) where
@@ -227,14 +286,31 @@ module _ {D : Type 0} (tells : DiskTells D) (shelf : List Product) (old new : Ou
       apart : ◌≡◌ {A = Result Shop ℕ} (Ok shop) (Err item) → ⊥
       apart e = cc
 
+  -- where it is full it holds as many items as it may
+  filled : SoldWith tells shelf old new stops.Full → IfSome (tells.content new.disk) (IsFilled cap items)
+  filled s =
+      let same = one_journal image is.charter s.charter cap s.cap items s.items is.holds (told (λ (x : List ℕ). Holds x s.cap s.charter s.items) s.holds) in
+      let f = full_in tells (standing s.opened s.shop old.house old.worker.clock) s.last s.serves.sales stops.Full s.serves.are s.serves.why refl (front_bytes s.cap s.charter) s.items s.rest in
+      subst (λ (d : D). IfSome (tells.content d) (IsFilled cap items)) (sym s.handed_back)
+      (some_so (tells.content s.last.journal.disk) (Stands (front_bytes s.cap s.charter) (s.items ++ f.more)) (IsFilled cap items)
+      (λ bytes stands. record {
+        charter = s.charter;
+        more = f.more;
+        stands = subst (λ (x : ℕ × List (List ℕ)). Stands (front_bytes x.0 s.charter) (x.1 ++ f.more) bytes) (λ i. (sym same.0 i, sym same.2 i)) stands;
+        full = ap (λ (xs : List (List ℕ)). length (xs ++ f.more)) same.2 ∙ f.full ∙ s.cap_is ∙ sym same.0;
+      })
+      f.rest.bytes)
+
   -- nothing stops it but the stall's limit and want of memory
   stops_so : (stop : Stop) → SoldWith tells shelf old new stop → LeavesAs old.worker.port new.worker.port stop → ToldBy tells old new (status_of stop)
-      → (at_no_place (status_of stop) ≡ at_no_place OUT_OF_MEMORY) ⊎ (at_no_place (status_of stop) ≡ at_no_place JOURNAL_FULL) ⊎ ((at_no_place (status_of stop) ≡ at_no_place CLEAN) × (new.worker.port.left ≡ 0))
+      → (at_no_place (status_of stop) ≡ at_no_place OUT_OF_MEMORY)
+      ⊎ ((at_no_place (status_of stop) ≡ at_no_place JOURNAL_FULL) × IfSome (tells.content new.disk) (IsFilled cap items))
+      ⊎ ((at_no_place (status_of stop) ≡ at_no_place CLEAN) × (new.worker.port.left ≡ 0))
   stops_so stops.Closed s leaves by = inr (inr (refl, leaves))
   stops_so stops.PortFault s leaves by = absurd (none.port leaves.1)
   stops_so stops.ServerFault s leaves by = absurd (⊎_elim none.port (λ house. ⊎_elim none.house_reads none.house_writes house) (by.port refl))
   stops_so stops.DiskFault s leaves by = absurd (none.disk (by.disk refl))
-  stops_so stops.Full s leaves by = inr (inl refl)
+  stops_so stops.Full s leaves by = inr (inl (refl, filled s))
   stops_so stops.NoMemory s leaves by = inl refl
 
 pub sales_complete : {D : Type 0} (tells : DiskTells D) → SalesComplete tells
@@ -243,6 +319,6 @@ sales_complete {D} tells shelf old new ending sells image cap items shop content
   | inr (inl bad) ↦ absurd (all_items tells shelf old new image cap items shop content is none bad.0 (told tells shelf old new image cap items shop content is none (λ (x : List ℕ). IsNoStall shelf x bad.0) bad.2))
   | inr (inr (inl starved)) ↦ inl starved.0
   | inr (inr (inr sold)) ↦
-      subst (λ (e : Ending). (e ≡ at_no_place OUT_OF_MEMORY) ⊎ (e ≡ at_no_place JOURNAL_FULL) ⊎ ((e ≡ at_no_place CLEAN) × (new.worker.port.left ≡ 0))) (sym sold.1)
+      subst (λ (e : Ending). (e ≡ at_no_place OUT_OF_MEMORY) ⊎ ((e ≡ at_no_place JOURNAL_FULL) × IfSome (tells.content new.disk) (IsFilled cap items)) ⊎ ((e ≡ at_no_place CLEAN) × (new.worker.port.left ≡ 0))) (sym sold.1)
       (stops_so tells shelf old new image cap items shop content is none sold.0 sold.2 sold.2.serves.leaves (by_sold tells shelf old new sold.0 sold.2))
 ]

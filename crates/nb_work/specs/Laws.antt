@@ -1,8 +1,6 @@
 -- What follows for a job over links.
-use Rattle.std.specs.Prelude.{◌≡◌, ◌⊎◌, ℕ, ◌+◌, ◌≤◌, List, [], ◌∷◌, length, Option, Some, IfSome, Ok}
-use Rattle.std.specs.List.{AllByRecursion}
+use Rattle.std.specs.Prelude.{◌≡◌, ◌⊎◌, ℕ, ◌+◌, ◌≤◌, List, [], ◌∷◌, ◌++◌, length, Option, Some, IfSome, Ok}
 use Rattle.std.specs.Io.KnownBytes.{Appends}
-use Rattle.nb_units.specs.Frames.{AreBytes}
 use Rattle.nb_units.specs.declared.charter.Charter.{Charter}
 use Rattle.nb_port.specs.Tells.{DiskTells}
 use Rattle.nb_port.specs.Faults.{Rose}
@@ -18,6 +16,7 @@ use Rattle.nb_run.specs.Ending.{at_no_place}
 use Rattle.nb_run.specs.declared.ending.TheConstants.{UNPAID}
 use Rattle.nb_journal.specs.Layout.{front_bytes}
 use Rattle.nb_journal.specs.Reading.{Holds}
+use Rattle.nb_journal.specs.Stands.{Stands}
 use Rattle.nb_wallet.specs.declared.wallet.Start.{Start}
 use Rattle.nb_wallet.specs.Head.{wallet_of}
 use Rattle.nb_consumer.specs.declared.phase.Phase.{Phase}
@@ -100,10 +99,10 @@ GoesOnIn tells front image first [] last are = ⊥
 GoesOnIn tells front image first (s ∷ all) last are =
     links.GoesOn first.shop (links.acts_of tells (with_link first s.given) (with_link s.behind s.taken) s.end are.0) front image ⊎ GoesOnIn tells front image s.behind all last are.1
 
--- what a stop leaves since before the job, over items that are bytes: what might have been left before it, or a stall that goes on from there: the items with
+-- what a stop leaves since before the job: what might have been left before it, or a stall that goes on from there: the items with
 -- the first so many of those that the merchant kept, which starts again to the merchant that it was then
 abbrev pub SalesGoOn : {D : Type 0} → DiskTells D → Type 0
-SalesGoOn {D} tells = (shelf : List Product) (old new : sales.Outside D) (stop : Stop) (s : SoldWith tells shelf old new stop) → AllByRecursion AreBytes s.items
+SalesGoOn {D} tells = (shelf : List Product) (old new : sales.Outside D) (stop : Stop) (s : SoldWith tells shelf old new stop)
     → (image : List ℕ) → tells.left new.disk (tells.moment old.disk) image
     → tells.allowed old.disk image
     ⊎ GoesOnIn tells (front_bytes s.cap s.charter) image (standing s.opened s.shop old.house old.worker.clock) s.serves.sales s.last s.serves.are
@@ -129,9 +128,18 @@ pub record NoneFails {D : Type 0} (tells : DiskTells D) (old new : sales.Outside
   pub house_reads : Rose old.house.read_faults new.house.read_faults → ⊥
   pub house_writes : Rose old.house.write_faults new.house.write_faults → ⊥
 
+-- the content is a stall with these items and some more, as many as it may hold
+pub record IsFilled (cap : ℕ) (items : List (List ℕ)) (image : List ℕ) : Type 0 where
+  pub charter : Charter
+  pub more : List (List ℕ)
+  pub stands : Stands (front_bytes cap charter) (items ++ more) image
+  pub full : length (items ++ more) ≡ cap
+
 -- Over a content that is a stall with the shelf, where no such count rises, whatever consumers do: each link of the port is sold on and the job ends with 0; or the
--- stall is full, or there was no memory
+-- stall is full, and holds as many items as it may; or there was no memory
 abbrev pub SalesComplete : {D : Type 0} → DiskTells D → Type 0
 SalesComplete {D} tells = (shelf : List Product) (old new : sales.Outside D) (ending : Ending) → SellsAs tells shelf old new ending
     → (image : List ℕ) (cap : ℕ) (items : List (List ℕ)) (shop : Shop) → tells.content old.disk ≡ Some image → IsStall shelf image cap items shop → NoneFails tells old new
-    → (ending ≡ at_no_place OUT_OF_MEMORY) ⊎ (ending ≡ at_no_place JOURNAL_FULL) ⊎ ((ending ≡ at_no_place CLEAN) × (new.worker.port.left ≡ 0))
+    → (ending ≡ at_no_place OUT_OF_MEMORY)
+    ⊎ ((ending ≡ at_no_place JOURNAL_FULL) × IfSome (tells.content new.disk) (IsFilled cap items))
+    ⊎ ((ending ≡ at_no_place CLEAN) × (new.worker.port.left ≡ 0))

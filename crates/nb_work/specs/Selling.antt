@@ -15,7 +15,8 @@ use Rattle.nb_journal.specs.Time.{Unwritten}
 use Rattle.nb_price.specs.Products.{Product}
 use Rattle.nb_stall.specs.Head.{stall_of}
 use Rattle.nb_merchant.specs.Shop.{Shop, new_shop}
-use Rattle.nb_merchant.specs.Keeping.{restarted}
+use Rattle.nb_merchant.specs.Keeping.{IsKept, restarted}
+use Rattle.nb_merchant.specs.Laws.{kept_bytes}
 use Rattle.nb_sell.specs.declared.ended.SellEnd.{SellEnd}
 use Rattle.nb_sell.specs.declared.ended.SellEnd.TheVariants as ends
 use Rattle.nb_sell.specs.Sold.{Around, around, Sold}
@@ -160,6 +161,9 @@ pub record SoldWith {D : Type 0} (tells : DiskTells D) (shelf : List Product) (o
   pub rest : AtRest tells (front_bytes cap charter) items opened
   pub cap_is : opened.cap ≡ cap
   pub starts : restarted (new_shop (stall_of charter.head) shelf) 0 items ≡ Ok shop
+  -- it kept exactly these, and so its journal is at rest with what it kept
+  pub kept : kept_bytes shop ≡ items
+  pub is : IsKept shop
   -- opening wrote nothing
   pub unwritten : Unwritten tells old.disk opened.disk
   pub counted : tells.faults old.disk ≤ tells.faults opened.disk

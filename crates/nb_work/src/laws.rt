@@ -38,7 +38,7 @@ pub fn sales_are_told<D: Disk>()
 {}
 
 /// A law: selling with a stall that stands and fits the shelf, where no count of the disk, of the port and of the link to the house rises, ends with 0 behind the last link that the
-/// port had, whatever consumers do; or with 14 where the stall is full, or with 6 for want of memory.
+/// port had, whatever consumers do; or with 14 where the stall is full, which then holds as many items as its cap says, or with 6 for want of memory.
 pub fn sales_complete<D: Disk>()
     ensures { law.SalesComplete D.tells }
 {}

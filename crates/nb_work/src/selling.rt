@@ -1,6 +1,6 @@
 ghost use Rattle.std.specs.Prelude.{◌≡◌, ◌<◌, ◌≤◌, ◌^◌, length};
-ghost use Rattle.nb_journal.specs.Growing.{IsAtRest};
 ghost use Rattle.nb_journal.specs.declared.limits.TheConstants.{MAX_ITEM};
+ghost use Rattle.nb_sell.specs.Sold.{IsJournalOf};
 ghost use Rattle.nb_server.specs.Served.{worker_seen};
 ghost use Rattle.nb_work.specs.Buying.{not_opened};
 ghost use Rattle.nb_work.specs.Selling.{Serves, SellsAs, outside, standing, status_of, stop_for};
@@ -68,6 +68,7 @@ pub fn sell_with<D: Disk, P: Port, L: Link, C: Clock>(
             return (Ending::at_no_place(OUT_OF_MEMORY), journal.into_disk());
         }
     };
+    merchant.witness();
     let mut journal = journal;
     let stop = serve_links(alloc, &mut journal, &mut merchant, worker, server);
     drop(merchant);
@@ -82,7 +83,8 @@ fn serve_links<D: Disk, P: Port, L: Link, C: Clock>(
     worker: &mut Worker<P, C>,
     server: &mut L,
 ) -> Stop
-    requires rest { IsAtRest D.tells journal.old }
+    // The journal holds what the merchant kept: so it does behind each link on which the next one is served.
+    requires kept { IsJournalOf D.tells journal.old merchant.old }
     requires room { journal.old.room ≡ MAX_ITEM }
     ensures serves { Serves D.tells (standing journal.old merchant.old (L.seen server.old) (C.moments worker.old.clock)) (standing journal.new merchant.new (L.seen server.new) (C.moments worker.new.clock)) (P.seen worker.old.port) (P.seen worker.new.port) result }
 {

@@ -7,26 +7,18 @@ use Rattle.nb_sell.specs.Sold.{Lines}
 use Rattle.nb_sell.specs.Steps.{Answers, at, lines_of}
 use Rattle.nb_trade.proofs.Going.{line_none, received_line}
 use Rattle.nb_sell.proofs.Clocks.{gave_none}
-use Rattle.nb_sell.proofs.Carrying.{frame_with, frame_is, step_short, listens_done, starved, went_still}
+use Rattle.nb_sell.proofs.Carrying.{frame_with, frame_is, step_short, listens_done, starved}
 use Rattle.nb_sell.proofs.hearing.be_told.Goals as goal
 
 none_more : (n : ℕ) → n ≡ n + 0
 none_more n = omega arith
 
 pub returns-in-End-clause-listens : goal.returns-in-End-clause-listens
-returns-in-End-clause-listens g c =
-    let clock = g.C.Clock.moments c.args._clock.now in
-    let old : Lines = lines_of (g.M.Link.seen c.args.server.now) (g.L.Link.seen c.args.link.now) c.args.sides.now in
-    let new : Lines = lines_of (g.M.Link.seen c.fetch.new.link) (g.L.Link.seen c.args.link.now) (record c.args.sides.now { house = c.fetch.new.self }) in
-    let fetched = c.in-End.ensures.fetches in (
-      None,
-      (
-        went_still g.D.Disk.tells (at c.args.journal.now c.args.merchant.now old clock c.args.sides.now.last (Some House)) new
-            (received_line old.house new.house [] fetched.fetches.0 fetched.sent) (line_none old.consumer),
-        (c.in-End.end, refl, fetched.fetches.1),
-      ),
-      none_more c.args.sides.now.read,
-    )
+returns-in-End-clause-listens g c = (
+  None,
+  (c.in-End.end, refl, record { line = c.in-End.ensures.fetches; other = refl; journal = refl; way = refl; clock = refl }),
+  none_more c.args.sides.now.read,
+)
 
 pub act-done-requires-clause-short : goal.act-done-requires-clause-short
 act-done-requires-clause-short g c =
@@ -44,7 +36,7 @@ returns-in-Ok-clause-listens g c =
     listens_done g.D.Disk.tells (at c.args.journal.now c.args.merchant.now old clock c.args.sides.now.last (Some House))
     c.act-done.new.journal c.told.new.merchant new mid clock c.act-done.new.sides.last House (Told f) c.in-Ok.step c.act-done.result
     c.args.sides.now.read c.act-done.new.sides.read refl (c.act-done.ensures.readers.read ∙ none_more c.args.sides.now.read) answers c.act-done.ensures.readers.last
-    (received_line old.house mid.house (f ∷ []) c.in-Frame.ensures.fetches.fetches.0 c.in-Frame.ensures.fetches.sent) (line_none old.consumer)
+    (received_line old.house mid.house f c.in-Frame.ensures.fetches.fetches.0 c.in-Frame.ensures.fetches.sent) (line_none old.consumer)
     (gave_none clock) c.act-done.ensures.acts
 
 pub returns-in-Err-clause-listens : goal.returns-in-Err-clause-listens
@@ -57,5 +49,5 @@ returns-in-Err-clause-listens g c =
       refl,
       starved g.D.Disk.tells (at c.args.journal.now c.args.merchant.now old clock c.args.sides.now.last (Some House))
           (at c.args.journal.now c.told.new.merchant mid clock c.args.sides.now.last None) (Told f) refl c.in-Err.ensures.answers.err
-          (received_line old.house mid.house (f ∷ []) c.in-Frame.ensures.fetches.fetches.0 c.in-Frame.ensures.fetches.sent) (line_none old.consumer) (gave_none clock),
+          (received_line old.house mid.house f c.in-Frame.ensures.fetches.fetches.0 c.in-Frame.ensures.fetches.sent) (line_none old.consumer) (gave_none clock),
     )

@@ -1,8 +1,5 @@
-use Rattle.std.proofs.Common.{sym, subst, ap, ◌∙◌, arith, Some}
-use Rattle.nb_sell.proofs.Faults.{still_rests}
-use Rattle.nb_sell.specs.declared.ended.SellEnd.{SellEnd}
-use Rattle.nb_sell.specs.declared.ended.SellEnd.TheVariants as ends
-use Rattle.nb_sell.specs.Sold.{around, Sold}
+use Rattle.std.proofs.Common.{sym, subst, ◌∙◌, arith}
+use Rattle.nb_sell.specs.Sold.{IsCarriedOut}
 use Rattle.nb_work.specs.Selling.{Standing, Sale, standing}
 use Rattle.nb_work.proofs.Sales.{none_sold, one_sold, stopped_at, all_sold, port_failed, goes_on_ended}
 use Rattle.nb_work.proofs.selling.serve_links.Goals as goal
@@ -10,7 +7,7 @@ use Rattle.nb_work.proofs.selling.serve_links.Goals as goal
 pub selling-init : goal.selling-init
 selling-init g c = record {
   so = none_sold g.D.Disk.tells (standing c.args.journal.now c.args.merchant.now (g.L.Link.seen c.args.server.now) (g.C.Clock.moments c.args.worker.now.clock)) (g.P.Port.seen c.args.worker.now.port);
-  rest = c.requires.rest;
+  kept = c.requires.kept;
   room = c.requires.room;
 }
 
@@ -42,15 +39,13 @@ selling-preserved g c =
     let given = g.P.Joined.Link.seen c.in-Got.link in
     let taken = g.P.Joined.Link.seen c.sell_link-end.new.link in
     let none = sym c.stop_behind.ensures ∙ c.in-None.is in
-    let old = around c.selling.journal c.selling.merchant (g.L.Link.seen c.selling.server) given (g.C.Clock.moments c.selling.worker.clock) in
-    let new = around c.sell_link-end.new.journal c.sell_link-end.new.merchant (g.L.Link.seen c.sell_link-end.new.server) taken (g.C.Clock.moments c.sell_link-end.new.clock) in
-    let rests = still_rests g.D.Disk.tells old new (subst (λ (e : SellEnd). Sold g.D.Disk.tells old new e) (goes_on_ended c.sell_link-end.result none) c.sell_link-end.ensures.sold) c.selling.invariant.rest in
+    let carried : IsCarriedOut c.sell_link-end.result = subst IsCarriedOut (sym (goes_on_ended c.sell_link-end.result none)) tt in
     record {
       so = one_sold g.D.Disk.tells first mid (g.P.Port.seen c.args.worker.now.port) (g.P.Port.seen c.selling.worker.port) (g.P.Port.seen c.next.new.self) (g.P.Port.seen c.back.new.self) c.selling.counter
           (record { given = given; taken = taken; end = c.sell_link-end.result; behind = last })
           c.selling.invariant.so c.in-Got.ensures (record { out = c.back.ensures.out; taken = c.back.ensures.taken; same = c.back.ensures.same }) c.sell_link-end.ensures.sold none;
-      rest = rests.0;
-      room = rests.1 ∙ c.selling.invariant.room;
+      kept = c.sell_link-end.ensures.again carried;
+      room = c.sell_link-end.ensures.room carried;
     }
 
 pub returns : goal.returns
