@@ -1,7 +1,7 @@
 // A sale over links in memory: the parts of goods are handed out to a consumer that has asked for their price.
 
-ghost use Rattle.std.specs.Prelude.{◌≡◌};
-ghost use Rattle.nb_journal.specs.Growing.{IsAtRest};
+ghost use Rattle.std.specs.Prelude.{◌≡◌, ℕ, List, []};
+ghost use Rattle.nb_journal.specs.States.{AtRest};
 ghost use Rattle.nb_journal.specs.declared.limits.TheConstants.{MAX_ITEM};
 
 use crate::Made;
@@ -44,9 +44,12 @@ pub fn run(alloc: Global, size: u32, times: u32) -> Result<Made, NoMemory> {
         return Ok(Made::Unknown);
     }
     match Journal::open(alloc, disk, MAX_ITEM) {
-        Ok(opened) => sold(alloc, opened.journal, catalogue, asked.as_slice()).map_err(
-            |_| NoMemory,
-        ),
+        Ok(opened) => {
+            if !opened.items.is_empty() {
+                return Ok(Made::Unknown);
+            }
+            sold(alloc, opened.journal, catalogue, asked.as_slice()).map_err(|_| NoMemory)
+        }
         Err(_) => Ok(Made::Unknown),
     }
 }
@@ -97,23 +100,45 @@ fn sold(
     catalogue: Catalogue,
     asked: &[u8],
 ) -> Result<Made, nb_units::NoMemory>
-    requires rest { IsAtRest ⟦<MemDisk as Disk>⟧.tells journal }
+    // It holds nothing.
+    requires rest { (front : List ℕ) × AtRest ⟦<MemDisk as Disk>⟧.tells front [] journal }
     requires room { journal.room ≡ MAX_ITEM }
 {
     let mut journal = journal;
     let mut merchant = Merchant::new(alloc, STALL, catalogue);
-    let mut consumer = MemLink::new(alloc, asked, PIECE, &[])?;
-    let mut house = MemLink::new(alloc, &[], PIECE, &[])?;
-    let mut clock = MemClock::new(alloc, &[MOMENT])?;
+    let mut outside = Outside::new(alloc, asked)?;
     sell_link(
         alloc,
         &mut journal,
         &mut merchant,
-        &mut consumer,
-        &mut house,
-        &mut clock,
+        &mut outside.consumer,
+        &mut outside.house,
+        &mut outside.clock,
     );
-    let sent = consumer.sent();
+    told(alloc, outside.consumer.sent())
+}
+
+// What is sold over.
+#[derive(Drop)]
+struct Outside {
+    consumer: MemLink,
+    house: MemLink,
+    clock: MemClock,
+}
+
+impl Outside {
+    // The consumer's link gives what is asked, and the house's nothing.
+    fn new(alloc: Global, asked: &[u8]) -> Result<Outside, nb_units::NoMemory> {
+        Ok(Outside {
+            consumer: MemLink::new(alloc, asked, PIECE, &[])?,
+            house: MemLink::new(alloc, &[], PIECE, &[])?,
+            clock: MemClock::new(alloc, &[MOMENT])?,
+        })
+    }
+}
+
+// How many bytes were sent, and the last of them.
+fn told(alloc: Global, sent: &[u8]) -> Result<Made, nb_units::NoMemory> {
     let mut made = Vec::from_slice(alloc, &(sent.len() as u64).to_be_bytes())?;
     made.extend_from_slice(sent.split_at(sent.len().saturating_sub(TOLD)).1)?;
     Ok(Made::Bytes(made))
