@@ -1,0 +1,5 @@
+pub mod Lookups
+pub mod Choosing
+pub mod Lines
+pub mod Reading
+pub mod Opening

@@ -1,12 +1,12 @@
 -- What reading a list of offers answers.
-use Rattle.std.specs.Prelude.{◌≡◌, ◌⊎◌, ℕ, ◌+◌, List, [], ◌∷◌, ◌++◌, length, map, Contains, Result, Ok, Err, ⊤}
+use Rattle.std.specs.Prelude.{◌≡◌, ◌≢◌, ◌⊎◌, ℕ, ◌+◌, ◌≤◌, List, [], ◌∷◌, ◌++◌, length, map, Contains, Result, Ok, Err, None, ⊤}
 use Rattle.std.specs.Borrow.{Bor}
 use Rattle.nb_price.specs.declared.limits.TheConstants.{LINE_FEED}
 use Rattle.nb_groups.specs.declared.found.Offer.{Offer}
 use Rattle.nb_groups.specs.declared.fault.OffersFault.{OffersFault}
 use Rattle.nb_groups.specs.declared.fault.OffersFault.TheVariants.{BadLine, Twice, NoMemory}
 use Rattle.nb_groups.specs.declared.offers.Lines.{Lines}
-use Rattle.nb_groups.specs.Offers.{Terms, AreOffers, offers_bytes, kind_of, BeginsWithKeeper, BeginsWith, BeginsWithNone}
+use Rattle.nb_groups.specs.Offers.{Terms, AreOffers, offers_bytes, kind_of, price_for, BeginsWithKeeper, BeginsWith, BeginsWithNone}
 
 -- the bytes are the lines of a keeper and of offers, and then a rest
 pub record Front (bytes : List ℕ) (terms : Terms) (rest : List ℕ) : Type 0 where
@@ -69,7 +69,7 @@ ReadsFront bytes (Err fault) = FaultIs IsEmptyLine bytes fault
 
 -- for the contract of a private function alone: as many lines as there are were read, or there is a fault wherever the bytes should end
 abbrev pub ReadsLines : List ℕ → Result Lines OffersFault → Type 0
-ReadsLines bytes (Ok l) = Front bytes l.offers l.rest.now × (l.number ≡ length l.offers.offers + 1) × BeginsWithNone l.rest.now
+ReadsLines bytes (Ok l) = Front bytes l.offers l.rest.now × (l.number ≡ length l.offers.offers + 1) × (l.number ≤ length bytes + 1) × BeginsWithNone l.rest.now
 ReadsLines bytes (Err (BadLine line)) = HasNoKeeper bytes line
 ReadsLines bytes (Err (Twice line)) = RepeatsAt bytes line
 ReadsLines bytes (Err NoMemory) = ⊤
@@ -77,7 +77,7 @@ ReadsLines bytes (Err NoMemory) = ⊤
 -- for the contract of a private function alone: an offer was added behind the others, or one for its product and its group was among them
 abbrev pub Adds : Terms → Terms → ℕ → Offer → Result (Unit {0}) OffersFault → Type 0
 Adds old new line o (Ok done) =
-    ¬ Contains (map kind_of old.offers) (kind_of o) × (new.keeper ≡ old.keeper) × (new.offers ≡ old.offers ++ o ∷ [])
+    (price_for old.offers (kind_of o) ≡ None) × (new.keeper ≡ old.keeper) × (new.offers ≡ old.offers ++ o ∷ [])
 Adds old new line o (Err (BadLine n)) = ⊥
-Adds old new line o (Err (Twice n)) = (n ≡ line) × Contains (map kind_of old.offers) (kind_of o)
+Adds old new line o (Err (Twice n)) = (n ≡ line) × (price_for old.offers (kind_of o) ≢ None)
 Adds old new line o (Err NoMemory) = ⊤

@@ -9,7 +9,7 @@ ghost use Rattle.nb_groups.specs.Reading.{membership_of, membership_in};
 use crate::groups::{Groups, are_groups, spelled};
 use crate::limits::{CREDENTIAL_BYTES, CREDENTIAL_LABEL, GROUP, MAX_TEXT};
 use crate::quoting::Denial;
-use nb_seal::KeyState;
+use nb_seal::{BadSeal, seal_to, unseal_to};
 use nb_units::{Buffer, Cut, Malformed, PartyId, Secret, Small, allow};
 
 // What a credential says: a consumer, the last second at which it holds, and the groups of which the consumer is a member.
@@ -30,7 +30,7 @@ pub fn credential(key: &Secret, consumer: PartyId, until: u64, groups: &[u32]) -
 {
     let plain = plain(consumer, until, groups);
     let mut sealed = [0u8; CREDENTIAL_BYTES];
-    let n = KeyState::new(key).seal_to(&CREDENTIAL_LABEL, plain.as_slice(), &mut sealed);
+    let n = seal_to(key, &CREDENTIAL_LABEL, plain.as_slice(), &mut sealed);
     Small::of(sealed.split_at(n).0).unwrap()
 }
 
@@ -57,9 +57,16 @@ pub(crate) fn opened(bytes: &[u8], key: &Secret) -> Result<Membership, Denial>
         return Err(Denial::NoCredential);
     }
     let mut plain = [0u8; CREDENTIAL_BYTES];
-    let n = KeyState::new(key).unseal_to(&CREDENTIAL_LABEL, bytes, &mut plain)?;
-    let membership = read(plain.split_at(n).0)?;
-    Ok(membership)
+    match unseal_to(key, &CREDENTIAL_LABEL, bytes, &mut plain) {
+        Ok(n) => match read(plain.split_at(n).0) {
+            Ok(membership) => Ok(membership),
+            Err(bad) => Err(Denial::Malformed { place: bad.place }),
+        },
+        Err(bad) => {
+            let BadSeal { iv } = bad;
+            Err(Denial::BadSeal { iv })
+        }
+    }
 }
 
 // What the bytes spell, or the place of the first field that fails.

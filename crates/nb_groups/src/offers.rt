@@ -1,6 +1,6 @@
 ghost use Rattle.std.specs.Prelude.{◌≡◌, ◌≤◌, [], length};
 ghost use Rattle.nb_groups.specs.declared.limits.TheConstants.{MAX_OFFERS};
-ghost use Rattle.nb_groups.specs.Offers.{offers_for};
+ghost use Rattle.nb_groups.specs.Offers.{price_for, offers_for};
 ghost use Rattle.nb_groups.specs.Reads.{ReadsOffers, ReadsFront, ReadsLines, Adds};
 
 use crate::fault::OffersFault;
@@ -100,6 +100,16 @@ impl Offers {
         Ok(())
     }
 
+    // The price of the product for the group, if one is offered.
+    fn price_for(&self, product: u32, group: u32) -> Option<u32>
+        ensures { result ≡ price_for self.now.offers (product, group) }
+    {
+        match self.prices.get(&(product, group)) {
+            Some(price) => Some(*price),
+            None => None,
+        }
+    }
+
     // The offers of the product for these groups, in the order of the groups.
     pub(crate) fn offers_for(&self, product: u32, groups: &[u32]) -> Found
         requires { length groups.now ≤ 4 }
@@ -107,14 +117,14 @@ impl Offers {
     {
         let mut found = Found::new();
         for group in groups {
-            match self.prices.get(&(product, *group)) {
-                Some(price) => found.push(Offer {
-                    product,
-                    group: *group,
-                    price: *price,
-                }),
-                None => {}
-            }
+            let Some(price) = self.price_for(product, *group) else {
+                continue;
+            };
+            found.push(Offer {
+                product,
+                group: *group,
+                price,
+            });
         }
         found
     }
@@ -125,8 +135,9 @@ fn read_lines(alloc: Global, bytes: &[u8]) -> Result<Lines<'_>, OffersFault>
     requires { length bytes.now ≤ MAX_OFFERS }
     ensures { ReadsLines bytes.now result }
 {
-    let Some(first) = keeper_of(bytes) else {
-        return Err(OffersFault::BadLine { line: 1 });
+    let first = match keeper_of(bytes) {
+        Some(first) => first,
+        None => return Err(OffersFault::BadLine { line: 1 }),
     };
     let keeper = first.0;
     let mut rest = first.1;

@@ -6,8 +6,7 @@ use crate::found::Found;
 use crate::membership::opened;
 use crate::offers::Offers;
 use nb_price::{Catalogue, NoProduct};
-use nb_seal::BadSeal;
-use nb_units::{Malformed, PartyId, Price};
+use nb_units::{PartyId, Price};
 
 /// What is quoted to who asks for a product.
 #[derive(Clone, Copy, Debug)]
@@ -35,30 +34,6 @@ pub enum Denial {
     Expired { until: u64, now: u64 },
     /// There is no offer of the product for a group of the credential.
     NoOffer { product: u32 },
-}
-
-impl From<BadSeal> for Denial {
-    ghost use Rattle.std.specs.Prelude.{◌≡◌};
-    ghost use Rattle.nb_groups.specs.declared.quoting.Denial.TheVariants as denial;
-
-    ghost from_gives = { λ bad d. d ≡ denial.BadSeal bad.iv };
-
-    fn from(bad: BadSeal) -> Denial {
-        let BadSeal { iv } = bad;
-        Denial::BadSeal { iv }
-    }
-}
-
-impl From<Malformed> for Denial {
-    ghost use Rattle.std.specs.Prelude.{◌≡◌};
-    ghost use Rattle.nb_groups.specs.declared.quoting.Denial.TheVariants as denial;
-
-    ghost from_gives = { λ malformed d. d ≡ denial.Malformed malformed.place };
-
-    fn from(malformed: Malformed) -> Denial {
-        let Malformed { place } = malformed;
-        Denial::Malformed { place }
-    }
 }
 
 /// What a product costs the consumer who asks with this request, of at most [`CREDENTIAL_BYTES`](crate::CREDENTIAL_BYTES) bytes, at this moment,

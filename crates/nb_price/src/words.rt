@@ -26,6 +26,8 @@ pub fn numbered(bytes: &[u8], mark: u8) -> Option<(u32, &[u8])>
     requires { IsNoDigit mark }
     // the bytes are the number's digits, the mark and what follows
     ensures some { IfSome result (λ p. bytes.now ≡ decimal p.0 ++ mark ∷ p.1.now) }
+    // it fits 32 bits
+    ensures fits { IfSome result (λ p. p.0 < 2 ^ 32) }
     // each number that stands so is found
     ensures each { (n : ℕ) (rest : List ℕ) → n < 2 ^ 32 → bytes.now ≡ decimal n ++ mark ∷ rest → IsNumbered result n rest }
 {
