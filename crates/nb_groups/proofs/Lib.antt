@@ -3,3 +3,5 @@ pub mod Choosing
 pub mod Lines
 pub mod Reading
 pub mod Opening
+pub mod Layouts
+pub mod Once
