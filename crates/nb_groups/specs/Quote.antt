@@ -1,5 +1,5 @@
 -- What a product costs the consumer who asks.
-use Rattle.std.specs.Prelude.{ℕ, ◌==◌, nat_lt, min, List, [], ◌∷◌, Option, None, Some, Result, Ok, Err, if◌then◌else◌}
+use Rattle.std.specs.Prelude.{◌≡◌, ◌≤◌, ℕ, ◌==◌, nat_lt, min, List, [], ◌∷◌, Option, None, Some, Result, Ok, Err, if◌then◌else◌}
 use Rattle.nb_units.specs.Fields.{◌>>=◌}
 use Rattle.nb_units.specs.declared.ids.PartyId.{PartyId}
 use Rattle.nb_price.specs.declared.fault.NoProduct.{NoProduct}
@@ -10,12 +10,21 @@ use Rattle.nb_groups.specs.declared.quoting.Denial.{Denial}
 use Rattle.nb_groups.specs.declared.quoting.Denial.TheVariants.{WrongConsumer, Expired, NoOffer}
 use Rattle.nb_groups.specs.declared.quoting.Quoted.{Quoted}
 use Rattle.nb_groups.specs.Offers.{Terms, offers_for}
+use Rattle.nb_groups.specs.Spelling.{IsMembership, credential_of}
 use Rattle.nb_groups.specs.Reading.{membership_in}
 
 -- a credential of the one who asks, which holds at this moment; or that it is another's, or that its last second is over
 abbrev pub admitted : Membership → PartyId → ℕ → Result Membership Denial
 admitted m asked now =
     if m.consumer.0 == asked.0 then (if nat_lt m.until now then Err (Expired m.until now) else Ok m) else Err (WrongConsumer m.consumer asked)
+
+-- a request is a credential of the one who asks, sealed under the keeper's key, which holds at this moment
+pub record Carries (keeper : List ℕ) (asked : PartyId) (request : List ℕ) (now : ℕ) : Type 0 where
+  pub says : Membership
+  pub fits : IsMembership says
+  pub sealed : request ≡ credential_of keeper says
+  pub own : says.consumer.0 ≡ asked.0
+  pub holds : now ≤ says.until
 
 -- offers of a product, or that there is none
 abbrev pub some_offer : ℕ → List Offer → Result (List Offer) Denial

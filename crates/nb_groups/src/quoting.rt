@@ -1,4 +1,4 @@
-ghost use Rattle.std.specs.Prelude.{◌≡◌, ◌≤◌, length};
+ghost use Rattle.std.specs.Prelude.{◌≡◌, ◌≤◌, length, IfOk, OnOk, None};
 ghost use Rattle.nb_groups.specs.declared.limits.TheConstants.{CREDENTIAL_BYTES};
 ghost use Rattle.nb_groups.specs.Quote as quotes;
 
@@ -50,7 +50,10 @@ pub fn quote(
     now: u64,
 ) -> Result<Quoted, NoProduct>
     requires { length request.now ≤ CREDENTIAL_BYTES }
-    ensures { result ≡ quotes.quote_of c.now o.now product consumer request.now now }
+    ensures quoted { result ≡ quotes.quote_of c.now o.now product consumer request.now now }
+
+    // Who is not denied sent a credential of its own that the keeper sealed, and in time.
+    ensures carried { IfOk result (λ q. q.denied ≡ None → quotes.Carries o.now.keeper consumer request.now now) }
 {
     let shelf = c.quote(product)?;
     match offers_shown(o, product, consumer, request, now) {
@@ -72,7 +75,8 @@ fn offers_shown(
     now: u64,
 ) -> Result<Found, Denial>
     requires { length request.now ≤ CREDENTIAL_BYTES }
-    ensures { result ≡ quotes.offers_shown o.now product asked request.now now }
+    ensures shown { result ≡ quotes.offers_shown o.now product asked request.now now }
+    ensures carried { OnOk result (quotes.Carries o.now.keeper asked request.now now) }
 {
     let membership = opened(request, &o.keeper)?;
     if membership.consumer != asked {
