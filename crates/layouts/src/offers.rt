@@ -61,10 +61,8 @@ pub fn quoted(told: &mut Told, words: &[&str]) -> Result<(), NoMemory> {
     if shelf.len() > MAX_SHELF || offers.len() > MAX_OFFERS || request.len() > CREDENTIAL_BYTES {
         return told.unclear();
     }
-    let (Ok(shelf), Ok(offers)) = (
-        Catalogue::read(alloc, &shelf),
-        Offers::read(alloc, &offers),
-    ) else {
+    let (Ok(shelf), Ok(offers)) = (Catalogue::read(alloc, &shelf), Offers::read(alloc, &offers))
+    else {
         return told.unclear();
     };
     let consumer = PartyId(telling::short(*consumer));

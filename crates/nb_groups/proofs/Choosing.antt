@@ -1,5 +1,5 @@
 -- The least of prices, offer by offer.
-use Rattle.std.proofs.Common.{◌≡◌, ℕ, ◌<◌, ◌+◌, min, List, [], ◌∷◌, length, drop, get_or, refl, sym, ap, ◌∙◌, arith, true, add-one}
+use Rattle.std.proofs.Common.{◌≡◌, ℕ, ◌<◌, ◌+◌, min, List, [], ◌∷◌, length, drop, get_or, refl, ap, ◌∙◌, arith, true, add-one}
 use Rattle.std.proofs.Math.Seq.{drop-cons}
 use Rattle.nb_groups.specs.declared.found.Offer.{Offer}
 use Rattle.nb_groups.specs.Quote.{least}

@@ -1,6 +1,6 @@
 -- What a credential says, as a row of fields.
-use Rattle.std.proofs.Common.{◌≡◌, ◌↔◌, ℕ, ◌+◌, ◌*◌, ◌<◌, ◌≤◌, ◌^◌, Bool, true, false, cond, nat_lt, List, [], ◌∷◌, ◌++◌, length, take, drop, Ok, Err, Result, refl, sym, ap, subst, ◌∙◌, arith, eq-eqb, length-append}
-use Rattle.std.specs.Prelude.{◌==◌, ◌&&◌, nat_le, codes, IsTrue}
+use Rattle.std.proofs.Common.{◌≡◌, ◌↔◌, ℕ, ◌*◌, ◌<◌, ◌≤◌, ◌^◌, Bool, true, false, cond, nat_lt, List, [], ◌∷◌, ◌++◌, length, drop, Ok, Err, Result, refl, sym, ap, subst, ◌∙◌, arith, eq-eqb}
+use Rattle.std.specs.Prelude.{◌==◌, ◌&&◌, nat_le, codes}
 use Rattle.std.specs.Int.{w32, from_be_bytes}
 use Rattle.std.specs.List.{AllByRecursion}
 use Rattle.std.proofs.lemmas.Bool.{eqb-true, leb-true, ltb-false, le-ltb, true≢false, false≢true}
@@ -10,8 +10,6 @@ use Rattle.nb_units.proofs.Rows.{Row, IsRow, ◌&◌, and_row, number4, number4_
 use Rattle.nb_units.proofs.ByteLists.{AreBytes-drop, AreBytes-take, number_fits_4}
 use Rattle.nb_units.specs.Frames.{AreBytes}
 use Rattle.nb_units.specs.Fields.{be4, be8, sized}
-use Rattle.nb_units.specs.declared.ids.PartyId.{PartyId}
-use Rattle.nb_seal.specs.Seal.{seal_of}
 use Rattle.nb_seal.proofs.Opening.{length-seal_of}
 use Rattle.nb_groups.specs.declared.limits.TheConstants.{MAX_TEXT}
 use Rattle.nb_groups.specs.declared.membership.Membership.{Membership}
@@ -19,8 +17,7 @@ use Rattle.nb_groups.specs.declared.quoting.Denial.{Denial}
 use Rattle.nb_groups.specs.declared.quoting.Denial.TheVariants as denial
 use Rattle.nb_groups.specs.Groups.{are_groups, groups_bytes, groups_in, are_groups_bytes}
 use Rattle.nb_groups.specs.Spelling.{IsMembership, membership_bytes, credential_of}
-use Rattle.nb_groups.specs.Reading.{membership_of, membership_in, or_malformed}
-use Rattle.nb_groups.specs.Quote.{admitted}
+use Rattle.nb_groups.specs.Reading.{membership_of, or_malformed}
 use Rattle.nb_groups.specs.Laws.{MembershipReadsBack, MembershipSpellsBack, OneMembership, CredentialOpens, HoldsUntil}
 use Rattle.nb_groups.proofs.Opening.{opened_so}
 
@@ -49,8 +46,7 @@ spell_back (a ∷ b ∷ c ∷ []) are e = absurd (omega (arith, e))
 spell_back (a ∷ b ∷ c ∷ d ∷ t) are e =
     let four : AreBytes (a ∷ b ∷ c ∷ d ∷ []) = AreBytes-take 4 (a ∷ b ∷ c ∷ d ∷ t) are in
     let rest = spell_back t (AreBytes-drop 4 (a ∷ b ∷ c ∷ d ∷ t) are) (omega (arith, e)) in
-    let number : be4 (from_be_bytes w32 (a ∷ b ∷ c ∷ d ∷ [])) ≡ a ∷ b ∷ c ∷ d ∷ [] = be_bytes_4 (a ∷ b ∷ c ∷ d ∷ []) _ refl four refl in
-    (
+    let number : be4 (from_be_bytes w32 (a ∷ b ∷ c ∷ d ∷ [])) ≡ a ∷ b ∷ c ∷ d ∷ [] = be_bytes_4 (a ∷ b ∷ c ∷ d ∷ []) _ refl four refl in (
       ap (λ (l : List ℕ). l ++ groups_bytes (groups_in t)) number ∙ ap (λ (l : List ℕ). a ∷ b ∷ c ∷ d ∷ l) rest.0,
       (number_fits_4 (a ∷ b ∷ c ∷ d ∷ []) four, rest.1),
     )

@@ -5,3 +5,4 @@ pub mod Reading
 pub mod Opening
 pub mod Layouts
 pub mod Once
+pub mod Least

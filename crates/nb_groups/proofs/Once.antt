@@ -1,7 +1,5 @@
 -- What stands at the front of bytes is one offer's line.
-use Rattle.std.proofs.Common.{◌≡◌, ℕ, ◌<◌, List, ◌∷◌, ◌++◌, inl, inr, ◌^◌, refl, sym, ◌∙◌, arith}
-use Rattle.std.specs.Fmt.{decimal}
-use Rattle.nb_price.specs.Fields.{IsNoDigit}
+use Rattle.std.proofs.Common.{inl, inr, refl, sym, ◌∙◌, arith}
 use Rattle.nb_price.proofs.Once.{one_numeral}
 use Rattle.nb_groups.specs.Laws.{OneOffer}
 use Rattle.nb_groups.proofs.Lines.{offer_line}

@@ -1,6 +1,6 @@
 -- A list of offers, read line by line.
-use Rattle.std.proofs.Common.{◌≡◌, ℕ, ◌+◌, ◌<◌, ◌≤◌, Bool, true, false, List, [], ◌∷◌, ◌++◌, length, map, Option, None, Some, refl, sym, ap, subst, ◌∙◌, arith, append_assoc, append-nil, length-append, inl, inr}
-use Rattle.std.specs.Prelude.{◌≢◌, ◌==◌, nat_eq, ◌&&◌, cond, Err, Contains}
+use Rattle.std.proofs.Common.{◌≡◌, ℕ, ◌+◌, ◌<◌, ◌≤◌, Bool, true, false, List, [], ◌∷◌, ◌++◌, length, map, Option, None, Some, refl, sym, ap, subst, ◌∙◌, arith, append_assoc, append-nil, length-append}
+use Rattle.std.specs.Prelude.{◌≢◌, nat_eq, ◌&&◌, cond, Err}
 use Rattle.std.specs.List.{AllByRecursion, IsDistinct, list_any}
 use Rattle.std.specs.Cmp.{IsEquivalence, nat_eq_equiv, on_equiv, and_equiv}
 use Rattle.std.proofs.lemmas.Bool.{eqb-true, false≢true}
@@ -12,15 +12,14 @@ use Rattle.std.specs.Fmt.{decimal}
 use Rattle.nb_groups.specs.declared.found.Offer.{Offer}
 use Rattle.nb_groups.specs.declared.fault.OffersFault.{OffersFault}
 use Rattle.nb_groups.specs.declared.fault.OffersFault.TheVariants.{BadLine, Twice, NoMemory}
-use Rattle.nb_groups.specs.declared.offers.Lines.{Lines}
-use Rattle.nb_groups.specs.Offers.{Terms, IsOffer, AreOffers, offer_bytes, offers_bytes, kind_of, same_kind, price_for, BeginsWithKeeper, BeginsWith, BeginsWithNone}
-use Rattle.nb_groups.specs.Reads.{Front, FailsAt, RepeatsAt, ReadsLines, Adds, next_line}
+use Rattle.nb_groups.specs.Offers.{Terms, IsOffer, offer_bytes, offers_bytes, kind_of, same_kind, price_for, BeginsWithKeeper, BeginsWith, BeginsWithNone}
+use Rattle.nb_groups.specs.Reads.{Front, FailsAt, ReadsLines, Adds}
 
 -- the kinds of offers are told apart
 kinds_equiv : IsEquivalence same_kind
 kinds_equiv = and_equiv (on_equiv (λ t. t.0) nat_eq_equiv) (on_equiv (λ t. t.1) nat_eq_equiv)
 
-same_kinds : (a b : ℕ × ℕ) → same_kind a b ≡ true → a ≡ b
+pub same_kinds : (a b : ℕ × ℕ) → same_kind a b ≡ true → a ≡ b
 same_kinds a b same =
     let parts = both (nat_eq a.0 b.0) (nat_eq a.1 b.1) same in
     let first : a.0 ≡ b.0 = eqb-true a.0 b.0 parts.0 in

@@ -1,5 +1,5 @@
 -- The groups of a credential.
-use Rattle.std.specs.Prelude.{ℕ, List, [], ◌∷◌, ◌==◌, ◌*◌, ◌&&◌, Bool, true, false, nat_lt, nat_le, length}
+use Rattle.std.specs.Prelude.{ℕ, List, [], ◌∷◌, ◌==◌, ◌*◌, ◌&&◌, Bool, true, nat_lt, nat_le, length}
 use Rattle.std.specs.List.{flat_map}
 use Rattle.std.specs.Int.{w32, from_be_bytes}
 use Rattle.nb_units.specs.Fields.{be4}

@@ -1,5 +1,5 @@
 -- A list of offers: the line of the keeper, and then a line for each offer.
-use Rattle.std.specs.Prelude.{◌≡◌, ℕ, ◌<◌, ◌^◌, List, [], ◌∷◌, ◌++◌, codes, length, map, nat_eq, Bool, ◌&&◌, Option, None, Some, Ok, if◌then◌else◌}
+use Rattle.std.specs.Prelude.{◌≡◌, ℕ, ◌<◌, ◌^◌, List, [], ◌∷◌, ◌++◌, length, map, nat_eq, Bool, ◌&&◌, Option, None, Some, Ok, if◌then◌else◌}
 use Rattle.std.specs.List.{flat_map, filter_map, AllByRecursion, IsDistinct}
 use Rattle.std.specs.Fmt.{decimal}
 use Rattle.std.specs.Borrow.{Bor}

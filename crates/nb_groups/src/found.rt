@@ -70,9 +70,9 @@ impl Found {
     pub(crate) fn group_at(&self, price: u64) -> Option<u32>
         ensures { result ≡ group_at price self.now }
     {
-        for offer in self.offers.as_slice() {
-            if u64::from(offer.price) == price {
-                return Some(offer.group);
+        for next in self.offers.as_slice() {
+            if u64::from(next.price) == price {
+                return Some(next.group);
             }
         }
         None

@@ -32,6 +32,12 @@ pub fn one_offer()
     ensures { law.OneOffer }
 {}
 
+/// A law: what is quoted with a credential is the least of the shelf's price and of those that are offered for its groups, and the group that is told
+/// is the smallest that has it.
+pub fn quote_is_least()
+    ensures { law.ChosenIsLeast }
+{}
+
 /// A law: the limits in numbers, and the words in texts.
 pub fn limits()
     ensures limits { law.GroupLimitsAre }

@@ -1,4 +1,4 @@
-use Rattle.std.proofs.Common.{◌≡◌, ◌++◌, ◌*◌, ◌+◌, length, drop}
+use Rattle.std.proofs.Common.{◌≡◌, ◌++◌, ◌*◌, length, drop}
 use Rattle.nb_groups.specs.Groups.{groups_bytes}
 use Rattle.nb_groups.proofs.groups.spelled.Given as goal
 

@@ -1,7 +1,6 @@
-use Rattle.std.proofs.Common.{◌≡◌, ◌∷◌, ◌++◌, ℕ, List, refl, sym, ap, ◌∙◌, arith}
+use Rattle.std.proofs.Common.{◌∷◌, ◌++◌, ℕ, List, refl, sym, ap, ◌∙◌, arith}
 use Rattle.std.specs.Fmt.{decimal}
 use Rattle.nb_groups.specs.declared.found.Offer.{Offer}
-use Rattle.nb_groups.specs.Offers.{BeginsWith}
 use Rattle.nb_groups.proofs.Lines.{offer_line}
 use Rattle.nb_groups.proofs.line.offer_of.Goals as goal
 use Rattle.nb_groups.proofs.line.offer_of.Goals.{then-price-lt1-via-then-price-lt1, then-price-lt1-via-else-price-lt1+then-price-gt-MAX_PRICE}
@@ -33,18 +32,17 @@ returns-then-price-lt1-clause-each c o rest begins =
     let two = c.in_ok-group.ensures.each o.group (behind_group o rest) begins.0.group one.1 in
     let three = c.in_ok-price.ensures.each o.price rest (omega (arith, begins.0.price.1)) two.1 in
     elim c.then-price-lt1.branch [
-      then-price-lt1-via-then-price-lt1 w ↦ omega (arith, w.if-price-lt1, three.0, begins.0.price.0)
-    | then-price-lt1-via-else-price-lt1+then-price-gt-MAX_PRICE w ↦ omega (arith, w.if-price-gt-MAX_PRICE, three.0, begins.0.price.1)
+      | then-price-lt1-via-then-price-lt1 w ↦ omega (arith, w.if-price-lt1, three.0, begins.0.price.0)
+      | then-price-lt1-via-else-price-lt1+then-price-gt-MAX_PRICE w ↦ omega (arith, w.if-price-gt-MAX_PRICE, three.0, begins.0.price.1)
     ]
 
 pub returns-clause-some : goal.returns-clause-some
 returns-clause-some c =
-    let o : Offer = record { product = c.in_ok-product.product; group = c.in_ok-group.group; price = c.in_ok-price.price } in
-    (
+    let o : Offer = record { product = c.in_ok-product.product; group = c.in_ok-group.group; price = c.in_ok-price.price } in (
       record { product = c.in_ok-product.ensures.fits; group = c.in_ok-group.ensures.fits; price = (omega (arith, c.if-price-lt1.false), omega (arith, c.if-price-gt-MAX_PRICE.false)) },
       c.in_ok-product.ensures.some
-      ∙ ap (λ (l : List ℕ). decimal o.product ++ 59 ∷ l) (c.in_ok-group.ensures.some ∙ ap (λ (l : List ℕ). decimal o.group ++ 59 ∷ l) c.in_ok-price.ensures.some)
-      ∙ sym (offer_line o c.in_ok-price.rest.now),
+          ∙ ap (λ (l : List ℕ). decimal o.product ++ 59 ∷ l) (c.in_ok-group.ensures.some ∙ ap (λ (l : List ℕ). decimal o.group ++ 59 ∷ l) c.in_ok-price.ensures.some)
+          ∙ sym (offer_line o c.in_ok-price.rest.now),
     )
 
 pub returns-clause-each : goal.returns-clause-each

@@ -1,4 +1,4 @@
-use Rattle.std.proofs.Common.{◌≡◌, ◌∙◌, List, ℕ, ap, sym, subst}
+use Rattle.std.proofs.Common.{◌∙◌, ap, sym, subst}
 use Rattle.std.specs.Prelude.{codes}
 use Rattle.nb_seal.specs.Seal.{Opens, seal_of}
 use Rattle.nb_groups.specs.Reading.{or_malformed}

@@ -1,4 +1,4 @@
-use Rattle.std.proofs.Common.{rules, ◌≡◌, ◌+◌, Err, refl, sym, subst}
+use Rattle.std.proofs.Common.{rules, ◌≡◌, Err, refl, sym, subst}
 use Rattle.nb_groups.specs.Offers.{Terms}
 use Rattle.nb_groups.specs.Reads.{ReadsLines}
 use Rattle.nb_groups.proofs.Reading.{SoFar, first_line, one_more, smaller, not_added}

@@ -1,8 +1,7 @@
-use Rattle.std.proofs.Common.{◌≡◌, ◌++◌, ◌∷◌, [], List, None, map, refl, sym, ap, subst, ◌∙◌}
+use Rattle.std.proofs.Common.{◌≡◌, ◌++◌, ◌∷◌, [], None, refl, sym, ap, subst, ◌∙◌}
 use Rattle.std.specs.Map.{lookup}
 use Rattle.indexmap.proofs.CallerLemmas.{insert_entry-new}
-use Rattle.nb_groups.specs.declared.found.Offer.{Offer}
-use Rattle.nb_groups.specs.Offers.{Terms, same_kind, offer_at, price_for, kind_of}
+use Rattle.nb_groups.specs.Offers.{Terms, same_kind, price_for, kind_of}
 use Rattle.nb_groups.proofs.Lookups.{looked_up, pushed, some_is_not_none, none_where_not_some}
 use Rattle.nb_groups.proofs.offers.Offers.add.Goals as goal
 
@@ -21,5 +20,5 @@ returns c =
       subst (λ (t : Terms). price_for t.offers (kind_of c.args.offer) ≡ None) c.self.view_is (sym (looked_up c.self.inside.prices.entries (kind_of c.args.offer)) ∙ none),
       ap (λ (t : Terms). t.keeper) c.self.view_is,
       pushed c.self.inside.prices.entries c.insert.new.self.entries c.args.offer (c.in_ok-was.ensures.entries ∙ insert_entry-new same_kind c.self.inside.prices (kind_of c.args.offer) _ none)
-      ∙ ap (λ (t : Terms). t.offers ++ c.args.offer ∷ []) c.self.view_is,
+          ∙ ap (λ (t : Terms). t.offers ++ c.args.offer ∷ []) c.self.view_is,
     )

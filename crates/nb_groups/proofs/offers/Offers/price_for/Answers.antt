@@ -1,4 +1,4 @@
-use Rattle.std.proofs.Common.{◌≡◌, ap, sym, ◌∙◌}
+use Rattle.std.proofs.Common.{ap, ◌∙◌}
 use Rattle.nb_groups.specs.Offers.{Terms, price_for}
 use Rattle.nb_groups.proofs.Lookups.{looked_up}
 use Rattle.nb_groups.proofs.offers.Offers.price_for.Goals as goal
