@@ -1,5 +1,5 @@
 //! A program that reads and writes what the lines of standard input spell, and prints what came of it: the trials of the layouts of `nb_units`,
-//! `nb_body`, `nb_ticket`, `nb_epo`, `nb_goods`, `nb_endorse` and `nb_msgs`, of the rulings of `nb_judge`, of the codes and seals of `nb_seal`, and of the frames of `nb_play`, as
+//! `nb_body`, `nb_ticket`, `nb_epo`, `nb_goods`, `nb_endorse` and `nb_msgs`, of the rulings of `nb_judge`, of the offers and quotes of `nb_groups`, of the codes and seals of `nb_seal`, and of the frames of `nb_play`, as
 //! data. Each line is a word and what it is about; the function that a word calls says what it does. A key is 32 bytes, or one byte that stands 32
 //! times; `-` spells no bytes. A line that begins with `#` is printed as it is.
 //!
@@ -12,6 +12,7 @@ mod drills;
 mod fields;
 mod goods;
 mod messages;
+mod offers;
 mod places;
 mod records;
 mod replies;
@@ -113,7 +114,7 @@ fn done_signed(told: &mut Told, word: &str, words: &[&str]) -> Result<(), NoMemo
     }
 }
 
-// What comes of a line about a ticket or a reply.
+// What comes of a line about a ticket, a group or a reply.
 fn done_told(told: &mut Told, word: &str, words: &[&str]) -> Result<(), NoMemory> {
     match word {
         "session" => tickets::session(told, words),
@@ -122,6 +123,9 @@ fn done_told(told: &mut Told, word: &str, words: &[&str]) -> Result<(), NoMemory
         "open-ticket" => tickets::opened(told, words),
         "grant" => tickets::granted(told, words),
         "open-grant" => tickets::opened_grant(told, words),
+        "credential" => offers::made(told, words),
+        "offers" => offers::read(told, words),
+        "quote" => offers::quoted(told, words),
         "reply-result" => replies::result(told, words),
         "reply-status" => replies::status(told, words),
         "reply-grant" => replies::grant(told, words),

@@ -9,7 +9,7 @@ use Rattle.nb_price.proofs.Numerals.{free_decimal, one_number}
 use Rattle.nb_price.proofs.Lines.{item_line, free_name}
 
 -- two numbers before the same mark are one
-one_numeral : (mark m n : ℕ) (rest more : List ℕ) → IsNoDigit mark → m < 2 ^ 32 → n < 2 ^ 32 → decimal m ++ mark ∷ rest ≡ decimal n ++ mark ∷ more → (m ≡ n) × (rest ≡ more)
+pub one_numeral : (mark m n : ℕ) (rest more : List ℕ) → IsNoDigit mark → m < 2 ^ 32 → n < 2 ^ 32 → decimal m ++ mark ∷ rest ≡ decimal n ++ mark ∷ more → (m ≡ n) × (rest ≡ more)
 one_numeral mark m n rest more apart p q e =
     let words = one_word mark (decimal m) (decimal n) rest more (free_decimal m mark p apart) (free_decimal n mark q apart) e in
     (one_number m n p q words.0, words.1)

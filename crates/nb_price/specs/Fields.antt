@@ -1,4 +1,4 @@
--- The parts of an item's line, each up to its mark. For the contracts of private functions alone.
+-- The parts of an item's line, each up to its mark. All but a number and its mark is for the contracts of private functions alone.
 use Rattle.std.specs.Prelude.{◌≡◌, ◌≢◌, ◌⊎◌, ℕ, ◌<◌, ◌≤◌, List, ◌∷◌, ◌++◌, length, slice_index, Option, None, Some}
 use Rattle.std.specs.Fmt.{decimal}
 use Rattle.std.specs.Borrow.{Bor}

@@ -7,7 +7,7 @@
 //! kept.
 //!
 //! What a shelf is stands once, in `specs/Shelf.antt`, as the spelling of a list of items. That what stands at the front of bytes is
-//! one item is proved by a function of [`laws`].
+//! one item is proved by a function of [`laws`]. A number of a line is read by [`numbered`], for other lists of lines too.
 //!
 //! Left to others: how goods are sealed, who may buy them, and what is paid.
 #![tactic(auto)]
@@ -21,4 +21,5 @@ mod words;
 
 pub use catalogue::Catalogue;
 pub use fault::{NoProduct, PutFault, ShelfFault};
-pub use limits::{MAX_NAME, MAX_PRICE, MAX_SHELF};
+pub use limits::{LINE_FEED, MAX_NAME, MAX_PRICE, MAX_SHELF, SEMICOLON};
+pub use words::numbered;

@@ -9,11 +9,11 @@ pub const MAX_NAME: usize = 64;
 /// The most that a product may cost: 10^9. The least is 1.
 pub const MAX_PRICE: u32 = 1_000_000_000;
 
-// What stands behind the number, the price and the name of an item.
-pub(crate) const SEMICOLON: u8 = b';';
+/// What stands behind the number, the price and the name of an item.
+pub const SEMICOLON: u8 = b';';
 
-// What stands behind the length of its goods.
-pub(crate) const LINE_FEED: u8 = b'\n';
+/// What stands behind the length of its goods.
+pub const LINE_FEED: u8 = b'\n';
 
 // The most digits of a number of 32 bits.
 pub(crate) const MAX_DIGITS: usize = 10;

@@ -20,10 +20,15 @@ pub(crate) fn split(bytes: &[u8], mark: u8, most: usize) -> Option<(&[u8], &[u8]
     Some((word, behind.split_at(1).1))
 }
 
-// The number of 32 bits before the mark, in decimal without sign or leading zero, and what follows the mark.
-pub(crate) fn numbered(bytes: &[u8], mark: u8) -> Option<(u32, &[u8])>
+/// The number of 32 bits before the mark, in decimal without sign or leading zero, and what follows the mark, which is no digit; or `None`
+/// where no such number stands at the front of the bytes, with the mark behind it.
+pub fn numbered(bytes: &[u8], mark: u8) -> Option<(u32, &[u8])>
     requires { IsNoDigit mark }
+    // the bytes are the number's digits, the mark and what follows
     ensures some { IfSome result (λ p. bytes.now ≡ decimal p.0 ++ mark ∷ p.1.now) }
+    // it fits 32 bits
+    ensures fits { IfSome result (λ p. p.0 < 2 ^ 32) }
+    // each number that stands so is found
     ensures each { (n : ℕ) (rest : List ℕ) → n < 2 ^ 32 → bytes.now ≡ decimal n ++ mark ∷ rest → IsNumbered result n rest }
 {
     let (word, rest) = split(bytes, mark, MAX_DIGITS)?;

@@ -1,0 +1,29 @@
+-- Offers by product and group, in a list and in the entries of a map.
+use Rattle.std.proofs.Common.{◌≡◌, ℕ, true, false, List, [], ◌∷◌, ◌++◌, map, Option, None, Some, refl, sym, ap, ◌∙◌}
+use Rattle.std.specs.Prelude.{cond, is_some}
+use Rattle.std.specs.Map.{lookup}
+use Rattle.std.proofs.lemmas.List.{map-append}
+use Rattle.std.proofs.lemmas.Bool.{false≢true}
+use Rattle.nb_groups.specs.declared.found.Offer.{Offer}
+use Rattle.nb_groups.specs.Offers.{same_kind, offer_at, price_for}
+
+-- the map has the price that the list has
+pub looked_up : (entries : List ((ℕ × ℕ) × ℕ)) (kind : ℕ × ℕ) → lookup (same_kind kind) entries ≡ price_for (map offer_at entries) kind
+looked_up [] kind = refl
+looked_up (e ∷ entries) kind = ap (cond (same_kind kind e.0) (Some e.1)) (looked_up entries kind)
+
+-- the offers of entries with one more
+pub pushed : (entries new : List ((ℕ × ℕ) × ℕ)) (o : Offer) → new ≡ entries ++ ((o.product, o.group), o.price) ∷ [] → map offer_at new ≡ map offer_at entries ++ o ∷ []
+pushed entries new o e = ap (map offer_at) e ∙ map-append offer_at entries (((o.product, o.group), o.price) ∷ [])
+
+-- an answer that is something is not nothing
+pub some_is_not_none : (o : Option ℕ) → is_some o ≡ true → o ≡ None → ⊥
+some_is_not_none None is e = absurd (false≢true is)
+some_is_not_none (Some n) is e = no_some n e
+  where
+    no_some : (x : ℕ) → ◌≡◌ {A = Option ℕ} (Some x) None → ⊥
+    no_some x e = cc
+
+pub none_where_not_some : (o : Option ℕ) → is_some o ≡ false → o ≡ None
+none_where_not_some None is = refl
+none_where_not_some (Some n) is = absurd (false≢true (sym is))

@@ -1,0 +1,63 @@
+-- What holds of every credential, of every list of offers and of every quote.
+use Rattle.std.specs.Prelude.{◌≡◌, ◌↔◌, ℕ, ◌<◌, ◌≤◌, List, codes, Contains, None, Some, Ok, IsTrue}
+use Rattle.nb_units.specs.Frames.{AreBytes}
+use Rattle.nb_units.specs.declared.ids.PartyId.{PartyId}
+use Rattle.nb_groups.specs.declared.limits.TheConstants.{MAX_GROUPS, CREDENTIAL_BYTES, CREDENTIAL_LABEL, MAX_OFFERS, KEEPER}
+use Rattle.nb_groups.specs.declared.found.Offer.{Offer}
+use Rattle.nb_groups.specs.declared.membership.Membership.{Membership}
+use Rattle.nb_groups.specs.declared.quoting.Quoted.{Quoted}
+use Rattle.nb_groups.specs.Groups.{are_groups}
+use Rattle.nb_groups.specs.Spelling.{IsMembership, membership_bytes, credential_of}
+use Rattle.nb_groups.specs.Reading.{membership_of, membership_in}
+use Rattle.nb_groups.specs.Offers.{AreOffers, BeginsWith, offers_for}
+use Rattle.nb_groups.specs.Quote.{admitted, chosen}
+
+-- what was spelled of a membership is read as that membership
+abbrev pub MembershipReadsBack : Type 0
+MembershipReadsBack = (m : Membership) → IsMembership m → membership_of (membership_bytes m) ≡ Ok m
+
+-- what was read as a membership is spelled as those bytes, and is within its limits
+abbrev pub MembershipSpellsBack : Type 0
+MembershipSpellsBack = (bytes : List ℕ) (m : Membership) → AreBytes bytes → membership_of bytes ≡ Ok m → IsMembership m × (bytes ≡ membership_bytes m)
+
+-- two memberships with one spelling are one
+abbrev pub OneMembership : Type 0
+OneMembership = (a b : Membership) → IsMembership a → IsMembership b → membership_bytes a ≡ membership_bytes b → a ≡ b
+
+-- a credential is opened under its keeper's key as what it says
+abbrev pub CredentialOpens : Type 0
+CredentialOpens = (key : List ℕ) (m : Membership) → IsMembership m → membership_in key (credential_of key m) ≡ Ok m
+
+-- what a credential says is admitted exactly for its consumer, and up to its last second
+abbrev pub HoldsUntil : Type 0
+HoldsUntil = (m : Membership) (asked : PartyId) (now : ℕ) → (admitted m asked now ≡ Ok m) ↔ ((m.consumer.0 ≡ asked.0) × (now ≤ m.until))
+
+-- what stands at the front of bytes is one offer's line and one rest
+abbrev pub OneOffer : Type 0
+OneOffer = (bytes : List ℕ) (a b : Offer) (r s : List ℕ) → BeginsWith bytes a r → BeginsWith bytes b s → (a ≡ b) × (r ≡ s)
+
+-- an offer of the product for one of the groups
+abbrev pub IsFor : List Offer → ℕ → List ℕ → Offer → Type 0
+IsFor offers product groups o = Contains offers o × (o.product ≡ product) × Contains groups o.group
+
+-- the price is the least of the shelf's and of those of the offers for the groups; no group is told where it is the shelf's, and else the smallest
+-- that has it
+pub record IsLeast (shelf : ℕ) (offers : List Offer) (product : ℕ) (groups : List ℕ) (q : Quoted) : Type 0 where
+  pub below : q.price.0 ≤ shelf
+  pub least : (o : Offer) → IsFor offers product groups o → q.price.0 ≤ o.price
+  pub shelf_first : q.group ≡ None → q.price.0 ≡ shelf
+  pub group : (g : ℕ) → q.group ≡ Some g → (q.price.0 < shelf) × IsFor offers product groups (record { product = product; group = g; price = q.price.0 })
+  pub smallest : (g : ℕ) (o : Offer) → q.group ≡ Some g → IsFor offers product groups o → o.price ≡ q.price.0 → g ≤ o.group
+
+-- what is chosen among the offers for the groups of a credential is that
+abbrev pub ChosenIsLeast : Type 0
+ChosenIsLeast = (shelf : ℕ) (offers : List Offer) (product : ℕ) (groups : List ℕ) → AreOffers offers → IsTrue (are_groups groups)
+    → IsLeast shelf offers product groups (chosen shelf (offers_for offers product groups))
+
+-- the limits in numbers
+abbrev pub GroupLimitsAre : Type 0
+GroupLimitsAre = (MAX_GROUPS ≡ 4) × (CREDENTIAL_BYTES ≡ 64) × (MAX_OFFERS ≡ 268435456)
+
+-- the label and the word of the keeper's line in texts
+abbrev pub WordsAre : Type 0
+WordsAre = (CREDENTIAL_LABEL ≡ codes "cred") × (KEEPER ≡ codes "keeper ")

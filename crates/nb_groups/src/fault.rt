@@ -1,0 +1,24 @@
+use std::alloc::AllocFailed;
+
+/// Why a list of offers was not read.
+#[derive(Clone, Copy, Debug)]
+pub enum OffersFault {
+    /// The line of this number, from 1 on, is not of its form: the first that of the keeper, each other that of an offer. Those before it are, and no
+    /// two of them are for one product and one group.
+    BadLine { line: u32 },
+    /// The line of this number, from 1 on, has the form of an offer, for the product and the group of one before it.
+    Twice { line: u32 },
+    /// There was no memory for the offers.
+    NoMemory,
+}
+
+impl<T: Drop> From<AllocFailed<T>> for OffersFault {
+    ghost use Rattle.std.specs.Prelude.{◌≡◌};
+    ghost use Rattle.nb_groups.specs.declared.fault.OffersFault.TheVariants as fault;
+
+    ghost from_gives = { λ _ e. e ≡ fault.NoMemory };
+
+    fn from(_failed: AllocFailed<T>) -> OffersFault {
+        OffersFault::NoMemory
+    }
+}

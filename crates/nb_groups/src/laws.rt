@@ -1,0 +1,45 @@
+//! What holds of every credential, of every list of offers and of every quote. Each function here does nothing: its contract is the law.
+
+ghost use Rattle.nb_groups.specs.Laws as law;
+
+/// A law: what was spelled of a credential's text is read as what it says.
+pub fn membership_reads_back()
+    ensures { law.MembershipReadsBack }
+{}
+
+/// A law: what was read of a credential's text is spelled as those bytes, and is within its limits.
+pub fn membership_spells_back()
+    ensures { law.MembershipSpellsBack }
+{}
+
+/// A law: two memberships with one spelling are one.
+pub fn one_spelling()
+    ensures { law.OneMembership }
+{}
+
+/// A law: a credential is opened under its keeper's key as what it says.
+pub fn credential_opens()
+    ensures { law.CredentialOpens }
+{}
+
+/// A law: a credential holds for its consumer up to its last second, and for nobody else and no later.
+pub fn holds_until()
+    ensures { law.HoldsUntil }
+{}
+
+/// A law: what stands at the front of bytes is one offer's line and one rest.
+pub fn one_offer()
+    ensures { law.OneOffer }
+{}
+
+/// A law: what is quoted with a credential is the least of the shelf's price and of those that are offered for its groups, and the group that is told
+/// is the smallest that has it.
+pub fn quote_is_least()
+    ensures { law.ChosenIsLeast }
+{}
+
+/// A law: the limits in numbers, and the words in texts.
+pub fn limits()
+    ensures limits { law.GroupLimitsAre }
+    ensures words { law.WordsAre }
+{}
