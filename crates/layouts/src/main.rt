@@ -114,7 +114,7 @@ fn done_signed(told: &mut Told, word: &str, words: &[&str]) -> Result<(), NoMemo
     }
 }
 
-// What comes of a line about a ticket, a group or a reply.
+// What comes of a line about a ticket or a reply.
 fn done_told(told: &mut Told, word: &str, words: &[&str]) -> Result<(), NoMemory> {
     match word {
         "session" => tickets::session(told, words),
@@ -123,14 +123,21 @@ fn done_told(told: &mut Told, word: &str, words: &[&str]) -> Result<(), NoMemory
         "open-ticket" => tickets::opened(told, words),
         "grant" => tickets::granted(told, words),
         "open-grant" => tickets::opened_grant(told, words),
-        "credential" => offers::made(told, words),
-        "offers" => offers::read(told, words),
-        "quote" => offers::quoted(told, words),
         "reply-result" => replies::result(told, words),
         "reply-status" => replies::status(told, words),
         "reply-grant" => replies::grant(told, words),
         "reply-done" => replies::done(told, words),
         "reply-refused" => replies::refused(told, words),
+        _ => done_offered(told, word, words),
+    }
+}
+
+// What comes of a line about groups.
+fn done_offered(told: &mut Told, word: &str, words: &[&str]) -> Result<(), NoMemory> {
+    match word {
+        "credential" => offers::made(told, words),
+        "offers" => offers::read(told, words),
+        "quote" => offers::quoted(told, words),
         _ => done_below(told, word, words),
     }
 }
