@@ -1,0 +1,188 @@
+-- The six sentences, one after another.
+use Rattle.std.proofs.Common.{◌≡◌, inl, inr, ℕ, ◌≤◌, Bool, List, [], ◌∷◌, ◌++◌, length, map, take, Some, refl, sym, ap, subst, arith}
+use Rattle.std.specs.List.{count_by, AllByRecursion}
+use Rattle.nb_port.specs.Tells.{DiskTells}
+use Rattle.nb_units.specs.Charter.{MayRule, AreVersionAndRate}
+use Rattle.nb_book.specs.declared.entry.Entry.{Entry}
+use Rattle.nb_book.specs.Laws.{StaysLegal}
+use Rattle.nb_book.specs.Legal.{Legal}
+use Rattle.nb_book.specs.Searches.{order_in, settles}
+use Rattle.nb_book.proofs.Growing.{front_legal}
+use Rattle.nb_endorse.specs.declared.refusal.TheConstants.{DISK_FAULT, WORN}
+use Rattle.nb_turns.specs.declared.limits.TheConstants.{MAX_FAULTS}
+use Rattle.nb_turns.specs.Turns.{Request, State, Round, Run, answered_in, last_state}
+use Rattle.nb_turns.specs.Callers.{AreTaken}
+use Rattle.nb_turns.specs.Laws.{IsBalanced, IsLawful, IsLegalState}
+use Rattle.nb_turns.proofs.Keeping.{turn_keeps_legal, run_keeps_legal, run_keeps_money}
+use Rattle.nb_turns.proofs.Lists.{all_weaker}
+use Rattle.nb_escrow.specs.declared.head.Head.{Head}
+use Rattle.nb_escrow.specs.Head.{IsRuling}
+use Rattle.nb_escrow.specs.Laws as escrow
+use Rattle.nb_escrow.specs.Replies.{StatusTellsTheOrder}
+use Rattle.nb_escrow.specs.Verdict.{verdict}
+use Rattle.nb_escrow.proofs.Exactly.{paid_exactly_where, refusals_are_true, refused_for_true_reason}
+use Rattle.nb_vault.specs.Rules.{refused}
+use Rattle.nb_vault.specs.Vaults.{Chronicled, Keeps, doubt_in, entries_in, house_in, state_of}
+use Rattle.nb_vault.proofs.Vaulting.{house_lawful}
+use Rattle.nb_consumer.specs.State.{Buyer}
+use Rattle.nb_merchant.specs.Shop.{Shop}
+use Rattle.nb_world.specs.declared.event.Event.{Event}
+use Rattle.nb_world.specs.declared.event.Event.TheVariants as on
+use Rattle.nb_world.specs.World.{Rules, World, request_of}
+use Rattle.nb_world.specs.Steps.{next, run}
+use Rattle.nb_world.specs.Laws.{Begins, IsLawfulWorld, RecordsLegal, StandsDurable}
+use Rattle.nb_world.specs.Ties.{Ties}
+use Rattle.nb_world.proofs.Moving.{only_grows}
+use Rattle.nb_world.proofs.Playing.{run_is_events}
+use Rattle.nb_world.proofs.Serving.{world_law}
+use Rattle.nb_world.proofs.Settling.{house_records_legal, key_where_it_stands, money_is_conserved, order_moves_once}
+use Rattle.nb_world.proofs.Stopping.{run_then, stop_keeps_prefix, entries_have_origins, others_acknowledge_nothing}
+use Rattle.nb_parties.specs.Rules.{shown}
+use Rattle.nb_headline.specs.Served.{IsTied, head_in, last_vault, rules_in, states_of}
+use Rattle.nb_headline.specs.Headline.{StopLeavesPrefix, WorldLeaves, OrderMovesOnce, MoneyIsConserved, PaysTruly, PaidWherePayableRefusedTruly, GivesKeyWherePaid, KeyWherePaymentStands, RepliesOfOneList, Headline, HeadlineLaw}
+use Rattle.nb_headline.proofs.Fronts.{begins_same, AreTold, none_told, told_run, told_taken}
+use Rattle.nb_headline.proofs.Along.{house_run, last_is, stops_leave, decided_run, decided_so}
+
+all_of_map : {A B : Type 0} (P : B → Type 0) (f : A → B) (xs : List A) → AllByRecursion P (map f xs) → AllByRecursion (λ (x : A). P (f x)) xs
+all_of_map P f [] all = tt
+all_of_map P f (x ∷ xs) all = (all.0, all_of_map P f xs all.1)
+
+may_rule : (version rate : ℕ) → AreVersionAndRate version rate → MayRule version rate
+may_rule version rate (inl is) = (inl is.0, omega (arith, is.1))
+may_rule version rate (inr is) = (inr is.0, is.1)
+
+legal_state : {D : Type 0} (tells : DiskTells D) (v : Chronicled D) → Keeps tells v → IsLegalState v.origin.cap (state_of v)
+legal_state tells v keeps = record { legal = keeps.legal.legal; within = keeps.within; most = keeps.most; few = keeps.few }
+
+last_legal : (cap : ℕ) (first : State) (states : List State) → IsLegalState cap first → AllByRecursion (IsLegalState cap) states → IsLegalState cap (last_state first states)
+last_legal cap first [] one all = one
+last_legal cap first (next ∷ states) one all = last_legal cap next states all.0 all.1
+
+entries_legal : (cap : ℕ) (s : State) → IsLegalState cap s → Legal s.entries
+entries_legal cap s is = subst Legal (take_front s.entries s.doubt) (front_legal (s.entries ++ s.doubt) (length s.entries) is.legal)
+  where
+    take_front : (xs ys : List Entry) → take (length xs) (xs ++ ys) ≡ xs
+    take_front [] ys = refl
+    take_front (x ∷ xs) ys = ap (λ (zs : List Entry). x ∷ zs) (take_front xs ys)
+
+pays_truly : (head : Head) (cap : ℕ) (over : List Entry) (request : Request) → Legal over → PaysTruly head cap over request
+pays_truly head cap over request legal = record {
+  paid = paid_exactly_where over head cap request.kind request.body request.moment;
+  refusal = refusals_are_true over legal head cap request.kind request.body request.moment;
+  refused = refused_for_true_reason over head cap request.kind request.body request.moment;
+}
+
+gives_key : escrow.StatusTellsKey → (head : Head) (cap : ℕ) (over : List Entry) (request : Request) → Legal over → GivesKeyWherePaid head cap over request
+gives_key tells head cap over request legal is =
+    subst (λ (kind : ℕ). escrow.KeyWherePaid over request.body (verdict over head cap kind request.body request.moment).reply) (sym is) (tells over legal head cap request.body request.moment)
+
+module _ {D : Type 0} (stays : StaysLegal) (records : escrow.RecordsLegal) (key : escrow.StatusTellsKey) (status : StatusTellsTheOrder)
+    (tells : DiskTells D) (first : Chronicled D) (rounds : List Round) (vaults : List (Chronicled D)) (set_up : World Buyer Shop) (es : List Event) (number : Request → ℕ)
+    (tied : IsTied tells first rounds vaults set_up es number) where
+  abbrev p : Rules Buyer Shop
+  p = rules_in first
+
+  ruling : IsRuling (head_in first)
+  ruling = may_rule first.origin.charter.version first.origin.charter.rate tied.keeps.terms.ruled
+
+  legal_records : RecordsLegal p.verdict
+  legal_records = house_records_legal records p shown (head_in first) first.origin.cap (λ entries request. refl) ruling
+
+  lawful : IsLawful (house_in first) first.origin.cap
+  lawful = house_lawful (head_in first) first.origin.cap ruling
+
+  the_run : Run (house_in first) (state_of first) rounds (states_of vaults)
+  the_run = house_run tells (house_in first) first rounds vaults refl tied.turns
+
+  no_doubt : doubt_in first ≡ []
+  no_doubt = rw tied.fresh refl
+
+  states_legal : AllByRecursion (IsLegalState first.origin.cap) (states_of vaults)
+  states_legal = run_keeps_legal (turn_keeps_legal stays) (house_in first) first.origin.cap (state_of first) rounds (states_of vaults) lawful (legal_state tells first tied.keeps) the_run
+
+  last_list : Legal (entries_in (last_vault first vaults))
+  last_list = subst (λ (s : State). Legal s.entries) (last_is first vaults)
+      (entries_legal first.origin.cap (last_state (state_of first) (states_of vaults)) (last_legal first.origin.cap (state_of first) (states_of vaults) (legal_state tells first tied.keeps) states_legal))
+
+  balanced : AllByRecursion (λ (v : Chronicled D). IsBalanced (entries_in v) × IsBalanced (entries_in v ++ doubt_in v)) vaults
+  balanced = all_of_map (λ (s : State). IsBalanced s.entries × IsBalanced (s.entries ++ s.doubt)) state_of vaults
+      (run_keeps_money (run_keeps_legal (turn_keeps_legal stays)) (house_in first) first.origin.cap (state_of first) rounds (states_of vaults) lawful (legal_state tells first tied.keeps) the_run)
+
+  taken : AreTaken (house_in first) (entries_in (last_vault first vaults)) (length (entries_in first)) (answered_in (house_in first) rounds)
+  taken =
+      let told : AreTold (house_in first) (length (entries_in first)) (answered_in (house_in first) rounds) (last_state (state_of first) (states_of vaults)).entries =
+      told_run (house_in first) (length (entries_in first)) (state_of first) rounds (states_of vaults) [] the_run (none_told (house_in first) (entries_in first)) in
+      let front : (last_state (state_of first) (states_of vaults)).entries ≡ entries_in (last_vault first vaults) = ap (λ (s : State). s.entries) (last_is first vaults) in
+      told_taken (house_in first) (length (entries_in first)) (answered_in (house_in first) rounds) (entries_in (last_vault first vaults)) (entries_in (last_vault first vaults))
+      (subst (AreTold (house_in first) (length (entries_in first)) (answered_in (house_in first) rounds)) front told) (begins_same (entries_in (last_vault first vaults)))
+
+  in_world : (more : List Event) → IsLawfulWorld p.verdict (run p set_up more)
+  in_world more = world_law stays p set_up legal_records tied.begins more
+
+  world_leaves : (more : List Event) (keep : Bool) → WorldLeaves set_up (run p set_up more) (next p (run p set_up more) (on.Stop keep))
+  world_leaves more keep =
+      let w = run p set_up more in
+      let stopped = next p w (on.Stop keep) in
+      let is : run p set_up (more ++ on.Stop keep ∷ []) ≡ stopped = run_then p set_up more (on.Stop keep ∷ []) in
+      let law : IsLawfulWorld p.verdict stopped = subst (IsLawfulWorld p.verdict) is (in_world (more ++ on.Stop keep ∷ [])) in
+      record {
+        prefix = stop_keeps_prefix p w keep;
+        acknowledged = subst (AllByRecursion (StandsDurable stopped)) (others_acknowledge_nothing p w (on.Stop keep) (λ none. none)) law.stands;
+        grows = subst (λ (v : World Buyer Shop). Begins v.durable set_up.durable) is (only_grows p set_up (more ++ on.Stop keep ∷ [])).durable;
+      }
+
+  sentence_one : StopLeavesPrefix tells first rounds vaults set_up
+  sentence_one = record {
+    house = stops_leave tells (house_in first) (length (entries_in first)) first rounds vaults [] refl tied.turns (none_told (house_in first) (entries_in first));
+    world = world_leaves;
+  }
+
+  sentence_two : OrderMovesOnce first vaults set_up
+  sentence_two = record {
+    house = λ order. all_weaker (λ (v : Chronicled D). IsBalanced (entries_in v) × IsBalanced (entries_in v ++ doubt_in v)) (λ (v : Chronicled D). count_by (settles order) (entries_in v ++ doubt_in v) ≤ 1) vaults
+        (λ v both. both.1.once order) balanced;
+    world = λ order more. (order_moves_once stays p set_up legal_records tied.begins order more []).0;
+    stays = λ order more later kept is. subst (λ (w : World Buyer Shop). order_in w.durable order ≡ Some kept) (sym (run_then p set_up more later))
+        ((order_moves_once stays p set_up legal_records tied.begins order more later).1 kept is);
+  }
+
+  sentence_three : MoneyIsConserved first vaults set_up
+  sentence_three = record { house = balanced; world = λ more. money_is_conserved stays p set_up legal_records tied.begins more }
+
+  sentence_four : PaidWherePayableRefusedTruly tells first rounds vaults set_up
+  sentence_four = record {
+    decided = λ calm few. decided_run tells (house_in first) (tells.faults first.disk) (tells.faults (last_vault first vaults).disk) calm first rounds vaults refl tied.turns (omega arith) (omega arith) few;
+    house = decided_so (PaysTruly (head_in first) first.origin.cap) (entries_in (last_vault first vaults)) (answered_in (house_in first) rounds)
+        (λ n request. pays_truly (head_in first) first.origin.cap (take n (entries_in (last_vault first vaults))) request (front_legal (entries_in (last_vault first vaults)) n last_list));
+    origins = λ more. entries_have_origins p set_up tied.begins.no_origins more;
+    came = λ more. (in_world more).came;
+    world = λ more origin came. pays_truly (head_in first) first.origin.cap (take origin.place (run p set_up more).durable) (request_of came.packet came.moment)
+        (front_legal (run p set_up more).durable origin.place (in_world more).legal);
+  }
+
+  sentence_five : KeyWherePaymentStands first rounds vaults set_up
+  sentence_five = record {
+    house = decided_so (GivesKeyWherePaid (head_in first) first.origin.cap) (entries_in (last_vault first vaults)) (answered_in (house_in first) rounds)
+        (λ n request. gives_key key (head_in first) first.origin.cap (take n (entries_in (last_vault first vaults))) request (front_legal (entries_in (last_vault first vaults)) n last_list));
+    world = λ more k c at made packet moment. key_where_it_stands stays records key status p shown (head_in first) first.origin.cap (λ entries request. refl) ruling set_up tied.begins more k c at made packet moment;
+  }
+
+  sentence_six : RepliesOfOneList first rounds vaults set_up
+  sentence_six = record { house = taken; world = λ more. (in_world more).replies }
+
+  the_tie : Ties p (house_in first) (run p set_up es) number (state_of first) rounds (states_of vaults)
+  the_tie = run_is_events p (λ (before after : ℕ). refused DISK_FAULT before after) (refused WORN MAX_FAULTS 0) (run p set_up es) (state_of first) number rounds (states_of vaults) tied.at no_doubt tied.packets the_run
+
+  pub all_six : Headline tells first rounds vaults set_up es number
+  all_six = record {
+    tie = the_tie;
+    stop_leaves_prefix = sentence_one;
+    order_moves_once = sentence_two;
+    money_is_conserved = sentence_three;
+    paid_where_payable = sentence_four;
+    key_where_payment_stands = sentence_five;
+    replies_of_one_list = sentence_six;
+  }
+
+pub headline_law : {D : Type 0} → StaysLegal → escrow.RecordsLegal → escrow.StatusTellsKey → StatusTellsTheOrder → (tells : DiskTells D) → HeadlineLaw tells
+headline_law stays records key status tells first rounds vaults set_up es number tied = all_six stays records key status tells first rounds vaults set_up es number tied

@@ -1,0 +1,22 @@
+//! The law of the house and its parties. The function here does nothing but to cite laws of the crates below: its contract is the law.
+
+ghost use Rattle.nb_headline.specs.Headline as law;
+ghost use Rattle.nb_headline.specs.Served as served;
+
+use nb_port::Disk;
+
+/// Each turn that a pass takes at a desk of a server is one of which a run of a real house is made, whoever took the ones before it.
+pub fn desk_turns_are_of_house<D: Disk>()
+    ensures { served.DeskTurnsAreOfHouse D.tells }
+{}
+
+/// The six sentences, of every run of a real house and every world of real parties that is tied to it, behind every list of events. Premised are
+/// the contracts of the disk, a vault with nothing in doubt at the start, and a set-up of Legal entries; nothing is of the network, of injectors and of keys.
+pub fn headline<D: Disk>()
+    ensures { law.HeadlineLaw D.tells }
+{
+    nb_book::laws::stays_legal();
+    nb_escrow::laws::records_legal();
+    nb_escrow::laws::status_tells_key();
+    nb_escrow::laws::status_tells_the_order();
+}

@@ -1,0 +1,6 @@
+mod Places
+mod Nodes
+mod Calls
+mod Kept
+mod Setting
+mod Lawful

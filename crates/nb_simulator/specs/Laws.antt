@@ -1,0 +1,59 @@
+-- What follows for every world that is made of a lawful set-up, behind every list of events.
+use Rattle.std.specs.Prelude.{◌≡◌, ℕ, ◌≤◌, List, ◌∷◌, ◌++◌, length, Some}
+use Rattle.std.specs.List.{slice_get}
+use Rattle.nb_units.specs.declared.ids.PartyId.{PartyId}
+use Rattle.nb_book.specs.declared.entry.Entry.{Entry}
+use Rattle.nb_endorse.specs.declared.receipt.Signed.{Signed}
+use Rattle.nb_escrow.specs.declared.head.Head.{Head}
+use Rattle.nb_escrow.specs.Head.{IsRuling}
+use Rattle.nb_consumer.specs.State.{Buyer, purchase_of}
+use Rattle.nb_merchant.specs.Shop.{Shop}
+use Rattle.nb_world.specs.declared.event.Event.{Event}
+use Rattle.nb_world.specs.declared.event.Event.TheVariants as on
+use Rattle.nb_world.specs.World.{World}
+use Rattle.nb_world.specs.Steps.{run}
+use Rattle.nb_world.specs.Laws.{IsLawfulWorld, IsSetUp}
+use Rattle.nb_parties.specs.Rules.{house_verdict}
+use Rattle.nb_parties.specs.Ends.{EndsBy, IsToldBy, EndsAsEntry}
+use Rattle.nb_parties.specs.Goods.{MerchantsAreEnrolled, PaysUnder, IsOfGoods}
+use Rattle.nb_parties.specs.Held.{ConsumersAreSo}
+use Rattle.nb_simulator.specs.declared.setup.Setup.{Setup}
+use Rattle.nb_simulator.specs.Setups.{IsLawful, SellersFit, world_of}
+use Rattle.nb_simulator.specs.Worlds.{Simulated, rules_of}
+
+-- it is as the laws over real parties premise
+pub record MeetsPremises (s : Simulated) : Type 0 where
+  pub ruling : IsRuling s.head
+  pub begins : IsSetUp s.world
+  pub merchants : MerchantsAreEnrolled s.world
+  pub consumers : ConsumersAreSo s.world
+
+-- so is the world of each lawful set-up, whose merchants' numbers have their widths
+abbrev pub SetUpsMeet : Type 0
+SetUpsMeet = (s : Setup) → IsLawful s → SellersFit s.merchants.items → MeetsPremises (world_of s)
+
+-- the head of a set-up's house
+abbrev pub head_in : Setup → Head
+head_in s = (world_of s).head
+
+-- its world behind these events, which `World::step` takes it on by
+abbrev pub behind : Setup → List Event → World Buyer Shop
+behind s es = run (rules_of (world_of s)) (world_of s).world es
+
+-- the entries are Legal, and each came by a call; what was acknowledged stands; each reply is the verdict's over the first of them
+abbrev pub WorldsAreLawful : Type 0
+WorldsAreLawful = (s : Setup) → IsLawful s → (es : List Event) → IsLawfulWorld (house_verdict (head_in s) s.cap) (behind s es)
+
+-- the key of each payment behind the set-up's entries opens what its consumer held, where a merchant's step made the request
+abbrev pub PaymentsOpenGoods : Type 0
+PaymentsOpenGoods = (s : Setup) → IsLawful s → SellersFit s.merchants.items → (es : List Event) (at : ℕ) (entry : Entry) (key : List ℕ)
+    → slice_get (behind s es).durable at ≡ Some entry → PaysUnder key entry → length s.entries.items ≤ at
+    → IsOfGoods (head_in s) s.cap (world_of s).world (behind s es) at entry key
+
+-- a purchase that ended by a receipt which the house made for its consumer is, then and behind all that follows, what the entry of its order says
+abbrev pub PurchasesEndAsEntriesSay : Type 0
+PurchasesEndAsEntriesSay = (s : Setup) → IsLawful s → (es more : List Event) (id : PartyId) (k transaction : ℕ) (signed : Signed)
+    → (ended : EndsBy (rules_of (world_of s)) (behind s es) id k transaction signed) → let later = behind s (es ++ on.Deliver k ∷ more) in
+    (b : Buyer) × (slice_get later.consumers ended.is.place ≡ Some b)
+    × ((told : IsToldBy (head_in s) s.cap later ended.buyer.wallet.key signed)
+    → EndsAsEntry (head_in s).house later.durable told.whom signed (purchase_of ended.buyer transaction) (purchase_of b transaction))

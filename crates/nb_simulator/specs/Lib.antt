@@ -1,0 +1,5 @@
+pub mod Parcels
+pub mod Doing
+pub mod Worlds
+pub mod Setups
+pub mod Laws

@@ -1,0 +1,37 @@
+//! What holds of every world that is made of a lawful set-up. Each function here does nothing but to cite laws of the crates below: its contract is the
+//! law. A [`World`](crate::World) is the world of its set-up (`World::new`) behind the events that it was taken on by (`World::step`), so each law speaks of it.
+
+ghost use Rattle.nb_simulator.specs.Laws as law;
+
+/// The world of a lawful set-up is as the laws of `nb_parties` premise. That merchants' numbers have their widths, which
+/// [`World::try_new`](crate::World::try_new) tells of each set-up that it makes a world of, is a premise here.
+pub fn set_ups_meet()
+    ensures { law.SetUpsMeet }
+{}
+
+/// Behind every list of events the entries are Legal, and each behind the set-up's is what the verdict over those before it records for the call that it
+/// came by; each acknowledged entry stands at its place; and each packet of the house is the verdict's reply over the first entries.
+pub fn worlds_are_lawful()
+    ensures { law.WorldsAreLawful }
+{
+    nb_book::laws::stays_legal();
+    nb_escrow::laws::records_legal();
+}
+
+/// The key of each payment behind the set-up's entries, where a merchant's step made the request, opens what any consumer held of that order to the goods of
+/// the product; or that is a collision.
+pub fn payments_open_goods()
+    ensures { law.PaymentsOpenGoods }
+{
+    nb_book::laws::stays_legal();
+    nb_escrow::laws::records_legal();
+}
+
+/// A purchase that ended by a receipt which the house made for its consumer is, then and behind every later event, what the durable entry of its order
+/// says.
+pub fn purchases_end_as_entries_say()
+    ensures { law.PurchasesEndAsEntriesSay }
+{
+    nb_book::laws::stays_legal();
+    nb_escrow::laws::records_legal();
+}

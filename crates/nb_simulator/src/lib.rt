@@ -1,0 +1,28 @@
+//! A world of a simulation that runs: consumers, merchants and a house that do what the crates of the program do, over one network.
+//!
+//! A [`World`] is seen as the world of `nb_world`, whose steps are defined there, with the real parties of `nb_parties`. It is made of a [`Setup`]
+//! ([`World::new`]), and [`World::step`] takes it on by one event: to the world of that definition, or to none where the event does not fit, and nothing
+//! changes then. So every law of `nb_world` and `nb_parties` over lists of events holds of a world and the events that it was taken on by
+//! (`nb_world::laws`, `nb_parties::laws`).
+//!
+//! A packet keeps the message that a node sent, and it is spelled where the house reads it (`packet.rt`). A node keeps the items of its journal, and a
+//! restart starts it again with these (`buying.rt`, `selling.rt`). Nodes are found by their numbers, and packets and calls by theirs, without going
+//! through the others; all memory that an event needs is taken before anything changes.
+//!
+//! Left to others: which events happen, and what is told of a world.
+#![tactic(auto)]
+
+mod buyers;
+mod buying;
+mod did;
+pub mod laws;
+mod packet;
+mod sellers;
+mod selling;
+mod setup;
+mod turns;
+mod world;
+
+pub use nb_world::Event;
+pub use setup::{Setup, SetupFault};
+pub use world::{Stepped, World};
