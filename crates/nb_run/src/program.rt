@@ -56,7 +56,7 @@ pub fn run<S: Source, K: Sink, D: Disk, C: Clock>(
     clock: &mut C,
 ) -> (Outcome, D)
     // Where it ends, with one of these statuses; else the work of a server, of a purchase or of one who sells is left to do, at such words alone, and there
-    // always, unless there was no memory to read them, and for one who sells where its shelf is good.
+    // always, unless there was no memory to read them, and for one who sells where its shelf is good, its source did not fail and there was memory.
     ensures status { (status : ℕ) → EndsWith result.0 status → runs.IsStatus status }
     ensures work { (workers sessions : ℕ) → result.0 ≡ outcomes.Work (jobs.Serve workers sessions) → IsServe (map string_bytes words.now) workers sessions }
     ensures serve { (workers sessions : ℕ) → IsServe (map string_bytes words.now) workers sessions
@@ -80,7 +80,7 @@ pub fn run<S: Source, K: Sink, D: Disk, C: Clock>(
         → (result.0 ≡ outcomes.Work (jobs.Sell links products)) ⊎ EndsWith result.0 OUT_OF_MEMORY }
 
     // Status 2: the words, and nothing else; and there always, unless there was no memory to read them, which is not told of no words, a word
-    // that is no name and a call for help. Nothing is touched at words that are no command, and where work is left to do.
+    // that is no name and a call for help. The disk is not touched at words that are no command, and where work is left to do.
     ensures words { EndsWith result.0 BAD_WORDS → IsCommand (map string_bytes words.now) → ⊥ }
     ensures none { (IsCommand (map string_bytes words.now) → ⊥)
         → EndsWith result.0 BAD_WORDS ⊎ (runs.Unbegun result.0 source.old source.new sink.old sink.new disk result.1 clock.old clock.new × MayBeRead (map string_bytes words.now)) }

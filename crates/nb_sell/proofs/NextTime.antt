@@ -28,7 +28,7 @@ use Rattle.nb_sell.specs.declared.ended.SellEnd.{SellEnd}
 use Rattle.nb_sell.specs.declared.ended.SellEnd.TheVariants as ends
 use Rattle.nb_sell.specs.Run.{Act, Hears, Told, Way, heard_as, told_as, heard_row, told_row, act_row, outset, onward, behind, kept, AreItems}
 use Rattle.nb_sell.specs.declared.peer.Over.{Over}
-use Rattle.nb_sell.specs.Sold.{Point, Went, Stopped, SellLost, EndsAt, Around, IsLast, IsCarriedOut, Sold, first_point}
+use Rattle.nb_sell.specs.Sold.{Point, Went, Stopped, SellLost, EndsAt, Around, IsLast, NothingLost, Sold, first_point}
 use Rattle.nb_sell.specs.Laws.{acts_at, acts_of, StopLeavesFirst, GoesOn, GoesOnNextTime, StaysKept}
 use Rattle.nb_sell.proofs.Over.{over_journal, over_shop}
 use Rattle.nb_sell.proofs.Runs.{kept_both, items_both}
@@ -317,7 +317,7 @@ module _ {D : Type 0} (tells : DiskTells D) where
   stays_kept old new ends.NoMemory s done = absurd done
 
   -- and it has the room that it had
-  pub room_stays : (old new : Around D) (end : SellEnd) → Sold tells old new end → IsCarriedOut end → new.journal.room ≡ old.journal.room
+  pub room_stays : (old new : Around D) (end : SellEnd) → Sold tells old new end → NothingLost end → new.journal.room ≡ old.journal.room
   room_stays old new ends.Ended s done = ap (λ (j : Journal D). j.room) (last_journal old new s.last s.ended.why s.last_is s.ended.stopped) ∙ s.ended.stopped.served.went.journal.room
   room_stays old new ends.ServerFault s done = ap (λ (j : Journal D). j.room) (last_journal old new s.last s.ended.why s.last_is s.ended.stopped) ∙ s.ended.stopped.served.went.journal.room
   room_stays old new (ends.DiskFault before after) s done = absurd done

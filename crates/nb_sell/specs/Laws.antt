@@ -25,7 +25,7 @@ use Rattle.nb_sell.specs.declared.ended.TheConstants.{MOST_FRAMES}
 use Rattle.nb_sell.specs.declared.ended.SellEnd.{SellEnd}
 use Rattle.nb_sell.specs.declared.ended.SellEnd.TheVariants as ends
 use Rattle.nb_sell.specs.Run.{Act, Hears, Told, act_row, awaited, outset, behind, kept, AreItems}
-use Rattle.nb_sell.specs.Sold.{Point, Around, first_point, EndsAt, IsCarriedOut, Sold}
+use Rattle.nb_sell.specs.Sold.{Point, Around, first_point, EndsAt, NothingLost, Sold}
 
 -- the acts on a link, with the one that was not carried out, if there is one
 abbrev pub acts_at : {D : Type 0} (tells : DiskTells D) (p q : Point D) (end : SellEnd) → EndsAt tells p q end → List Act
@@ -78,9 +78,9 @@ FullIsFull {D} tells = (old new : Around D) (cap : ℕ) (s : Sold tells old new 
     → AtRest tells front (items ++ map item_bytes (kept (outset old.shop) s.ended.served.acts)) new.journal
     × (length (items ++ map item_bytes (kept (outset old.shop) s.ended.served.acts)) ≡ cap) × (new.journal.cap ≡ old.journal.cap) × (cap ≡ old.journal.cap)
 
--- where the journal held what the merchant kept, and each step was carried out, it holds what the merchant kept, so that another link may be served
+-- where the journal held what the merchant kept, and no item was lost, it holds what the merchant kept
 abbrev pub StaysKept : {D : Type 0} → DiskTells D → Type 0
-StaysKept {D} tells = (old new : Around D) (end : SellEnd) → Sold tells old new end → IsCarriedOut end → (front : List ℕ) → AtRest tells front (kept_bytes old.shop) old.journal → IsKept old.shop
+StaysKept {D} tells = (old new : Around D) (end : SellEnd) → Sold tells old new end → NothingLost end → (front : List ℕ) → AtRest tells front (kept_bytes old.shop) old.journal → IsKept old.shop
     → AtRest tells front (kept_bytes new.shop) new.journal × IsKept new.shop
 
 -- this order of a purchase is answered with this message to the house, or, where it was settled since, with the kept result

@@ -202,11 +202,11 @@ EndsAt tells p q (ends.DiskFault before after) = SellLost tells p q (lost.DiskFa
 EndsAt tells p q (ends.Full cap) = SellLost tells p q (lost.Full cap)
 EndsAt tells p q ends.NoMemory = SellLost tells p q lost.NoMemory
 
--- each step was carried out
-abbrev pub IsCarriedOut : SellEnd → Type 0
-IsCarriedOut ends.Ended = Unit {0}
-IsCarriedOut ends.ServerFault = Unit {0}
-IsCarriedOut other = ⊥
+-- no item was lost: the journal grew by each that a step kept
+abbrev pub NothingLost : SellEnd → Type 0
+NothingLost ends.Ended = Unit {0}
+NothingLost ends.ServerFault = Unit {0}
+NothingLost other = ⊥
 
 -- it was sold on a link, and ended so
 pub record Sold {D : Type 0} (tells : DiskTells D) (old new : Around D) (end : SellEnd) : Type 0 where

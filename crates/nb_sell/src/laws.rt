@@ -14,12 +14,12 @@ pub fn goes_on_next_time<D: Disk>()
     ensures { law.GoesOnNextTime D.tells }
 {}
 
-/// A law: where each step was carried out the journal holds what the merchant kept, as it did before, so that another link may be served.
+/// A law: where the journal held what the merchant kept, and no item was lost, it holds what the merchant kept.
 pub fn stays_kept<D: Disk>()
     ensures { law.StaysKept D.tells }
 {}
 
-/// A law: the items of the stall's journal are never more than its cap.
+/// A law: what the stall's journal held, and what was kept by the acts that were carried out, is never more than its cap. An item in doubt is not counted.
 pub fn keeps_within<D: Disk>()
     ensures { law.KeepsWithin D.tells }
 {}

@@ -9,14 +9,14 @@
 //! row of the merchant's table, and whose frame comes next follows from the row before, so that the order in which frames were read is the list itself. What is
 //! promised (`specs/Sold.antt`): the journal grew by what the acts of such a list keep; the frames that they hear are the first that came over each link; their
 //! moments are what the clock gave; what they send was sent to each, up to a write that failed, behind which nothing is done; and each end says exactly why no more
-//! was. The acts were carried out one by one, each from where the one before it came to, and a link was read for no frame but one that was heard, or up to where
+//! was. The acts were carried out one by one, each from where the one before it came to, and no bytes of a link were read but for a frame that was heard, or up to where
 //! none came any more. Where a step could not be taken nothing of it was sent.
 //!
-//! [`laws`] say what a stop leaves, also where an append failed, that a merchant goes on from there next time, that behind every link on which each step was carried
-//! out the journal holds what the merchant kept, that it never holds more than its cap and is told as full only where it holds as much, and that what was endorsed is
+//! [`laws`] say what a stop leaves, also where an append failed, that a merchant goes on from there next time, that behind every link on which no item was lost
+//! the journal holds what the merchant kept, where it did before, that what was carried out is never more than its cap and is told as full only where it holds as much, and that what was endorsed is
 //! endorsed again with the same bytes, or answered with the kept result, also by a merchant that started again with another shelf.
 //!
-//! Behind a lost step the merchant may know an item that the journal has not. [`sell_link`] is called only where the journal holds what the merchant kept, so that a
+//! Behind a lost step the merchant may know an item that the journal has not: what says that the journal holds what the merchant kept is then of no link more, so that a
 //! caller stops there, or starts the merchant again with what the journal holds. What a link gave behind the last frame that was heard is let go with the link's
 //! reader: it came with the same read as that frame.
 //!

@@ -1,6 +1,7 @@
 ghost use Rattle.std.specs.Prelude.{◌≡◌, ◌≤◌};
+ghost use Rattle.nb_journal.specs.Growing.{IsAtRest};
 ghost use Rattle.nb_journal.specs.declared.limits.TheConstants.{MAX_ITEM};
-ghost use Rattle.nb_sell.specs.Sold.{IsCarriedOut, IsJournalOf, Sold, around, end_for};
+ghost use Rattle.nb_sell.specs.Sold.{IsJournalOf, NothingLost, Sold, around, end_for};
 ghost use Rattle.nb_sell.specs.Steps.{lost_end};
 
 use crate::ended::SellEnd;
@@ -16,8 +17,8 @@ use nb_wire::LinkEnd;
 use std::alloc::Global;
 
 /// Does what a merchant does on one consumer's link, over that and the house's: it tells prices, hands out goods, has the orders that come settled by the house and
-/// passes the results on, up to where nothing more is sold on the link. The journal is that of the merchant: it holds what the merchant kept and nothing else, has no
-/// item in doubt, and was opened with room for the longest item.
+/// passes the results on, up to where nothing more is sold on the link. The journal has no item in doubt, and was opened with room for the longest item. Where it held what
+/// the merchant kept, it holds that behind each link on which no item was lost; behind another the merchant has to start again with what the journal holds.
 pub fn sell_link<D: Disk, L: Link, M: Link, C: Clock>(
     alloc: Global,
     journal: &mut Journal<D>,
@@ -26,17 +27,16 @@ pub fn sell_link<D: Disk, L: Link, M: Link, C: Clock>(
     server: &mut M,
     clock: &mut C,
 ) -> SellEnd
-    // No item is in doubt, and the journal holds what the merchant kept. Behind a step that was not carried out it may not: then the merchant has to start again with
-    // what the journal holds.
-    requires kept { IsJournalOf D.tells journal.old merchant.old }
+    // No item is in doubt.
+    requires rest { IsAtRest D.tells journal.old }
     // No item is longer than there is room for.
     requires room { journal.old.room ≡ MAX_ITEM }
     // What was done is a run of the merchant, and how it ended says why no more was.
     ensures sold { Sold D.tells (around journal.old merchant.old (M.seen server.old) (L.seen link.old) (C.moments clock.old)) (around journal.new merchant.new (M.seen server.new) (L.seen link.new) (C.moments clock.new)) result }
-    // Where each step was carried out the journal holds what the merchant kept, so that another link may be served.
-    ensures again { IsCarriedOut result → IsJournalOf D.tells journal.new merchant.new }
+    // Where the journal held what the merchant kept, and no item was lost, it holds what the merchant kept.
+    ensures again { IsJournalOf D.tells journal.old merchant.old → NothingLost result → IsJournalOf D.tells journal.new merchant.new }
     // The longest item has the room that it had.
-    ensures room { IsCarriedOut result → journal.new.room ≡ MAX_ITEM }
+    ensures room { NothingLost result → journal.new.room ≡ MAX_ITEM }
 {
     merchant.witness();
     let Ok(mut sides) = Sides::new(alloc) else {

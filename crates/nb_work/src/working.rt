@@ -73,8 +73,8 @@ pub struct Worked<D, P, L, C> {
 /// `Sell`: opens the stall on the disk, starts its merchant again with the shelf, and sells by [`nb_sell::sell_link`] on the links that the port of the one worker
 /// gives, one after the other, each of which goes back to the port then; how many those are is the port's own matter. The status is that of a journal that was not
 /// opened, 7, 8 or 6; 8 where an item of it is none of a stall's with this shelf, and 6 where there is no memory, both with nothing begun; else 0 where the port has no
-/// link left, 13 where it or the link to the house failed, 14 where the stall is full, 7 where its disk failed and 6 where there was no memory. The link to a seller, the
-/// gate and the output are not touched.
+/// link left, 13 where it or the link to the house failed, 14 where the stall is full, 7 where its disk failed and 6 where there was no memory. The link to a seller is not
+/// touched, and nothing is written to the output. No clause speaks of the gate.
 pub fn work<
     R: Threads + Wait + Sync,
     D: Disk + Drop + Send,

@@ -1,11 +1,8 @@
 // What a merchant does on a consumer's link, and what came of it is told.
 
 ghost use Rattle.std.specs.Prelude.{◌≡◌, ◌<◌};
-ghost use Rattle.nb_journal.specs.Layout.{front_bytes};
-ghost use Rattle.nb_journal.specs.Opening.{charter_of};
-ghost use Rattle.nb_journal.specs.States.{AtRest};
+ghost use Rattle.nb_journal.specs.Growing.{IsAtRest};
 ghost use Rattle.nb_journal.specs.declared.limits.TheConstants.{MAX_ITEM};
-ghost use Rattle.nb_sell.specs.Sold.{IsJournalOf};
 
 use crate::deal::{Deal, behind, opening_calls};
 use crate::{shelves, telling};
@@ -103,7 +100,7 @@ impl Deal {
         step: usize,
     ) -> Result<(), NoMemory>
         requires step { 0 < step }
-        requires rest { AtRest ⟦<MemDisk as Disk>⟧.tells (front_bytes opened.cap (charter_of opened)) opened.items.items opened.journal }
+        requires rest { IsAtRest ⟦<MemDisk as Disk>⟧.tells opened.journal }
         requires room { opened.journal.room ≡ MAX_ITEM }
     {
         let Opened {
@@ -134,7 +131,7 @@ impl Deal {
         step: usize,
     ) -> Result<(), NoMemory>
         requires step { 0 < step }
-        requires kept { IsJournalOf ⟦<MemDisk as Disk>⟧.tells journal merchant }
+        requires rest { IsAtRest ⟦<MemDisk as Disk>⟧.tells journal }
         requires room { journal.room ≡ MAX_ITEM }
     {
         let (mut journal, mut merchant) = (journal, merchant);

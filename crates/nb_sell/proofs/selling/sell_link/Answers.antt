@@ -1,5 +1,4 @@
 use Rattle.std.proofs.Common.{None, Some, sym, subst, ◌∙◌}
-use Rattle.nb_merchant.specs.Laws.{kept_bytes}
 use Rattle.nb_sell.specs.declared.peer.Peer.TheVariants.{Consumer}
 use Rattle.nb_sell.specs.declared.ended.SellEnd.{SellEnd}
 use Rattle.nb_sell.specs.Sold.{EndsAt, Sold, around}
@@ -11,12 +10,9 @@ use Rattle.nb_sell.proofs.selling.sell_link.Goals as goal
 pub returns-in_default : goal.returns-in_default
 returns-in_default g c = record {
   sold = sold_nothing g.D.Disk.tells c.args.journal.now c.args.merchant.now (g.M.Link.seen c.args.server.now) (g.L.Link.seen c.args.link.now) (g.C.Clock.moments c.args.clock.now);
-  again = λ done. absurd done;
+  again = λ kept done. absurd done;
   room = λ done. absurd done;
 }
-
-pub serve-served-requires-clause-rest : goal.serve-served-requires-clause-rest
-serve-served-requires-clause-rest g c = (c.requires.kept.0, kept_bytes c.args.merchant.now, c.requires.kept.1)
 
 pub returns-in-Ok-served : goal.returns-in-Ok-served
 returns-in-Ok-served g c =
@@ -28,7 +24,7 @@ returns-in-Ok-served g c =
     (stopped_ends g.D.Disk.tells (at c.args.journal.now c.args.merchant.now (lines_of (g.M.Link.seen c.args.server.now) (g.L.Link.seen c.args.link.now) c.in-Ok.sides) (g.C.Clock.moments c.args.clock.now) c.in-Ok.sides.last (Some Consumer)) (at c.serve-served.new.journal c.serve-served.new.merchant (lines_of (g.M.Link.seen c.serve-served.new.server) (g.L.Link.seen c.serve-served.new.link) c.serve-served.new.sides) (g.C.Clock.moments c.serve-served.new.clock) c.serve-served.new.sides.last (over_awaits c.in-Ok-served.why)) c.in-Ok-served.why c.in-Ok-served.ensures)) in
     record {
       sold = sold;
-      again = λ done. (c.requires.kept.0, (stays_kept g.D.Disk.tells old new c.end_of.result sold done c.requires.kept.0 c.requires.kept.1 c.witness.ensures.kept).0);
+      again = λ kept done. (kept.0, (stays_kept g.D.Disk.tells old new c.end_of.result sold done kept.0 kept.1 c.witness.ensures.kept).0);
       room = λ done. room_stays g.D.Disk.tells old new c.end_of.result sold done ∙ c.requires.room;
     }
 
@@ -42,6 +38,6 @@ returns-in-Err g c =
     (lost_ends g.D.Disk.tells (at c.args.journal.now c.args.merchant.now (lines_of (g.M.Link.seen c.args.server.now) (g.L.Link.seen c.args.link.now) c.in-Ok.sides) (g.C.Clock.moments c.args.clock.now) c.in-Ok.sides.last (Some Consumer)) (at c.serve-served.new.journal c.serve-served.new.merchant (lines_of (g.M.Link.seen c.serve-served.new.server) (g.L.Link.seen c.serve-served.new.link) c.serve-served.new.sides) (g.C.Clock.moments c.serve-served.new.clock) c.serve-served.new.sides.last None) c.in-Err.why c.in-Err.ensures)) in
     record {
       sold = sold;
-      again = λ done. (c.requires.kept.0, (stays_kept g.D.Disk.tells old new c.lost_as.result sold done c.requires.kept.0 c.requires.kept.1 c.witness.ensures.kept).0);
+      again = λ kept done. (kept.0, (stays_kept g.D.Disk.tells old new c.lost_as.result sold done kept.0 kept.1 c.witness.ensures.kept).0);
       room = λ done. room_stays g.D.Disk.tells old new c.lost_as.result sold done ∙ c.requires.room;
     }

@@ -1,5 +1,6 @@
 use Rattle.std.proofs.Common.{sym, subst, ◌∙◌, arith}
-use Rattle.nb_sell.specs.Sold.{IsCarriedOut}
+use Rattle.nb_merchant.specs.Laws.{kept_bytes}
+use Rattle.nb_sell.specs.Sold.{NothingLost}
 use Rattle.nb_work.specs.Selling.{Standing, Sale, standing}
 use Rattle.nb_work.proofs.Sales.{none_sold, one_sold, stopped_at, all_sold, port_failed, goes_on_ended}
 use Rattle.nb_work.proofs.selling.serve_links.Goals as goal
@@ -10,6 +11,10 @@ selling-init g c = record {
   kept = c.requires.kept;
   room = c.requires.room;
 }
+
+-- the journal is at rest with what the merchant kept
+pub sell_link-end-requires-clause-rest : goal.sell_link-end-requires-clause-rest
+sell_link-end-requires-clause-rest g c = (c.selling.invariant.kept.0, kept_bytes c.selling.merchant, c.selling.invariant.kept.1)
 
 pub returns-in-Some : goal.returns-in-Some
 returns-in-Some g c =
@@ -39,12 +44,12 @@ selling-preserved g c =
     let given = g.P.Joined.Link.seen c.in-Got.link in
     let taken = g.P.Joined.Link.seen c.sell_link-end.new.link in
     let none = sym c.stop_behind.ensures ∙ c.in-None.is in
-    let carried : IsCarriedOut c.sell_link-end.result = subst IsCarriedOut (sym (goes_on_ended c.sell_link-end.result none)) tt in
+    let carried : NothingLost c.sell_link-end.result = subst NothingLost (sym (goes_on_ended c.sell_link-end.result none)) tt in
     record {
       so = one_sold g.D.Disk.tells first mid (g.P.Port.seen c.args.worker.now.port) (g.P.Port.seen c.selling.worker.port) (g.P.Port.seen c.next.new.self) (g.P.Port.seen c.back.new.self) c.selling.counter
           (record { given = given; taken = taken; end = c.sell_link-end.result; behind = last })
           c.selling.invariant.so c.in-Got.ensures (record { out = c.back.ensures.out; taken = c.back.ensures.taken; same = c.back.ensures.same }) c.sell_link-end.ensures.sold none;
-      kept = c.sell_link-end.ensures.again carried;
+      kept = c.sell_link-end.ensures.again c.selling.invariant.kept carried;
       room = c.sell_link-end.ensures.room carried;
     }
 
