@@ -1,7 +1,7 @@
 // A sale over links in memory: the parts of goods are handed out to a consumer that has asked for their price.
 
-ghost use Rattle.std.specs.Prelude.{◌≡◌, ℕ, List, []};
-ghost use Rattle.nb_journal.specs.States.{AtRest};
+ghost use Rattle.std.specs.Prelude.{◌≡◌};
+ghost use Rattle.nb_journal.specs.Growing.{IsAtRest};
 ghost use Rattle.nb_journal.specs.declared.limits.TheConstants.{MAX_ITEM};
 
 use crate::Made;
@@ -44,12 +44,9 @@ pub fn run(alloc: Global, size: u32, times: u32) -> Result<Made, NoMemory> {
         return Ok(Made::Unknown);
     }
     match Journal::open(alloc, disk, MAX_ITEM) {
-        Ok(opened) => {
-            if !opened.items.is_empty() {
-                return Ok(Made::Unknown);
-            }
-            sold(alloc, opened.journal, catalogue, asked.as_slice()).map_err(|_| NoMemory)
-        }
+        Ok(opened) => sold(alloc, opened.journal, catalogue, asked.as_slice()).map_err(
+            |_| NoMemory,
+        ),
         Err(_) => Ok(Made::Unknown),
     }
 }
@@ -100,8 +97,7 @@ fn sold(
     catalogue: Catalogue,
     asked: &[u8],
 ) -> Result<Made, nb_units::NoMemory>
-    // It holds nothing.
-    requires rest { (front : List ℕ) × AtRest ⟦<MemDisk as Disk>⟧.tells front [] journal }
+    requires rest { IsAtRest ⟦<MemDisk as Disk>⟧.tells journal }
     requires room { journal.room ≡ MAX_ITEM }
 {
     let mut journal = journal;
