@@ -135,23 +135,40 @@ impl Deal {
         requires room { journal.room ≡ MAX_ITEM }
     {
         let (mut journal, mut merchant) = (journal, merchant);
-        let mut house = self.house.link(self.alloc, step)?;
-        let mut consumer = self.consumer.link(self.alloc, step)?;
-        let mut clock = MemClock::new(self.alloc, self.moments.as_slice())?;
+        let mut outside = self.outside(step)?;
         let end = sell_link(
             self.alloc,
             &mut journal,
             &mut merchant,
-            &mut consumer,
-            &mut house,
-            &mut clock,
+            &mut outside.consumer,
+            &mut outside.house,
+            &mut outside.clock,
         );
         tell_end(told, end);
         let disk = journal.into_disk();
         self.stall = Vec::from_slice(self.alloc, disk.content())?;
         told.bytes("\njournal ", self.stall.as_slice());
-        tell_sent(told, &house, &consumer)
+        tell_sent(told, &outside.house, &outside.consumer)
     }
+
+    // What is sold over, where one read gives at most so many bytes.
+    fn outside(&mut self, step: usize) -> Result<Outside, NoMemory>
+        requires { 0 < step }
+    {
+        Ok(Outside {
+            house: self.house.link(self.alloc, step)?,
+            consumer: self.consumer.link(self.alloc, step)?,
+            clock: MemClock::new(self.alloc, self.moments.as_slice())?,
+        })
+    }
+}
+
+// The links of the house and of the consumer, and the clock.
+#[derive(Drop)]
+struct Outside {
+    house: MemLink,
+    consumer: MemLink,
+    clock: MemClock,
 }
 
 // What it came to where the first so many bytes came.
