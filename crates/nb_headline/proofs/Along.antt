@@ -15,7 +15,7 @@ use Rattle.nb_vault.specs.Vaults.{Chronicled, FaultWithin, StandsForState, doubt
 use Rattle.nb_vault.proofs.Resting.{leaves_more}
 use Rattle.nb_world.specs.Laws.{Begins}
 use Rattle.nb_headline.specs.Served.{DeskTurnsAreOfHouse, FailsWithin, HouseRun, said, last_vault, states_of}
-use Rattle.nb_headline.specs.Headline.{LeavesTold, StopsLeave, IsDecided, WhereDecided, AllDecidedSo}
+use Rattle.nb_headline.specs.Headline.{LeavesTold, RestLeaves, StopsLeave, IsDecided, WhereDecided, AllDecidedSo}
 use Rattle.nb_headline.proofs.Fronts.{begins_same, begins_then, begins_append, AreTold, told_more, told_taken}
 
 -- ---- the run of a real house
@@ -35,6 +35,8 @@ desk_turns tells by v w requests outcome found out written asks = record {
   went = asks.went;
   same_origin = asks.same_origin;
   any_moment = asks.any_moment;
+  images = asks.keeps.images;
+  durable = asks.durable;
   fault = fails_within tells asks.old asks.new outcome asks.fault;
   count = asks.count;
 }
@@ -88,18 +90,30 @@ module _ {D : Type 0} (tells : DiskTells D) (house : House) (least : ℕ) where
             (begins_then (entries_in old) (entries_in new) (entries_in new ++ doubt_in new) begins (begins_append (entries_in new) (doubt_in new)));
       }
 
+  -- at rest
+  at_rest : (v : Chronicled D) (told : List Answered) → AreTold house least told (entries_in v) → ((image : List ℕ) → tells.allowed v.disk image → StandsForState v image)
+      → RestLeaves tells house least told v
+  at_rest v told are images image is = by (images image is)
+    where
+      by : StandsForState v image → LeavesTold house v v least told image
+      by (inl stands) =
+          record { entries = entries_in v; stands = stands; prefix = inl (inl refl); acknowledged = told_taken house least told (entries_in v) (entries_in v) are (begins_same (entries_in v)) }
+      by (inr stands) =
+          record { entries = entries_in v ++ doubt_in v; stands = stands; prefix = inl (inr refl); acknowledged = told_taken house least told (entries_in v) (entries_in v ++ doubt_in v) are (begins_append (entries_in v) (doubt_in v)) }
+
   pub stops_leave : (first : Chronicled D) (rounds : List Round) (vaults : List (Chronicled D)) (told : List Answered) → house_in first ≡ house → HouseRun tells first rounds vaults
-      → AreTold house least told (entries_in first) → StopsLeave tells house least told first rounds vaults
-  stops_leave first [] [] told is turns are = tt
-  stops_leave first (round ∷ more) (next ∷ vaults) told is turns are =
+      → AreTold house least told (entries_in first) → ((image : List ℕ) → tells.allowed first.disk image → StandsForState first image) → StopsLeave tells house least told first rounds vaults
+  stops_leave first [] [] told is turns are images = at_rest first told are images
+  stops_leave first (round ∷ more) (next ∷ vaults) told is turns are images =
       let turn = subst (λ (h : House). Turn h (state_of first) round.requests round.outcome (state_of next)) is turns.0.went.turn in (
+        at_rest first told are images,
         leaves_more tells first.disk next.disk (λ image. StandsForState first image ⊎ StandsForState next image) (LeavesTold house first next least told)
             (left_of first next round.requests round.outcome told turns.0.same_origin turn are) turns.0.any_moment,
         stops_leave next more vaults (told ++ answered house round.requests round.outcome) (same_house first next turns.0.same_origin ∙ is) turns.1
-            (told_more house least (state_of first) (state_of next) round.requests round.outcome told turn are),
+            (told_more house least (state_of first) (state_of next) round.requests round.outcome told turn are) turns.0.images,
       )
-  stops_leave first [] (next ∷ vaults) told is turns are = absurd turns
-  stops_leave first (round ∷ more) [] told is turns are = absurd turns
+  stops_leave first [] (next ∷ vaults) told is turns are images = absurd turns
+  stops_leave first (round ∷ more) [] told is turns are images = absurd turns
 
 -- ---- decided
 

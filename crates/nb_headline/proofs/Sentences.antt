@@ -133,7 +133,7 @@ module _ {D : Type 0} (stays : StaysLegal) (records : escrow.RecordsLegal) (key 
 
   sentence_one : StopLeavesPrefix tells first rounds vaults set_up
   sentence_one = record {
-    house = stops_leave tells (house_in first) (length (entries_in first)) first rounds vaults [] refl tied.turns (none_told (house_in first) (entries_in first));
+    house = stops_leave tells (house_in first) (length (entries_in first)) first rounds vaults [] refl tied.turns (none_told (house_in first) (entries_in first)) tied.keeps.images;
     world = world_leaves;
   }
 

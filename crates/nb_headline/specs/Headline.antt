@@ -53,11 +53,16 @@ pub record LeavesTold {D : Type 0} (house : House) (old new : Chronicled D) (lea
   pub prefix : SettlesInto (state_of old) entries ⊎ SettlesInto (state_of new) entries
   pub acknowledged : AreTaken house entries least told
 
--- so does a stop at any moment of each turn, before which these were told
+-- so does a stop between two turns, or behind the last one, by which all these were told
+abbrev pub RestLeaves : {D : Type 0} → DiskTells D → House → ℕ → List Answered → Chronicled D → Type 0
+RestLeaves tells house least told v = (image : List ℕ) → tells.allowed v.disk image → LeavesTold house v v least told image
+
+-- so it is before each turn, before which these were told, at any moment of it, and behind the last one
 abbrev pub StopsLeave : {D : Type 0} → DiskTells D → House → ℕ → List Answered → Chronicled D → List Round → List (Chronicled D) → Type 0
-StopsLeave tells house least told old [] [] = Unit {0}
+StopsLeave tells house least told old [] [] = RestLeaves tells house least told old
 StopsLeave tells house least told old (round ∷ more) (new ∷ vaults) =
-    LeavesOnly tells old.disk new.disk (LeavesTold house old new least told) × StopsLeave tells house least (told ++ answered house round.requests round.outcome) new more vaults
+    RestLeaves tells house least told old × LeavesOnly tells old.disk new.disk (LeavesTold house old new least told)
+    × StopsLeave tells house least (told ++ answered house round.requests round.outcome) new more vaults
 StopsLeave tells house least told old rounds vaults = ⊥
 
 -- what a stop leaves in a world: a prefix of the commit list, in which each acknowledged entry stands at its place

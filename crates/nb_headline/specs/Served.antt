@@ -12,7 +12,7 @@ use Rattle.nb_turn.specs.declared.chronicle.View.{View}
 use Rattle.nb_vault.specs.declared.answer.AnswerAll.{AnswerAll}
 use Rattle.nb_vault.specs.declared.answer.AnswerAll.TheVariants as all
 use Rattle.nb_vault.specs.declared.origin.Origin.{Origin}
-use Rattle.nb_vault.specs.Vaults.{Chronicled, Keeps, Went, StandsForState, entries_in, state_of}
+use Rattle.nb_vault.specs.Vaults.{Chronicled, Keeps, Went, DurableWhere, StandsForState, entries_in, state_of}
 use Rattle.nb_desk.specs.Asks.{Asks}
 use Rattle.nb_consumer.specs.State.{Buyer}
 use Rattle.nb_merchant.specs.Shop.{Shop}
@@ -28,6 +28,12 @@ abbrev pub FailsWithin : {D : Type 0} → DiskTells D → D → D → Outcome �
 FailsWithin tells old new (Fails before after) = (tells.faults old ≤ before) × Rose before after × (after ≡ tells.faults new)
 FailsWithin tells old new other = Unit {0}
 
+-- what a vault answers where a turn went so
+abbrev pub said : Outcome → AnswerAll
+said (Decides over) = all.Answered
+said (Fails before after) = all.DiskFault before after
+said Refuses = all.Worn MAX_FAULTS
+
 -- a vault made this turn
 pub record TurnsVault {D : Type 0} (tells : DiskTells D) (old new : Chronicled D) (round : Round) : Type 0 where
   -- it had requests, and went so: from the vault before to the one behind it
@@ -40,15 +46,12 @@ pub record TurnsVault {D : Type 0} (tells : DiskTells D) (old new : Chronicled D
   pub same_origin : new.origin ≡ old.origin
   -- a stop at any moment of it leaves what stands for the state before it or behind it
   pub any_moment : LeavesOnly tells old.disk new.disk (λ image. StandsForState old image ⊎ StandsForState new image)
+  -- and a stop behind it leaves what stands for the state behind it; where it decided, for the entries alone, and nothing is in doubt
+  pub images : (image : List ℕ) → tells.allowed new.disk image → StandsForState new image
+  pub durable : DurableWhere tells new (said round.outcome)
   -- the disk's count does not fall, and rises where it failed
   pub fault : FailsWithin tells old.disk new.disk round.outcome
   pub count : tells.faults old.disk ≤ tells.faults new.disk
-
--- what a vault answers where a turn went so
-abbrev pub said : Outcome → AnswerAll
-said (Decides over) = all.Answered
-said (Fails before after) = all.DiskFault before after
-said Refuses = all.Worn MAX_FAULTS
 
 -- Each turn that a pass takes at a desk is such a turn, whoever took the ones before it.
 abbrev pub DeskTurnsAreOfHouse : {D : Type 0} → DiskTells D → Type 0
