@@ -1,6 +1,6 @@
 -- The six sentences, one after another.
-use Rattle.std.proofs.Common.{◌≡◌, inl, inr, ℕ, ◌≤◌, Bool, List, [], ◌∷◌, ◌++◌, length, map, take, Some, refl, sym, ap, subst, arith}
-use Rattle.std.specs.List.{count_by, AllByRecursion}
+use Rattle.std.proofs.Common.{◌≡◌, inl, inr, ℕ, ◌≤◌, Bool, List, [], ◌∷◌, ◌++◌, length, map, take, Some, refl, sym, ap, subst, ◌∙◌, arith}
+use Rattle.std.specs.List.{count_by, slice_get, AllByRecursion}
 use Rattle.nb_port.specs.Tells.{DiskTells}
 use Rattle.nb_units.specs.Charter.{MayRule, AreVersionAndRate}
 use Rattle.nb_book.specs.declared.entry.Entry.{Entry}
@@ -30,16 +30,20 @@ use Rattle.nb_world.specs.declared.event.Event.{Event}
 use Rattle.nb_world.specs.declared.event.Event.TheVariants as on
 use Rattle.nb_world.specs.World.{Rules, World, request_of}
 use Rattle.nb_world.specs.Steps.{next, run}
-use Rattle.nb_world.specs.Laws.{Begins, IsLawfulWorld, RecordsLegal, StandsDurable}
+use Rattle.nb_world.specs.declared.call.Call.{Call}
+use Rattle.nb_world.specs.declared.packet.Packet.{Packet}
+use Rattle.nb_world.specs.Laws.{Asks, Begins, IsLawfulWorld, IsReply, RecordsLegal, RepliesSo, StandsDurable}
 use Rattle.nb_world.specs.Ties.{Ties}
+use Rattle.nb_world.proofs.Chains.{same_some}
+use Rattle.nb_world.proofs.Lists.{all_at}
 use Rattle.nb_world.proofs.Moving.{only_grows}
 use Rattle.nb_world.proofs.Playing.{run_is_events}
 use Rattle.nb_world.proofs.Serving.{world_law}
 use Rattle.nb_world.proofs.Settling.{house_records_legal, key_where_it_stands, money_is_conserved, order_moves_once}
 use Rattle.nb_world.proofs.Stopping.{run_then, stop_keeps_prefix, entries_have_origins, others_acknowledge_nothing}
-use Rattle.nb_parties.specs.Rules.{shown}
+use Rattle.nb_parties.specs.Rules.{house_verdict, shown}
 use Rattle.nb_headline.specs.Served.{IsTied, head_in, last_vault, rules_in, states_of}
-use Rattle.nb_headline.specs.Headline.{StopLeavesPrefix, WorldLeaves, OrderMovesOnce, MoneyIsConserved, PaysTruly, PaidWherePayableRefusedTruly, GivesKeyWherePaid, KeyWherePaymentStands, RepliesOfOneList, Headline, HeadlineLaw}
+use Rattle.nb_headline.specs.Headline.{StopLeavesPrefix, WorldLeaves, OrderMovesOnce, MoneyIsConserved, PaysTruly, RepliesTruly, PaidWherePayableRefusedTruly, GivesKeyWherePaid, KeyWherePaymentStands, RepliesOfOneList, Headline, HeadlineLaw}
 use Rattle.nb_headline.proofs.Fronts.{begins_same, AreTold, none_told, told_run, told_taken}
 use Rattle.nb_headline.proofs.Along.{house_run, last_is, stops_leave, decided_run, decided_so}
 
@@ -71,6 +75,25 @@ pays_truly head cap over request legal = record {
   refusal = refusals_are_true over legal head cap request.kind request.body request.moment;
   refused = refused_for_true_reason over head cap request.kind request.body request.moment;
 }
+
+-- a call is of one packet, at one moment
+same_call : (w : World Buyer Shop) (c : ℕ) (one other : Packet) (first second : ℕ) → Asks w c one first → Asks w c other second → request_of one first ≡ request_of other second
+same_call w c one other first second a b =
+    let call : a.call ≡ b.call = same_some a.call b.call (sym a.is ∙ b.is) in
+    let packet : one ≡ other = same_some one other (sym a.of ∙ ap (λ (x : Call). slice_get w.packets x.packet) call ∙ b.of) in
+    let moment : first ≡ second = sym a.at ∙ ap (λ (x : Call). x.moment) call ∙ b.at in
+    ap (λ (x : Packet). request_of x first) packet ∙ ap (λ (t : ℕ). request_of other t) moment
+
+replies_truly : (head : Head) (cap : ℕ) (w : World Buyer Shop) (c at : ℕ) (made packet : Packet) (moment : ℕ) → IsLawfulWorld (house_verdict head cap) w
+    → IsReply (house_verdict head cap) w made c at → Asks w c packet moment → RepliesTruly head cap w made packet at moment
+replies_truly head cap w c at made packet moment lawful is asks =
+    let same = same_call w c is.packet packet is.moment moment is.asks asks in
+    record {
+      within = is.within;
+      kind = is.kind ∙ ap (λ (r : Request). (house_verdict head cap (take at w.durable) r).kind) same;
+      body = is.body ∙ ap (λ (r : Request). (house_verdict head cap (take at w.durable) r).body) same;
+      truly = pays_truly head cap (take at w.durable) (request_of packet moment) (front_legal w.durable at lawful.legal);
+    }
 
 gives_key : escrow.StatusTellsKey → (head : Head) (cap : ℕ) (over : List Entry) (request : Request) → Legal over → GivesKeyWherePaid head cap over request
 gives_key tells head cap over request legal is =
@@ -158,6 +181,9 @@ module _ {D : Type 0} (stays : StaysLegal) (records : escrow.RecordsLegal) (key 
     came = λ more. (in_world more).came;
     world = λ more origin came. pays_truly (head_in first) first.origin.cap (take origin.place (run p set_up more).durable) (request_of came.packet came.moment)
         (front_legal (run p set_up more).durable origin.place (in_world more).legal);
+    replied = λ more k c at made packet moment there maker.
+        let so : RepliesSo p.verdict (run p set_up more) made made.maker = all_at (λ (x : Packet). RepliesSo p.verdict (run p set_up more) x x.maker) (run p set_up more).packets k made there (in_world more).replies in
+        replies_truly (head_in first) first.origin.cap (run p set_up more) c at made packet moment (in_world more) (subst (RepliesSo p.verdict (run p set_up more) made) maker so);
   }
 
   sentence_five : KeyWherePaymentStands first rounds vaults set_up

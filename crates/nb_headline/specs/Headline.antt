@@ -106,6 +106,14 @@ pub record PaysTruly (head : Head) (cap : ℕ) (over : List Entry) (request : Re
       → (p : Presented) × (why : RefusalReason) × MaySettle over cap request.body p × IsTrueReason over p request.moment why × (entry ≡ refusal_of p request.moment why)
       × TellsReason why (decision_on head cap over request).reply
 
+-- a packet of the house in a world, made at this place in answer to this call, shows the decision on what was asked over the first entries that every stop leaves, as
+-- many as the place, and that is so
+pub record RepliesTruly (head : Head) (cap : ℕ) (w : World Buyer Shop) (made packet : Packet) (at moment : ℕ) : Type 0 where
+  pub within : at ≤ length w.durable
+  pub kind : made.kind ≡ (shown (decision_on head cap (take at w.durable) (request_of packet moment))).kind
+  pub body : made.body ≡ (shown (decision_on head cap (take at w.durable) (request_of packet moment))).body
+  pub truly : PaysTruly head cap (take at w.durable) (request_of packet moment)
+
 -- a request was decided
 abbrev pub IsDecided : Mark → Type 0
 IsDecided (At place) = Unit {0}
@@ -129,6 +137,9 @@ pub record PaidWherePayableRefusedTruly {D : Type 0} (tells : DiskTells D) (firs
   pub came : (es : List Event) → AllByRecursion (CameBy (house_verdict (head_in first) first.origin.cap) (run (rules_in first) set_up es)) (run (rules_in first) set_up es).origins
   pub world : (es : List Event) (origin : Origin) (came : CameBy (house_verdict (head_in first) first.origin.cap) (run (rules_in first) set_up es) origin)
       → PaysTruly (head_in first) first.origin.cap (take origin.place (run (rules_in first) set_up es).durable) (request_of came.packet came.moment)
+  -- and so is each reply, also one that refuses
+  pub replied : (es : List Event) (k c at : ℕ) (made packet : Packet) (moment : ℕ) → let w = run (rules_in first) set_up es in
+      slice_get w.packets k ≡ Some made → made.maker ≡ by.Server c at → Asks w c packet moment → RepliesTruly (head_in first) first.origin.cap w made packet at moment
 
 -- ---- 5. keys
 
