@@ -18,9 +18,11 @@ use Rattle.nb_turns.proofs.Lists.{all_weaker}
 use Rattle.nb_escrow.specs.declared.head.Head.{Head}
 use Rattle.nb_escrow.specs.Head.{IsRuling}
 use Rattle.nb_escrow.specs.Laws as escrow
+use Rattle.nb_escrow.specs.Payable.{TellsPayment}
 use Rattle.nb_escrow.specs.Replies.{StatusTellsTheOrder}
 use Rattle.nb_escrow.specs.Verdict.{verdict}
-use Rattle.nb_escrow.proofs.Exactly.{paid_exactly_where, refusals_are_true, refused_for_true_reason}
+use Rattle.nb_escrow.proofs.Exactly.{paid_exactly_where, payable_is_told, refusals_are_true, refused_for_true_reason, told_exactly_where}
+use Rattle.nb_escrow.proofs.Replying.{receipts_name_the_order}
 use Rattle.nb_vault.specs.Rules.{refused}
 use Rattle.nb_vault.specs.Vaults.{Chronicled, Keeps, doubt_in, entries_in, house_in, state_of}
 use Rattle.nb_vault.proofs.Vaulting.{house_lawful}
@@ -74,6 +76,9 @@ pays_truly head cap over request legal = record {
   paid = paid_exactly_where over head cap request.kind request.body request.moment;
   refusal = refusals_are_true over legal head cap request.kind request.body request.moment;
   refused = refused_for_true_reason over head cap request.kind request.body request.moment;
+  told = λ is p may. subst (λ (kind : ℕ). TellsPayment p (verdict over head cap kind request.body request.moment).reply) (sym is) (payable_is_told over head cap request.body request.moment p may);
+  receipts = receipts_name_the_order over head cap request.kind request.body request.moment;
+  again = told_exactly_where over head cap request.kind request.body request.moment;
 }
 
 -- a call is of one packet, at one moment

@@ -1,10 +1,10 @@
 -- The six sentences of a house and its parties: of a run of a real house, and of every list of events of a world that is tied to it.
-use Rattle.std.specs.Prelude.{◌≡◌, ◌⊎◌, ℕ, ◌<◌, ◌≤◌, Bool, List, [], ◌∷◌, ◌++◌, length, take, Some}
+use Rattle.std.specs.Prelude.{◌≡◌, ◌↔◌, ◌⊎◌, ℕ, ◌<◌, ◌≤◌, Bool, List, [], ◌∷◌, ◌++◌, length, take, None, Some}
 use Rattle.std.specs.List.{count_by, slice_get, AllByRecursion}
 use Rattle.nb_port.specs.Tells.{DiskTells}
 use Rattle.nb_port.specs.Faults.{Rose}
 use Rattle.nb_units.specs.declared.epoid.Epoid.{Epoid}
-use Rattle.nb_units.specs.declared.frames.TheConstants.{STATUS_REQUEST}
+use Rattle.nb_units.specs.declared.frames.TheConstants.{ORDER_REQUEST, STATUS_REQUEST}
 use Rattle.nb_book.specs.declared.entry.Entry.{Entry}
 use Rattle.nb_book.specs.declared.kept.Kept.{Kept}
 use Rattle.nb_book.specs.Searches.{order_in, settles}
@@ -23,8 +23,9 @@ use Rattle.nb_escrow.specs.declared.head.Head.{Head}
 use Rattle.nb_escrow.specs.declared.order.Presented.{Presented}
 use Rattle.nb_escrow.specs.declared.settlement.RefusalReason.{RefusalReason}
 use Rattle.nb_escrow.specs.Claims.{IsTrueRefusal}
-use Rattle.nb_escrow.specs.Laws.{PaidWherePayable, KeyWherePaid, IsRefusedOrder}
-use Rattle.nb_escrow.specs.Payable.{MaySettle, IsTrueReason, refusal_of, TellsReason}
+use Rattle.nb_escrow.specs.Laws.{PaidWherePayable, KeyWherePaid, IsRefusedOrder, AreReceipts}
+use Rattle.nb_escrow.specs.Payable.{IsAuthenticOrder, MaySettle, IsPayable, TellsPayment, IsTrueReason, refusal_of, TellsReason, digest_held}
+use Rattle.nb_escrow.specs.Replies.{TellsOrder}
 use Rattle.nb_escrow.specs.Verdict.{verdict}
 use Rattle.nb_vault.specs.Holdings.{StandsFor}
 use Rattle.nb_vault.specs.Vaults.{Chronicled, entries_in, doubt_in, house_in, state_of}
@@ -97,14 +98,20 @@ pub record MoneyIsConserved {D : Type 0} (first : Chronicled D) (vaults : List (
 abbrev pub decision_on : Head → ℕ → List Entry → Request → Decision
 decision_on head cap over request = verdict over head cap request.kind request.body request.moment
 
--- a payment is recorded exactly where the request is an order that is payable; what a refusal claims is true; and an order that is recorded as refused is so for
--- a reason that is true, which its receipts tell
+-- a payment is recorded exactly where the request is an order that is payable, which is told that it is paid, with its key; what a refusal claims is true; an order
+-- that is recorded as refused is so for a reason that is true, which its receipts tell; and receipts are those of the entry that settles the order: of the one recorded
+-- now, or, exactly where the order was settled before, of the one held, and then nothing is recorded
 pub record PaysTruly (head : Head) (cap : ℕ) (over : List Entry) (request : Request) : Type 0 where
   pub paid : PaidWherePayable over head cap request.kind request.body request.moment (decision_on head cap over request).entry
   pub refusal : (why : Refusal) → (decision_on head cap over request).reply ≡ Told why → IsTrueRefusal over head cap request.kind request.body why
   pub refused : (entry : Entry) → (decision_on head cap over request).entry ≡ Some entry → IsRefusedOrder entry
       → (p : Presented) × (why : RefusalReason) × MaySettle over cap request.body p × IsTrueReason over p request.moment why × (entry ≡ refusal_of p request.moment why)
       × TellsReason why (decision_on head cap over request).reply
+  pub told : request.kind ≡ ORDER_REQUEST → (p : Presented) → IsPayable over cap request.body request.moment p → TellsPayment p (decision_on head cap over request).reply
+  pub receipts : TellsOrder over request.body request.moment (decision_on head cap over request).entry (decision_on head cap over request).reply
+  pub again : (AreReceipts (decision_on head cap over request).reply × ((decision_on head cap over request).entry ≡ None))
+      ↔ ((request.kind ≡ ORDER_REQUEST) × ((p : Presented) × (kept : Kept) × IsAuthenticOrder over request.body p
+      × (order_in over p.order.epoid ≡ Some kept) × (digest_held kept.entry ≡ Some p.digest)))
 
 -- a packet of the house in a world, made at this place in answer to this call, shows the decision on what was asked over the first entries that every stop leaves, as
 -- many as the place, and that is so
