@@ -1,12 +1,14 @@
 -- The six sentences, one after another.
-use Rattle.std.proofs.Common.{◌≡◌, inl, inr, ℕ, ◌≤◌, Bool, List, [], ◌∷◌, ◌++◌, length, map, take, Some, refl, sym, ap, subst, ◌∙◌, arith}
+use Rattle.std.proofs.Common.{◌≡◌, inl, inr, ℕ, ◌≤◌, Bool, List, [], ◌∷◌, ◌++◌, length, map, take, Some, Result, Ok, refl, sym, ap, subst, ◌∙◌, arith}
 use Rattle.std.specs.List.{count_by, slice_get, AllByRecursion}
 use Rattle.nb_port.specs.Tells.{DiskTells}
+use Rattle.nb_units.specs.declared.frames.TheConstants.{STATUS_REQUEST}
 use Rattle.nb_units.specs.Charter.{MayRule, AreVersionAndRate}
 use Rattle.nb_book.specs.declared.entry.Entry.{Entry}
 use Rattle.nb_book.specs.Laws.{StaysLegal}
 use Rattle.nb_book.specs.Legal.{Legal}
-use Rattle.nb_book.specs.Searches.{order_in, settles}
+use Rattle.nb_book.specs.declared.party.Party.{Party}
+use Rattle.nb_book.specs.Searches.{order_in, party_in, settles}
 use Rattle.nb_book.proofs.Growing.{front_legal}
 use Rattle.nb_endorse.specs.declared.refusal.TheConstants.{DISK_FAULT, WORN}
 use Rattle.nb_turns.specs.declared.limits.TheConstants.{MAX_FAULTS}
@@ -15,14 +17,20 @@ use Rattle.nb_turns.specs.Callers.{AreTaken}
 use Rattle.nb_turns.specs.Laws.{IsBalanced, IsLawful, IsLegalState}
 use Rattle.nb_turns.proofs.Keeping.{turn_keeps_legal, run_keeps_legal, run_keeps_money}
 use Rattle.nb_turns.proofs.Lists.{all_weaker}
+use Rattle.nb_body.specs.declared.query.StatusQuery.{StatusQuery}
+use Rattle.nb_endorse.specs.declared.receipt.TheConstants.{NO_KEY}
+use Rattle.nb_endorse.specs.declared.reply.Reply.{Reply}
+use Rattle.nb_endorse.specs.declared.reply.Reply.TheVariants as reply
+use Rattle.nb_endorse.specs.declared.reply.ReplyKeys.{ReplyKeys}
+use Rattle.nb_escrow.specs.declared.decision.Decision.{Decision}
 use Rattle.nb_escrow.specs.declared.head.Head.{Head}
 use Rattle.nb_escrow.specs.Head.{IsRuling}
 use Rattle.nb_escrow.specs.Laws as escrow
 use Rattle.nb_escrow.specs.Payable.{TellsPayment}
-use Rattle.nb_escrow.specs.Replies.{StatusTellsTheOrder}
+use Rattle.nb_escrow.specs.Replies.{HasKeysOfParties, StatusTellsTheOrder}
 use Rattle.nb_escrow.specs.Verdict.{verdict}
-use Rattle.nb_escrow.proofs.Exactly.{paid_exactly_where, payable_is_told, refusals_are_true, refused_for_true_reason, told_exactly_where}
-use Rattle.nb_escrow.proofs.Replying.{receipts_name_the_order}
+use Rattle.nb_escrow.proofs.Exactly.{paid_exactly_where, payable_is_told, refusals_are_true, refused_for_true_reason, told_exactly_where, answered_exactly_where}
+use Rattle.nb_escrow.proofs.Replying.{receipts_name_the_order, keys_are_the_parties}
 use Rattle.nb_vault.specs.Rules.{refused}
 use Rattle.nb_vault.specs.Vaults.{Chronicled, Keeps, doubt_in, entries_in, house_in, state_of}
 use Rattle.nb_vault.proofs.Vaulting.{house_lawful}
@@ -45,7 +53,7 @@ use Rattle.nb_world.proofs.Settling.{house_records_legal, key_where_it_stands, m
 use Rattle.nb_world.proofs.Stopping.{run_then, stop_keeps_prefix, entries_have_origins, others_acknowledge_nothing}
 use Rattle.nb_parties.specs.Rules.{house_verdict, shown}
 use Rattle.nb_headline.specs.Served.{IsTied, head_in, last_vault, rules_in, states_of}
-use Rattle.nb_headline.specs.Headline.{StopLeavesPrefix, WorldLeaves, OrderMovesOnce, MoneyIsConserved, PaysTruly, RepliesTruly, PaidWherePayableRefusedTruly, GivesKeyWherePaid, KeyWherePaymentStands, RepliesOfOneList, Headline, HeadlineLaw}
+use Rattle.nb_headline.specs.Headline.{StopLeavesPrefix, WorldLeaves, OrderMovesOnce, MoneyIsConserved, PaysTruly, RepliesTruly, PaidWherePayableRefusedTruly, SealsForAsker, GivesKeyWherePaid, KeyWherePaymentStands, RepliesOfOneList, Headline, HeadlineLaw}
 use Rattle.nb_headline.proofs.Fronts.{begins_same, AreTold, none_told, told_run, told_taken}
 use Rattle.nb_headline.proofs.Along.{house_run, last_is, stops_leave, decided_run, decided_so}
 
@@ -100,9 +108,39 @@ replies_truly head cap w c at made packet moment lawful is asks =
       truly = pays_truly head cap (take at w.durable) (request_of packet moment) (front_legal w.durable at lawful.legal);
     }
 
+-- a query is read as one, and one is enrolled under its number
+same_asker : (over : List Entry) (body : List ℕ) (asked other : StatusQuery) (one : escrow.IsAuthentic over body asked) (two : escrow.IsAuthentic over body other) → one.asker.key ≡ two.asker.key
+same_asker over body asked other one two =
+    let same : asked ≡ other = same_ok asked other (sym one.read ∙ two.read) in
+    ap (λ (party : Party). party.key) (same_some one.asker two.asker (sym one.enrolled ∙ ap (λ (x : StatusQuery). party_in over x.asker) same ∙ two.enrolled))
+  where
+    same_ok : (x y : StatusQuery) → (let r : Result StatusQuery ℕ = Ok x in r) ≡ Ok y → x ≡ y
+    same_ok x y is = cc
+
+seals_for_asker : (head : Head) (cap : ℕ) (over : List Entry) (body : List ℕ) (moment : ℕ) → SealsForAsker head over body (verdict over head cap STATUS_REQUEST body moment)
+seals_for_asker head cap over body moment = record {
+  told = λ asked is least. (answered_exactly_where over head cap STATUS_REQUEST body moment).1 (refl, (asked, is, least));
+  sealed = λ asked is told. under (verdict over head cap STATUS_REQUEST body moment) (keys_are_the_parties over head cap STATUS_REQUEST body moment) asked is told;
+  asks = λ told. ((answered_exactly_where over head cap STATUS_REQUEST body moment).0 told).1;
+}
+  where
+    keyed : (reply : Reply) (keys : ReplyKeys) → HasKeysOfParties over head body reply keys → (asked : StatusQuery) (is : escrow.IsAuthentic over body asked) → escrow.IsStatusReply reply
+        → keys ≡ record { house = head.house; first = is.asker.key; second = NO_KEY }
+    keyed (reply.Status place epoid receipt) keys has asked is told =
+        has.2 ∙ ap (λ (key : List ℕ). let k : ReplyKeys = record { house = head.house; first = key; second = NO_KEY } in k) (same_asker over body has.0 asked has.1 is)
+    keyed (reply.Result merchant consumer) keys has asked is told = absurd told
+    keyed (reply.Grant consumer merchant nonce until session) keys has asked is told = absurd told
+    keyed (reply.Done acct at amount) keys has asked is told = absurd told
+    keyed (reply.Refused why) keys has asked is told = absurd told
+
+    under : (decision : Decision) → HasKeysOfParties over head body decision.reply decision.keys → (asked : StatusQuery) (is : escrow.IsAuthentic over body asked) → escrow.IsStatusReply decision.reply
+        → decision.keys ≡ record { house = head.house; first = is.asker.key; second = NO_KEY }
+    under decision has asked is told = keyed decision.reply decision.keys has asked is told
+
 gives_key : escrow.StatusTellsKey → (head : Head) (cap : ℕ) (over : List Entry) (request : Request) → Legal over → GivesKeyWherePaid head cap over request
 gives_key tells head cap over request legal is =
-    subst (λ (kind : ℕ). escrow.KeyWherePaid over request.body (verdict over head cap kind request.body request.moment).reply) (sym is) (tells over legal head cap request.body request.moment)
+    subst (λ (kind : ℕ). escrow.KeyWherePaid over request.body (verdict over head cap kind request.body request.moment).reply × SealsForAsker head over request.body (verdict over head cap kind request.body request.moment))
+    (sym is) (tells over legal head cap request.body request.moment, seals_for_asker head cap over request.body request.moment)
 
 module _ {D : Type 0} (stays : StaysLegal) (records : escrow.RecordsLegal) (key : escrow.StatusTellsKey) (status : StatusTellsTheOrder)
     (tells : DiskTells D) (first : Chronicled D) (rounds : List Round) (vaults : List (Chronicled D)) (set_up : World Buyer Shop) (es : List Event) (number : Request → ℕ)
@@ -195,7 +233,10 @@ module _ {D : Type 0} (stays : StaysLegal) (records : escrow.RecordsLegal) (key 
   sentence_five = record {
     house = decided_so (GivesKeyWherePaid (head_in first) first.origin.cap) (entries_in (last_vault first vaults)) (answered_in (house_in first) rounds)
         (λ n request. gives_key key (head_in first) first.origin.cap (take n (entries_in (last_vault first vaults))) request (front_legal (entries_in (last_vault first vaults)) n last_list));
-    world = λ more k c at made packet moment. key_where_it_stands stays records key status p shown (head_in first) first.origin.cap (λ entries request. refl) ruling set_up tied.begins more k c at made packet moment;
+    world = λ more k c at made packet moment there maker asks is. (
+      key_where_it_stands stays records key status p shown (head_in first) first.origin.cap (λ entries request. refl) ruling set_up tied.begins more k c at made packet moment there maker asks is,
+      seals_for_asker (head_in first) first.origin.cap (take at (run p set_up more).durable) packet.body moment,
+    );
   }
 
   sentence_six : RepliesOfOneList first rounds vaults set_up

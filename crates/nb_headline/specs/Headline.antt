@@ -16,6 +16,8 @@ use Rattle.nb_turns.specs.Turns.{Request, House, Round, SettlesInto, Answered, a
 use Rattle.nb_turns.specs.Lines.{faults_of}
 use Rattle.nb_turns.specs.Callers.{AreTaken}
 use Rattle.nb_turns.specs.Laws.{IsBalanced}
+use Rattle.nb_body.specs.declared.query.StatusQuery.{StatusQuery}
+use Rattle.nb_endorse.specs.declared.receipt.TheConstants.{NO_KEY}
 use Rattle.nb_endorse.specs.declared.refusal.Refusal.{Refusal}
 use Rattle.nb_endorse.specs.declared.reply.Reply.TheVariants.{Refused as Told}
 use Rattle.nb_escrow.specs.declared.decision.Decision.{Decision}
@@ -23,7 +25,7 @@ use Rattle.nb_escrow.specs.declared.head.Head.{Head}
 use Rattle.nb_escrow.specs.declared.order.Presented.{Presented}
 use Rattle.nb_escrow.specs.declared.settlement.RefusalReason.{RefusalReason}
 use Rattle.nb_escrow.specs.Claims.{IsTrueRefusal}
-use Rattle.nb_escrow.specs.Laws.{PaidWherePayable, KeyWherePaid, IsRefusedOrder, AreReceipts}
+use Rattle.nb_escrow.specs.Laws.{PaidWherePayable, KeyWherePaid, IsAuthentic, IsRefusedOrder, AreReceipts, IsStatusReply}
 use Rattle.nb_escrow.specs.Payable.{IsAuthenticOrder, MaySettle, IsPayable, TellsPayment, IsTrueReason, refusal_of, TellsReason, digest_held}
 use Rattle.nb_escrow.specs.Replies.{TellsOrder}
 use Rattle.nb_escrow.specs.Verdict.{verdict}
@@ -150,15 +152,26 @@ pub record PaidWherePayableRefusedTruly {D : Type 0} (tells : DiskTells D) (firs
 
 -- ---- 5. keys
 
--- to an authentic status query that asks for no more entries than these, the key is given exactly where one of them pays the order and names who asks
+-- an authentic status query that asks for no more entries than these is told a status, which is sealed under the key of who asks; and each status is one of an
+-- authentic query, sealed so
+pub record SealsForAsker (head : Head) (over : List Entry) (body : List ℕ) (decision : Decision) : Type 0 where
+  pub told : (asked : StatusQuery) → IsAuthentic over body asked → asked.least ≤ length over → IsStatusReply decision.reply
+  pub sealed : (asked : StatusQuery) (is : IsAuthentic over body asked) → IsStatusReply decision.reply → decision.keys ≡ record { house = head.house; first = is.asker.key; second = NO_KEY }
+  pub asks : IsStatusReply decision.reply → (asked : StatusQuery) × IsAuthentic over body asked × (asked.least ≤ length over)
+
+-- to an authentic status query that asks for no more entries than these, the key is given exactly where one of them pays the order and names who asks, and is sealed
+-- for who asks
 abbrev pub GivesKeyWherePaid : Head → ℕ → List Entry → Request → Type 0
-GivesKeyWherePaid head cap over request = request.kind ≡ STATUS_REQUEST → KeyWherePaid over request.body (decision_on head cap over request).reply
+GivesKeyWherePaid head cap over request =
+    request.kind ≡ STATUS_REQUEST
+    → KeyWherePaid over request.body (decision_on head cap over request).reply × SealsForAsker head over request.body (decision_on head cap over request)
 
 pub record KeyWherePaymentStands {D : Type 0} (first : Chronicled D) (rounds : List Round) (vaults : List (Chronicled D)) (set_up : World Buyer Shop) : Type 0 where
   pub house : AllDecidedSo (GivesKeyWherePaid (head_in first) first.origin.cap) (entries_in (last_vault first vaults)) (answered_in (house_in first) rounds)
   pub world : (es : List Event) (k c at : ℕ) (made packet : Packet) (moment : ℕ) → let w = run (rules_in first) set_up es in
       slice_get w.packets k ≡ Some made → made.maker ≡ by.Server c at → Asks w c packet moment → packet.kind ≡ STATUS_REQUEST
       → TellsKey (verdict (take at w.durable) (head_in first) first.origin.cap STATUS_REQUEST packet.body moment) shown w.durable packet.body at made
+      × SealsForAsker (head_in first) (take at w.durable) packet.body (verdict (take at w.durable) (head_in first) first.origin.cap STATUS_REQUEST packet.body moment)
 
 -- ---- 6. replies
 
