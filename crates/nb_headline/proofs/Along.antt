@@ -1,21 +1,25 @@
 -- A run of a real house: its turns, what a stop leaves, and which requests are decided.
-use Rattle.std.proofs.Common.{◌≡◌, ◌⊎◌, inl, inr, ℕ, ◌<◌, ◌≤◌, List, [], ◌∷◌, ◌++◌, take, refl, ap, subst, ◌∙◌, arith}
+use Rattle.std.proofs.Common.{◌≡◌, ◌⊎◌, inl, inr, ℕ, ◌<◌, ◌≤◌, List, [], ◌∷◌, ◌++◌, take, Some, refl, ap, subst, ◌∙◌, arith}
 use Rattle.std.specs.List.{AllByRecursion}
 use Rattle.nb_port.specs.Tells.{DiskTells}
 use Rattle.nb_port.specs.Faults.{Rose}
+use Rattle.nb_units.specs.declared.epoid.Epoid.{Epoid}
 use Rattle.nb_book.specs.declared.entry.Entry.{Entry}
+use Rattle.nb_book.specs.declared.kept.Kept.{Kept}
+use Rattle.nb_book.specs.Searches.{order_in}
 use Rattle.nb_turns.specs.declared.limits.TheConstants.{MAX_FAULTS}
 use Rattle.nb_turns.specs.declared.mark.Mark.{Mark}
 use Rattle.nb_turns.specs.declared.mark.Mark.TheVariants.{At, Fault, Worn}
 use Rattle.nb_turns.specs.Turns.{Request, House, State, Outcome, Decides, Fails, Refuses, Answered, Round, Turn, Run, answered, answered_in, decided, last_state, with_entry}
 use Rattle.nb_turns.specs.Laws.{Grows}
-use Rattle.nb_turns.proofs.Growth.{turn_grows}
+use Rattle.nb_turns.proofs.Growth.{turn_grows, run_grows}
+use Rattle.nb_escrow.proofs.Lasts.{order_stays}
 use Rattle.nb_vault.specs.Holdings.{StandsFor}
 use Rattle.nb_vault.specs.Vaults.{Chronicled, FaultWithin, StandsForState, doubt_in, entries_in, house_in, state_of}
 use Rattle.nb_vault.proofs.Resting.{leaves_more}
 use Rattle.nb_world.specs.Laws.{Begins}
 use Rattle.nb_headline.specs.Served.{DeskTurnsAreOfHouse, FailsWithin, HouseRun, said, last_vault, states_of}
-use Rattle.nb_headline.specs.Headline.{LeavesTold, RestLeaves, StopsLeave, IsDecided, WhereDecided, AllDecidedSo}
+use Rattle.nb_headline.specs.Headline.{LeavesTold, RestLeaves, StopsLeave, OrderStays, IsDecided, WhereDecided, AllDecidedSo}
 use Rattle.nb_headline.proofs.Fronts.{begins_same, begins_then, begins_append, AreTold, told_more, told_taken}
 
 -- ---- the run of a real house
@@ -58,6 +62,24 @@ house_run tells house first (round ∷ more) [] is turns = absurd turns
 pub last_is : {D : Type 0} (first : Chronicled D) (vaults : List (Chronicled D)) → last_state (state_of first) (states_of vaults) ≡ state_of (last_vault first vaults)
 last_is first [] = refl
 last_is first (next ∷ vaults) = last_is next vaults
+
+-- what a list holds of an order stands in each list that begins with it
+all_stay : {D : Type 0} (order : Epoid) (entries : List Entry) (kept : Kept) → order_in entries order ≡ Some kept → (vaults : List (Chronicled D))
+    → AllByRecursion (λ (state : State). (more : List Entry) × (state.entries ≡ entries ++ more)) (states_of vaults) → AllByRecursion (λ (w : Chronicled D). order_in (entries_in w) order ≡ Some kept) vaults
+all_stay order entries kept is [] all = tt
+all_stay order entries kept is (w ∷ vaults) all =
+    (ap (λ (es : List Entry). order_in es order) all.0.1 ∙ order_stays entries all.0.0 order kept is, all_stay order entries kept is vaults all.1)
+
+pub order_along : {D : Type 0} (tells : DiskTells D) (house : House) (order : Epoid) (first : Chronicled D) (rounds : List Round) (vaults : List (Chronicled D)) → house_in first ≡ house
+    → HouseRun tells first rounds vaults → OrderStays order (first ∷ vaults)
+order_along tells house order first [] [] is turns = (λ kept found. tt, tt)
+order_along tells house order first (round ∷ more) (next ∷ vaults) is turns = (
+  λ kept found. all_stay order (entries_in first) kept found (next ∷ vaults)
+      (run_grows house (state_of first) (round ∷ more) (states_of (next ∷ vaults)) (house_run tells house first (round ∷ more) (next ∷ vaults) is turns)),
+  order_along tells house order next more vaults (same_house first next turns.0.same_origin ∙ is) turns.1,
+)
+order_along tells house order first [] (next ∷ vaults) is turns = absurd turns
+order_along tells house order first (round ∷ more) [] is turns = absurd turns
 
 -- ---- stops
 

@@ -9,7 +9,9 @@ use Rattle.nb_book.specs.Laws.{StaysLegal}
 use Rattle.nb_book.specs.Legal.{Legal}
 use Rattle.nb_book.specs.declared.party.Party.{Party}
 use Rattle.nb_book.specs.Searches.{order_in, party_in, settles}
+use Rattle.nb_book.proofs.Counting.{settled_once}
 use Rattle.nb_book.proofs.Growing.{front_legal}
+use Rattle.nb_book.proofs.Summing.{balances_make_total, none_overdrawn}
 use Rattle.nb_endorse.specs.declared.refusal.TheConstants.{DISK_FAULT, WORN}
 use Rattle.nb_turns.specs.declared.limits.TheConstants.{MAX_FAULTS}
 use Rattle.nb_turns.specs.Turns.{Request, State, Round, Run, answered_in, last_state}
@@ -55,7 +57,7 @@ use Rattle.nb_parties.specs.Rules.{house_verdict, shown}
 use Rattle.nb_headline.specs.Served.{IsTied, head_in, last_vault, rules_in, states_of}
 use Rattle.nb_headline.specs.Headline.{StopLeavesPrefix, WorldLeaves, OrderMovesOnce, MoneyIsConserved, PaysTruly, RepliesTruly, PaidWherePayableRefusedTruly, SealsForAsker, GivesKeyWherePaid, KeyWherePaymentStands, RepliesOfOneList, Headline, HeadlineLaw}
 use Rattle.nb_headline.proofs.Fronts.{begins_same, AreTold, none_told, told_run, told_taken}
-use Rattle.nb_headline.proofs.Along.{house_run, last_is, stops_leave, decided_run, decided_so}
+use Rattle.nb_headline.proofs.Along.{house_run, last_is, order_along, stops_leave, decided_run, decided_so}
 
 all_of_map : {A B : Type 0} (P : B → Type 0) (f : A → B) (xs : List A) → AllByRecursion P (map f xs) → AllByRecursion (λ (x : A). P (f x)) xs
 all_of_map P f [] all = tt
@@ -78,6 +80,9 @@ entries_legal cap s is = subst Legal (take_front s.entries s.doubt) (front_legal
     take_front : (xs ys : List Entry) → take (length xs) (xs ++ ys) ≡ xs
     take_front [] ys = refl
     take_front (x ∷ xs) ys = ap (λ (zs : List Entry). x ∷ zs) (take_front xs ys)
+
+balanced_list : (entries : List Entry) → Legal entries → IsBalanced entries
+balanced_list entries legal = record { once = settled_once entries legal; sums = balances_make_total entries legal; none_overdrawn = none_overdrawn entries legal }
 
 pays_truly : (head : Head) (cap : ℕ) (over : List Entry) (request : Request) → Legal over → PaysTruly head cap over request
 pays_truly head cap over request legal = record {
@@ -170,9 +175,12 @@ module _ {D : Type 0} (stays : StaysLegal) (records : escrow.RecordsLegal) (key 
   last_list = subst (λ (s : State). Legal s.entries) (last_is first vaults)
       (entries_legal first.origin.cap (last_state (state_of first) (states_of vaults)) (last_legal first.origin.cap (state_of first) (states_of vaults) (legal_state tells first tied.keeps) states_legal))
 
-  balanced : AllByRecursion (λ (v : Chronicled D). IsBalanced (entries_in v) × IsBalanced (entries_in v ++ doubt_in v)) vaults
-  balanced = all_of_map (λ (s : State). IsBalanced s.entries × IsBalanced (s.entries ++ s.doubt)) state_of vaults
-      (run_keeps_money (run_keeps_legal (turn_keeps_legal stays)) (house_in first) first.origin.cap (state_of first) rounds (states_of vaults) lawful (legal_state tells first tied.keeps) the_run)
+  balanced : AllByRecursion (λ (v : Chronicled D). IsBalanced (entries_in v) × IsBalanced (entries_in v ++ doubt_in v)) (first ∷ vaults)
+  balanced = (
+    (balanced_list (entries_in first) (entries_legal first.origin.cap (state_of first) (legal_state tells first tied.keeps)), balanced_list (entries_in first ++ doubt_in first) tied.keeps.legal.legal),
+    all_of_map (λ (s : State). IsBalanced s.entries × IsBalanced (s.entries ++ s.doubt)) state_of vaults
+        (run_keeps_money (run_keeps_legal (turn_keeps_legal stays)) (house_in first) first.origin.cap (state_of first) rounds (states_of vaults) lawful (legal_state tells first tied.keeps) the_run),
+  )
 
   taken : AreTaken (house_in first) (entries_in (last_vault first vaults)) (length (entries_in first)) (answered_in (house_in first) rounds)
   taken =
@@ -205,8 +213,9 @@ module _ {D : Type 0} (stays : StaysLegal) (records : escrow.RecordsLegal) (key 
 
   sentence_two : OrderMovesOnce first vaults set_up
   sentence_two = record {
-    house = λ order. all_weaker (λ (v : Chronicled D). IsBalanced (entries_in v) × IsBalanced (entries_in v ++ doubt_in v)) (λ (v : Chronicled D). count_by (settles order) (entries_in v ++ doubt_in v) ≤ 1) vaults
+    house = λ order. all_weaker (λ (v : Chronicled D). IsBalanced (entries_in v) × IsBalanced (entries_in v ++ doubt_in v)) (λ (v : Chronicled D). count_by (settles order) (entries_in v ++ doubt_in v) ≤ 1) (first ∷ vaults)
         (λ v both. both.1.once order) balanced;
+    house_stays = λ order. order_along tells (house_in first) order first rounds vaults refl tied.turns;
     world = λ order more. (order_moves_once stays p set_up legal_records tied.begins order more []).0;
     stays = λ order more later kept is. subst (λ (w : World Buyer Shop). order_in w.durable order ≡ Some kept) (sym (run_then p set_up more later))
         ((order_moves_once stays p set_up legal_records tied.begins order more later).1 kept is);

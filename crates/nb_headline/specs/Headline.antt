@@ -80,9 +80,16 @@ pub record StopLeavesPrefix {D : Type 0} (tells : DiskTells D) (first : Chronicl
 
 -- ---- 2. orders
 
--- at most one entry settles an order, also with those in doubt; and in a world the one that does stays behind all further events
+-- of vaults one behind the other, an entry that settles the order in one does so in each later one
+abbrev pub OrderStays : {D : Type 0} → Epoid → List (Chronicled D) → Type 0
+OrderStays order [] = Unit {0}
+OrderStays {D} order (v ∷ later) =
+    ((kept : Kept) → order_in (entries_in v) order ≡ Some kept → AllByRecursion (λ (w : Chronicled D). order_in (entries_in w) order ≡ Some kept) later) × OrderStays order later
+
+-- at most one entry settles an order, also with those in doubt; and the one that does stays in each later vault, and in a world behind all further events
 pub record OrderMovesOnce {D : Type 0} (first : Chronicled D) (vaults : List (Chronicled D)) (set_up : World Buyer Shop) : Type 0 where
-  pub house : (order : Epoid) → AllByRecursion (λ (v : Chronicled D). count_by (settles order) (entries_in v ++ doubt_in v) ≤ 1) vaults
+  pub house : (order : Epoid) → AllByRecursion (λ (v : Chronicled D). count_by (settles order) (entries_in v ++ doubt_in v) ≤ 1) (first ∷ vaults)
+  pub house_stays : (order : Epoid) → OrderStays order (first ∷ vaults)
   pub world : (order : Epoid) (es : List Event) → count_by (settles order) (run (rules_in first) set_up es).durable ≤ 1
   pub stays : (order : Epoid) (es more : List Event) (kept : Kept) → order_in (run (rules_in first) set_up es).durable order ≡ Some kept
       → order_in (run (rules_in first) set_up (es ++ more)).durable order ≡ Some kept
@@ -91,7 +98,7 @@ pub record OrderMovesOnce {D : Type 0} (first : Chronicled D) (vaults : List (Ch
 
 -- balances and fees sum to what came in, and no account is overdrawn, without the entries in doubt and with them
 pub record MoneyIsConserved {D : Type 0} (first : Chronicled D) (vaults : List (Chronicled D)) (set_up : World Buyer Shop) : Type 0 where
-  pub house : AllByRecursion (λ (v : Chronicled D). IsBalanced (entries_in v) × IsBalanced (entries_in v ++ doubt_in v)) vaults
+  pub house : AllByRecursion (λ (v : Chronicled D). IsBalanced (entries_in v) × IsBalanced (entries_in v ++ doubt_in v)) (first ∷ vaults)
   pub world : (es : List Event) → IsBalanced (run (rules_in first) set_up es).durable × IsBalanced (commits (run (rules_in first) set_up es))
 
 -- ---- 4. payments and refusals
