@@ -48,7 +48,7 @@ use Rattle.nb_world.specs.Laws.{Asks, Begins, IsLawfulWorld, IsReply, RecordsLeg
 use Rattle.nb_world.specs.Ties.{Ties}
 use Rattle.nb_world.proofs.Chains.{same_some}
 use Rattle.nb_world.proofs.Lists.{all_at}
-use Rattle.nb_world.proofs.Moving.{only_grows}
+use Rattle.nb_world.proofs.Moving.{only_grows, replies_read_all}
 use Rattle.nb_world.proofs.Playing.{run_is_events}
 use Rattle.nb_world.proofs.Serving.{world_law}
 use Rattle.nb_world.proofs.Settling.{house_records_legal, key_where_it_stands, money_is_conserved, order_moves_once}
@@ -249,7 +249,11 @@ module _ {D : Type 0} (stays : StaysLegal) (records : escrow.RecordsLegal) (key 
   }
 
   sentence_six : RepliesOfOneList first rounds vaults set_up
-  sentence_six = record { house = taken; world = λ more. (in_world more).replies }
+  sentence_six = record {
+    house = taken;
+    world = λ more. (in_world more).replies;
+    read_all = replies_read_all p set_up tied.begins.same tied.begins.no_packets tied.begins.no_turn;
+  }
 
   the_tie : Ties p (house_in first) (run p set_up es) number (state_of first) rounds (states_of vaults)
   the_tie = run_is_events p (λ (before after : ℕ). refused DISK_FAULT before after) (refused WORN MAX_FAULTS 0) (run p set_up es) (state_of first) number rounds (states_of vaults) tied.at no_doubt tied.packets the_run

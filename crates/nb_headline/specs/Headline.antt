@@ -187,6 +187,9 @@ pub record KeyWherePaymentStands {D : Type 0} (first : Chronicled D) (rounds : L
 pub record RepliesOfOneList {D : Type 0} (first : Chronicled D) (rounds : List Round) (vaults : List (Chronicled D)) (set_up : World Buyer Shop) : Type 0 where
   pub house : AreTaken (house_in first) (entries_in (last_vault first vaults)) (length (entries_in first)) (answered_in (house_in first) rounds)
   pub world : (es : List Event) → let w = run (rules_in first) set_up es in AllByRecursion (λ (made : Packet). RepliesSo (house_verdict (head_in first) first.origin.cap) w made made.maker) w.packets
+  -- a reply to a call that was delivered behind some events was decided over at least the entries that every stop leaves by then
+  pub read_all : (before more : List Event) (k c at : ℕ) (made : Packet) → slice_get (run (rules_in first) set_up (before ++ more)).packets k ≡ Some made → made.maker ≡ by.Server c at
+      → length (run (rules_in first) set_up before).calls ≤ c → length (run (rules_in first) set_up before).durable ≤ at
 
 -- ---- all of them
 
