@@ -1,5 +1,6 @@
 -- A run of a real house: its turns, what a stop leaves, and which requests are decided.
 use Rattle.std.proofs.Common.{◌≡◌, ◌⊎◌, inl, inr, ℕ, ◌<◌, ◌≤◌, List, [], ◌∷◌, ◌++◌, take, Some, refl, ap, subst, ◌∙◌, arith}
+use Rattle.std.proofs.lemmas.List.{append-nil}
 use Rattle.std.specs.List.{AllByRecursion}
 use Rattle.nb_port.specs.Tells.{DiskTells}
 use Rattle.nb_port.specs.Faults.{Rose}
@@ -19,7 +20,7 @@ use Rattle.nb_vault.specs.Vaults.{Chronicled, FaultWithin, StandsForState, doubt
 use Rattle.nb_vault.proofs.Resting.{leaves_more}
 use Rattle.nb_world.specs.Laws.{Begins}
 use Rattle.nb_headline.specs.Served.{DeskTurnsAreOfHouse, FailsWithin, HouseRun, said, last_vault, states_of}
-use Rattle.nb_headline.specs.Headline.{LeavesTold, RestLeaves, StopsLeave, OrderStays, IsDecided, WhereDecided, AllDecidedSo}
+use Rattle.nb_headline.specs.Headline.{LeavesTold, RestLeaves, StopsLeave, OrderStays, IsDecided, CalmDecides, WhereDecided, AllDecidedSo}
 use Rattle.nb_headline.proofs.Fronts.{begins_same, begins_then, begins_append, AreTold, told_more, told_taken}
 
 -- ---- the run of a real house
@@ -173,6 +174,18 @@ module _ {D : Type 0} (tells : DiskTells D) (house : House) (start end : ℕ) (c
       (λ few_now. decided_run next more vaults (same_house first next turns.0.same_origin ∙ is) turns.1 (omega (arith, low, turns.0.count)) high few_now)
   decided_run first [] (next ∷ vaults) is turns low high few = absurd turns
   decided_run first (round ∷ more) [] is turns low high few = absurd turns
+
+pub calm_decides : {D : Type 0} (tells : DiskTells D) (house : House) (first : Chronicled D) (rounds : List Round) (vaults : List (Chronicled D)) → house_in first ≡ house → HouseRun tells first rounds vaults
+    → CalmDecides tells house first rounds vaults
+calm_decides tells house first [] [] is turns = tt
+calm_decides tells house first (round ∷ more) (next ∷ vaults) is turns = (
+  λ calm few. subst (AllByRecursion (λ (a : Answered). IsDecided a.mark)) (append-nil (answered house round.requests round.outcome))
+      (decided_turn tells house (tells.faults first.disk) (tells.faults next.disk) calm first next round.requests round.outcome []
+      (subst (λ (h : House). Turn h (state_of first) round.requests round.outcome (state_of next)) is turns.0.went.turn) turns.0.fault (omega arith) (omega arith) few (λ few_now. tt)),
+  calm_decides tells house next more vaults (same_house first next turns.0.same_origin ∙ is) turns.1,
+)
+calm_decides tells house first [] (next ∷ vaults) is turns = absurd turns
+calm_decides tells house first (round ∷ more) [] is turns = absurd turns
 
 -- what holds of each request over each front of a list holds of all that was decided
 pub decided_so : (so : List Entry → Request → Type 0) (entries : List Entry) (answers : List Answered) → ((n : ℕ) (request : Request) → so (take n entries) request) → AllDecidedSo so entries answers

@@ -57,7 +57,7 @@ use Rattle.nb_parties.specs.Rules.{house_verdict, shown}
 use Rattle.nb_headline.specs.Served.{IsTied, head_in, last_vault, rules_in, states_of}
 use Rattle.nb_headline.specs.Headline.{StopLeavesPrefix, WorldLeaves, OrderMovesOnce, MoneyIsConserved, PaysTruly, RepliesTruly, PaidWherePayableRefusedTruly, SealsForAsker, GivesKeyWherePaid, KeyWherePaymentStands, RepliesOfOneList, Headline, HeadlineLaw}
 use Rattle.nb_headline.proofs.Fronts.{begins_same, AreTold, none_told, told_run, told_taken}
-use Rattle.nb_headline.proofs.Along.{house_run, last_is, order_along, stops_leave, decided_run, decided_so}
+use Rattle.nb_headline.proofs.Along.{house_run, last_is, order_along, stops_leave, calm_decides, decided_run, decided_so}
 
 all_of_map : {A B : Type 0} (P : B → Type 0) (f : A → B) (xs : List A) → AllByRecursion P (map f xs) → AllByRecursion (λ (x : A). P (f x)) xs
 all_of_map P f [] all = tt
@@ -226,6 +226,7 @@ module _ {D : Type 0} (stays : StaysLegal) (records : escrow.RecordsLegal) (key 
 
   sentence_four : PaidWherePayableRefusedTruly tells first rounds vaults set_up
   sentence_four = record {
+    decided_turns = calm_decides tells (house_in first) first rounds vaults refl tied.turns;
     decided = λ calm few. decided_run tells (house_in first) (tells.faults first.disk) (tells.faults (last_vault first vaults).disk) calm first rounds vaults refl tied.turns (omega arith) (omega arith) few;
     house = decided_so (PaysTruly (head_in first) first.origin.cap) (entries_in (last_vault first vaults)) (answered_in (house_in first) rounds)
         (λ n request. pays_truly (head_in first) first.origin.cap (take n (entries_in (last_vault first vaults))) request (front_legal (entries_in (last_vault first vaults)) n last_list));

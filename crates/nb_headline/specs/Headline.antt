@@ -135,6 +135,15 @@ abbrev pub IsDecided : Mark → Type 0
 IsDecided (At place) = Unit {0}
 IsDecided other = ⊥
 
+-- of each turn: where the disk's count does not rise in it, and the house is not worn before it, each of its requests is decided
+abbrev pub CalmDecides : {D : Type 0} → DiskTells D → House → Chronicled D → List Round → List (Chronicled D) → Type 0
+CalmDecides tells house old [] [] = Unit {0}
+CalmDecides tells house old (round ∷ more) (new ∷ vaults) =
+    ((Rose (tells.faults old.disk) (tells.faults new.disk) → ⊥) → faults_of old.lines < MAX_FAULTS
+    → AllByRecursion (λ (a : Answered). IsDecided a.mark) (answered house round.requests round.outcome))
+    × CalmDecides tells house new more vaults
+CalmDecides tells house old rounds vaults = ⊥
+
 -- where a request was decided at a place, this holds of it over the first entries, as many as the place
 abbrev pub WhereDecided : (List Entry → Request → Type 0) → List Entry → Request → Mark → Type 0
 WhereDecided so entries request (At place) = so (take place entries) request
@@ -144,7 +153,8 @@ abbrev pub AllDecidedSo : (List Entry → Request → Type 0) → List Entry →
 AllDecidedSo so entries answers = AllByRecursion (λ (a : Answered). WhereDecided so entries a.request a.mark) answers
 
 pub record PaidWherePayableRefusedTruly {D : Type 0} (tells : DiskTells D) (first : Chronicled D) (rounds : List Round) (vaults : List (Chronicled D)) (set_up : World Buyer Shop) : Type 0 where
-  -- where the disk's count does not rise and the house is not worn, each request is decided
+  -- where the disk's count does not rise and the house is not worn, each request is decided: of one turn, and of a whole run
+  pub decided_turns : CalmDecides tells (house_in first) first rounds vaults
   pub decided : (Rose (tells.faults first.disk) (tells.faults (last_vault first vaults).disk) → ⊥) → faults_of first.lines < MAX_FAULTS
       → AllByRecursion (λ (a : Answered). IsDecided a.mark) (answered_in (house_in first) rounds)
   pub house : AllDecidedSo (PaysTruly (head_in first) first.origin.cap) (entries_in (last_vault first vaults)) (answered_in (house_in first) rounds)
