@@ -230,10 +230,10 @@ module _ {D : Type 0} (stays : StaysLegal) (records : escrow.RecordsLegal) (key 
     decided = λ calm few. decided_run tells (house_in first) (tells.faults first.disk) (tells.faults (last_vault first vaults).disk) calm first rounds vaults refl tied.turns (omega arith) (omega arith) few;
     house = decided_so (PaysTruly (head_in first) first.origin.cap) (entries_in (last_vault first vaults)) (answered_in (house_in first) rounds)
         (λ n request. pays_truly (head_in first) first.origin.cap (take n (entries_in (last_vault first vaults))) request (front_legal (entries_in (last_vault first vaults)) n last_list));
-    origins = λ more. entries_have_origins p set_up tied.begins.no_origins more;
+    causes = λ more. entries_have_origins p set_up tied.begins.no_origins more;
     came = λ more. (in_world more).came;
-    world = λ more origin came. pays_truly (head_in first) first.origin.cap (take origin.place (run p set_up more).durable) (request_of came.packet came.moment)
-        (front_legal (run p set_up more).durable origin.place (in_world more).legal);
+    world = λ more cause came. pays_truly (head_in first) first.origin.cap (take cause.place (run p set_up more).durable) (request_of came.packet came.moment)
+        (front_legal (run p set_up more).durable cause.place (in_world more).legal);
     replied = λ more k c at made packet moment there maker.
         let so : RepliesSo p.verdict (run p set_up more) made made.maker = all_at (λ (x : Packet). RepliesSo p.verdict (run p set_up more) x x.maker) (run p set_up more).packets k made there (in_world more).replies in
         replies_truly (head_in first) first.origin.cap (run p set_up more) c at made packet moment (in_world more) (subst (RepliesSo p.verdict (run p set_up more) made) maker so);

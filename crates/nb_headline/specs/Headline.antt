@@ -19,7 +19,7 @@ use Rattle.nb_turns.specs.Laws.{IsBalanced}
 use Rattle.nb_body.specs.declared.query.StatusQuery.{StatusQuery}
 use Rattle.nb_endorse.specs.declared.receipt.TheConstants.{NO_KEY}
 use Rattle.nb_endorse.specs.declared.refusal.Refusal.{Refusal}
-use Rattle.nb_endorse.specs.declared.reply.Reply.TheVariants.{Refused as Told}
+use Rattle.nb_endorse.specs.declared.reply.Reply.TheVariants as reply
 use Rattle.nb_escrow.specs.declared.decision.Decision.{Decision}
 use Rattle.nb_escrow.specs.declared.head.Head.{Head}
 use Rattle.nb_escrow.specs.declared.order.Presented.{Presented}
@@ -37,7 +37,7 @@ use Rattle.nb_world.specs.declared.event.Event.{Event}
 use Rattle.nb_world.specs.declared.event.Event.TheVariants as on
 use Rattle.nb_world.specs.declared.packet.Maker.TheVariants as by
 use Rattle.nb_world.specs.declared.packet.Packet.{Packet}
-use Rattle.nb_world.specs.declared.turning.Origin.{Origin}
+use Rattle.nb_world.specs.declared.turning.Origin.{Origin as Cause}
 use Rattle.nb_world.specs.World.{World, request_of, commits}
 use Rattle.nb_world.specs.Steps.{next, run}
 use Rattle.nb_world.specs.Laws.{Asks, Begins, CameBy, HasOrigins, RepliesSo, StandsDurable}
@@ -112,7 +112,7 @@ decision_on head cap over request = verdict over head cap request.kind request.b
 -- now, or, exactly where the order was settled before, of the one held, and then nothing is recorded
 pub record PaysTruly (head : Head) (cap : ℕ) (over : List Entry) (request : Request) : Type 0 where
   pub paid : PaidWherePayable over head cap request.kind request.body request.moment (decision_on head cap over request).entry
-  pub refusal : (why : Refusal) → (decision_on head cap over request).reply ≡ Told why → IsTrueRefusal over head cap request.kind request.body why
+  pub refusal : (why : Refusal) → (decision_on head cap over request).reply ≡ reply.Refused why → IsTrueRefusal over head cap request.kind request.body why
   pub refused : (entry : Entry) → (decision_on head cap over request).entry ≡ Some entry → IsRefusedOrder entry
       → (p : Presented) × (why : RefusalReason) × MaySettle over cap request.body p × IsTrueReason over p request.moment why × (entry ≡ refusal_of p request.moment why)
       × TellsReason why (decision_on head cap over request).reply
@@ -159,10 +159,10 @@ pub record PaidWherePayableRefusedTruly {D : Type 0} (tells : DiskTells D) (firs
       → AllByRecursion (λ (a : Answered). IsDecided a.mark) (answered_in (house_in first) rounds)
   pub house : AllDecidedSo (PaysTruly (head_in first) first.origin.cap) (entries_in (last_vault first vaults)) (answered_in (house_in first) rounds)
   -- each entry behind the set-up's came by a call, and was recorded so
-  pub origins : (es : List Event) → HasOrigins set_up (run (rules_in first) set_up es)
+  pub causes : (es : List Event) → HasOrigins set_up (run (rules_in first) set_up es)
   pub came : (es : List Event) → AllByRecursion (CameBy (house_verdict (head_in first) first.origin.cap) (run (rules_in first) set_up es)) (run (rules_in first) set_up es).origins
-  pub world : (es : List Event) (origin : Origin) (came : CameBy (house_verdict (head_in first) first.origin.cap) (run (rules_in first) set_up es) origin)
-      → PaysTruly (head_in first) first.origin.cap (take origin.place (run (rules_in first) set_up es).durable) (request_of came.packet came.moment)
+  pub world : (es : List Event) (cause : Cause) (came : CameBy (house_verdict (head_in first) first.origin.cap) (run (rules_in first) set_up es) cause)
+      → PaysTruly (head_in first) first.origin.cap (take cause.place (run (rules_in first) set_up es).durable) (request_of came.packet came.moment)
   -- and so is each reply, also one that refuses
   pub replied : (es : List Event) (k c at : ℕ) (made packet : Packet) (moment : ℕ) → let w = run (rules_in first) set_up es in
       slice_get w.packets k ≡ Some made → made.maker ≡ by.Server c at → Asks w c packet moment → RepliesTruly (head_in first) first.origin.cap w made packet at moment
