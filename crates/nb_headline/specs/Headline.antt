@@ -49,18 +49,18 @@ use Rattle.nb_headline.specs.Served.{IsTied, head_in, last_vault, rules_in, stat
 -- ---- 1. what a stop leaves
 
 -- what an image stands for: the entries of the state before a turn or behind it, each without those in doubt then or with them; and in them stands all
--- that was told before the turn, each reply over the first of them, as many as it tells, and the entry that it tells of next
+-- that was told by then, each reply over the first of them, as many as it tells, and the entry that it tells of next
 pub record LeavesTold {D : Type 0} (house : House) (old new : Chronicled D) (least : ℕ) (told : List Answered) (image : List ℕ) : Type 0 where
   pub entries : List Entry
   pub stands : StandsFor old.origin.charter old.origin.cap entries image
   pub prefix : SettlesInto (state_of old) entries ⊎ SettlesInto (state_of new) entries
   pub acknowledged : AreTaken house entries least told
 
--- so does a stop between two turns, or behind the last one, by which all these were told
+-- so does each image that the disk at rest allows, between two turns or behind the last one, when all these were told
 abbrev pub RestLeaves : {D : Type 0} → DiskTells D → House → ℕ → List Answered → Chronicled D → Type 0
 RestLeaves tells house least told v = (image : List ℕ) → tells.allowed v.disk image → LeavesTold house v v least told image
 
--- so it is before each turn, before which these were told, at any moment of it, and behind the last one
+-- so it is before each turn, when these were told, and at any moment of it; and then of the turns behind it, when its own replies were told too; and behind the last
 abbrev pub StopsLeave : {D : Type 0} → DiskTells D → House → ℕ → List Answered → Chronicled D → List Round → List (Chronicled D) → Type 0
 StopsLeave tells house least told old [] [] = RestLeaves tells house least told old
 StopsLeave tells house least told old (round ∷ more) (new ∷ vaults) =
@@ -68,12 +68,13 @@ StopsLeave tells house least told old (round ∷ more) (new ∷ vaults) =
     × StopsLeave tells house least (told ++ answered house round.requests round.outcome) new more vaults
 StopsLeave tells house least told old rounds vaults = ⊥
 
--- what a stop leaves in a world: a prefix of the commit list, in which each acknowledged entry stands at its place
+-- what a stop leaves in a world: a prefix of the commit list, in which each acknowledged entry stands at its place, and which begins with the set-up's entries
 pub record WorldLeaves (set_up w : World Buyer Shop) (stopped : World Buyer Shop) : Type 0 where
   pub prefix : Begins (commits w) stopped.durable
   pub acknowledged : AllByRecursion (StandsDurable stopped) w.acknowledged
   pub grows : Begins stopped.durable set_up.durable
 
+-- Sentence 1: a stop leaves a prefix of the commits, with all that was told. So it is of the house at any moment of its run, and of the world behind every list of events.
 pub record StopLeavesPrefix {D : Type 0} (tells : DiskTells D) (first : Chronicled D) (rounds : List Round) (vaults : List (Chronicled D)) (set_up : World Buyer Shop) : Type 0 where
   pub house : StopsLeave tells (house_in first) (length (entries_in first)) [] first rounds vaults
   pub world : (es : List Event) (keep : Bool) → WorldLeaves set_up (run (rules_in first) set_up es) (next (rules_in first) (run (rules_in first) set_up es) (on.Stop keep))
@@ -86,7 +87,8 @@ OrderStays order [] = Unit {0}
 OrderStays {D} order (v ∷ later) =
     ((kept : Kept) → order_in (entries_in v) order ≡ Some kept → AllByRecursion (λ (w : Chronicled D). order_in (entries_in w) order ≡ Some kept) later) × OrderStays order later
 
--- at most one entry settles an order, also with those in doubt; and the one that does stays in each later vault, and in a world behind all further events
+-- Sentence 2: an order moves its price at most once. At most one entry settles it, in the first vault and in each behind it, also with those in doubt; and the one that
+-- does stays in each later vault, and in the world behind all further events.
 pub record OrderMovesOnce {D : Type 0} (first : Chronicled D) (vaults : List (Chronicled D)) (set_up : World Buyer Shop) : Type 0 where
   pub house : (order : Epoid) → AllByRecursion (λ (v : Chronicled D). count_by (settles order) (entries_in v ++ doubt_in v) ≤ 1) (first ∷ vaults)
   pub house_stays : (order : Epoid) → OrderStays order (first ∷ vaults)
@@ -96,7 +98,8 @@ pub record OrderMovesOnce {D : Type 0} (first : Chronicled D) (vaults : List (Ch
 
 -- ---- 3. money
 
--- balances and fees sum to what came in, and no account is overdrawn, without the entries in doubt and with them
+-- Sentence 3: balances and fees sum to what came in, and no account is overdrawn, in the first vault and in each behind it, without the entries in doubt and with them;
+-- and in the world, without the entry that is written and not opened and with it.
 pub record MoneyIsConserved {D : Type 0} (first : Chronicled D) (vaults : List (Chronicled D)) (set_up : World Buyer Shop) : Type 0 where
   pub house : AllByRecursion (λ (v : Chronicled D). IsBalanced (entries_in v) × IsBalanced (entries_in v ++ doubt_in v)) (first ∷ vaults)
   pub world : (es : List Event) → IsBalanced (run (rules_in first) set_up es).durable × IsBalanced (commits (run (rules_in first) set_up es))
@@ -122,15 +125,15 @@ pub record PaysTruly (head : Head) (cap : ℕ) (over : List Entry) (request : Re
       ↔ ((request.kind ≡ ORDER_REQUEST) × ((p : Presented) × (kept : Kept) × IsAuthenticOrder over request.body p
       × (order_in over p.order.epoid ≡ Some kept) × (digest_held kept.entry ≡ Some p.digest)))
 
--- a packet of the house in a world, made at this place in answer to this call, shows the decision on what was asked over the first entries that every stop leaves, as
--- many as the place, and that is so
+-- a reply that the house made in a world to this packet, delivered at this moment, shows the decision on it over the first entries, as many as the reply's place says;
+-- and that decision is so
 pub record RepliesTruly (head : Head) (cap : ℕ) (w : World Buyer Shop) (made packet : Packet) (at moment : ℕ) : Type 0 where
   pub within : at ≤ length w.durable
   pub kind : made.kind ≡ (shown (decision_on head cap (take at w.durable) (request_of packet moment))).kind
   pub body : made.body ≡ (shown (decision_on head cap (take at w.durable) (request_of packet moment))).body
   pub truly : PaysTruly head cap (take at w.durable) (request_of packet moment)
 
--- a request was decided
+-- a request was decided, and not refused because the disk failed or the house is worn
 abbrev pub IsDecided : Mark → Type 0
 IsDecided (At place) = Unit {0}
 IsDecided other = ⊥
@@ -149,21 +152,22 @@ abbrev pub WhereDecided : (List Entry → Request → Type 0) → List Entry →
 WhereDecided so entries request (At place) = so (take place entries) request
 WhereDecided so entries request other = Unit {0}
 
+-- so it is of each of these requests that was decided
 abbrev pub AllDecidedSo : (List Entry → Request → Type 0) → List Entry → List Answered → Type 0
 AllDecidedSo so entries answers = AllByRecursion (λ (a : Answered). WhereDecided so entries a.request a.mark) answers
 
+-- Sentence 4: where the disk's count does not rise and the house is not worn, each request is decided, in each turn and in a whole run; and each request that was decided
+-- is paid exactly where it is payable, and refused truly. In the world each entry behind the set-up's has a call that it came by, for which it was recorded so; and each
+-- reply of the house, also one that refuses, shows a decision that is so.
 pub record PaidWherePayableRefusedTruly {D : Type 0} (tells : DiskTells D) (first : Chronicled D) (rounds : List Round) (vaults : List (Chronicled D)) (set_up : World Buyer Shop) : Type 0 where
-  -- where the disk's count does not rise and the house is not worn, each request is decided: of one turn, and of a whole run
   pub decided_turns : CalmDecides tells (house_in first) first rounds vaults
   pub decided : (Rose (tells.faults first.disk) (tells.faults (last_vault first vaults).disk) → ⊥) → faults_of first.lines < MAX_FAULTS
       → AllByRecursion (λ (a : Answered). IsDecided a.mark) (answered_in (house_in first) rounds)
   pub house : AllDecidedSo (PaysTruly (head_in first) first.origin.cap) (entries_in (last_vault first vaults)) (answered_in (house_in first) rounds)
-  -- each entry behind the set-up's came by a call, and was recorded so
   pub causes : (es : List Event) → HasOrigins set_up (run (rules_in first) set_up es)
   pub came : (es : List Event) → AllByRecursion (CameBy (house_verdict (head_in first) first.origin.cap) (run (rules_in first) set_up es)) (run (rules_in first) set_up es).origins
   pub world : (es : List Event) (cause : Cause) (came : CameBy (house_verdict (head_in first) first.origin.cap) (run (rules_in first) set_up es) cause)
       → PaysTruly (head_in first) first.origin.cap (take cause.place (run (rules_in first) set_up es).durable) (request_of came.packet came.moment)
-  -- and so is each reply, also one that refuses
   pub replied : (es : List Event) (k c at : ℕ) (made packet : Packet) (moment : ℕ) → let w = run (rules_in first) set_up es in
       slice_get w.packets k ≡ Some made → made.maker ≡ by.Server c at → Asks w c packet moment → RepliesTruly (head_in first) first.origin.cap w made packet at moment
 
@@ -183,6 +187,8 @@ GivesKeyWherePaid head cap over request =
     request.kind ≡ STATUS_REQUEST
     → KeyWherePaid over request.body (decision_on head cap over request).reply × SealsForAsker head over request.body (decision_on head cap over request)
 
+-- Sentence 5: so it is of each status query that the house decided, and of each that it answered in the world; that it was then decided over at least the entries that
+-- every stop left when it was delivered, sentence 6 says.
 pub record KeyWherePaymentStands {D : Type 0} (first : Chronicled D) (rounds : List Round) (vaults : List (Chronicled D)) (set_up : World Buyer Shop) : Type 0 where
   pub house : AllDecidedSo (GivesKeyWherePaid (head_in first) first.origin.cap) (entries_in (last_vault first vaults)) (answered_in (house_in first) rounds)
   pub world : (es : List Event) (k c at : ℕ) (made packet : Packet) (moment : ℕ) → let w = run (rules_in first) set_up es in
@@ -192,19 +198,18 @@ pub record KeyWherePaymentStands {D : Type 0} (first : Chronicled D) (rounds : L
 
 -- ---- 6. replies
 
--- each reply is that of the verdict on its request over the first entries of one list, as many as it tells; the entry that it records is the next one there; and
--- the places never fall
+-- Sentence 6: each reply is that of the verdict on its request over the first entries of one list, as many as its place says; the entry that it records is the next one
+-- there; and places never fall. In the world a reply to a call that was delivered behind some events was decided over at least the entries that every stop leaves by then.
 pub record RepliesOfOneList {D : Type 0} (first : Chronicled D) (rounds : List Round) (vaults : List (Chronicled D)) (set_up : World Buyer Shop) : Type 0 where
   pub house : AreTaken (house_in first) (entries_in (last_vault first vaults)) (length (entries_in first)) (answered_in (house_in first) rounds)
   pub world : (es : List Event) → let w = run (rules_in first) set_up es in AllByRecursion (λ (made : Packet). RepliesSo (house_verdict (head_in first) first.origin.cap) w made made.maker) w.packets
-  -- a reply to a call that was delivered behind some events was decided over at least the entries that every stop leaves by then
   pub read_all : (before more : List Event) (k c at : ℕ) (made : Packet) → slice_get (run (rules_in first) set_up (before ++ more)).packets k ≡ Some made → made.maker ≡ by.Server c at
       → length (run (rules_in first) set_up before).calls ≤ c → length (run (rules_in first) set_up before).durable ≤ at
 
 -- ---- all of them
 
+-- The six sentences; and that the run of the house is events of the world, which lead it to the entries of the last vault and hand out the run's replies.
 pub record Headline {D : Type 0} (tells : DiskTells D) (first : Chronicled D) (rounds : List Round) (vaults : List (Chronicled D)) (set_up : World Buyer Shop) (es : List Event) (number : Request → ℕ) : Type 0 where
-  -- the run is events of the world, which lead to the entries of its last vault, and hand out its replies
   pub tie : Ties (rules_in first) (house_in first) (run (rules_in first) set_up es) number (state_of first) rounds (states_of vaults)
   pub stop_leaves_prefix : StopLeavesPrefix tells first rounds vaults set_up
   pub order_moves_once : OrderMovesOnce first vaults set_up
@@ -213,7 +218,7 @@ pub record Headline {D : Type 0} (tells : DiskTells D) (first : Chronicled D) (r
   pub key_where_payment_stands : KeyWherePaymentStands first rounds vaults set_up
   pub replies_of_one_list : RepliesOfOneList first rounds vaults set_up
 
--- So it is of every run of a real house and every world of real parties that is tied to it.
+-- So it is of every run of a real house and every world of real parties that are tied.
 abbrev pub HeadlineLaw : {D : Type 0} → DiskTells D → Type 0
 HeadlineLaw {D} tells = (first : Chronicled D) (rounds : List Round) (vaults : List (Chronicled D)) (set_up : World Buyer Shop) (es : List Event) (number : Request → ℕ)
     → IsTied tells first rounds vaults set_up es number → Headline tells first rounds vaults set_up es number
