@@ -92,6 +92,7 @@ pays_truly head cap over request legal = record {
   told = λ is p may. subst (λ (kind : ℕ). TellsPayment p (verdict over head cap kind request.body request.moment).reply) (sym is) (payable_is_told over head cap request.body request.moment p may);
   receipts = receipts_name_the_order over head cap request.kind request.body request.moment;
   again = told_exactly_where over head cap request.kind request.body request.moment;
+  keys = keys_are_the_parties over head cap request.kind request.body request.moment;
 }
 
 -- a call is of one packet, at one moment

@@ -27,7 +27,7 @@ use Rattle.nb_escrow.specs.declared.settlement.RefusalReason.{RefusalReason}
 use Rattle.nb_escrow.specs.Claims.{IsTrueRefusal}
 use Rattle.nb_escrow.specs.Laws.{PaidWherePayable, KeyWherePaid, IsAuthentic, IsRefusedOrder, AreReceipts, IsStatusReply}
 use Rattle.nb_escrow.specs.Payable.{IsAuthenticOrder, MaySettle, IsPayable, TellsPayment, IsTrueReason, refusal_of, TellsReason, digest_held}
-use Rattle.nb_escrow.specs.Replies.{TellsOrder}
+use Rattle.nb_escrow.specs.Replies.{HasKeysOfParties, TellsOrder}
 use Rattle.nb_escrow.specs.Verdict.{verdict}
 use Rattle.nb_vault.specs.Holdings.{StandsFor}
 use Rattle.nb_vault.specs.Vaults.{Chronicled, entries_in, doubt_in, house_in, state_of}
@@ -112,7 +112,7 @@ decision_on head cap over request = verdict over head cap request.kind request.b
 
 -- a payment is recorded exactly where the request is an order that is payable, which is told that it is paid, with its key; what a refusal claims is true; an order
 -- that is recorded as refused is so for a reason that is true, which its receipts tell; and receipts are those of the entry that settles the order: of the one recorded
--- now, or, exactly where the order was settled before, of the one held, and then nothing is recorded
+-- now, or, exactly where the order was settled before, of the one held, and then nothing is recorded. A reply is given under the keys of its parties alone
 pub record PaysTruly (head : Head) (cap : ℕ) (over : List Entry) (request : Request) : Type 0 where
   pub paid : PaidWherePayable over head cap request.kind request.body request.moment (decision_on head cap over request).entry
   pub refusal : (why : Refusal) → (decision_on head cap over request).reply ≡ reply.Refused why → IsTrueRefusal over head cap request.kind request.body why
@@ -124,6 +124,7 @@ pub record PaysTruly (head : Head) (cap : ℕ) (over : List Entry) (request : Re
   pub again : (AreReceipts (decision_on head cap over request).reply × ((decision_on head cap over request).entry ≡ None))
       ↔ ((request.kind ≡ ORDER_REQUEST) × ((p : Presented) × (kept : Kept) × IsAuthenticOrder over request.body p
       × (order_in over p.order.epoid ≡ Some kept) × (digest_held kept.entry ≡ Some p.digest)))
+  pub keys : HasKeysOfParties over head request.body (decision_on head cap over request).reply (decision_on head cap over request).keys
 
 -- a reply that the house made in a world to this packet, delivered at this moment, shows the decision on it over the first entries, as many as the reply's place says;
 -- and that decision is so

@@ -11,8 +11,8 @@
 //! that settles it, and a refusal is true; a key is given exactly where the payment stands, sealed for who asks; replies are those of one list.
 //!
 //! Left to others: inputs, outputs and connections (`nb_run::run`, `nb_session::session`, `nb_server::serve_all`); that all turns of one server are one run: each is
-//! of the form of such a turn, their lines stand in one list (`nb_server::serve_all`), and no law joins them; in which order the turns of many callers come; what one
-//! party does; what a verdict is (`nb_escrow`).
+//! of the form of such a turn, their lines stand in one list (`nb_server::serve_all`), and no law joins them; in which order the turns of many callers come; what the
+//! next start makes of what a stop left (`nb_vault::Vault::open`), since a run is of one vault; what one party does; what a verdict is (`nb_escrow`).
 #![tactic(auto)]
 
 pub mod laws;
