@@ -1,21 +1,26 @@
 -- A run of a real house: its turns, what a stop leaves, and which requests are decided.
-use Rattle.std.proofs.Common.{◌≡◌, ◌⊎◌, inl, inr, ℕ, ◌<◌, ◌≤◌, List, [], ◌∷◌, ◌++◌, take, refl, ap, subst, ◌∙◌, arith}
+use Rattle.std.proofs.Common.{◌≡◌, ◌⊎◌, inl, inr, ℕ, ◌<◌, ◌≤◌, List, [], ◌∷◌, ◌++◌, take, Some, refl, ap, subst, ◌∙◌, arith}
+use Rattle.std.proofs.lemmas.List.{append-nil}
 use Rattle.std.specs.List.{AllByRecursion}
 use Rattle.nb_port.specs.Tells.{DiskTells}
 use Rattle.nb_port.specs.Faults.{Rose}
+use Rattle.nb_units.specs.declared.epoid.Epoid.{Epoid}
 use Rattle.nb_book.specs.declared.entry.Entry.{Entry}
+use Rattle.nb_book.specs.declared.kept.Kept.{Kept}
+use Rattle.nb_book.specs.Searches.{order_in}
 use Rattle.nb_turns.specs.declared.limits.TheConstants.{MAX_FAULTS}
 use Rattle.nb_turns.specs.declared.mark.Mark.{Mark}
 use Rattle.nb_turns.specs.declared.mark.Mark.TheVariants.{At, Fault, Worn}
 use Rattle.nb_turns.specs.Turns.{Request, House, State, Outcome, Decides, Fails, Refuses, Answered, Round, Turn, Run, answered, answered_in, decided, last_state, with_entry}
 use Rattle.nb_turns.specs.Laws.{Grows}
-use Rattle.nb_turns.proofs.Growth.{turn_grows}
+use Rattle.nb_turns.proofs.Growth.{turn_grows, run_grows}
+use Rattle.nb_escrow.proofs.Lasts.{order_stays}
 use Rattle.nb_vault.specs.Holdings.{StandsFor}
 use Rattle.nb_vault.specs.Vaults.{Chronicled, FaultWithin, StandsForState, doubt_in, entries_in, house_in, state_of}
 use Rattle.nb_vault.proofs.Resting.{leaves_more}
 use Rattle.nb_world.specs.Laws.{Begins}
 use Rattle.nb_headline.specs.Served.{DeskTurnsAreOfHouse, FailsWithin, HouseRun, said, last_vault, states_of}
-use Rattle.nb_headline.specs.Headline.{LeavesTold, StopsLeave, IsDecided, WhereDecided, AllDecidedSo}
+use Rattle.nb_headline.specs.Headline.{LeavesTold, RestLeaves, StopsLeave, OrderStays, IsDecided, CalmDecides, WhereDecided, AllDecidedSo}
 use Rattle.nb_headline.proofs.Fronts.{begins_same, begins_then, begins_append, AreTold, told_more, told_taken}
 
 -- ---- the run of a real house
@@ -35,6 +40,8 @@ desk_turns tells by v w requests outcome found out written asks = record {
   went = asks.went;
   same_origin = asks.same_origin;
   any_moment = asks.any_moment;
+  images = asks.keeps.images;
+  durable = asks.durable;
   fault = fails_within tells asks.old asks.new outcome asks.fault;
   count = asks.count;
 }
@@ -56,6 +63,24 @@ house_run tells house first (round ∷ more) [] is turns = absurd turns
 pub last_is : {D : Type 0} (first : Chronicled D) (vaults : List (Chronicled D)) → last_state (state_of first) (states_of vaults) ≡ state_of (last_vault first vaults)
 last_is first [] = refl
 last_is first (next ∷ vaults) = last_is next vaults
+
+-- what a list holds of an order stands in each list that begins with it
+all_stay : {D : Type 0} (order : Epoid) (entries : List Entry) (kept : Kept) → order_in entries order ≡ Some kept → (vaults : List (Chronicled D))
+    → AllByRecursion (λ (state : State). (more : List Entry) × (state.entries ≡ entries ++ more)) (states_of vaults) → AllByRecursion (λ (w : Chronicled D). order_in (entries_in w) order ≡ Some kept) vaults
+all_stay order entries kept is [] all = tt
+all_stay order entries kept is (w ∷ vaults) all =
+    (ap (λ (es : List Entry). order_in es order) all.0.1 ∙ order_stays entries all.0.0 order kept is, all_stay order entries kept is vaults all.1)
+
+pub order_along : {D : Type 0} (tells : DiskTells D) (house : House) (order : Epoid) (first : Chronicled D) (rounds : List Round) (vaults : List (Chronicled D)) → house_in first ≡ house
+    → HouseRun tells first rounds vaults → OrderStays order (first ∷ vaults)
+order_along tells house order first [] [] is turns = (λ kept found. tt, tt)
+order_along tells house order first (round ∷ more) (next ∷ vaults) is turns = (
+  λ kept found. all_stay order (entries_in first) kept found (next ∷ vaults)
+      (run_grows house (state_of first) (round ∷ more) (states_of (next ∷ vaults)) (house_run tells house first (round ∷ more) (next ∷ vaults) is turns)),
+  order_along tells house order next more vaults (same_house first next turns.0.same_origin ∙ is) turns.1,
+)
+order_along tells house order first [] (next ∷ vaults) is turns = absurd turns
+order_along tells house order first (round ∷ more) [] is turns = absurd turns
 
 -- ---- stops
 
@@ -88,18 +113,30 @@ module _ {D : Type 0} (tells : DiskTells D) (house : House) (least : ℕ) where
             (begins_then (entries_in old) (entries_in new) (entries_in new ++ doubt_in new) begins (begins_append (entries_in new) (doubt_in new)));
       }
 
+  -- at rest
+  at_rest : (v : Chronicled D) (told : List Answered) → AreTold house least told (entries_in v) → ((image : List ℕ) → tells.allowed v.disk image → StandsForState v image)
+      → RestLeaves tells house least told v
+  at_rest v told are images image is = by (images image is)
+    where
+      by : StandsForState v image → LeavesTold house v v least told image
+      by (inl stands) =
+          record { entries = entries_in v; stands = stands; prefix = inl (inl refl); acknowledged = told_taken house least told (entries_in v) (entries_in v) are (begins_same (entries_in v)) }
+      by (inr stands) =
+          record { entries = entries_in v ++ doubt_in v; stands = stands; prefix = inl (inr refl); acknowledged = told_taken house least told (entries_in v) (entries_in v ++ doubt_in v) are (begins_append (entries_in v) (doubt_in v)) }
+
   pub stops_leave : (first : Chronicled D) (rounds : List Round) (vaults : List (Chronicled D)) (told : List Answered) → house_in first ≡ house → HouseRun tells first rounds vaults
-      → AreTold house least told (entries_in first) → StopsLeave tells house least told first rounds vaults
-  stops_leave first [] [] told is turns are = tt
-  stops_leave first (round ∷ more) (next ∷ vaults) told is turns are =
+      → AreTold house least told (entries_in first) → ((image : List ℕ) → tells.allowed first.disk image → StandsForState first image) → StopsLeave tells house least told first rounds vaults
+  stops_leave first [] [] told is turns are images = at_rest first told are images
+  stops_leave first (round ∷ more) (next ∷ vaults) told is turns are images =
       let turn = subst (λ (h : House). Turn h (state_of first) round.requests round.outcome (state_of next)) is turns.0.went.turn in (
+        at_rest first told are images,
         leaves_more tells first.disk next.disk (λ image. StandsForState first image ⊎ StandsForState next image) (LeavesTold house first next least told)
             (left_of first next round.requests round.outcome told turns.0.same_origin turn are) turns.0.any_moment,
         stops_leave next more vaults (told ++ answered house round.requests round.outcome) (same_house first next turns.0.same_origin ∙ is) turns.1
-            (told_more house least (state_of first) (state_of next) round.requests round.outcome told turn are),
+            (told_more house least (state_of first) (state_of next) round.requests round.outcome told turn are) turns.0.images,
       )
-  stops_leave first [] (next ∷ vaults) told is turns are = absurd turns
-  stops_leave first (round ∷ more) [] told is turns are = absurd turns
+  stops_leave first [] (next ∷ vaults) told is turns are images = absurd turns
+  stops_leave first (round ∷ more) [] told is turns are images = absurd turns
 
 -- ---- decided
 
@@ -137,6 +174,18 @@ module _ {D : Type 0} (tells : DiskTells D) (house : House) (start end : ℕ) (c
       (λ few_now. decided_run next more vaults (same_house first next turns.0.same_origin ∙ is) turns.1 (omega (arith, low, turns.0.count)) high few_now)
   decided_run first [] (next ∷ vaults) is turns low high few = absurd turns
   decided_run first (round ∷ more) [] is turns low high few = absurd turns
+
+pub calm_decides : {D : Type 0} (tells : DiskTells D) (house : House) (first : Chronicled D) (rounds : List Round) (vaults : List (Chronicled D)) → house_in first ≡ house → HouseRun tells first rounds vaults
+    → CalmDecides tells house first rounds vaults
+calm_decides tells house first [] [] is turns = tt
+calm_decides tells house first (round ∷ more) (next ∷ vaults) is turns = (
+  λ calm few. subst (AllByRecursion (λ (a : Answered). IsDecided a.mark)) (append-nil (answered house round.requests round.outcome))
+      (decided_turn tells house (tells.faults first.disk) (tells.faults next.disk) calm first next round.requests round.outcome []
+      (subst (λ (h : House). Turn h (state_of first) round.requests round.outcome (state_of next)) is turns.0.went.turn) turns.0.fault (omega arith) (omega arith) few (λ few_now. tt)),
+  calm_decides tells house next more vaults (same_house first next turns.0.same_origin ∙ is) turns.1,
+)
+calm_decides tells house first [] (next ∷ vaults) is turns = absurd turns
+calm_decides tells house first (round ∷ more) [] is turns = absurd turns
 
 -- what holds of each request over each front of a list holds of all that was decided
 pub decided_so : (so : List Entry → Request → Type 0) (entries : List Entry) (answers : List Answered) → ((n : ℕ) (request : Request) → so (take n entries) request) → AllDecidedSo so entries answers

@@ -12,7 +12,7 @@ use Rattle.nb_turn.specs.declared.chronicle.View.{View}
 use Rattle.nb_vault.specs.declared.answer.AnswerAll.{AnswerAll}
 use Rattle.nb_vault.specs.declared.answer.AnswerAll.TheVariants as all
 use Rattle.nb_vault.specs.declared.origin.Origin.{Origin}
-use Rattle.nb_vault.specs.Vaults.{Chronicled, Keeps, Went, StandsForState, entries_in, state_of}
+use Rattle.nb_vault.specs.Vaults.{Chronicled, Keeps, Went, DurableWhere, StandsForState, entries_in, state_of}
 use Rattle.nb_desk.specs.Asks.{Asks}
 use Rattle.nb_consumer.specs.State.{Buyer}
 use Rattle.nb_merchant.specs.Shop.{Shop}
@@ -28,9 +28,16 @@ abbrev pub FailsWithin : {D : Type 0} → DiskTells D → D → D → Outcome �
 FailsWithin tells old new (Fails before after) = (tells.faults old ≤ before) × Rose before after × (after ≡ tells.faults new)
 FailsWithin tells old new other = Unit {0}
 
--- a vault made this turn
+-- what a vault answers where a turn went so
+abbrev pub said : Outcome → AnswerAll
+said (Decides over) = all.Answered
+said (Fails before after) = all.DiskFault before after
+said Refuses = all.Worn MAX_FAULTS
+
+-- A vault made this turn: it had requests, and went so, from the vault before to the one behind it. A stop at any moment of it leaves what stands for the state before it
+-- or behind it; one behind it leaves what stands for the state behind it, and where it decided, for the entries alone, with nothing in doubt. The disk's count does not
+-- fall, and rises where it failed
 pub record TurnsVault {D : Type 0} (tells : DiskTells D) (old new : Chronicled D) (round : Round) : Type 0 where
-  -- it had requests, and went so: from the vault before to the one behind it
   pub by : ℕ
   pub found : List ℕ
   pub out : List ℕ
@@ -38,19 +45,14 @@ pub record TurnsVault {D : Type 0} (tells : DiskTells D) (old new : Chronicled D
   pub fits : FitTurn round.requests
   pub went : Went tells old new by round.requests round.outcome found out written
   pub same_origin : new.origin ≡ old.origin
-  -- a stop at any moment of it leaves what stands for the state before it or behind it
   pub any_moment : LeavesOnly tells old.disk new.disk (λ image. StandsForState old image ⊎ StandsForState new image)
-  -- the disk's count does not fall, and rises where it failed
+  pub images : (image : List ℕ) → tells.allowed new.disk image → StandsForState new image
+  pub durable : DurableWhere tells new (said round.outcome)
   pub fault : FailsWithin tells old.disk new.disk round.outcome
   pub count : tells.faults old.disk ≤ tells.faults new.disk
 
--- what a vault answers where a turn went so
-abbrev pub said : Outcome → AnswerAll
-said (Decides over) = all.Answered
-said (Fails before after) = all.DiskFault before after
-said Refuses = all.Worn MAX_FAULTS
-
--- Each turn that a pass takes at a desk is such a turn, whoever took the ones before it.
+-- Each turn that a pass takes at a desk is a turn of such a form, whoever took the ones before it. That the turns of one server, one behind the other, are one run is not
+-- said.
 abbrev pub DeskTurnsAreOfHouse : {D : Type 0} → DiskTells D → Type 0
 DeskTurnsAreOfHouse tells = (by : ℕ) (v w : View Origin Line) (requests : List Request) (outcome : Outcome) (found out out' : List ℕ)
     → (asks : Asks tells by v w requests outcome found out out' (said outcome)) → TurnsVault tells asks.old asks.new (record { requests = requests; outcome = outcome })
@@ -71,15 +73,17 @@ last_vault first (next ∷ vaults) = last_vault next vaults
 abbrev pub states_of : {D : Type 0} → List (Chronicled D) → List State
 states_of vaults = map state_of vaults
 
--- the head of the house, and what a world of real parties with this house goes by
+-- the head of the house
 abbrev pub head_in : {D : Type 0} → Chronicled D → Head
 head_in v = head_of v.origin.charter
 
+-- what a world of real parties with this house goes by
 abbrev pub rules_in : {D : Type 0} → Chronicled D → Rules Buyer Shop
 rules_in v = real_rules (head_in v) v.origin.cap
 
--- A run of a real house is tied to a world of real parties: a vault with nothing in doubt made these turns; and behind these events from this set-up the
--- world is at its entries, with packets of the requests
+-- A run of a real house is tied to a world of real parties: the first vault keeps what every vault keeps, has nothing in doubt, and made these turns; and from a set-up of
+-- Legal entries with no packet, call or turn these events lead the world to the first vault's entries, with no call at its turn, and with a packet for the house that asks
+-- the same for each request of the turns
 pub record IsTied {D : Type 0} (tells : DiskTells D) (first : Chronicled D) (rounds : List Round) (vaults : List (Chronicled D)) (set_up : World Buyer Shop) (es : List Event) (number : Request → ℕ) : Type 0 where
   pub keeps : Keeps tells first
   pub fresh : first.stale ≡ false

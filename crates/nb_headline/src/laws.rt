@@ -5,13 +5,15 @@ ghost use Rattle.nb_headline.specs.Served as served;
 
 use nb_port::Disk;
 
-/// Each turn that a pass takes at a desk of a server is one of which a run of a real house is made, whoever took the ones before it.
+/// Each turn that a pass takes at a desk is a turn of such a form as a run of a real house is made of, whoever took the ones before it. No law joins all turns of
+/// one server into one run.
 pub fn desk_turns_are_of_house<D: Disk>()
     ensures { served.DeskTurnsAreOfHouse D.tells }
 {}
 
 /// The six sentences, of every run of a real house and every world of real parties that is tied to it, behind every list of events. Premised are
-/// the contracts of the disk, a vault with nothing in doubt at the start, and a set-up of Legal entries; nothing is of the network, of injectors and of keys.
+/// the contracts of the disk and the tie: a first vault with nothing in doubt, which made the turns; a set-up of Legal entries, with no packet, call or turn; and
+/// events from it that lead the world to that vault's entries and have a packet made for each request. Nothing is premised of the network, of injectors and of keys.
 pub fn headline<D: Disk>()
     ensures { law.HeadlineLaw D.tells }
 {
