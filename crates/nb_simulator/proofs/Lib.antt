@@ -4,3 +4,4 @@ mod Calls
 mod Kept
 mod Setting
 mod Lawful
+mod Behind

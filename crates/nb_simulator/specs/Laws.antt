@@ -40,6 +40,10 @@ head_in s = (world_of s).head
 abbrev pub behind : Setup → List Event → World Buyer Shop
 behind s es = run (rules_of (world_of s)) (world_of s).world es
 
+-- what a program has of a set-up behind these events: its house, and that world. `World::try_new` makes it behind none, and `World::step` takes it on
+abbrev pub IsBehind : Setup → List Event → Simulated → Type 0
+IsBehind s es w = w ≡ record (world_of s) { world = behind s es }
+
 -- the entries are Legal, and each came by a call; what was acknowledged stands; each reply is the verdict's over the first of them
 abbrev pub WorldsAreLawful : Type 0
 WorldsAreLawful = (s : Setup) → IsLawful s → (es : List Event) → IsLawfulWorld (house_verdict (head_in s) s.cap) (behind s es)
