@@ -81,7 +81,7 @@ buyers_new (w ∷ ws) (suc i) b there = buyers_new ws i b there
 
 -- ---- all of it
 
-begins : (s : Setup) → IsLawful s → IsSetUp (world_of s).world
+pub begins : (s : Setup) → IsLawful s → IsSetUp (world_of s).world
 begins s is = record { legal = is.legal.legal; same = refl; no_packets = refl; no_calls = refl; no_turn = refl; no_origins = refl; none_acknowledged = refl }
 
 pub set_ups_meet : SetUpsMeet

@@ -5,3 +5,4 @@ mod Kept
 mod Setting
 mod Lawful
 mod Behind
+mod Terms

@@ -19,6 +19,26 @@ pub fn worlds_are_lawful()
     nb_escrow::laws::records_legal();
 }
 
+/// The version, the rate and the cap of a set-up hold behind every list of events: the durable entries are Legal under that version and that rate, and at most
+/// as many as the cap; also with an entry that is written and not opened.
+pub fn terms_are_kept()
+    ensures { law.TermsAreKept }
+{
+    nb_book::laws::stays_legal();
+    nb_escrow::laws::records_legal();
+}
+
+/// Nothing is lost from a world to a later one: the durable entries, the packets and what was acknowledged are the first of the later ones, and the calls are
+/// there, with their packets and moments. Of the set-up nothing is premised.
+pub fn worlds_only_grow()
+    ensures { law.WorldsOnlyGrow }
+{}
+
+/// What a stop leaves of the entries is a prefix of the commit list before it.
+pub fn stops_keep_prefix()
+    ensures { law.StopsKeepPrefix }
+{}
+
 /// The key of each payment behind the set-up's entries, where a merchant's step made the request, opens what any consumer held of that order to the goods of
 /// the product; or that is a collision.
 pub fn payments_open_goods()
