@@ -6,8 +6,9 @@
 //! caller has that its world is the set-up's behind the events of its own calls, by their clauses alone, and with that each law of [`laws`].
 //!
 //! A packet keeps the message that a node sent, and it is spelled where the house reads it (`packet.rt`). A node keeps the items of its journal, and a
-//! restart starts it again with these (`buying.rt`, `selling.rt`). Nodes are found by their numbers, and packets and calls by theirs, without going
-//! through the others; all memory that an event needs is taken before anything changes.
+//! restart starts it again with these (`buying.rt`, `selling.rt`). That nodes are found by their numbers, and packets and calls by theirs, without going
+//! through the others, and that all memory that an event needs is taken before anything changes, is how it is built: no contract promises it. What is
+//! promised of a step without memory is that nothing changed.
 //!
 //! Left to others: which events happen, and what is told of a world.
 #![tactic(auto)]

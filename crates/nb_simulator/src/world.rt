@@ -29,7 +29,7 @@ use std::marker::Model;
 /// What became of an event.
 #[derive(Clone, Copy, PartialEq, Eq)]
 pub enum Stepped {
-    /// It fits, and the world went on.
+    /// It fits; a node that it reached may have ignored it, and then nothing changed.
     Moved,
     /// It does not fit, and nothing changed.
     Unfit,
