@@ -32,11 +32,6 @@ use Rattle.nb_book.specs.declared.entry.Entry.{Entry}
 use Rattle.nb_book.specs.Legal.{LegalUnder, NextUnder}
 use Rattle.nb_book.specs.Laws.{LegalUnderIsNext, StaysLegalUnder}
 
--- the first, and those behind it
-pub first_removed : {A : Type 0} (xs rest : List A) (x : A) → 0 < length xs → x ≡ slice_index_or xs 0 x → rest ≡ remove xs 0 → xs ≡ x ∷ rest
-first_removed [] rest x some is behind = absurd (omega (arith, some))
-first_removed (y ∷ xs) rest x some is behind = rw (is, behind) refl
-
 -- the entry at a place may come next, where all are Legal
 pub next_at : LegalUnderIsNext → (version rate : ℕ) (H so_far : List Entry) (k : ℕ) (d : Entry) → LegalUnder version rate H → k < length H → so_far ≡ take k H → NextUnder version rate so_far (get_or H k d)
 next_at law version rate H so_far k d legal within far = subst (λ (xs : List Entry). NextUnder version rate xs (get_or H k d)) (sym far) ((law version rate H).0 legal k within d)
