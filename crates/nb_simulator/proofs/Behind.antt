@@ -1,5 +1,5 @@
 -- A world that is a set-up's behind some events is, one step on, the set-up's behind these and that event.
-use Rattle.std.proofs.Common.{◌≡◌, ℕ, List, [], ◌∷◌, ◌++◌, Option, Some, None, Result, Ok, Err, sym, ap, ◌∙◌}
+use Rattle.std.proofs.Common.{◌≡◌, ℕ, List, [], ◌∷◌, ◌++◌, Option, Result, Ok, Err, sym, ap, ◌∙◌}
 use Rattle.std.specs.Prelude.{IfOk}
 use Rattle.nb_units.specs.declared.memory.NoMemory.{NoMemory}
 use Rattle.nb_escrow.specs.declared.head.Head.{Head}

@@ -1,5 +1,5 @@
 -- The terms of a set-up are kept, and nothing is lost, behind every list of events.
-use Rattle.std.proofs.Common.{◌≡◌, ℕ, suc, true, ◌+◌, ◌<◌, ◌≤◌, List, [], ◌∷◌, ◌++◌, length, take, Option, Some, refl, sym, ap, subst, ◌∙◌, arith, length-append}
+use Rattle.std.proofs.Common.{◌≡◌, ℕ, suc, true, ◌+◌, ◌<◌, ◌≤◌, List, [], ◌∷◌, ◌++◌, length, take, Some, refl, sym, ap, subst, ◌∙◌, arith}
 use Rattle.std.proofs.lemmas.List.{length-take-le}
 use Rattle.std.proofs.lemmas.Option.{slice_get_within}
 use Rattle.std.specs.List.{slice_get}
@@ -13,7 +13,7 @@ use Rattle.nb_escrow.specs.declared.head.Head.{Head}
 use Rattle.nb_world.specs.declared.event.Event.{Event}
 use Rattle.nb_world.specs.declared.event.Event.TheVariants as on
 use Rattle.nb_world.specs.declared.turning.Origin.{Origin}
-use Rattle.nb_world.specs.World.{World, commits, request_of}
+use Rattle.nb_world.specs.World.{World, commits}
 use Rattle.nb_world.specs.Laws.{Begins, CameBy, GrowsInto, HasOrigins}
 use Rattle.nb_world.proofs.Lists.{all_at}
 use Rattle.nb_world.proofs.Moving.{only_grows}
@@ -24,7 +24,7 @@ use Rattle.nb_parties.specs.Rules.{house_verdict, shown}
 use Rattle.nb_simulator.specs.declared.setup.Setup.{Setup}
 use Rattle.nb_simulator.specs.Setups.{IsLawful, world_of}
 use Rattle.nb_simulator.specs.Worlds.{rules_of}
-use Rattle.nb_simulator.specs.Laws.{behind, head_in, KeepsTerms, StopsKeepPrefix, TermsAreKept, WorldsOnlyGrow}
+use Rattle.nb_simulator.specs.Laws.{behind, head_in, StopsKeepPrefix, TermsAreKept, WorldsOnlyGrow}
 use Rattle.nb_simulator.proofs.Lawful.{begins, worlds_are_lawful}
 
 -- ---- the cap
@@ -38,7 +38,7 @@ last_there x (y ∷ xs) = last_there y xs
 had_room : escrow.RecordsLegal → (head : Head) (cap : ℕ) → IsRuling head → (w : World Buyer Shop) (origin : Origin) → CameBy (house_verdict head cap) w origin → origin.place < cap
 had_room records head cap ruling w origin came =
     let room : length (take origin.place w.durable) < cap =
-        (records (take origin.place w.durable) head cap came.packet.kind came.packet.body came.moment came.entry ruling came.ruled).1 in
+    (records (take origin.place w.durable) head cap came.packet.kind came.packet.body came.moment came.entry ruling came.ruled).1 in
     let within : origin.place < length w.durable = slice_get_within w.durable origin.place came.entry came.stands in
     let least : origin.place ≤ length w.durable = omega (arith, within) in
     subst (λ (n : ℕ). n < cap) (length-take-le origin.place w.durable least) room
@@ -61,7 +61,7 @@ within_cap : StaysLegal → escrow.RecordsLegal → (s : Setup) → IsLawful s �
 within_cap stays records s is es =
     let lawful = worlds_are_lawful stays records s is es in
     all_had_room records (head_in s) s.cap is.ruling (world_of s).world (behind s es) (entries_have_origins (rules_of (world_of s)) (world_of s).world refl es) is.within
-        (behind s es).origins refl (λ k origin there. all_at (CameBy (house_verdict (head_in s) s.cap) (behind s es)) (behind s es).origins k origin there lawful.came)
+    (behind s es).origins refl (λ k origin there. all_at (CameBy (house_verdict (head_in s) s.cap) (behind s es)) (behind s es).origins k origin there lawful.came)
 
 pub terms_are_kept : StaysLegal → escrow.RecordsLegal → TermsAreKept
 terms_are_kept stays records s is es =

@@ -1,5 +1,5 @@
 //! What holds of every world that is made of a lawful set-up. Each function here does nothing but to cite laws of the crates below: its contract is the
-//! law. They speak of the world `behind` a set-up and a list of events; that a [`World`](crate::World) is that one, for its set-up and the events that it was taken on
+//! law. Each speaks of the world `behind` a set-up and a list of events; that a [`World`](crate::World) is that one, for its set-up and the events that it was taken on
 //! by, is what [`World::new`](crate::World::new) and [`World::step`](crate::World::step) say by their clauses `behind` and `run`.
 
 ghost use Rattle.nb_simulator.specs.Laws as law;
