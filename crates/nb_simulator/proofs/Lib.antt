@@ -4,3 +4,5 @@ mod Calls
 mod Kept
 mod Setting
 mod Lawful
+mod Behind
+mod Terms

@@ -1,9 +1,7 @@
 -- How a set-up is gone through.
-use Rattle.std.proofs.Common.{◌≡◌, ℕ, zero, suc, ◌+◌, ◌<◌, ◌≤◌, Bool, true, false, List, [], ◌∷◌, ◌++◌, length, map, take, get_or, Option, Some, None, Result, Ok, Err, refl, sym, ap, subst, ◌∙◌, arith, length-append}
+use Rattle.std.proofs.Common.{◌≡◌, ℕ, ◌+◌, ◌<◌, ◌≤◌, true, false, List, [], ◌∷◌, ◌++◌, length, map, take, get_or, Option, Some, None, Result, Ok, Err, refl, sym, ap, subst, ◌∙◌, arith, length-append}
 use Rattle.std.proofs.lemmas.List.{append_assoc}
-use Rattle.std.specs.Prelude.{slice_index_or, EachIndex, IsTrue, ◌↔◌}
-use Rattle.std.specs.List.{remove, HoldsAt}
-use Rattle.std.proofs.lemmas.List.{take_all, take_more}
+use Rattle.std.proofs.lemmas.List.{take_more}
 use Rattle.std.specs.Prelude.{position, is_some, is_none, ◌==◌}
 use Rattle.std.proofs.lemmas.Bool.{false≢true}
 use Rattle.nb_book.specs.declared.entry.TheConstants.{MERCHANT}
@@ -30,12 +28,7 @@ use Rattle.nb_simulator.specs.Worlds.{Simulated}
 use Rattle.nb_simulator.specs.Setups.{Fills, IsLawful, Makes, Sets, is_enrolled, wallets_may, stalls_may, shop_of, world_of}
 use Rattle.nb_book.specs.declared.entry.Entry.{Entry}
 use Rattle.nb_book.specs.Legal.{LegalUnder, NextUnder}
-use Rattle.nb_book.specs.Laws.{LegalUnderIsNext, StaysLegalUnder}
-
--- the first, and those behind it
-pub first_removed : {A : Type 0} (xs rest : List A) (x : A) → 0 < length xs → x ≡ slice_index_or xs 0 x → rest ≡ remove xs 0 → xs ≡ x ∷ rest
-first_removed [] rest x some is behind = absurd (omega (arith, some))
-first_removed (y ∷ xs) rest x some is behind = rw (is, behind) refl
+use Rattle.nb_book.specs.Laws.{LegalUnderIsNext}
 
 -- the entry at a place may come next, where all are Legal
 pub next_at : LegalUnderIsNext → (version rate : ℕ) (H so_far : List Entry) (k : ℕ) (d : Entry) → LegalUnder version rate H → k < length H → so_far ≡ take k H → NextUnder version rate so_far (get_or H k d)

@@ -1,8 +1,9 @@
 -- What follows for every world that is made of a lawful set-up, behind every list of events.
-use Rattle.std.specs.Prelude.{◌≡◌, ℕ, ◌≤◌, List, ◌∷◌, ◌++◌, length, Some}
+use Rattle.std.specs.Prelude.{◌≡◌, ℕ, ◌≤◌, Bool, List, [], ◌∷◌, ◌++◌, length, Some}
 use Rattle.std.specs.List.{slice_get}
 use Rattle.nb_units.specs.declared.ids.PartyId.{PartyId}
 use Rattle.nb_book.specs.declared.entry.Entry.{Entry}
+use Rattle.nb_book.specs.Legal.{LegalUnder}
 use Rattle.nb_endorse.specs.declared.receipt.Signed.{Signed}
 use Rattle.nb_escrow.specs.declared.head.Head.{Head}
 use Rattle.nb_escrow.specs.Head.{IsRuling}
@@ -10,9 +11,9 @@ use Rattle.nb_consumer.specs.State.{Buyer, purchase_of}
 use Rattle.nb_merchant.specs.Shop.{Shop}
 use Rattle.nb_world.specs.declared.event.Event.{Event}
 use Rattle.nb_world.specs.declared.event.Event.TheVariants as on
-use Rattle.nb_world.specs.World.{World}
+use Rattle.nb_world.specs.World.{World, commits}
 use Rattle.nb_world.specs.Steps.{run}
-use Rattle.nb_world.specs.Laws.{IsLawfulWorld, IsSetUp}
+use Rattle.nb_world.specs.Laws.{Begins, GrowsInto, IsLawfulWorld, IsSetUp}
 use Rattle.nb_parties.specs.Rules.{house_verdict}
 use Rattle.nb_parties.specs.Ends.{EndsBy, IsToldBy, EndsAsEntry}
 use Rattle.nb_parties.specs.Goods.{MerchantsAreEnrolled, PaysUnder, IsOfGoods}
@@ -40,9 +41,29 @@ head_in s = (world_of s).head
 abbrev pub behind : Setup → List Event → World Buyer Shop
 behind s es = run (rules_of (world_of s)) (world_of s).world es
 
+-- what a program has of a set-up behind these events: its house, and that world. `World::try_new` makes it behind none, and `World::step` takes it on
+abbrev pub IsBehind : Setup → List Event → Simulated → Type 0
+IsBehind s es w = w ≡ record (world_of s) { world = behind s es }
+
 -- the entries are Legal, and each came by a call; what was acknowledged stands; each reply is the verdict's over the first of them
 abbrev pub WorldsAreLawful : Type 0
 WorldsAreLawful = (s : Setup) → IsLawful s → (es : List Event) → IsLawfulWorld (house_verdict (head_in s) s.cap) (behind s es)
+
+-- the entries are Legal under the version and the rate of the set-up, and at most as many as its cap
+abbrev pub KeepsTerms : Setup → List Entry → Type 0
+KeepsTerms s entries = LegalUnder s.version s.rate entries × (length entries ≤ s.cap)
+
+-- so are the durable entries, and so is the commit list
+abbrev pub TermsAreKept : Type 0
+TermsAreKept = (s : Setup) → IsLawful s → (es : List Event) → KeepsTerms s (behind s es).durable × KeepsTerms s (commits (behind s es))
+
+-- nothing of a world is lost in a later one, whatever the set-up is
+abbrev pub WorldsOnlyGrow : Type 0
+WorldsOnlyGrow = (s : Setup) (es more : List Event) → GrowsInto (behind s es) (behind s (es ++ more))
+
+-- what a stop leaves of the entries is a prefix of the commit list before it
+abbrev pub StopsKeepPrefix : Type 0
+StopsKeepPrefix = (s : Setup) (es : List Event) (keep : Bool) → Begins (commits (behind s es)) (behind s (es ++ on.Stop keep ∷ [])).durable
 
 -- the key of each payment behind the set-up's entries opens what its consumer held, where a merchant's step made the request
 abbrev pub PaymentsOpenGoods : Type 0

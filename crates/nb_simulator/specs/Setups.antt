@@ -18,7 +18,6 @@ use Rattle.nb_wallet.specs.declared.wallet.Wallet.{Wallet}
 use Rattle.nb_consumer.specs.State.{Buyer, new_buyer}
 use Rattle.nb_stall.specs.declared.stall.Stall.{Stall}
 use Rattle.nb_merchant.specs.Shop.{Shop, new_shop}
-use Rattle.nb_world.specs.World.{World}
 use Rattle.nb_simulator.specs.declared.setup.Setup.{Setup}
 use Rattle.nb_simulator.specs.declared.setup.SetupFault.{SetupFault}
 use Rattle.nb_simulator.specs.declared.setup.SetupFault.TheVariants as fault
@@ -26,6 +25,7 @@ use Rattle.nb_simulator.specs.Worlds.{Simulated}
 
 -- ---- who is enrolled
 
+-- it is the nonce that is said, where one is
 abbrev pub is_nonce : Option ℕ → ℕ → Bool
 is_nonce None nonce = true
 is_nonce (Some n) nonce = nonce == n
@@ -53,13 +53,16 @@ stalls_may H before (seller ∷ sellers) = is_enrolled (party_in H seller.0.id) 
 
 -- ---- a set-up
 
--- the numbers of a stall have their widths, and so have those of each merchant's
+-- the numbers of a stall have their widths
 abbrev pub StallFits : Stall → Type 0
 StallFits s = (s.id.0 < 2 ^ 32) × (s.acct.0 < 2 ^ 32)
 
+-- so have those of each merchant's stall
 abbrev pub SellersFit : List (Stall × List Product) → Type 0
 SellersFit sellers = AllByRecursion (λ (seller : Stall × List Product). StallFits seller.0) sellers
 
+-- it is as it must be: a house may decide under its version and rate, its cap is within its limits, its entries are Legal under these and at most as many
+-- as the cap, and each who buys or sells is listed once, and enrolled as it is there
 pub record IsLawful (s : Setup) : Type 0 where
   pub ruling : MayRule s.version s.rate
   pub some : 1 ≤ s.cap

@@ -1,12 +1,11 @@
 -- What a world of a simulation is seen as, what it is made of, and what a step tells.
-use Rattle.std.specs.Prelude.{◌≡◌, ℕ, ◌<◌, ◌≤◌, ◌==◌, ◌&&◌, Bool, true, false, zero, suc, List, [], ◌∷◌, length, set, map, Option, Some, None}
+use Rattle.std.specs.Prelude.{◌≡◌, ℕ, ◌<◌, ◌≤◌, ◌==◌, ◌&&◌, Bool, false, zero, suc, List, [], ◌∷◌, length, set, Option, Some, None}
 use Rattle.std.specs.List.{position, slice_get}
 use Rattle.nb_units.specs.declared.frames.TheConstants.{LAST_KIND}
 use Rattle.nb_units.specs.declared.ids.PartyId.{PartyId}
 use Rattle.nb_book.specs.declared.entry.Entry.{Entry}
 use Rattle.nb_book.specs.Legal.{NextUnder}
 use Rattle.nb_escrow.specs.declared.head.Head.{Head}
-use Rattle.nb_wallet.specs.declared.purchase.Purchase.{Purchase}
 use Rattle.nb_consumer.specs.declared.phase.Phase.{Phase}
 use Rattle.nb_consumer.specs.Goods.{phase_in}
 use Rattle.nb_consumer.specs.State.{Buyer, purchase_of}
@@ -44,26 +43,31 @@ SameHouse old new = (new.head ≡ old.head) × (new.cap ≡ old.cap)
 
 -- ---- nodes
 
+-- the number of a consumer
 abbrev pub buyer_number : Buyer → ℕ
 buyer_number b = b.wallet.id.0
 
+-- the number of a merchant
 abbrev pub shop_number : Shop → ℕ
 shop_number s = s.stall.id.0
 
--- how far a purchase of the first consumer of this number has come
+-- how far a purchase of this consumer has come, where there is one
 abbrev pub phase_at_place : ℕ → Option Buyer → Option Phase
 phase_at_place transaction None = None
 phase_at_place transaction (Some b) = phase_in (purchase_of b transaction)
 
+-- the consumer at this place, where there is one
 abbrev pub buyer_at : List Buyer → Option ℕ → Option Buyer
 buyer_at buyers None = None
 buyer_at buyers (Some i) = slice_get buyers i
 
+-- how far a purchase of the first consumer of this number has come
 abbrev pub phase_of_first : List Buyer → PartyId → ℕ → Option Phase
 phase_of_first buyers id transaction = phase_at_place transaction (buyer_at buyers (position (λ (b : Buyer). b.wallet.id.0 == id.0) buyers))
 
 -- ---- the turn
 
+-- a kind is one of the sixteen
 abbrev pub IsKind : ℕ → Type 0
 IsKind kind = (1 ≤ kind) × (kind ≤ LAST_KIND)
 
@@ -77,6 +81,7 @@ abbrev pub StageReady : Head → List Entry → ℕ → Option Entry → Stage �
 StageReady head entries cap entry stage.Opened = Unit {0}
 StageReady head entries cap entry other = EntryReady head entries cap entry
 
+-- the turn, if there is one, has a reply of a kind, and its entry is so until it is opened
 abbrev pub TurnReady : Head → List Entry → ℕ → Option Turning → Type 0
 TurnReady head entries cap None = Unit {0}
 TurnReady head entries cap (Some t) = IsKind t.verdict.kind × StageReady head entries cap t.verdict.entry t.stage
@@ -93,11 +98,12 @@ asker_among calls packets c = do
   packet ← slice_get packets call.packet
   node_of packet.maker
 
--- what a stop leaves, and its call
+-- an entry, if there is one, with its call
 abbrev pub with_call : ℕ → Option Entry → Option (ℕ × Entry)
 with_call c None = None
 with_call c (Some e) = Some (c, e)
 
+-- what a stop leaves of a turn, with its call
 abbrev pub left_of : Option Turning → Bool → Option (ℕ × Entry)
 left_of None keep = None
 left_of (Some t) keep = with_call t.call (left keep (Some t))

@@ -1,5 +1,6 @@
 //! What holds of every world that is made of a lawful set-up. Each function here does nothing but to cite laws of the crates below: its contract is the
-//! law. A [`World`](crate::World) is the world of its set-up (`World::new`) behind the events that it was taken on by (`World::step`), so each law speaks of it.
+//! law. Each speaks of the world `behind` a set-up and a list of events; that a [`World`](crate::World) is that one, for its set-up and the events that it was taken on
+//! by, is what [`World::new`](crate::World::new) and [`World::step`](crate::World::step) say by their clauses `behind` and `run`.
 
 ghost use Rattle.nb_simulator.specs.Laws as law;
 
@@ -17,6 +18,26 @@ pub fn worlds_are_lawful()
     nb_book::laws::stays_legal();
     nb_escrow::laws::records_legal();
 }
+
+/// The version, the rate and the cap of a set-up hold behind every list of events: the durable entries are Legal under that version and that rate, and at most
+/// as many as the cap; also with an entry that is written and not opened.
+pub fn terms_are_kept()
+    ensures { law.TermsAreKept }
+{
+    nb_book::laws::stays_legal();
+    nb_escrow::laws::records_legal();
+}
+
+/// Nothing is lost from a world to a later one: the durable entries, the packets and what was acknowledged are the first of the later ones, and the calls are
+/// there, with their packets and moments. Of the set-up nothing is premised.
+pub fn worlds_only_grow()
+    ensures { law.WorldsOnlyGrow }
+{}
+
+/// What a stop leaves of the entries is a prefix of the commit list before it.
+pub fn stops_keep_prefix()
+    ensures { law.StopsKeepPrefix }
+{}
 
 /// The key of each payment behind the set-up's entries, where a merchant's step made the request, opens what any consumer held of that order to the goods of
 /// the product; or that is a collision.

@@ -2,12 +2,13 @@
 //!
 //! A [`World`] is seen as the world of `nb_world`, whose steps are defined there, with the real parties of `nb_parties`. It is made of a [`Setup`]
 //! ([`World::new`]), and [`World::step`] takes it on by one event: to the world of that definition, or to none where the event does not fit, and nothing
-//! changes then. So every law of `nb_world` and `nb_parties` over lists of events holds of a world and the events that it was taken on by
-//! (`nb_world::laws`, `nb_parties::laws`).
+//! changes then. What is made is behind no event, and what is behind some events is by a step behind these and one more (`IsBehind` of `specs/Laws.antt`): so a
+//! caller has that its world is the set-up's behind the events of its own calls, by their clauses alone, and with that each law of [`laws`].
 //!
 //! A packet keeps the message that a node sent, and it is spelled where the house reads it (`packet.rt`). A node keeps the items of its journal, and a
-//! restart starts it again with these (`buying.rt`, `selling.rt`). Nodes are found by their numbers, and packets and calls by theirs, without going
-//! through the others; all memory that an event needs is taken before anything changes.
+//! restart starts it again with these (`buying.rt`, `selling.rt`). That nodes are found by their numbers, and packets and calls by theirs, without going
+//! through the others, and that all memory that an event needs is taken before anything changes, is how it is built: no contract promises it. What is
+//! promised of a step without memory is that nothing changed.
 //!
 //! Left to others: which events happen, and what is told of a world.
 #![tactic(auto)]

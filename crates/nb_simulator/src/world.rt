@@ -1,6 +1,7 @@
-ghost use Rattle.std.specs.Prelude.{◌≡◌, ◌<◌, ◌^◌, ◌-◌, length, slice_get, option_map, Some, OnErr, IfOk};
+ghost use Rattle.std.specs.Prelude.{◌≡◌, ◌<◌, ◌^◌, ◌-◌, ◌∷◌, ◌++◌, [], List, length, slice_get, option_map, Some, OnErr, IfOk};
 ghost use Rattle.nb_msgs.specs.declared.node.To.TheVariants as to;
 ghost use Rattle.nb_world.specs.Steps as steps;
+ghost use Rattle.nb_simulator.specs.Laws.{IsBehind};
 ghost use Rattle.nb_simulator.specs.Setups.{IsLawful, SellersFit, Sets, world_of};
 ghost use Rattle.nb_simulator.specs.Worlds.{Tells, SameHouse, rules_of, phase_of_first};
 
@@ -28,7 +29,7 @@ use std::marker::Model;
 /// What became of an event.
 #[derive(Clone, Copy, PartialEq, Eq)]
 pub enum Stepped {
-    /// It fits, and the world went on.
+    /// It fits; a node that it reached may have ignored it, and then nothing changed.
     Moved,
     /// It does not fit, and nothing changed.
     Unfit,
@@ -90,6 +91,8 @@ impl World {
     /// each consumer and each merchant is listed once, and enrolled as it is there.
     pub fn try_new(alloc: Global, setup: Setup) -> Result<World, SetupFault>
         ensures sets { Sets setup result }
+        // It is behind no event.
+        ensures behind { IfOk result (IsBehind setup []) }
         // The numbers of its merchants have their widths, as laws over them premise.
         ensures fit { IfOk result (λ _. SellersFit setup.merchants.items) }
     {
@@ -134,6 +137,7 @@ impl World {
     pub fn new(alloc: Global, setup: Setup) -> Result<World, NoMemory>
         requires { IsLawful setup }
         ensures made { IfOk result (λ w. w ≡ world_of setup) }
+        ensures behind { IfOk result (IsBehind setup []) }
         ensures fit { IfOk result (λ _. SellersFit setup.merchants.items) }
     {
         match World::try_new(alloc, setup) {
@@ -148,6 +152,19 @@ impl World {
         requires packets { length self.old.world.packets < 2 ^ 32 - 1 }
         requires calls { length self.old.world.calls < 2 ^ 32 - 1 }
         // It is the world that the event leads to; or the event does not fit, and nothing changes.
+        ensures world { IfOk result (λ stepped. Tells (steps.step (rules_of self.old) self.old.world e.now) self.old.world self.new.world stepped) }
+        // A world that is a set-up's behind some events is then the set-up's behind these and this one, whether it fits or not: what `laws` say of it holds.
+        ensures run { IfOk result (λ _. (s : Setup) (es : List Event) → IsBehind s es self.old → IsBehind s (es ++ e.now ∷ []) self.new) }
+        ensures err { OnErr result (self.new ≡ self.old) }
+        ensures house { SameHouse self.old self.new }
+    {
+        self.take_on(e)
+    }
+
+    // Takes the world on by an event.
+    fn take_on(&mut self, e: &Event) -> Result<Stepped, NoMemory>
+        requires packets { length self.old.world.packets < 2 ^ 32 - 1 }
+        requires calls { length self.old.world.calls < 2 ^ 32 - 1 }
         ensures world { IfOk result (λ stepped. Tells (steps.step (rules_of self.old) self.old.world e.now) self.old.world self.new.world stepped) }
         ensures err { OnErr result (self.new ≡ self.old) }
         ensures house { SameHouse self.old self.new }
