@@ -66,6 +66,7 @@ pub record WorldLeaves (set_up w : World Buyer Shop) (stopped : World Buyer Shop
   pub acknowledged : AllByRecursion (StandsDurable stopped) w.acknowledged
   pub grows : Begins stopped.durable set_up.durable
 
+-- A stop leaves a prefix of the commits with all that was told: of a run of the house at any moment of each turn, and of a world behind every list of events.
 pub record StopLeavesPrefix {D : Type 0} (tells : DiskTells D) (first : Chronicled D) (rounds : List Round) (vaults : List (Chronicled D)) (set_up : World Buyer Shop) : Type 0 where
   pub house : StopsLeave tells (house_in first) (length (entries_in first)) [] first rounds vaults
   pub world : (es : List Event) (keep : Bool) → WorldLeaves set_up (run (rules_in first) set_up es) (next (rules_in first) (run (rules_in first) set_up es) (on.Stop keep))
@@ -111,9 +112,11 @@ abbrev pub WhereDecided : (List Entry → Request → Type 0) → List Entry →
 WhereDecided so entries request (At place) = so (take place entries) request
 WhereDecided so entries request other = Unit {0}
 
+-- so it is of each of these requests
 abbrev pub AllDecidedSo : (List Entry → Request → Type 0) → List Entry → List Answered → Type 0
 AllDecidedSo so entries answers = AllByRecursion (λ (a : Answered). WhereDecided so entries a.request a.mark) answers
 
+-- An order is paid exactly where it is payable, and what is refused is refused truly: by each turn of the house, and by each call of a world.
 pub record PaidWherePayableRefusedTruly {D : Type 0} (tells : DiskTells D) (first : Chronicled D) (rounds : List Round) (vaults : List (Chronicled D)) (set_up : World Buyer Shop) : Type 0 where
   -- where the disk's count does not rise and the house is not worn, each request is decided
   pub decided : (Rose (tells.faults first.disk) (tells.faults (last_vault first vaults).disk) → ⊥) → faults_of first.lines < MAX_FAULTS
@@ -131,6 +134,7 @@ pub record PaidWherePayableRefusedTruly {D : Type 0} (tells : DiskTells D) (firs
 abbrev pub GivesKeyWherePaid : Head → ℕ → List Entry → Request → Type 0
 GivesKeyWherePaid head cap over request = request.kind ≡ STATUS_REQUEST → KeyWherePaid over request.body (decision_on head cap over request).reply
 
+-- A key is given exactly where the payment stands: by each turn of the house, and by each reply of a world's house.
 pub record KeyWherePaymentStands {D : Type 0} (first : Chronicled D) (rounds : List Round) (vaults : List (Chronicled D)) (set_up : World Buyer Shop) : Type 0 where
   pub house : AllDecidedSo (GivesKeyWherePaid (head_in first) first.origin.cap) (entries_in (last_vault first vaults)) (answered_in (house_in first) rounds)
   pub world : (es : List Event) (k c at : ℕ) (made packet : Packet) (moment : ℕ) → let w = run (rules_in first) set_up es in
@@ -147,6 +151,7 @@ pub record RepliesOfOneList {D : Type 0} (first : Chronicled D) (rounds : List R
 
 -- ---- all of them
 
+-- The six sentences, each by its name, of one run of the house, and of the world that is tied to it, behind these events and behind all.
 pub record Headline {D : Type 0} (tells : DiskTells D) (first : Chronicled D) (rounds : List Round) (vaults : List (Chronicled D)) (set_up : World Buyer Shop) (es : List Event) (number : Request → ℕ) : Type 0 where
   -- the run is events of the world, which lead to the entries of its last vault, and hand out its replies
   pub tie : Ties (rules_in first) (house_in first) (run (rules_in first) set_up es) number (state_of first) rounds (states_of vaults)

@@ -71,10 +71,11 @@ last_vault first (next ∷ vaults) = last_vault next vaults
 abbrev pub states_of : {D : Type 0} → List (Chronicled D) → List State
 states_of vaults = map state_of vaults
 
--- the head of the house, and what a world of real parties with this house goes by
+-- the head of the house
 abbrev pub head_in : {D : Type 0} → Chronicled D → Head
 head_in v = head_of v.origin.charter
 
+-- what a world of real parties with this house goes by
 abbrev pub rules_in : {D : Type 0} → Chronicled D → Rules Buyer Shop
 rules_in v = real_rules (head_in v) v.origin.cap
 

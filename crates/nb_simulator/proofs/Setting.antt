@@ -32,11 +32,6 @@ use Rattle.nb_book.specs.declared.entry.Entry.{Entry}
 use Rattle.nb_book.specs.Legal.{LegalUnder, NextUnder}
 use Rattle.nb_book.specs.Laws.{LegalUnderIsNext, StaysLegalUnder}
 
--- the first, and those behind it
-pub first_removed : {A : Type 0} (xs rest : List A) (x : A) → 0 < length xs → x ≡ slice_index_or xs 0 x → rest ≡ remove xs 0 → xs ≡ x ∷ rest
-first_removed [] rest x some is behind = absurd (omega (arith, some))
-first_removed (y ∷ xs) rest x some is behind = rw (is, behind) refl
-
 -- the entry at a place may come next, where all are Legal
 pub next_at : LegalUnderIsNext → (version rate : ℕ) (H so_far : List Entry) (k : ℕ) (d : Entry) → LegalUnder version rate H → k < length H → so_far ≡ take k H → NextUnder version rate so_far (get_or H k d)
 next_at law version rate H so_far k d legal within far = subst (λ (xs : List Entry). NextUnder version rate xs (get_or H k d)) (sym far) ((law version rate H).0 legal k within d)
@@ -52,33 +47,6 @@ one_more_fits xs ys e cap is fits not =
   where
     by : (a b : ℕ) → a ≤ cap → (a ≡ cap → ⊥) → b ≡ a + 1 → b ≤ cap
     by a b fits not more = omega (arith, fits, not, more)
-
--- ---- merchants
-
-none_or : (o : Option ℕ) → is_some o ≡ true → is_none o ≡ false
-none_or (Some n) e = refl
-none_or None e = absurd (false≢true e)
-
-is_none_so : (o : Option ℕ) → is_some o ≡ false → is_none o ≡ true
-is_none_so None e = refl
-is_none_so (Some n) e = absurd (false≢true (sym e))
-
--- the merchant is listed before
-pub stall_again : (H : List Entry) (before : List Shop) (seller : Stall × List Product) (rest left : List (Stall × List Product)) → left ≡ seller ∷ rest
-    → is_enrolled (party_in H seller.0.id) MERCHANT seller.0.acct None seller.0.key ≡ true
-    → is_some (position (λ (s : Shop). s.stall.id.0 == seller.0.id.0) before) ≡ true → stalls_may H before left ≡ false
-stall_again H before seller rest left is enrolled listed = rw (is, enrolled, none_or _ listed) refl
-
--- it is not
-pub stall_next : (H : List Entry) (before : List Shop) (seller : Stall × List Product) (rest left : List (Stall × List Product)) → left ≡ seller ∷ rest
-    → is_enrolled (party_in H seller.0.id) MERCHANT seller.0.acct None seller.0.key ≡ true
-    → is_some (position (λ (s : Shop). s.stall.id.0 == seller.0.id.0) before) ≡ false → stalls_may H before left ≡ stalls_may H (before ++ shop_of seller ∷ []) rest
-stall_next H before seller rest left is enrolled new = rw (is, enrolled, is_none_so _ new) refl
-
-pub stall_made : (before behind : List Shop) (seller : Stall × List Product) (rest left : List (Stall × List Product)) → left ≡ seller ∷ rest → behind ≡ before ++ shop_of seller ∷ []
-    → behind ++ map shop_of rest ≡ before ++ map shop_of left
-stall_made before behind seller rest left is added =
-    ap (λ (xs : List Shop). xs ++ map shop_of rest) added ∙ append_assoc before (shop_of seller ∷ []) (map shop_of rest) ∙ sym (ap (λ (xs : List (Stall × List Product)). before ++ map shop_of xs) is)
 
 -- ---- what is made
 

@@ -5,11 +5,12 @@ use Rattle.nb_msgs.specs.Bodies.{kind_of, body_bytes, IsMessage, MessageKeepsRul
 use Rattle.nb_simulator.specs.declared.packet.Content.{Content}
 use Rattle.nb_simulator.specs.declared.packet.Content.TheVariants.{Said, Raw}
 
--- its kind, and its body as it is spelled
+-- its kind
 abbrev pub kind_in : Content → ℕ
 kind_in (Said m) = kind_of m
 kind_in (Raw kind body) = kind
 
+-- its body, as it is spelled
 abbrev pub body_in : Content → List ℕ
 body_in (Said m) = body_bytes m
 body_in (Raw kind body) = body

@@ -26,6 +26,7 @@ use Rattle.nb_simulator.specs.Worlds.{Simulated}
 
 -- ---- who is enrolled
 
+-- where a nonce is said it is this one
 abbrev pub is_nonce : Option ℕ → ℕ → Bool
 is_nonce None nonce = true
 is_nonce (Some n) nonce = nonce == n
@@ -53,13 +54,16 @@ stalls_may H before (seller ∷ sellers) = is_enrolled (party_in H seller.0.id) 
 
 -- ---- a set-up
 
--- the numbers of a stall have their widths, and so have those of each merchant's
+-- the numbers of a stall have their widths
 abbrev pub StallFits : Stall → Type 0
 StallFits s = (s.id.0 < 2 ^ 32) × (s.acct.0 < 2 ^ 32)
 
+-- so have those of each merchant's stall
 abbrev pub SellersFit : List (Stall × List Product) → Type 0
 SellersFit sellers = AllByRecursion (λ (seller : Stall × List Product). StallFits seller.0) sellers
 
+-- A set-up is as it must be: the version and the rate may be a house's, the cap is within its limits; the entries are at most as many, and Legal; and
+-- each consumer and each merchant is listed once, and enrolled as it is there.
 pub record IsLawful (s : Setup) : Type 0 where
   pub ruling : MayRule s.version s.rate
   pub some : 1 ≤ s.cap

@@ -44,26 +44,31 @@ SameHouse old new = (new.head ≡ old.head) × (new.cap ≡ old.cap)
 
 -- ---- nodes
 
+-- the number by which a consumer is found
 abbrev pub buyer_number : Buyer → ℕ
 buyer_number b = b.wallet.id.0
 
+-- the number by which a merchant is found
 abbrev pub shop_number : Shop → ℕ
 shop_number s = s.stall.id.0
 
--- how far a purchase of the first consumer of this number has come
+-- how far a purchase of a consumer has come, if there is the consumer
 abbrev pub phase_at_place : ℕ → Option Buyer → Option Phase
 phase_at_place transaction None = None
 phase_at_place transaction (Some b) = phase_in (purchase_of b transaction)
 
+-- the consumer at a place, if it is one
 abbrev pub buyer_at : List Buyer → Option ℕ → Option Buyer
 buyer_at buyers None = None
 buyer_at buyers (Some i) = slice_get buyers i
 
+-- how far a purchase of the first consumer of this number has come
 abbrev pub phase_of_first : List Buyer → PartyId → ℕ → Option Phase
 phase_of_first buyers id transaction = phase_at_place transaction (buyer_at buyers (position (λ (b : Buyer). b.wallet.id.0 == id.0) buyers))
 
 -- ---- the turn
 
+-- a number is one of the sixteen kinds
 abbrev pub IsKind : ℕ → Type 0
 IsKind kind = (1 ≤ kind) × (kind ≤ LAST_KIND)
 
@@ -77,6 +82,7 @@ abbrev pub StageReady : Head → List Entry → ℕ → Option Entry → Stage �
 StageReady head entries cap entry stage.Opened = Unit {0}
 StageReady head entries cap entry other = EntryReady head entries cap entry
 
+-- so is that of the turn, where there is one, and its reply has a kind
 abbrev pub TurnReady : Head → List Entry → ℕ → Option Turning → Type 0
 TurnReady head entries cap None = Unit {0}
 TurnReady head entries cap (Some t) = IsKind t.verdict.kind × StageReady head entries cap t.verdict.entry t.stage
@@ -93,11 +99,12 @@ asker_among calls packets c = do
   packet ← slice_get packets call.packet
   node_of packet.maker
 
--- what a stop leaves, and its call
+-- an entry, with the call that it came by
 abbrev pub with_call : ℕ → Option Entry → Option (ℕ × Entry)
 with_call c None = None
 with_call c (Some e) = Some (c, e)
 
+-- what a stop leaves of the turn, with its call
 abbrev pub left_of : Option Turning → Bool → Option (ℕ × Entry)
 left_of None keep = None
 left_of (Some t) keep = with_call t.call (left keep (Some t))

@@ -150,9 +150,8 @@ pub(crate) fn sellers_of(
     ensures fit { IfOk result (λ made. IfSome made (λ _. setups.SellersFit merchants.items)) }
 {
     let mut sellers = Sellers::new(alloc);
-    let mut left = merchants;
-    'left: while left.len() > 0 {
-        let (stall, catalogue) = left.remove(0);
+    for seller in merchants {
+        let (stall, catalogue) = seller;
         stall_fits(&stall);
         if !is_enrolled(book.party(stall.id), MERCHANT, stall.acct, None, &stall.key) {
             return Ok(None);
