@@ -24,12 +24,13 @@ use Rattle.nb_world.proofs.Serving.{world_law}
 use Rattle.nb_world.proofs.Settling.{house_records_legal}
 use Rattle.nb_parties.specs.Rules.{shown}
 use Rattle.nb_parties.specs.Goods.{IsEnrolled}
+use Rattle.nb_parties.proofs.Buying.{buyers_hold_goods}
 use Rattle.nb_parties.proofs.Ending.{ends_law}
 use Rattle.nb_parties.proofs.Paying.{goods_law}
 use Rattle.nb_simulator.specs.declared.setup.Setup.{Setup}
 use Rattle.nb_simulator.specs.Setups.{IsLawful, SellersFit, is_enrolled, is_nonce, shop_of, stalls_may, world_of}
 use Rattle.nb_simulator.specs.Worlds.{rules_of}
-use Rattle.nb_simulator.specs.Laws.{SetUpsMeet, WorldsAreLawful, PaymentsOpenGoods, PurchasesEndAsEntriesSay}
+use Rattle.nb_simulator.specs.Laws.{head_in, SetUpsMeet, WorldsAreLawful, PaymentsOpenGoods, PaidHoldsGoods, PurchasesEndAsEntriesSay}
 
 -- ---- merchants
 
@@ -103,3 +104,6 @@ goods_open stays records s is fit es = goods_law stays records (world_of s).head
 pub ends_told : StaysLegal → escrow.RecordsLegal → PurchasesEndAsEntriesSay
 ends_told stays records s is es more id k transaction signed =
     ends_law {M = Shop} stays records (rules_of (world_of s)) (world_of s).head s.cap is.ruling (world_of s).world (begins s is) es more id k transaction signed
+
+pub goods_held : PaidHoldsGoods
+goods_held s = buyers_hold_goods (head_in s) s.cap (world_of s).world (buyers_new s.consumers.items)

@@ -1,23 +1,28 @@
 -- What follows for every world that is made of a lawful set-up, behind every list of events.
-use Rattle.std.specs.Prelude.{◌≡◌, ℕ, ◌≤◌, Bool, List, [], ◌∷◌, ◌++◌, length, Some}
+use Rattle.std.specs.Prelude.{◌≡◌, ℕ, ◌≤◌, Bool, List, [], ◌∷◌, ◌++◌, length, Option, Some}
 use Rattle.std.specs.List.{slice_get}
+use Rattle.nb_units.specs.declared.ids.AcctId.{AcctId}
 use Rattle.nb_units.specs.declared.ids.PartyId.{PartyId}
 use Rattle.nb_book.specs.declared.entry.Entry.{Entry}
 use Rattle.nb_book.specs.Legal.{LegalUnder}
+use Rattle.nb_epo.specs.Spelling.{order_bytes}
 use Rattle.nb_endorse.specs.declared.receipt.Signed.{Signed}
 use Rattle.nb_escrow.specs.declared.head.Head.{Head}
+use Rattle.nb_escrow.specs.declared.settlement.PaymentOutcome.TheVariants.{Paid}
 use Rattle.nb_escrow.specs.Head.{IsRuling}
+use Rattle.nb_wallet.specs.declared.purchase.Purchase.{Purchase}
 use Rattle.nb_consumer.specs.State.{Buyer, purchase_of}
 use Rattle.nb_merchant.specs.Shop.{Shop}
 use Rattle.nb_world.specs.declared.event.Event.{Event}
 use Rattle.nb_world.specs.declared.event.Event.TheVariants as on
+use Rattle.nb_world.specs.declared.packet.Packet.{Packet}
 use Rattle.nb_world.specs.World.{World, commits}
 use Rattle.nb_world.specs.Steps.{run}
 use Rattle.nb_world.specs.Laws.{Begins, GrowsInto, IsLawfulWorld, IsSetUp}
 use Rattle.nb_parties.specs.Rules.{house_verdict}
 use Rattle.nb_parties.specs.Ends.{EndsBy, IsToldBy, EndsAsEntry}
-use Rattle.nb_parties.specs.Goods.{MerchantsAreEnrolled, PaysUnder, IsOfGoods}
-use Rattle.nb_parties.specs.Held.{ConsumersAreSo}
+use Rattle.nb_parties.specs.Goods.{MerchantsAreEnrolled, PaysUnder, IsKeyOfGoods, IsOfGoods}
+use Rattle.nb_parties.specs.Held.{ConsumersAreSo, HoldsGoods}
 use Rattle.nb_simulator.specs.declared.setup.Setup.{Setup}
 use Rattle.nb_simulator.specs.Setups.{IsLawful, SellersFit, world_of}
 use Rattle.nb_simulator.specs.Worlds.{Simulated, rules_of}
@@ -70,6 +75,17 @@ abbrev pub PaymentsOpenGoods : Type 0
 PaymentsOpenGoods = (s : Setup) → IsLawful s → SellersFit s.merchants.items → (es : List Event) (at : ℕ) (entry : Entry) (key : List ℕ)
     → slice_get (behind s es).durable at ≡ Some entry → PaysUnder key entry → length s.entries.items ≤ at
     → IsOfGoods (head_in s) s.cap (world_of s).world (behind s es) at entry key
+
+-- a purchase that ended as the entry of its order says, where that is a payment and a merchant endorsed the very order that the consumer kept with its key, is
+-- paid with the goods of the product, or holds a collision with them as they were sealed. So it is of every set-up: its consumers know nothing yet
+abbrev pub PaidHoldsGoods : Type 0
+PaidHoldsGoods = (s : Setup) (es more : List Event) (id : PartyId) (k transaction : ℕ) (signed : Signed)
+    → (ended : EndsBy (rules_of (world_of s)) (behind s es) id k transaction signed)
+    → let later = behind s (es ++ on.Deliver k ∷ more) in (whom : PartyId) (now : Option Purchase)
+    → (entry : EndsAsEntry (head_in s).house later.durable whom signed (purchase_of ended.buyer transaction) now)
+    → (cacct macct : AcctId) (key : List ℕ) (fee : Option ℕ) → entry.settlement.outcome ≡ Paid cacct macct key fee
+    → (seller : PartyId) (packet : Packet) (of : IsKeyOfGoods (world_of s).world seller packet key) → of.endorsed.endorses.sent.order ≡ order_bytes entry.order
+    → HoldsGoods key of.endorsed.endorses.product.goods entry.behind
 
 -- a purchase that ended by a receipt which the house made for its consumer is, then and behind all that follows, what the entry of its order says
 abbrev pub PurchasesEndAsEntriesSay : Type 0

@@ -56,3 +56,9 @@ pub fn purchases_end_as_entries_say()
     nb_book::laws::stays_legal();
     nb_escrow::laws::records_legal();
 }
+
+/// A purchase that ended as a payment among the durable entries says, whose order a merchant endorsed with the key of that payment, is paid with the goods of
+/// the product, or what its consumer holds is a collision with them as they were sealed: it is not foul. Of the set-up nothing is premised.
+pub fn paid_holds_goods()
+    ensures { law.PaidHoldsGoods }
+{}
