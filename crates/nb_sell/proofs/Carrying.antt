@@ -27,7 +27,7 @@ use Rattle.nb_sell.specs.declared.peer.Peer.{Peer}
 use Rattle.nb_sell.specs.declared.peer.Peer.TheVariants.{House, Consumer}
 use Rattle.nb_sell.specs.declared.peer.Next.{Next}
 use Rattle.nb_sell.specs.Run.{Act, Way, way, act_row, last_in, awaited, behind, kept, bytes_in, bytes_to, frame_in, frames_on, moments_of, peer_in, AreItems}
-use Rattle.nb_sell.specs.Sold.{Lines, Point, point, Gave, Went, KnowsOf, Loses}
+use Rattle.nb_sell.specs.Sold.{Lines, Point, Gave, Went, KnowsOf, Loses}
 use Rattle.nb_sell.specs.Steps.{Answers, IsShort, Acts, Listens, items_in, bytes_of, next_step, next_awaits, next_behind, done_awaits, at}
 use Rattle.nb_sell.proofs.Clocks.{gave_none, gave_both}
 use Rattle.nb_sell.proofs.Rows.{awaits_behind}

@@ -10,7 +10,6 @@ use Rattle.nb_wire.specs.declared.sending.Sent.TheVariants.{All, Failed}
 use Rattle.nb_wire.specs.declared.receiving.LinkEnd.{LinkEnd}
 use Rattle.nb_wire.specs.declared.receiving.LinkEnd.TheVariants.{Ended, BadFrame, ReadFault}
 use Rattle.nb_trade.specs.Lines.{Line}
-use Rattle.nb_trade.specs.declared.lost.Lost.TheVariants as lost
 use Rattle.nb_sell.specs.declared.peer.Peer.{Peer}
 use Rattle.nb_sell.specs.declared.peer.Peer.TheVariants.{House, Consumer}
 use Rattle.nb_sell.specs.declared.peer.Over.{Over}

@@ -1,8 +1,6 @@
 -- Where nothing more is done: the journal and the merchant are as they were behind the last act.
 use Rattle.std.proofs.Common.{◌≡◌, ap, List}
 use Rattle.nb_port.specs.Tells.{DiskTells}
-use Rattle.nb_journal.specs.declared.journal.Journal.{Journal}
-use Rattle.nb_merchant.specs.Shop.{Shop}
 use Rattle.nb_sell.specs.declared.peer.Over.{Over}
 use Rattle.nb_sell.specs.declared.peer.Over.TheVariants as over
 use Rattle.nb_sell.specs.Run.{Act}

@@ -20,7 +20,7 @@ use Rattle.nb_stall.specs.Spelling.{IsItem}
 use Rattle.nb_merchant.specs.declared.answer.Answer.{Answer}
 use Rattle.nb_merchant.specs.Shop.{Shop}
 use Rattle.nb_merchant.specs.Table as table
-use Rattle.nb_trade.specs.Lines.{Line, line_of, IsBegun, Says}
+use Rattle.nb_trade.specs.Lines.{line_of, IsBegun, Says}
 use Rattle.nb_trade.specs.Keeping.{items_of, AreShort, NotKept}
 use Rattle.nb_trade.specs.declared.lost.Lost.{Lost}
 use Rattle.nb_trade.specs.declared.lost.Lost.TheVariants as lost

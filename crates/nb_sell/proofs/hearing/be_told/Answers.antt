@@ -1,4 +1,4 @@
-use Rattle.std.proofs.Common.{◌≡◌, ℕ, ◌+◌, [], ◌∷◌, arith, None, Some, Ok, refl, subst, ◌∙◌}
+use Rattle.std.proofs.Common.{◌≡◌, ℕ, ◌+◌, arith, None, Some, Ok, refl, subst, ◌∙◌}
 use Rattle.nb_units.specs.Frames.{Frame}
 use Rattle.nb_frame.specs.Collected.{frame_at}
 use Rattle.nb_sell.specs.declared.peer.Peer.TheVariants.{House}
