@@ -1,5 +1,5 @@
 -- The world of a lawful set-up is as laws over real parties premise, and so they hold of it.
-use Rattle.std.proofs.Common.{◌≡◌, ℕ, zero, suc, ◌≤◌, Bool, true, false, List, [], ◌∷◌, ◌++◌, map, Option, Some, None, refl, sym, ap, subst, ◌∙◌}
+use Rattle.std.proofs.Common.{◌≡◌, ℕ, zero, suc, Bool, true, false, List, [], ◌∷◌, ◌++◌, map, Option, Some, None, refl, subst}
 use Rattle.std.specs.Prelude.{◌==◌, ◌&&◌, position, is_none}
 use Rattle.std.specs.List.{slice_get}
 use Rattle.std.specs.Str.{bytes_eq}
@@ -29,7 +29,7 @@ use Rattle.nb_parties.proofs.Paying.{goods_law}
 use Rattle.nb_simulator.specs.declared.setup.Setup.{Setup}
 use Rattle.nb_simulator.specs.Setups.{IsLawful, SellersFit, is_enrolled, is_nonce, shop_of, stalls_may, world_of}
 use Rattle.nb_simulator.specs.Worlds.{rules_of}
-use Rattle.nb_simulator.specs.Laws.{MeetsPremises, SetUpsMeet, WorldsAreLawful, PaymentsOpenGoods, PurchasesEndAsEntriesSay}
+use Rattle.nb_simulator.specs.Laws.{SetUpsMeet, WorldsAreLawful, PaymentsOpenGoods, PurchasesEndAsEntriesSay}
 
 -- ---- merchants
 

@@ -1,7 +1,7 @@
 -- What a node did is what the world's step says of it.
-use Rattle.std.proofs.Common.{◌≡◌, ℕ, zero, suc, ◌≤◌, ◌<◌, Bool, true, false, List, [], ◌∷◌, ◌++◌, length, set, Option, Some, None, refl, sym, ap, subst, ◌∙◌, arith}
+use Rattle.std.proofs.Common.{◌≡◌, ℕ, zero, suc, ◌≤◌, ◌<◌, Bool, true, false, List, [], ◌∷◌, ◌++◌, length, set, Option, Some, None, refl, sym, ap, ◌∙◌, arith}
 use Rattle.std.specs.Prelude.{if◌then◌else◌, nat_le, option_map}
-use Rattle.std.specs.List.{slice_get, position}
+use Rattle.std.specs.List.{slice_get}
 use Rattle.std.proofs.lemmas.List.{append-nil}
 use Rattle.std.proofs.lemmas.Bool.{le-leb, leb-true, false≢true}
 use Rattle.nb_units.specs.declared.limits.TheConstants.{MAX_MEMO}
@@ -13,7 +13,7 @@ use Rattle.nb_wallet.specs.declared.wallet.Start.{Start}
 use Rattle.nb_world.specs.declared.packet.Maker.TheVariants as by
 use Rattle.nb_world.specs.declared.packet.Packet.{Packet}
 use Rattle.nb_world.specs.World.{Going, Stays, Goes, Rules, World}
-use Rattle.nb_world.specs.Steps.{where_so, packets_of, consumer_goes, merchant_goes, consumer_at, merchant_at, started, buy_of, quiet_consumer_of, quiet_merchant_of, restart_consumer_of, restart_merchant_of, server_gets, deliver_of}
+use Rattle.nb_world.specs.Steps.{where_so, consumer_goes, merchant_goes, consumer_at, merchant_at, started, buy_of, quiet_consumer_of, quiet_merchant_of, restart_consumer_of, restart_merchant_of, server_gets, deliver_of}
 use Rattle.nb_world.proofs.Chains.{so, same_some, stands_there}
 use Rattle.nb_simulator.specs.declared.did.Did.{Did}
 use Rattle.nb_simulator.specs.declared.did.Did.TheVariants.{Stayed, Went, Sent}

@@ -1,15 +1,7 @@
 -- How a set-up is gone through.
-use Rattle.std.proofs.Common.{◌≡◌, ℕ, zero, suc, ◌+◌, ◌<◌, ◌≤◌, Bool, true, false, List, [], ◌∷◌, ◌++◌, length, map, take, get_or, Option, Some, None, Result, Ok, Err, refl, sym, ap, subst, ◌∙◌, arith, length-append}
-use Rattle.std.proofs.lemmas.List.{append_assoc}
-use Rattle.std.specs.Prelude.{slice_index_or, EachIndex, IsTrue, ◌↔◌}
-use Rattle.std.specs.List.{remove, HoldsAt}
-use Rattle.std.proofs.lemmas.List.{take_all, take_more}
-use Rattle.std.specs.Prelude.{position, is_some, is_none, ◌==◌}
+use Rattle.std.proofs.Common.{◌≡◌, ℕ, ◌+◌, ◌<◌, ◌≤◌, true, List, [], ◌∷◌, ◌++◌, length, map, take, get_or, Option, Some, None, Result, Ok, Err, sym, ap, subst, ◌∙◌, arith, length-append}
+use Rattle.std.proofs.lemmas.List.{take_more}
 use Rattle.std.proofs.lemmas.Bool.{false≢true}
-use Rattle.nb_book.specs.declared.entry.TheConstants.{MERCHANT}
-use Rattle.nb_book.specs.Searches.{party_in}
-use Rattle.nb_price.specs.Products.{Product}
-use Rattle.nb_stall.specs.declared.stall.Stall.{Stall}
 use Rattle.nb_merchant.specs.Shop.{Shop}
 use Rattle.std.specs.Result.{IsErr, IsErrAnd}
 use Rattle.nb_units.specs.Charter.{MayRule}
@@ -27,10 +19,10 @@ use Rattle.nb_simulator.specs.declared.setup.Setup.{Setup}
 use Rattle.nb_simulator.specs.declared.setup.SetupFault.{SetupFault}
 use Rattle.nb_simulator.specs.declared.setup.SetupFault.TheVariants as fault
 use Rattle.nb_simulator.specs.Worlds.{Simulated}
-use Rattle.nb_simulator.specs.Setups.{Fills, IsLawful, Makes, Sets, is_enrolled, wallets_may, stalls_may, shop_of, world_of}
+use Rattle.nb_simulator.specs.Setups.{Fills, IsLawful, Makes, Sets, wallets_may, stalls_may, shop_of, world_of}
 use Rattle.nb_book.specs.declared.entry.Entry.{Entry}
 use Rattle.nb_book.specs.Legal.{LegalUnder, NextUnder}
-use Rattle.nb_book.specs.Laws.{LegalUnderIsNext, StaysLegalUnder}
+use Rattle.nb_book.specs.Laws.{LegalUnderIsNext}
 
 -- the entry at a place may come next, where all are Legal
 pub next_at : LegalUnderIsNext → (version rate : ℕ) (H so_far : List Entry) (k : ℕ) (d : Entry) → LegalUnder version rate H → k < length H → so_far ≡ take k H → NextUnder version rate so_far (get_or H k d)

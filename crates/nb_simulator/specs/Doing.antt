@@ -1,5 +1,5 @@
 -- What a node did, beside what the rules say that it does.
-use Rattle.std.specs.Prelude.{◌≡◌, ℕ, Bool, true, false, List, [], ◌∷◌, set, Option, Some, None}
+use Rattle.std.specs.Prelude.{◌≡◌, ℕ, Bool, true, false, List, [], ◌∷◌, set, Some, None}
 use Rattle.std.specs.List.{slice_get}
 use Rattle.nb_msgs.specs.Bodies.{kind_of, body_bytes, IsMessage, MessageKeepsRules}
 use Rattle.nb_msgs.specs.declared.node.Step.{Step}

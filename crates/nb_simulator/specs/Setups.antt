@@ -18,7 +18,6 @@ use Rattle.nb_wallet.specs.declared.wallet.Wallet.{Wallet}
 use Rattle.nb_consumer.specs.State.{Buyer, new_buyer}
 use Rattle.nb_stall.specs.declared.stall.Stall.{Stall}
 use Rattle.nb_merchant.specs.Shop.{Shop, new_shop}
-use Rattle.nb_world.specs.World.{World}
 use Rattle.nb_simulator.specs.declared.setup.Setup.{Setup}
 use Rattle.nb_simulator.specs.declared.setup.SetupFault.{SetupFault}
 use Rattle.nb_simulator.specs.declared.setup.SetupFault.TheVariants as fault

@@ -1,12 +1,11 @@
 -- What a world of a simulation is seen as, what it is made of, and what a step tells.
-use Rattle.std.specs.Prelude.{◌≡◌, ℕ, ◌<◌, ◌≤◌, ◌==◌, ◌&&◌, Bool, true, false, zero, suc, List, [], ◌∷◌, length, set, map, Option, Some, None}
+use Rattle.std.specs.Prelude.{◌≡◌, ℕ, ◌<◌, ◌≤◌, ◌==◌, ◌&&◌, Bool, false, zero, suc, List, [], ◌∷◌, length, set, Option, Some, None}
 use Rattle.std.specs.List.{position, slice_get}
 use Rattle.nb_units.specs.declared.frames.TheConstants.{LAST_KIND}
 use Rattle.nb_units.specs.declared.ids.PartyId.{PartyId}
 use Rattle.nb_book.specs.declared.entry.Entry.{Entry}
 use Rattle.nb_book.specs.Legal.{NextUnder}
 use Rattle.nb_escrow.specs.declared.head.Head.{Head}
-use Rattle.nb_wallet.specs.declared.purchase.Purchase.{Purchase}
 use Rattle.nb_consumer.specs.declared.phase.Phase.{Phase}
 use Rattle.nb_consumer.specs.Goods.{phase_in}
 use Rattle.nb_consumer.specs.State.{Buyer, purchase_of}

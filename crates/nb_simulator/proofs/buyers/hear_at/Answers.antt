@@ -1,4 +1,4 @@
-use Rattle.std.proofs.Common.{◌≡◌, Ok, Err, sym, ap, subst}
+use Rattle.std.proofs.Common.{◌≡◌, Err, ap, subst}
 use Rattle.nb_msgs.specs.Reading.{message_of, ReadsBody}
 use Rattle.nb_msgs.specs.declared.fault.BodyFault.{BodyFault}
 use Rattle.nb_msgs.specs.declared.message.Message.{Message}

@@ -1,4 +1,4 @@
-use Rattle.std.proofs.Common.{◌≡◌, List, [], ◌++◌, map, drop}
+use Rattle.std.proofs.Common.{◌≡◌, [], ◌++◌, map, drop}
 use Rattle.nb_consumer.specs.State.{new_buyer}
 use Rattle.nb_simulator.specs.Setups.{wallets_may}
 use Rattle.nb_simulator.proofs.setup.buyers_of.Given as goal

@@ -1,4 +1,4 @@
-use Rattle.std.proofs.Common.{◌≡◌, List, [], ◌++◌, map, length}
+use Rattle.std.proofs.Common.{◌≡◌, [], ◌++◌, map, length}
 use Rattle.std.specs.Vec.Iter.{into_iter_items, into_iter_len}
 use Rattle.nb_simulator.specs.Setups.{SellersFit, stalls_may, shop_of}
 use Rattle.nb_simulator.proofs.setup.sellers_of.Given as goal

@@ -1,4 +1,4 @@
-use Rattle.std.proofs.Common.{◌≡◌, ℕ, ◌+◌, suc, List, length, map, sym, ap, subst, ◌∙◌, arith}
+use Rattle.std.proofs.Common.{◌≡◌, ℕ, List, length, ap, subst, ◌∙◌, arith}
 use Rattle.nb_world.specs.declared.call.Call.{Call}
 use Rattle.nb_simulator.specs.Worlds.{StopsAt, stopped_up_to}
 use Rattle.nb_simulator.proofs.Calls.{stops_more, stops_all}

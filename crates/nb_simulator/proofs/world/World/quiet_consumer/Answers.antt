@@ -1,4 +1,4 @@
-use Rattle.std.proofs.Common.{◌≡◌, Some, None, List, ◌++◌, refl, sym, ap, subst, ◌∙◌}
+use Rattle.std.proofs.Common.{List, ◌++◌, refl, sym, ap, ◌∙◌}
 use Rattle.nb_world.specs.declared.packet.Maker.TheVariants as by
 use Rattle.nb_world.specs.declared.packet.Packet.{Packet}
 use Rattle.nb_simulator.specs.Doing.{packets_did}

@@ -1,4 +1,4 @@
-use Rattle.std.proofs.Common.{◌≡◌, Some, None, List, ◌++◌, refl, sym, ap, subst, ◌∙◌}
+use Rattle.std.proofs.Common.{refl, sym, ◌∙◌}
 use Rattle.nb_merchant.specs.Shop.{Shop}
 use Rattle.nb_simulator.proofs.Nodes.{restart_merchant_is, restart_merchant_unknown}
 use Rattle.nb_simulator.proofs.world.World.restart_merchant.Goals as goal

@@ -1,4 +1,3 @@
-use Rattle.std.proofs.Common.{refl}
 use Rattle.nb_simulator.proofs.Setting.{sets_none, made_lawful}
 use Rattle.nb_simulator.proofs.world.World.try_new.Goals as goal
 
