@@ -32,8 +32,8 @@ is_nonce (Some n) nonce = nonce == n
 
 -- a party is enrolled in this role, with this account, this nonce where one is said, and this key
 abbrev pub is_enrolled : Option Party → ℕ → AcctId → Option ℕ → List ℕ → Bool
-is_enrolled None role acct nonce key = false
-is_enrolled (Some p) role acct nonce key = p.role == role && p.acct.0 == acct.0 && is_nonce nonce p.nonce && bytes_eq p.key key
+is_enrolled None role acct expected key = false
+is_enrolled (Some p) role acct expected key = p.role == role && p.acct.0 == acct.0 && is_nonce expected p.nonce && bytes_eq p.key key
 
 -- each consumer is enrolled as it is listed, and its number is none of those listed before it
 abbrev pub wallets_may : List Entry → List Buyer → List Wallet → Bool
