@@ -13,7 +13,6 @@ use Rattle.nb_journal.specs.Reading.{Holds, IsUnborn, IsDamaged}
 use Rattle.nb_journal.proofs.ReadingLaws.{one_journal, whole_not_damaged, unborn_is_neither}
 use Rattle.nb_vault.proofs.Founding.{told_of}
 use Rattle.nb_wallet.specs.declared.wallet.Start.{Start}
-use Rattle.nb_wallet.specs.declared.wallet.Wallet.{Wallet}
 use Rattle.nb_wallet.specs.Head.{wallet_of}
 use Rattle.nb_consumer.specs.declared.phase.Phase.{Phase}
 use Rattle.nb_consumer.specs.declared.phase.Phase.TheVariants as phase
@@ -24,8 +23,6 @@ use Rattle.nb_consumer.proofs.Running.{again_kept}
 use Rattle.nb_buy.specs.declared.peer.Peer.{Peer}
 use Rattle.nb_buy.specs.declared.peer.Peer.TheVariants.{House, Seller}
 use Rattle.nb_buy.specs.declared.ended.BuyEnd.{BuyEnd}
-use Rattle.nb_buy.specs.declared.ended.BuyEnd.TheVariants as ends
-use Rattle.nb_buy.specs.declared.ended.Lost.TheVariants as lost
 use Rattle.nb_buy.specs.Run.{buyer_behind, kept_by, phase_for}
 use Rattle.nb_buy.specs.Bought.{Around, around, WritesGoods}
 use Rattle.nb_buy.specs.Laws.{link_at, IsBrought, NoneFails, EndsAsOver}

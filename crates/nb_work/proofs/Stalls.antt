@@ -4,7 +4,6 @@ use Rattle.std.specs.Prelude.{IfSome, Result}
 use Rattle.nb_units.specs.declared.charter.Charter.{Charter}
 use Rattle.nb_port.specs.Tells.{DiskTells}
 use Rattle.nb_port.specs.Faults.{Rose}
-use Rattle.nb_journal.specs.declared.journal.Journal.{Journal}
 use Rattle.nb_journal.specs.declared.opening.OpenFault.{OpenFault}
 use Rattle.nb_journal.specs.declared.opening.OpenFault.TheVariants as opens
 use Rattle.nb_journal.specs.Layout.{front_bytes}
@@ -34,7 +33,7 @@ use Rattle.nb_run.specs.Ending.{at_no_place}
 use Rattle.nb_work.specs.declared.selling.Stop.{Stop}
 use Rattle.nb_work.specs.declared.selling.Stop.TheVariants as stops
 use Rattle.nb_work.specs.Buying.{not_opened}
-use Rattle.nb_work.specs.Selling.{Outside, Standing, Sale, AreSold, IsLastFor, IsNoStall, LeavesAs, Serves, SoldWith, StopsFor, standing, status_of, stop_for, with_link}
+use Rattle.nb_work.specs.Selling.{Outside, Standing, Sale, AreSold, IsLastFor, IsNoStall, LeavesAs, SoldWith, StopsFor, standing, status_of, stop_for, with_link}
 use Rattle.nb_work.specs.Laws.{GoesOnIn, IsFilled, IsStall, NoneFails, SalesGoOn, SalesAreTold, SalesComplete}
 
 -- ---- a stop

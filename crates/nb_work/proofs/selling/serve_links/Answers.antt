@@ -1,7 +1,7 @@
 use Rattle.std.proofs.Common.{sym, subst, ◌∙◌, arith}
 use Rattle.nb_merchant.specs.Laws.{kept_bytes}
 use Rattle.nb_sell.specs.Sold.{NothingLost}
-use Rattle.nb_work.specs.Selling.{Standing, Sale, standing}
+use Rattle.nb_work.specs.Selling.{standing}
 use Rattle.nb_work.proofs.Sales.{none_sold, one_sold, stopped_at, all_sold, port_failed, goes_on_ended}
 use Rattle.nb_work.proofs.selling.serve_links.Goals as goal
 

@@ -1,4 +1,4 @@
-use Rattle.std.proofs.Common.{List, length, map, sym, ap, subst, ◌∙◌, arith, ◌≡◌}
+use Rattle.std.proofs.Common.{length, map, sym, subst, ◌∙◌, arith, ◌≡◌}
 use Rattle.nb_run.specs.declared.ending.Ending.{Ending}
 use Rattle.nb_server.specs.Served.{worker_seen}
 use Rattle.nb_work.specs.Selling.{SellsAs, outside}
