@@ -5,10 +5,10 @@ use Rattle.std.specs.List.{AllByRecursion, IsDistinct, cons_option}
 use Rattle.std.proofs.lemmas.Bool.{eqb-true, ltb-true, ltb-false, true≢false, false≢true}
 use Rattle.nb_groups.specs.declared.found.Offer.{Offer}
 use Rattle.nb_groups.specs.Groups.{rise, are_groups}
-use Rattle.nb_groups.specs.Offers.{kind_of, same_kind, price_for, offer_for, offers_for}
+use Rattle.nb_groups.specs.Offers.{key_of, same_key, price_for, offer_for, offers_for}
 use Rattle.nb_groups.specs.Quote.{least, group_at, chosen}
 use Rattle.nb_groups.specs.Laws.{IsFor, IsLeast, ChosenIsLeast}
-use Rattle.nb_groups.proofs.Reading.{same_kinds}
+use Rattle.nb_groups.proofs.Reading.{same_keys}
 
 -- one of a list, step by step
 abbrev In : {A : Type 0} → List A → A → Type 0
@@ -46,36 +46,36 @@ no_some n e = cc
 -- a price that is found is that of an offer
 found : (offers : List Offer) (product group price : ℕ) → price_for offers (product, group) ≡ Some price → In offers (record { product = product; group = group; price = price })
 found [] product group price e = absurd (no_some price e)
-found (o ∷ offers) product group price e = by (found offers product group price) (same_kind (product, group) (kind_of o)) refl
+found (o ∷ offers) product group price e = by (found offers product group price) (same_key (product, group) (key_of o)) refl
   where
-    by : (price_for offers (product, group) ≡ Some price → In offers (record { product = product; group = group; price = price })) → (b : Bool) → same_kind (product, group) (kind_of o) ≡ b
+    by : (price_for offers (product, group) ≡ Some price → In offers (record { product = product; group = group; price = price })) → (b : Bool) → same_key (product, group) (key_of o) ≡ b
         → In (o ∷ offers) (record { product = product; group = group; price = price })
     by rest true is =
-        let kind = same_kinds (product, group) (kind_of o) is in
-        let first : product ≡ o.product = ap (λ (k : ℕ × ℕ). k.0) kind in
-        let second : group ≡ o.group = ap (λ (k : ℕ × ℕ). k.1) kind in
+        let key = same_keys (product, group) (key_of o) is in
+        let first : product ≡ o.product = ap (λ (k : ℕ × ℕ). k.0) key in
+        let second : group ≡ o.group = ap (λ (k : ℕ × ℕ). k.1) key in
         let third : o.price ≡ price = some_is o.price price (sym (ap (λ (b : Bool). cond b (Some o.price) (price_for offers (product, group))) is) ∙ e) in
         inl (rw (first, second, sym third) refl)
     by rest false is = inr (rest (sym (ap (λ (b : Bool). cond b (Some o.price) (price_for offers (product, group))) is) ∙ e))
 
 -- each offer's price is found: no two are for one product and one group
-kind_is : (k : ℕ × ℕ) → same_kind k k ≡ true
-kind_is k = rw (eq-eqb k.0 k.0 refl, eq-eqb k.1 k.1 refl) refl
+key_is : (k : ℕ × ℕ) → same_key k k ≡ true
+key_is k = rw (eq-eqb k.0 k.0 refl, eq-eqb k.1 k.1 refl) refl
 
-other_kind : (a b : ℕ × ℕ) → same_kind a b ≡ false → same_kind b a ≡ false
-other_kind a b apart = by (same_kind b a) refl
+other_key : (a b : ℕ × ℕ) → same_key a b ≡ false → same_key b a ≡ false
+other_key a b apart = by (same_key b a) refl
   where
-    by : (x : Bool) → same_kind b a ≡ x → x ≡ false
-    by true is = absurd (true≢false (sym (kind_is a) ∙ ap (same_kind a) (sym (same_kinds b a is)) ∙ apart))
+    by : (x : Bool) → same_key b a ≡ x → x ≡ false
+    by true is = absurd (true≢false (sym (key_is a) ∙ ap (same_key a) (sym (same_keys b a is)) ∙ apart))
     by false is = refl
 
-held : (offers : List Offer) (o : Offer) → IsDistinct same_kind (map kind_of offers) → In offers o → price_for offers (kind_of o) ≡ Some o.price
+held : (offers : List Offer) (o : Offer) → IsDistinct same_key (map key_of offers) → In offers o → price_for offers (key_of o) ≡ Some o.price
 unfolding IsDistinct
 held [] o apart i = absurd i
-held (x ∷ offers) o apart (inl is) = rw (sym is, kind_is (kind_of x)) refl
+held (x ∷ offers) o apart (inl is) = rw (sym is, key_is (key_of x)) refl
 held (x ∷ offers) o apart (inr i) =
-    let other : same_kind (kind_of o) (kind_of x) ≡ false = other_kind (kind_of x) (kind_of o) (all_in (λ k. same_kind (kind_of x) k ≡ false) (map kind_of offers) (kind_of o) apart.0 (in_map kind_of offers o i)) in
-    ap (λ (b : Bool). cond b (Some x.price) (price_for offers (kind_of o))) other ∙ held offers o apart.1 i
+    let other : same_key (key_of o) (key_of x) ≡ false = other_key (key_of x) (key_of o) (all_in (λ k. same_key (key_of x) k ≡ false) (map key_of offers) (key_of o) apart.0 (in_map key_of offers o i)) in
+    ap (λ (b : Bool). cond b (Some x.price) (price_for offers (key_of o))) other ∙ held offers o apart.1 i
 
 -- ---- the offers for groups
 

@@ -5,12 +5,12 @@ use Rattle.std.specs.Map.{lookup}
 use Rattle.std.proofs.lemmas.List.{map-append}
 use Rattle.std.proofs.lemmas.Bool.{false≢true}
 use Rattle.nb_groups.specs.declared.found.Offer.{Offer}
-use Rattle.nb_groups.specs.Offers.{same_kind, offer_at, price_for}
+use Rattle.nb_groups.specs.Offers.{same_key, offer_at, price_for}
 
 -- the map has the price that the list has
-pub looked_up : (entries : List ((ℕ × ℕ) × ℕ)) (kind : ℕ × ℕ) → lookup (same_kind kind) entries ≡ price_for (map offer_at entries) kind
-looked_up [] kind = refl
-looked_up (e ∷ entries) kind = ap (cond (same_kind kind e.0) (Some e.1)) (looked_up entries kind)
+pub looked_up : (entries : List ((ℕ × ℕ) × ℕ)) (key : ℕ × ℕ) → lookup (same_key key) entries ≡ price_for (map offer_at entries) key
+looked_up [] key = refl
+looked_up (e ∷ entries) key = ap (cond (same_key key e.0) (Some e.1)) (looked_up entries key)
 
 -- the offers of entries with one more
 pub pushed : (entries new : List ((ℕ × ℕ) × ℕ)) (o : Offer) → new ≡ entries ++ ((o.product, o.group), o.price) ∷ [] → map offer_at new ≡ map offer_at entries ++ o ∷ []

@@ -2,7 +2,7 @@
 use Rattle.std.specs.Prelude.{◌≡◌, ◌↔◌, ℕ, ◌<◌, ◌≤◌, List, codes, Contains, None, Some, Ok, IsTrue}
 use Rattle.nb_units.specs.Frames.{AreBytes}
 use Rattle.nb_units.specs.declared.ids.PartyId.{PartyId}
-use Rattle.nb_groups.specs.declared.limits.TheConstants.{MAX_GROUPS, CREDENTIAL_BYTES, CREDENTIAL_LABEL, MAX_OFFERS, KEEPER}
+use Rattle.nb_groups.specs.declared.limits.TheConstants.{MAX_GROUPS, CREDENTIAL_BYTES, CREDENTIAL_LABEL, OFFERS_BYTES, KEEPER}
 use Rattle.nb_groups.specs.declared.found.Offer.{Offer}
 use Rattle.nb_groups.specs.declared.membership.Membership.{Membership}
 use Rattle.nb_groups.specs.declared.quoting.Quoted.{Quoted}
@@ -56,7 +56,7 @@ ChosenIsLeast = (shelf : ℕ) (offers : List Offer) (product : ℕ) (groups : Li
 
 -- the limits in numbers
 abbrev pub GroupLimitsAre : Type 0
-GroupLimitsAre = (MAX_GROUPS ≡ 4) × (CREDENTIAL_BYTES ≡ 64) × (MAX_OFFERS ≡ 268435456)
+GroupLimitsAre = (MAX_GROUPS ≡ 4) × (CREDENTIAL_BYTES ≡ 64) × (OFFERS_BYTES ≡ 268435456)
 
 -- the label and the word of the keeper's line in texts
 abbrev pub WordsAre : Type 0

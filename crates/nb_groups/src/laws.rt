@@ -13,7 +13,7 @@ pub fn membership_spells_back()
 {}
 
 /// A law: two memberships with one spelling are one.
-pub fn one_spelling()
+pub fn one_membership()
     ensures { law.OneMembership }
 {}
 

@@ -6,7 +6,7 @@ ghost use Rattle.nb_groups.specs.Spelling.{IsMembership, membership_bytes, crede
 ghost use Rattle.nb_groups.specs.Reading.{membership_of, membership_in};
 
 use crate::groups::{Groups, are_groups, spelled};
-use crate::limits::{CREDENTIAL_BYTES, CREDENTIAL_LABEL, GROUP, MAX_TEXT};
+use crate::limits::{CREDENTIAL_BYTES, CREDENTIAL_LABEL, GROUP, GROUPS_BYTES};
 use crate::quoting::Denial;
 use nb_seal::{BadSeal, seal_to, unseal_to};
 use nb_units::{Buffer, Cut, Malformed, PartyId, Secret, Small, allow};
@@ -85,7 +85,7 @@ fn read_fields(bytes: &[u8]) -> Result<Membership, Malformed>
     let consumer = cut.u32()?;
     let until = cut.u64()?;
     let place = cut.place();
-    let text = cut.bytes(MAX_TEXT as u32)?;
+    let text = cut.bytes(GROUPS_BYTES as u32)?;
     let groups = Groups::read(text);
     allow(
         text.len() == GROUP * groups.as_slice().len() && are_groups(groups.as_slice()),
