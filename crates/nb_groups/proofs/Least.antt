@@ -5,13 +5,13 @@ use Rattle.std.specs.List.{AllByRecursion, IsDistinct, cons_option}
 use Rattle.std.proofs.lemmas.Bool.{eqb-true, ltb-true, ltb-false, true≢false, false≢true}
 use Rattle.nb_groups.specs.declared.found.Offer.{Offer}
 use Rattle.nb_groups.specs.Groups.{rise, are_groups}
-use Rattle.nb_groups.specs.Offers.{key_of, same_key, price_for, offer_for, offers_for}
+use Rattle.nb_groups.specs.Offers.{key_of, same_key, AreApart, price_for, offer_for, offers_for}
 use Rattle.nb_groups.specs.Quote.{least, group_at, chosen}
-use Rattle.nb_groups.specs.Laws.{IsFor, IsLeast, ChosenIsLeast}
+use Rattle.nb_groups.specs.Laws.{IsFor, IsLeast}
 use Rattle.nb_groups.proofs.Reading.{same_keys}
 
 -- one of a list, step by step
-abbrev In : {A : Type 0} → List A → A → Type 0
+abbrev pub In : {A : Type 0} → List A → A → Type 0
 In [] a = ⊥
 In (x ∷ xs) a = (x ≡ a) ⊎ In xs a
 
@@ -200,8 +200,21 @@ rising_of groups is = last (nat_lt 0 (length groups) && nat_le (length groups) 4
     last true y e = e
     last false y e = absurd (false≢true e)
 
-pub chosen_is_least : ChosenIsLeast
-chosen_is_least shelf offers product groups are is =
+-- an offer for one of the groups is among those that were found, and the other way round
+pub among : (offers : List Offer) (product : ℕ) (groups : List ℕ) → AreApart offers → (o : Offer) → IsFor offers product groups o → In (offers_for offers product groups) o
+among offers product groups apart o for =
+    let priced : price_for offers (product, o.group) ≡ Some o.price = subst (λ (p : ℕ). price_for offers (p, o.group) ≡ Some o.price) for.1 (held offers o apart (in_of offers o for.0)) in
+    subst (λ (p : ℕ). In (offers_for offers product groups) (record { product = p; group = o.group; price = o.price })) (sym for.1) (for_groups offers product o.price o.group groups (in_of groups o.group for.2) priced)
+
+pub among_is_for : (offers : List Offer) (product : ℕ) (groups : List ℕ) (o : Offer) → In (offers_for offers product groups) o → IsFor offers product groups o
+among_is_for offers product groups o i =
+    let of = of_groups offers product groups o i in
+    (of_in offers o (subst (λ (p : ℕ). In offers (record { product = p; group = o.group; price = o.price })) (sym of.1) (found offers product o.group o.price of.2)), of.1, of_in groups o.group of.0)
+
+-- what is chosen among the offers for the groups of a credential is the least
+pub chosen_is_least : (shelf : ℕ) (offers : List Offer) (product : ℕ) (groups : List ℕ) → AreApart offers → are_groups groups ≡ true
+    → IsLeast shelf offers product groups (chosen shelf (offers_for offers product groups))
+chosen_is_least shelf offers product groups apart is =
     by (least shelf os == shelf) refl
   where
     os : List Offer
@@ -213,12 +226,6 @@ chosen_is_least shelf offers product groups are is =
     ascend : rise groups ≡ true
     ascend = rising_of groups is
 
-    -- an offer for one of the groups is among those that were found, and the other way round
-    among : (o : Offer) → IsFor offers product groups o → In os o
-    among o for =
-        let priced : price_for offers (product, o.group) ≡ Some o.price = subst (λ (p : ℕ). price_for offers (p, o.group) ≡ Some o.price) for.1 (held offers o are.apart (in_of offers o for.0)) in
-        subst (λ (p : ℕ). In os (record { product = p; group = o.group; price = o.price })) (sym for.1) (for_groups offers product o.price o.group groups (in_of groups o.group for.2) priced)
-
     is_for : (o : Offer) (g : ℕ) → In os o → o.group ≡ g → o.price ≡ price → IsFor offers product groups (record { product = product; group = g; price = price })
     is_for o g i group same =
         let of = of_groups offers product groups o i in
@@ -226,7 +233,7 @@ chosen_is_least shelf offers product groups are is =
         (of_in offers _ (found offers product g price priced), refl, of_in groups g (subst (In groups) group of.0))
 
     below : (o : Offer) → IsFor offers product groups o → price ≤ o.price
-    below o for = under_each shelf os o (among o for)
+    below o for = under_each shelf os o (among offers product groups apart o for)
 
     never : (g : ℕ) → ◌≡◌ {A = Option ℕ} None (Some g) → ⊥
     never g e = no_some g e
@@ -250,7 +257,7 @@ chosen_is_least shelf offers product groups are is =
           least = below;
           shelf_first = λ e. absurd (some_has price os one.0 one.1 one.2 (sym at ∙ e));
           group = λ g e. let t = told price g os (rising offers product groups ascend) (sym at ∙ e) in (less, is_for t.0.0 g t.0.1 t.0.2 t.0.3);
-          smallest = λ g o e for same. (told price g os (rising offers product groups ascend) (sym at ∙ e)).1 o (among o for) same;
+          smallest = λ g o e for same. (told price g os (rising offers product groups ascend) (sym at ∙ e)).1 o (among offers product groups apart o for) same;
         }
       where
         differ : price ≢ shelf

@@ -6,3 +6,5 @@ pub mod Opening
 pub mod Layouts
 pub mod Once
 pub mod Least
+pub mod Exactly
+pub mod Quotes

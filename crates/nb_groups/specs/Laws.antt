@@ -2,15 +2,18 @@
 use Rattle.std.specs.Prelude.{◌≡◌, ◌↔◌, ℕ, ◌<◌, ◌≤◌, List, codes, Contains, None, Some, Ok, IsTrue}
 use Rattle.nb_units.specs.Frames.{AreBytes}
 use Rattle.nb_units.specs.declared.ids.PartyId.{PartyId}
+use Rattle.nb_price.specs.Products.{Product, product_in}
 use Rattle.nb_groups.specs.declared.limits.TheConstants.{MAX_GROUPS, CREDENTIAL_BYTES, CREDENTIAL_LABEL, OFFERS_BYTES, KEEPER}
 use Rattle.nb_groups.specs.declared.found.Offer.{Offer}
 use Rattle.nb_groups.specs.declared.membership.Membership.{Membership}
+use Rattle.nb_groups.specs.declared.quoting.Denial.{Denial}
+use Rattle.nb_groups.specs.declared.quoting.Denial.TheVariants.{NoOffer}
 use Rattle.nb_groups.specs.declared.quoting.Quoted.{Quoted}
 use Rattle.nb_groups.specs.Groups.{are_groups}
 use Rattle.nb_groups.specs.Spelling.{IsMembership, membership_bytes, credential_of}
 use Rattle.nb_groups.specs.Reading.{membership_of, membership_in}
-use Rattle.nb_groups.specs.Offers.{AreOffers, BeginsWith, offers_for}
-use Rattle.nb_groups.specs.Quote.{admitted, chosen}
+use Rattle.nb_groups.specs.Offers.{Tariff, AreApart, BeginsWith}
+use Rattle.nb_groups.specs.Quote.{admitted, Carries, quote_of}
 
 -- what was spelled of a membership is read as that membership
 abbrev pub MembershipReadsBack : Type 0
@@ -27,6 +30,10 @@ OneMembership = (a b : Membership) → IsMembership a → IsMembership b → mem
 -- a credential is opened under its keeper's key as what it says
 abbrev pub CredentialOpens : Type 0
 CredentialOpens = (key : List ℕ) (m : Membership) → IsMembership m → membership_in key (credential_of key m) ≡ Ok m
+
+-- bytes are opened exactly where they are the credential, sealed under the key, of what they say
+abbrev pub OpenedExactly : Type 0
+OpenedExactly = (key bytes : List ℕ) (m : Membership) → AreBytes bytes → (membership_in key bytes ≡ Ok m) ↔ (IsMembership m × (bytes ≡ credential_of key m))
 
 -- what a credential says is admitted exactly for its consumer, and up to its last second
 abbrev pub HoldsUntil : Type 0
@@ -49,10 +56,29 @@ pub record IsLeast (shelf : ℕ) (offers : List Offer) (product : ℕ) (groups :
   pub group : (g : ℕ) → q.group ≡ Some g → (q.price.0 < shelf) × IsFor offers product groups (record { product = product; group = g; price = q.price.0 })
   pub smallest : (g : ℕ) (o : Offer) → q.group ≡ Some g → IsFor offers product groups o → o.price ≡ q.price.0 → g ≤ o.group
 
--- what is chosen among the offers for the groups of a credential is that
-abbrev pub ChosenIsLeast : Type 0
-ChosenIsLeast = (shelf : ℕ) (offers : List Offer) (product : ℕ) (groups : List ℕ) → AreOffers offers → IsTrue (are_groups groups)
-    → IsLeast shelf offers product groups (chosen shelf (offers_for offers product groups))
+-- there is such a product, the request is a credential of the one who asks, and the price is the least of the product's and of those of the offers for
+-- the groups of that credential
+pub record IsCarried (products : List Product) (tariff : Tariff) (product : ℕ) (asked : PartyId) (request : List ℕ) (now : ℕ) (q : Quoted) : Type 0 where
+  pub shelf : Product
+  pub found : product_in products product ≡ Some shelf
+  pub carries : Carries tariff.keeper asked request now
+  pub least : IsLeast shelf.price tariff.offers product carries.says.groups q
+
+-- what is quoted without a denial is that
+abbrev pub QuoteIsLeast : Type 0
+QuoteIsLeast = (products : List Product) (tariff : Tariff) (product : ℕ) (asked : PartyId) (request : List ℕ) (now : ℕ) (q : Quoted) → AreBytes request → AreApart tariff.offers
+    → quote_of products tariff product asked request now ≡ Ok q → q.denied ≡ None → IsCarried products tariff product asked request now q
+
+-- what is quoted with a denial is the shelf's price, of no group
+abbrev pub DeniedIsShelf : Type 0
+DeniedIsShelf = (products : List Product) (tariff : Tariff) (product : ℕ) (asked : PartyId) (request : List ℕ) (now : ℕ) (q : Quoted) (d : Denial)
+    → quote_of products tariff product asked request now ≡ Ok q → q.denied ≡ Some d → (p : Product) × (product_in products product ≡ Some p) × (q.price.0 ≡ p.price) × (q.group ≡ None)
+
+-- who sent a credential that holds is told that there is no offer exactly where there is none of the product for one of its groups
+abbrev pub NoOfferExactly : Type 0
+NoOfferExactly = (products : List Product) (tariff : Tariff) (product : ℕ) (asked : PartyId) (request : List ℕ) (now : ℕ) (q : Quoted) (m : Membership) → AreApart tariff.offers
+    → membership_in tariff.keeper request ≡ Ok m → admitted m asked now ≡ Ok m → quote_of products tariff product asked request now ≡ Ok q
+    → (q.denied ≡ Some (NoOffer product)) ↔ ((o : Offer) → ¬ IsFor tariff.offers product m.groups o)
 
 -- the limits in numbers
 abbrev pub GroupLimitsAre : Type 0

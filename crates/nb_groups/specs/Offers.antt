@@ -54,10 +54,14 @@ offer_bytes o = decimal o.product ++ SEMICOLON ∷ (decimal o.group ++ SEMICOLON
 abbrev pub offers_bytes : List Offer → List ℕ
 offers_bytes offers = flat_map offer_bytes offers
 
+-- no two offers are for one product and one group
+abbrev pub AreApart : List Offer → Type 0
+AreApart offers = IsDistinct same_key (map key_of offers)
+
 -- each is an offer, and no two are for one product and one group
 pub record AreOffers (offers : List Offer) : Type 0 where
   pub all : AllByRecursion IsOffer offers
-  pub apart : IsDistinct same_key (map key_of offers)
+  pub apart : AreApart offers
 
 -- a line of the keeper stands at the front of the bytes: "keeper ", and the 64 digits of the key, of either case
 pub record BeginsWithKeeper (bytes keeper rest : List ℕ) : Type 0 where

@@ -1,6 +1,6 @@
 ghost use Rattle.std.specs.Prelude.{◌≡◌, ◌≤◌, [], length};
 ghost use Rattle.nb_groups.specs.declared.limits.TheConstants.{OFFERS_BYTES};
-ghost use Rattle.nb_groups.specs.Offers.{price_for, offers_for};
+ghost use Rattle.nb_groups.specs.Offers.{AreApart, price_for, offers_for};
 ghost use Rattle.nb_groups.specs.Reads.{ReadsOffers, ReadsFront, ReadsLines, Adds};
 
 use crate::fault::OffersFault;
@@ -23,11 +23,14 @@ pub struct Offers {
 
 impl Model for Offers {
     ghost use Rattle.std.specs.Prelude.{map};
-    ghost use Rattle.nb_groups.specs.Offers.{Tariff, offer_at};
+    ghost use Rattle.indexmap.specs.IndexMap.{IsUnique};
+    ghost use Rattle.nb_groups.specs.Offers.{Tariff, offer_at, same_key};
 
     ghost Value = { Tariff };
 
     ghost view = { λ o. record { keeper = o.keeper; offers = map offer_at o.prices.entries } };
+
+    ghost invariant = { λ o. IsUnique same_key o.prices };
 }
 
 // The offers of the lines at the front of bytes, how many lines these are, and what follows them.
@@ -98,6 +101,13 @@ impl Offers {
             return Err(OffersFault::Twice { line });
         }
         Ok(())
+    }
+
+    // No two of the offers are for one product and one group.
+    pub(crate) fn apart(&self)
+        ensures { AreApart self.now.offers }
+    {
+        let _prices = &self.prices;
     }
 
     // The price of the product for the group, if one is offered.

@@ -1,6 +1,7 @@
-ghost use Rattle.std.specs.Prelude.{◌≡◌, ◌≤◌, length, IfOk, OnOk, None};
+ghost use Rattle.std.specs.Prelude.{◌≡◌, ◌≤◌, length, IfOk, None};
 ghost use Rattle.nb_groups.specs.declared.limits.TheConstants.{CREDENTIAL_BYTES};
 ghost use Rattle.nb_groups.specs.Quote as quotes;
+ghost use Rattle.nb_groups.specs.Laws as law;
 
 use crate::found::Found;
 use crate::membership::opened;
@@ -52,12 +53,15 @@ pub fn quote(
     requires { length request.now ≤ CREDENTIAL_BYTES }
     ensures quoted { result ≡ quotes.quote_of c.now o.now product consumer request.now now }
 
-    // Who is not denied sent a credential of its own, sealed under the keeper's key, and in time.
-    ensures carried { IfOk result (λ q. q.denied ≡ None → quotes.Carries o.now.keeper consumer request.now now) }
+    // Who is not denied sent a credential of its own, sealed under the keeper's key, and in time, and pays the least for its groups.
+    ensures carried { IfOk result (λ q. q.denied ≡ None → law.IsCarried c.now o.now product consumer request.now now q) }
 {
     let shelf = c.quote(product)?;
     match offers_shown(o, product, consumer, request, now) {
-        Ok(found) => Ok(chosen(shelf, &found)),
+        Ok(found) => {
+            o.apart();
+            Ok(chosen(shelf, &found))
+        }
         Err(denial) => Ok(Quoted {
             price: shelf,
             group: None,
@@ -76,7 +80,6 @@ fn offers_shown(
 ) -> Result<Found, Denial>
     requires { length request.now ≤ CREDENTIAL_BYTES }
     ensures shown { result ≡ quotes.offers_shown o.now product asked request.now now }
-    ensures carried { OnOk result (quotes.Carries o.now.keeper asked request.now now) }
 {
     let membership = opened(request, &o.keeper)?;
     if membership.consumer != asked {
