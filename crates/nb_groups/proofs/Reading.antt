@@ -127,7 +127,15 @@ not_added bytes rest next old new number o (Twice n) so begins adds = record {
   begins = begins;
   held = Contains-list_any same_key same_keys (map key_of old.offers) (key_of o) (present old.offers (key_of o) adds.1);
 }
-not_added bytes rest next old new number o NoMemory so begins adds = tt
+not_added bytes rest next old new number o NoMemory so begins adds = record {
+  tariff = old;
+  rest = rest;
+  next = o;
+  more = next;
+  front = so.front;
+  begins = begins;
+  fresh = adds;
+}
 
 -- no line of an offer stands behind those that were read
 pub all_read : (bytes rest : List ℕ) (tariff : Tariff) (number : ℕ) → SoFar bytes tariff rest number → BeginsWithNone rest

@@ -1,5 +1,5 @@
 -- What reading a list of offers answers.
-use Rattle.std.specs.Prelude.{◌≡◌, ◌≢◌, ◌⊎◌, ℕ, ◌+◌, ◌≤◌, List, [], ◌∷◌, ◌++◌, length, map, Contains, Result, Ok, Err, None, ⊤}
+use Rattle.std.specs.Prelude.{◌≡◌, ◌≢◌, ◌⊎◌, ℕ, ◌+◌, ◌≤◌, List, [], ◌∷◌, ◌++◌, length, map, Contains, Result, Ok, Err, None}
 use Rattle.std.specs.Borrow.{Bor}
 use Rattle.nb_price.specs.declared.limits.TheConstants.{LINE_FEED}
 use Rattle.nb_groups.specs.declared.found.Offer.{Offer}
@@ -43,11 +43,21 @@ pub record RepeatsAt (bytes : List ℕ) (line : ℕ) : Type 0 where
   pub begins : BeginsWith rest again more
   pub held : Contains (map key_of tariff.offers) (key_of again)
 
--- the first fault of bytes that should end so; of want of memory nothing is said
+-- behind some lines stands one of an offer for a product and a group that they do not have
+pub record HasMore (bytes : List ℕ) : Type 0 where
+  pub tariff : Tariff
+  pub rest : List ℕ
+  pub next : Offer
+  pub more : List ℕ
+  pub front : Front bytes tariff rest
+  pub begins : BeginsWith rest next more
+  pub fresh : price_for tariff.offers (key_of next) ≡ None
+
+-- the first fault of bytes that should end so; memory may be wanting for each offer that is fresh
 abbrev pub FaultIs : (List ℕ → Type 0) → List ℕ → OffersFault → Type 0
 FaultIs IsEnd bytes (BadLine line) = HasNoKeeper bytes line ⊎ FailsAt IsEnd bytes line
 FaultIs IsEnd bytes (Twice line) = RepeatsAt bytes line
-FaultIs IsEnd bytes NoMemory = ⊤
+FaultIs IsEnd bytes NoMemory = HasMore bytes
 
 -- nothing is left
 abbrev pub IsAll : List ℕ → Type 0
@@ -72,7 +82,7 @@ abbrev pub ReadsLines : List ℕ → Result Lines OffersFault → Type 0
 ReadsLines bytes (Ok l) = Front bytes l.offers l.rest.now × (l.number ≡ length l.offers.offers + 1) × (l.number ≤ length bytes + 1) × BeginsWithNone l.rest.now
 ReadsLines bytes (Err (BadLine line)) = HasNoKeeper bytes line
 ReadsLines bytes (Err (Twice line)) = RepeatsAt bytes line
-ReadsLines bytes (Err NoMemory) = ⊤
+ReadsLines bytes (Err NoMemory) = HasMore bytes
 
 -- for the contract of a private function alone: an offer was added behind the others, or one for its product and its group was among them
 abbrev pub Adds : Tariff → Tariff → ℕ → Offer → Result (Unit {0}) OffersFault → Type 0
@@ -80,4 +90,4 @@ Adds old new line o (Ok done) =
     (price_for old.offers (key_of o) ≡ None) × (new.keeper ≡ old.keeper) × (new.offers ≡ old.offers ++ o ∷ [])
 Adds old new line o (Err (BadLine n)) = ⊥
 Adds old new line o (Err (Twice n)) = (n ≡ line) × (price_for old.offers (key_of o) ≢ None)
-Adds old new line o (Err NoMemory) = ⊤
+Adds old new line o (Err NoMemory) = price_for old.offers (key_of o) ≡ None

@@ -9,7 +9,7 @@ pub enum OffersFault {
     BadLine { line: u32 },
     /// The line of this number, from 1 on, has the form of an offer, for the product and the group of one before it.
     Twice { line: u32 },
-    /// There was no memory for the offers.
+    /// There was no memory for an offer, which stands behind lines that are of their form.
     NoMemory,
 }
 
