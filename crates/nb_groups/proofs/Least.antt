@@ -15,7 +15,7 @@ abbrev pub In : {A : Type 0} → List A → A → Type 0
 In [] a = ⊥
 In (x ∷ xs) a = (x ≡ a) ⊎ In xs a
 
-in_of : {A : Type 0} (xs : List A) (a : A) → Contains xs a → In xs a
+pub in_of : {A : Type 0} (xs : List A) (a : A) → Contains xs a → In xs a
 in_of [] a c = absurd (omega (arith, c.1))
 in_of (x ∷ xs) a (zero, below, is) = inl is
 in_of (x ∷ xs) a (suc k, below, is) = inr (in_of xs a (k, omega (arith, below), is))
@@ -25,12 +25,12 @@ of_in [] a i = absurd i
 of_in (x ∷ xs) a (inl is) = (0, omega arith, is)
 of_in (x ∷ xs) a (inr i) = let c = of_in xs a i in (suc c.0, omega (arith, c.1), c.2)
 
-all_in : {A : Type 0} (P : A → Type 0) (xs : List A) (a : A) → AllByRecursion P xs → In xs a → P a
+pub all_in : {A : Type 0} (P : A → Type 0) (xs : List A) (a : A) → AllByRecursion P xs → In xs a → P a
 all_in P [] a all i = absurd i
 all_in P (x ∷ xs) a all (inl is) = subst P is all.0
 all_in P (x ∷ xs) a all (inr i) = all_in P xs a all.1 i
 
-in_map : {A B : Type 0} (f : A → B) (xs : List A) (a : A) → In xs a → In (map f xs) (f a)
+pub in_map : {A B : Type 0} (f : A → B) (xs : List A) (a : A) → In xs a → In (map f xs) (f a)
 in_map f [] a i = absurd i
 in_map f (x ∷ xs) a (inl is) = inl (ap f is)
 in_map f (x ∷ xs) a (inr i) = inr (in_map f xs a i)
@@ -59,7 +59,7 @@ found (o ∷ offers) product group price e = by (found offers product group pric
     by rest false is = inr (rest (sym (ap (λ (b : Bool). cond b (Some o.price) (price_for offers (product, group))) is) ∙ e))
 
 -- each offer's price is found: no two are for one product and one group
-key_is : (k : ℕ × ℕ) → same_key k k ≡ true
+pub key_is : (k : ℕ × ℕ) → same_key k k ≡ true
 key_is k = rw (eq-eqb k.0 k.0 refl, eq-eqb k.1 k.1 refl) refl
 
 other_key : (a b : ℕ × ℕ) → same_key a b ≡ false → same_key b a ≡ false

@@ -8,3 +8,4 @@ pub mod Once
 pub mod Least
 pub mod Exactly
 pub mod Quotes
+pub mod OneReading

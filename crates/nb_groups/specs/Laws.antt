@@ -1,5 +1,6 @@
 -- What holds of every credential, of every list of offers and of every quote.
-use Rattle.std.specs.Prelude.{◌≡◌, ◌↔◌, ℕ, ◌<◌, ◌≤◌, List, codes, Contains, None, Some, Ok, IsTrue}
+use Rattle.std.specs.Prelude.{◌≡◌, ◌≢◌, ◌↔◌, ℕ, ◌<◌, ◌≤◌, List, codes, Contains, None, Some, Result, Ok, Err}
+use Rattle.std.specs.Borrow.{Bor}
 use Rattle.nb_units.specs.Frames.{AreBytes}
 use Rattle.nb_units.specs.declared.ids.PartyId.{PartyId}
 use Rattle.nb_price.specs.Products.{Product, product_in}
@@ -9,10 +10,12 @@ use Rattle.nb_groups.specs.declared.membership.Membership.{Membership}
 use Rattle.nb_groups.specs.declared.quoting.Denial.{Denial}
 use Rattle.nb_groups.specs.declared.quoting.Denial.TheVariants.{NoOffer}
 use Rattle.nb_groups.specs.declared.quoting.Quoted.{Quoted}
-use Rattle.nb_groups.specs.Groups.{are_groups}
+use Rattle.nb_groups.specs.declared.fault.OffersFault.{OffersFault}
+use Rattle.nb_groups.specs.declared.fault.OffersFault.TheVariants.{NoMemory}
 use Rattle.nb_groups.specs.Spelling.{IsMembership, membership_bytes, credential_of}
 use Rattle.nb_groups.specs.Reading.{membership_of, membership_in}
 use Rattle.nb_groups.specs.Offers.{Tariff, AreApart, BeginsWith}
+use Rattle.nb_groups.specs.Reads.{ReadsOffers, ReadsFront, front_shown}
 use Rattle.nb_groups.specs.Quote.{admitted, Carries, quote_of}
 
 -- what was spelled of a membership is read as that membership
@@ -42,6 +45,15 @@ HoldsUntil = (m : Membership) (asked : PartyId) (now : ℕ) → (admitted m aske
 -- what stands at the front of bytes is one offer's line and one rest
 abbrev pub OneOffer : Type 0
 OneOffer = (bytes : List ℕ) (a b : Offer) (r s : List ℕ) → BeginsWith bytes a r → BeginsWith bytes b s → (a ≡ b) × (r ≡ s)
+
+-- bytes have one reading: two that each have memory are one
+abbrev pub OneReading : Type 0
+OneReading = (bytes : List ℕ) (a b : Result Tariff OffersFault) → a ≢ Err NoMemory → b ≢ Err NoMemory → ReadsOffers bytes a → ReadsOffers bytes b → a ≡ b
+
+-- and one up to an empty line
+abbrev pub OneFront : Type 0
+OneFront = (bytes : List ℕ) (a b : Result (Tariff × Bor (List ℕ)) OffersFault) → front_shown a ≢ Err NoMemory → front_shown b ≢ Err NoMemory
+    → ReadsFront bytes a → ReadsFront bytes b → front_shown a ≡ front_shown b
 
 -- an offer of the product for one of the groups
 abbrev pub IsFor : List Offer → ℕ → List ℕ → Offer → Type 0

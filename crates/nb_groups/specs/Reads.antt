@@ -77,6 +77,11 @@ abbrev pub ReadsFront : List ℕ → Result (Tariff × Bor (List ℕ)) OffersFau
 ReadsFront bytes (Ok p) = Front bytes p.0 (LINE_FEED ∷ p.1.now)
 ReadsFront bytes (Err fault) = FaultIs IsEmptyLine bytes fault
 
+-- that answer, of what stands behind the offers the bytes alone
+abbrev pub front_shown : Result (Tariff × Bor (List ℕ)) OffersFault → Result (Tariff × List ℕ) OffersFault
+front_shown (Ok p) = Ok (p.0, p.1.now)
+front_shown (Err fault) = Err fault
+
 -- for the contract of a private function alone: as many lines as there are were read, or there is a fault wherever the bytes should end
 abbrev pub ReadsLines : List ℕ → Result Lines OffersFault → Type 0
 ReadsLines bytes (Ok l) = Front bytes l.offers l.rest.now × (l.number ≡ length l.offers.offers + 1) × (l.number ≤ length bytes + 1) × BeginsWithNone l.rest.now

@@ -40,6 +40,16 @@ pub fn one_offer()
     ensures { law.OneOffer }
 {}
 
+/// A law: bytes are read as one list of offers, or to one first fault, wherever there is memory.
+pub fn one_reading()
+    ensures { law.OneReading }
+{}
+
+/// A law: bytes are read up to an empty line as one list of offers and one rest, or to one first fault, wherever there is memory.
+pub fn one_front()
+    ensures { law.OneFront }
+{}
+
 /// A law: no two of a merchant's offers are for one product and one group.
 pub fn offers_apart(offers: &Offers)
     ensures { AreApart offers.now.offers }
