@@ -1,12 +1,12 @@
 -- Bytes are opened exactly where they are a credential.
-use Rattle.std.proofs.Common.{◌≡◌, ℕ, ◌+◌, ◌<◌, zero, suc, List, [], ◌∷◌, length, drop, Option, None, Some, Result, Ok, Err, refl, sym, ap, subst, ◌∙◌, arith}
+use Rattle.std.proofs.Common.{◌≡◌, ℕ, ◌+◌, ◌<◌, zero, suc, List, [], ◌∷◌, length, drop, Option, None, Some, Result, Ok, Err, refl, ap, subst, ◌∙◌, arith}
 use Rattle.std.specs.Prelude.{codes, slice_index}
 use Rattle.std.specs.Int.{w32, to_le_bytes}
 use Rattle.std.proofs.lemmas.Nat.{xor_of_8}
 use Rattle.nb_units.specs.Frames.{AreBytes}
 use Rattle.nb_units.proofs.ByteLists.{AreBytes-drop}
 use Rattle.nb_seal.specs.Keystream.{stream_byte, xored}
-use Rattle.nb_seal.specs.Seal.{seal_of, stream_key_of, text_behind, text_in, Opens}
+use Rattle.nb_seal.specs.Seal.{seal_of, text_behind, text_in, Opens}
 use Rattle.nb_seal.proofs.Opening.{text_in_opens, text_behind_opened, length-seal_of}
 use Rattle.nb_groups.specs.declared.membership.Membership.{Membership}
 use Rattle.nb_groups.specs.declared.quoting.Denial.{Denial}

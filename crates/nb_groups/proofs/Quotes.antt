@@ -1,5 +1,5 @@
 -- What a quote is, by whether it is denied.
-use Rattle.std.proofs.Common.{◌≡◌, ◌↔◌, ℕ, ◌≤◌, Bool, true, false, cond, nat_lt, List, [], ◌∷◌, Option, None, Some, Result, Ok, Err, inl, inr, refl, sym, ap, subst, ◌∙◌}
+use Rattle.std.proofs.Common.{◌≡◌, ◌↔◌, ℕ, ◌≤◌, Bool, true, false, cond, nat_lt, List, [], ◌∷◌, Option, None, Some, Result, Ok, Err, inl, refl, sym, ap, subst, ◌∙◌}
 use Rattle.std.specs.Prelude.{◌==◌}
 use Rattle.std.proofs.lemmas.Bool.{eqb-true, ltb-false}
 use Rattle.nb_units.specs.Fields.{◌>>=◌}
@@ -11,10 +11,10 @@ use Rattle.nb_groups.specs.declared.membership.Membership.{Membership}
 use Rattle.nb_groups.specs.declared.quoting.Denial.{Denial}
 use Rattle.nb_groups.specs.declared.quoting.Denial.TheVariants as denial
 use Rattle.nb_groups.specs.declared.quoting.Quoted.{Quoted}
-use Rattle.nb_groups.specs.Offers.{AreApart, offers_for}
+use Rattle.nb_groups.specs.Offers.{offers_for}
 use Rattle.nb_groups.specs.Reading.{membership_in}
 use Rattle.nb_groups.specs.Quote.{admitted, some_offer, offers_shown, chosen, quoted_with, quoted_of}
-use Rattle.nb_groups.specs.Laws.{IsFor, IsLeast, QuoteIsLeast, DeniedIsShelf, NoOfferExactly}
+use Rattle.nb_groups.specs.Laws.{IsLeast, QuoteIsLeast, DeniedIsShelf, NoOfferExactly}
 use Rattle.nb_groups.proofs.Exactly.{opened_exactly}
 use Rattle.nb_groups.proofs.Least.{In, among, among_is_for, chosen_is_least}
 
