@@ -1,7 +1,7 @@
 // Offers for groups, credentials, and what is quoted.
 
 use crate::telling;
-use nb_groups::{CREDENTIAL_BYTES, MAX_OFFERS, Offers, are_groups, credential, quote};
+use nb_groups::{CREDENTIAL_BYTES, OFFERS_BYTES, Offers, are_groups, credential, quote};
 use nb_lines::Told;
 use nb_price::{Catalogue, MAX_SHELF};
 use nb_units::{NoMemory, PartyId};
@@ -35,7 +35,7 @@ pub fn read(told: &mut Told, words: &[&str]) -> Result<(), NoMemory> {
         return told.unclear();
     };
     let bytes = nb_lines::spelled(alloc, *bytes);
-    if bytes.len() > MAX_OFFERS {
+    if bytes.len() > OFFERS_BYTES {
         return told.unclear();
     }
     match Offers::read(alloc, &bytes) {
@@ -58,7 +58,7 @@ pub fn quoted(told: &mut Told, words: &[&str]) -> Result<(), NoMemory> {
     let shelf = nb_lines::spelled(alloc, *shelf);
     let offers = nb_lines::spelled(alloc, *offers);
     let request = nb_lines::spelled(alloc, *request);
-    if shelf.len() > MAX_SHELF || offers.len() > MAX_OFFERS || request.len() > CREDENTIAL_BYTES {
+    if shelf.len() > MAX_SHELF || offers.len() > OFFERS_BYTES || request.len() > CREDENTIAL_BYTES {
         return told.unclear();
     }
     let (Ok(shelf), Ok(offers)) = (Catalogue::read(alloc, &shelf), Offers::read(alloc, &offers))

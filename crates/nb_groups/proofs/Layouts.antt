@@ -11,7 +11,7 @@ use Rattle.nb_units.proofs.ByteLists.{AreBytes-drop, AreBytes-take, number_fits_
 use Rattle.nb_units.specs.Frames.{AreBytes}
 use Rattle.nb_units.specs.Fields.{be4, be8, sized}
 use Rattle.nb_seal.proofs.Opening.{length-seal_of}
-use Rattle.nb_groups.specs.declared.limits.TheConstants.{MAX_TEXT}
+use Rattle.nb_groups.specs.declared.limits.TheConstants.{GROUPS_BYTES}
 use Rattle.nb_groups.specs.declared.membership.Membership.{Membership}
 use Rattle.nb_groups.specs.declared.quoting.Denial.{Denial}
 use Rattle.nb_groups.specs.declared.quoting.Denial.TheVariants as denial
@@ -67,10 +67,10 @@ abbrev Parts : Type 0
 Parts = (ℕ × ℕ) × List ℕ
 
 abbrev parts_row : Row Parts
-parts_row = number4 & number8 & tested (text MAX_TEXT) are_groups_bytes
+parts_row = number4 & number8 & tested (text GROUPS_BYTES) are_groups_bytes
 
 is_parts_row : IsRow parts_row
-is_parts_row = and_row (and_row number4_row number8_row) (tested_row (text MAX_TEXT) are_groups_bytes (text_row MAX_TEXT (omega arith)))
+is_parts_row = and_row (and_row number4_row number8_row) (tested_row (text GROUPS_BYTES) are_groups_bytes (text_row GROUPS_BYTES (omega arith)))
 
 abbrev made : Parts → Membership
 made p = record { consumer = record { 0 = p.0.0 }; until = p.0.1; groups = groups_in p.1 }

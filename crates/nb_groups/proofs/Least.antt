@@ -5,17 +5,17 @@ use Rattle.std.specs.List.{AllByRecursion, IsDistinct, cons_option}
 use Rattle.std.proofs.lemmas.Bool.{eqb-true, ltb-true, ltb-false, true≢false, false≢true}
 use Rattle.nb_groups.specs.declared.found.Offer.{Offer}
 use Rattle.nb_groups.specs.Groups.{rise, are_groups}
-use Rattle.nb_groups.specs.Offers.{kind_of, same_kind, price_for, offer_for, offers_for}
+use Rattle.nb_groups.specs.Offers.{key_of, same_key, AreApart, price_for, offer_for, offers_for}
 use Rattle.nb_groups.specs.Quote.{least, group_at, chosen}
-use Rattle.nb_groups.specs.Laws.{IsFor, IsLeast, ChosenIsLeast}
-use Rattle.nb_groups.proofs.Reading.{same_kinds}
+use Rattle.nb_groups.specs.Laws.{IsFor, IsLeast}
+use Rattle.nb_groups.proofs.Reading.{same_keys}
 
 -- one of a list, step by step
-abbrev In : {A : Type 0} → List A → A → Type 0
+abbrev pub In : {A : Type 0} → List A → A → Type 0
 In [] a = ⊥
 In (x ∷ xs) a = (x ≡ a) ⊎ In xs a
 
-in_of : {A : Type 0} (xs : List A) (a : A) → Contains xs a → In xs a
+pub in_of : {A : Type 0} (xs : List A) (a : A) → Contains xs a → In xs a
 in_of [] a c = absurd (omega (arith, c.1))
 in_of (x ∷ xs) a (zero, below, is) = inl is
 in_of (x ∷ xs) a (suc k, below, is) = inr (in_of xs a (k, omega (arith, below), is))
@@ -25,12 +25,12 @@ of_in [] a i = absurd i
 of_in (x ∷ xs) a (inl is) = (0, omega arith, is)
 of_in (x ∷ xs) a (inr i) = let c = of_in xs a i in (suc c.0, omega (arith, c.1), c.2)
 
-all_in : {A : Type 0} (P : A → Type 0) (xs : List A) (a : A) → AllByRecursion P xs → In xs a → P a
+pub all_in : {A : Type 0} (P : A → Type 0) (xs : List A) (a : A) → AllByRecursion P xs → In xs a → P a
 all_in P [] a all i = absurd i
 all_in P (x ∷ xs) a all (inl is) = subst P is all.0
 all_in P (x ∷ xs) a all (inr i) = all_in P xs a all.1 i
 
-in_map : {A B : Type 0} (f : A → B) (xs : List A) (a : A) → In xs a → In (map f xs) (f a)
+pub in_map : {A B : Type 0} (f : A → B) (xs : List A) (a : A) → In xs a → In (map f xs) (f a)
 in_map f [] a i = absurd i
 in_map f (x ∷ xs) a (inl is) = inl (ap f is)
 in_map f (x ∷ xs) a (inr i) = inr (in_map f xs a i)
@@ -46,36 +46,36 @@ no_some n e = cc
 -- a price that is found is that of an offer
 found : (offers : List Offer) (product group price : ℕ) → price_for offers (product, group) ≡ Some price → In offers (record { product = product; group = group; price = price })
 found [] product group price e = absurd (no_some price e)
-found (o ∷ offers) product group price e = by (found offers product group price) (same_kind (product, group) (kind_of o)) refl
+found (o ∷ offers) product group price e = by (found offers product group price) (same_key (product, group) (key_of o)) refl
   where
-    by : (price_for offers (product, group) ≡ Some price → In offers (record { product = product; group = group; price = price })) → (b : Bool) → same_kind (product, group) (kind_of o) ≡ b
+    by : (price_for offers (product, group) ≡ Some price → In offers (record { product = product; group = group; price = price })) → (b : Bool) → same_key (product, group) (key_of o) ≡ b
         → In (o ∷ offers) (record { product = product; group = group; price = price })
     by rest true is =
-        let kind = same_kinds (product, group) (kind_of o) is in
-        let first : product ≡ o.product = ap (λ (k : ℕ × ℕ). k.0) kind in
-        let second : group ≡ o.group = ap (λ (k : ℕ × ℕ). k.1) kind in
+        let key = same_keys (product, group) (key_of o) is in
+        let first : product ≡ o.product = ap (λ (k : ℕ × ℕ). k.0) key in
+        let second : group ≡ o.group = ap (λ (k : ℕ × ℕ). k.1) key in
         let third : o.price ≡ price = some_is o.price price (sym (ap (λ (b : Bool). cond b (Some o.price) (price_for offers (product, group))) is) ∙ e) in
         inl (rw (first, second, sym third) refl)
     by rest false is = inr (rest (sym (ap (λ (b : Bool). cond b (Some o.price) (price_for offers (product, group))) is) ∙ e))
 
 -- each offer's price is found: no two are for one product and one group
-kind_is : (k : ℕ × ℕ) → same_kind k k ≡ true
-kind_is k = rw (eq-eqb k.0 k.0 refl, eq-eqb k.1 k.1 refl) refl
+pub key_is : (k : ℕ × ℕ) → same_key k k ≡ true
+key_is k = rw (eq-eqb k.0 k.0 refl, eq-eqb k.1 k.1 refl) refl
 
-other_kind : (a b : ℕ × ℕ) → same_kind a b ≡ false → same_kind b a ≡ false
-other_kind a b apart = by (same_kind b a) refl
+other_key : (a b : ℕ × ℕ) → same_key a b ≡ false → same_key b a ≡ false
+other_key a b apart = by (same_key b a) refl
   where
-    by : (x : Bool) → same_kind b a ≡ x → x ≡ false
-    by true is = absurd (true≢false (sym (kind_is a) ∙ ap (same_kind a) (sym (same_kinds b a is)) ∙ apart))
+    by : (x : Bool) → same_key b a ≡ x → x ≡ false
+    by true is = absurd (true≢false (sym (key_is a) ∙ ap (same_key a) (sym (same_keys b a is)) ∙ apart))
     by false is = refl
 
-held : (offers : List Offer) (o : Offer) → IsDistinct same_kind (map kind_of offers) → In offers o → price_for offers (kind_of o) ≡ Some o.price
+held : (offers : List Offer) (o : Offer) → IsDistinct same_key (map key_of offers) → In offers o → price_for offers (key_of o) ≡ Some o.price
 unfolding IsDistinct
 held [] o apart i = absurd i
-held (x ∷ offers) o apart (inl is) = rw (sym is, kind_is (kind_of x)) refl
+held (x ∷ offers) o apart (inl is) = rw (sym is, key_is (key_of x)) refl
 held (x ∷ offers) o apart (inr i) =
-    let other : same_kind (kind_of o) (kind_of x) ≡ false = other_kind (kind_of x) (kind_of o) (all_in (λ k. same_kind (kind_of x) k ≡ false) (map kind_of offers) (kind_of o) apart.0 (in_map kind_of offers o i)) in
-    ap (λ (b : Bool). cond b (Some x.price) (price_for offers (kind_of o))) other ∙ held offers o apart.1 i
+    let other : same_key (key_of o) (key_of x) ≡ false = other_key (key_of x) (key_of o) (all_in (λ k. same_key (key_of x) k ≡ false) (map key_of offers) (key_of o) apart.0 (in_map key_of offers o i)) in
+    ap (λ (b : Bool). cond b (Some x.price) (price_for offers (key_of o))) other ∙ held offers o apart.1 i
 
 -- ---- the offers for groups
 
@@ -200,8 +200,21 @@ rising_of groups is = last (nat_lt 0 (length groups) && nat_le (length groups) 4
     last true y e = e
     last false y e = absurd (false≢true e)
 
-pub chosen_is_least : ChosenIsLeast
-chosen_is_least shelf offers product groups are is =
+-- an offer for one of the groups is among those that were found, and the other way round
+pub among : (offers : List Offer) (product : ℕ) (groups : List ℕ) → AreApart offers → (o : Offer) → IsFor offers product groups o → In (offers_for offers product groups) o
+among offers product groups apart o for =
+    let priced : price_for offers (product, o.group) ≡ Some o.price = subst (λ (p : ℕ). price_for offers (p, o.group) ≡ Some o.price) for.1 (held offers o apart (in_of offers o for.0)) in
+    subst (λ (p : ℕ). In (offers_for offers product groups) (record { product = p; group = o.group; price = o.price })) (sym for.1) (for_groups offers product o.price o.group groups (in_of groups o.group for.2) priced)
+
+pub among_is_for : (offers : List Offer) (product : ℕ) (groups : List ℕ) (o : Offer) → In (offers_for offers product groups) o → IsFor offers product groups o
+among_is_for offers product groups o i =
+    let of = of_groups offers product groups o i in
+    (of_in offers o (subst (λ (p : ℕ). In offers (record { product = p; group = o.group; price = o.price })) (sym of.1) (found offers product o.group o.price of.2)), of.1, of_in groups o.group of.0)
+
+-- what is chosen among the offers for the groups of a credential is the least
+pub chosen_is_least : (shelf : ℕ) (offers : List Offer) (product : ℕ) (groups : List ℕ) → AreApart offers → are_groups groups ≡ true
+    → IsLeast shelf offers product groups (chosen shelf (offers_for offers product groups))
+chosen_is_least shelf offers product groups apart is =
     by (least shelf os == shelf) refl
   where
     os : List Offer
@@ -213,12 +226,6 @@ chosen_is_least shelf offers product groups are is =
     ascend : rise groups ≡ true
     ascend = rising_of groups is
 
-    -- an offer for one of the groups is among those that were found, and the other way round
-    among : (o : Offer) → IsFor offers product groups o → In os o
-    among o for =
-        let priced : price_for offers (product, o.group) ≡ Some o.price = subst (λ (p : ℕ). price_for offers (p, o.group) ≡ Some o.price) for.1 (held offers o are.apart (in_of offers o for.0)) in
-        subst (λ (p : ℕ). In os (record { product = p; group = o.group; price = o.price })) (sym for.1) (for_groups offers product o.price o.group groups (in_of groups o.group for.2) priced)
-
     is_for : (o : Offer) (g : ℕ) → In os o → o.group ≡ g → o.price ≡ price → IsFor offers product groups (record { product = product; group = g; price = price })
     is_for o g i group same =
         let of = of_groups offers product groups o i in
@@ -226,7 +233,7 @@ chosen_is_least shelf offers product groups are is =
         (of_in offers _ (found offers product g price priced), refl, of_in groups g (subst (In groups) group of.0))
 
     below : (o : Offer) → IsFor offers product groups o → price ≤ o.price
-    below o for = under_each shelf os o (among o for)
+    below o for = under_each shelf os o (among offers product groups apart o for)
 
     never : (g : ℕ) → ◌≡◌ {A = Option ℕ} None (Some g) → ⊥
     never g e = no_some g e
@@ -250,7 +257,7 @@ chosen_is_least shelf offers product groups are is =
           least = below;
           shelf_first = λ e. absurd (some_has price os one.0 one.1 one.2 (sym at ∙ e));
           group = λ g e. let t = told price g os (rising offers product groups ascend) (sym at ∙ e) in (less, is_for t.0.0 g t.0.1 t.0.2 t.0.3);
-          smallest = λ g o e for same. (told price g os (rising offers product groups ascend) (sym at ∙ e)).1 o (among o for) same;
+          smallest = λ g o e for same. (told price g os (rising offers product groups ascend) (sym at ∙ e)).1 o (among offers product groups apart o for) same;
         }
       where
         differ : price ≢ shelf

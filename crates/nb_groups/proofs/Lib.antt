@@ -6,3 +6,6 @@ pub mod Opening
 pub mod Layouts
 pub mod Once
 pub mod Least
+pub mod Exactly
+pub mod Quotes
+pub mod OneReading

@@ -12,15 +12,15 @@ use Rattle.std.specs.Fmt.{decimal}
 use Rattle.nb_groups.specs.declared.found.Offer.{Offer}
 use Rattle.nb_groups.specs.declared.fault.OffersFault.{OffersFault}
 use Rattle.nb_groups.specs.declared.fault.OffersFault.TheVariants.{BadLine, Twice, NoMemory}
-use Rattle.nb_groups.specs.Offers.{Terms, IsOffer, offer_bytes, offers_bytes, kind_of, same_kind, price_for, BeginsWithKeeper, BeginsWith, BeginsWithNone}
+use Rattle.nb_groups.specs.Offers.{Tariff, IsOffer, offer_bytes, offers_bytes, key_of, same_key, price_for, BeginsWithKeeper, BeginsWith, BeginsWithNone}
 use Rattle.nb_groups.specs.Reads.{Front, FailsAt, ReadsLines, Adds}
 
--- the kinds of offers are told apart
-kinds_equiv : IsEquivalence same_kind
-kinds_equiv = and_equiv (on_equiv (λ t. t.0) nat_eq_equiv) (on_equiv (λ t. t.1) nat_eq_equiv)
+-- the keys of offers are told apart
+keys_equiv : IsEquivalence same_key
+keys_equiv = and_equiv (on_equiv (λ t. t.0) nat_eq_equiv) (on_equiv (λ t. t.1) nat_eq_equiv)
 
-pub same_kinds : (a b : ℕ × ℕ) → same_kind a b ≡ true → a ≡ b
-same_kinds a b same =
+pub same_keys : (a b : ℕ × ℕ) → same_key a b ≡ true → a ≡ b
+same_keys a b same =
     let parts = both (nat_eq a.0 b.0) (nat_eq a.1 b.1) same in
     let first : a.0 ≡ b.0 = eqb-true a.0 b.0 parts.0 in
     let second : a.1 ≡ b.1 = eqb-true a.1 b.1 parts.1 in
@@ -31,10 +31,10 @@ same_kinds a b same =
     both false y e = absurd (false≢true e)
 
 -- so many lines of the bytes were read
-pub record SoFar (bytes : List ℕ) (terms : Terms) (rest : List ℕ) (lines : ℕ) : Type 0 where
-  pub front : Front bytes terms rest
-  pub number : lines ≡ length terms.offers + 1
-  pub few : length terms.offers + length rest ≤ length bytes
+pub record SoFar (bytes : List ℕ) (tariff : Tariff) (rest : List ℕ) (lines : ℕ) : Type 0 where
+  pub front : Front bytes tariff rest
+  pub number : lines ≡ length tariff.offers + 1
+  pub few : length tariff.offers + length rest ≤ length bytes
 
 -- the keeper's line was read
 pub first_line : (bytes keeper rest : List ℕ) → BeginsWithKeeper bytes keeper rest → SoFar bytes (record { keeper = keeper; offers = [] }) rest 1
@@ -54,27 +54,27 @@ all_more [] o all is = (is, tt)
 all_more (p ∷ offers) o all is = (all.0, all_more offers o all.1 is)
 
 -- where no price is found, there is no such offer; where one is, there is one
-absent : (offers : List Offer) (kind : ℕ × ℕ) → price_for offers kind ≡ None → list_any (same_kind kind) (map kind_of offers) ≡ false
-absent [] kind e = refl
-absent (o ∷ offers) kind none = by (absent offers kind) (same_kind kind (kind_of o)) refl
+absent : (offers : List Offer) (key : ℕ × ℕ) → price_for offers key ≡ None → list_any (same_key key) (map key_of offers) ≡ false
+absent [] key e = refl
+absent (o ∷ offers) key none = by (absent offers key) (same_key key (key_of o)) refl
   where
     no_some : (p : ℕ) → ◌≡◌ {A = Option ℕ} (Some p) None → ⊥
     no_some p e = cc
 
-    by : (price_for offers kind ≡ None → list_any (same_kind kind) (map kind_of offers) ≡ false) → (b : Bool) → same_kind kind (kind_of o) ≡ b → list_any (same_kind kind) (map kind_of (o ∷ offers)) ≡ false
-    by rest true is = absurd (no_some o.price (sym (ap (λ (b : Bool). cond b (Some o.price) (price_for offers kind)) is) ∙ none))
+    by : (price_for offers key ≡ None → list_any (same_key key) (map key_of offers) ≡ false) → (b : Bool) → same_key key (key_of o) ≡ b → list_any (same_key key) (map key_of (o ∷ offers)) ≡ false
+    by rest true is = absurd (no_some o.price (sym (ap (λ (b : Bool). cond b (Some o.price) (price_for offers key)) is) ∙ none))
     by rest false is =
-        let inner = rest (sym (ap (λ (b : Bool). cond b (Some o.price) (price_for offers kind)) is) ∙ none) in
+        let inner = rest (sym (ap (λ (b : Bool). cond b (Some o.price) (price_for offers key)) is) ∙ none) in
         rw (is, inner) refl
 
-present : (offers : List Offer) (kind : ℕ × ℕ) → price_for offers kind ≢ None → list_any (same_kind kind) (map kind_of offers) ≡ true
-present [] kind some = absurd (some refl)
-present (o ∷ offers) kind some = by (present offers kind) (same_kind kind (kind_of o)) refl
+present : (offers : List Offer) (key : ℕ × ℕ) → price_for offers key ≢ None → list_any (same_key key) (map key_of offers) ≡ true
+present [] key some = absurd (some refl)
+present (o ∷ offers) key some = by (present offers key) (same_key key (key_of o)) refl
   where
-    by : (price_for offers kind ≢ None → list_any (same_kind kind) (map kind_of offers) ≡ true) → (b : Bool) → same_kind kind (kind_of o) ≡ b → list_any (same_kind kind) (map kind_of (o ∷ offers)) ≡ true
+    by : (price_for offers key ≢ None → list_any (same_key key) (map key_of offers) ≡ true) → (b : Bool) → same_key key (key_of o) ≡ b → list_any (same_key key) (map key_of (o ∷ offers)) ≡ true
     by rest true is = rw is refl
     by rest false is =
-        let inner = rest (λ none. some (ap (λ (b : Bool). cond b (Some o.price) (price_for offers kind)) is ∙ none)) in
+        let inner = rest (λ none. some (ap (λ (b : Bool). cond b (Some o.price) (price_for offers key)) is ∙ none)) in
         rw (is, inner) refl
 
 -- an offer's line has a byte
@@ -89,11 +89,11 @@ pub smaller : (rest next : List ℕ) (o : Offer) → BeginsWith rest o next → 
 smaller rest next o begins = omega (arith, ap length begins.1 ∙ length-append (offer_bytes o) next, some_byte o)
 
 -- one line more
-pub one_more : (bytes rest next : List ℕ) (old new : Terms) (number : ℕ) (o : Offer) → SoFar bytes old rest number → BeginsWith rest o next → price_for old.offers (kind_of o) ≡ None
+pub one_more : (bytes rest next : List ℕ) (old new : Tariff) (number : ℕ) (o : Offer) → SoFar bytes old rest number → BeginsWith rest o next → price_for old.offers (key_of o) ≡ None
     → new.keeper ≡ old.keeper → new.offers ≡ old.offers ++ o ∷ [] → SoFar bytes new next (number + 1)
 one_more bytes rest next old new number o so begins none keeper offers =
-    let apart : IsDistinct same_kind (map kind_of (old.offers ++ o ∷ [])) =
-    subst (IsDistinct same_kind) (sym (map-append kind_of old.offers (o ∷ []))) (IsDistinct-push kinds_equiv (map kind_of old.offers) (kind_of o) so.front.offers.apart (absent old.offers (kind_of o) none)) in
+    let apart : IsDistinct same_key (map key_of (old.offers ++ o ∷ [])) =
+    subst (IsDistinct same_key) (sym (map-append key_of old.offers (o ∷ []))) (IsDistinct-push keys_equiv (map key_of old.offers) (key_of o) so.front.offers.apart (absent old.offers (key_of o) none)) in
     let spelled : so.front.behind ≡ offers_bytes (old.offers ++ o ∷ []) ++ next =
     so.front.spelled ∙ ap (λ (l : List ℕ). offers_bytes old.offers ++ l) begins.1
     ∙ sym (append_assoc (offers_bytes old.offers) (offer_bytes o) next)
@@ -102,43 +102,51 @@ one_more bytes rest next old new number o so begins none keeper offers =
     ∙ sym (flat_map-append offer_bytes old.offers (o ∷ []))
     ) in
     let long : length (old.offers ++ o ∷ []) ≡ length old.offers + 1 = length-append old.offers (o ∷ []) in
-    let made : Terms = record { keeper = old.keeper; offers = old.offers ++ o ∷ [] } in
+    let made : Tariff = record { keeper = old.keeper; offers = old.offers ++ o ∷ [] } in
     let so_made : SoFar bytes made next (number + 1) = record {
       front = record { behind = so.front.behind; keeper = so.front.keeper; offers = record { all = all_more old.offers o so.front.offers.all begins.0; apart = apart }; spelled = spelled };
       number = omega (arith, so.number, long);
       few = omega (arith, long, so.few, smaller rest next o begins);
     } in
-    subst (λ (t : Terms). SoFar bytes t next (number + 1)) (sym same) so_made
+    subst (λ (t : Tariff). SoFar bytes t next (number + 1)) (sym same) so_made
   where
     same : new ≡ record { keeper = old.keeper; offers = old.offers ++ o ∷ [] }
     same = rw (keeper, offers) refl
 
 -- where an offer was not added, the reading has that fault
-pub not_added : (bytes rest next : List ℕ) (old new : Terms) (number : ℕ) (o : Offer) (fault : OffersFault) → SoFar bytes old rest number → BeginsWith rest o next
+pub not_added : (bytes rest next : List ℕ) (old new : Tariff) (number : ℕ) (o : Offer) (fault : OffersFault) → SoFar bytes old rest number → BeginsWith rest o next
     → Adds old new (number + 1) o (Err fault) → ReadsLines bytes (Err fault)
 not_added bytes rest next old new number o (BadLine n) so begins adds = absurd adds
 not_added bytes rest next old new number o (Twice n) so begins adds = record {
-  terms = old;
+  tariff = old;
   rest = rest;
   again = o;
   more = next;
   front = so.front;
   number = omega (arith, adds.0, so.number);
   begins = begins;
-  held = Contains-list_any same_kind same_kinds (map kind_of old.offers) (kind_of o) (present old.offers (kind_of o) adds.1);
+  held = Contains-list_any same_key same_keys (map key_of old.offers) (key_of o) (present old.offers (key_of o) adds.1);
 }
-not_added bytes rest next old new number o NoMemory so begins adds = tt
+not_added bytes rest next old new number o NoMemory so begins adds = record {
+  tariff = old;
+  rest = rest;
+  next = o;
+  more = next;
+  front = so.front;
+  begins = begins;
+  fresh = adds;
+}
 
 -- no line of an offer stands behind those that were read
-pub all_read : (bytes rest : List ℕ) (terms : Terms) (number : ℕ) → SoFar bytes terms rest number → BeginsWithNone rest
-    → Front bytes terms rest × (number ≡ length terms.offers + 1) × (number ≤ length bytes + 1) × BeginsWithNone rest
-all_read bytes rest terms number so none = (so.front, so.number, omega (arith, so.number, so.few), none)
+pub all_read : (bytes rest : List ℕ) (tariff : Tariff) (number : ℕ) → SoFar bytes tariff rest number → BeginsWithNone rest
+    → Front bytes tariff rest × (number ≡ length tariff.offers + 1) × (number ≤ length bytes + 1) × BeginsWithNone rest
+all_read bytes rest tariff number so none = (so.front, so.number, omega (arith, so.number, so.few), none)
 
 -- bytes that should end where no line of an offer stands, and do not
-pub no_end : (IsEnd : List ℕ → Type 0) (bytes rest : List ℕ) (terms : Terms) (number : ℕ) → Front bytes terms rest → number ≡ length terms.offers + 1 → BeginsWithNone rest → ¬ IsEnd rest
+pub no_end : (IsEnd : List ℕ → Type 0) (bytes rest : List ℕ) (tariff : Tariff) (number : ℕ) → Front bytes tariff rest → number ≡ length tariff.offers + 1 → BeginsWithNone rest → ¬ IsEnd rest
     → FailsAt IsEnd bytes (number + 1)
-no_end IsEnd bytes rest terms number front is none not_so = record {
-  terms = terms;
+no_end IsEnd bytes rest tariff number front is none not_so = record {
+  tariff = tariff;
   rest = rest;
   front = front;
   number = omega (arith, is);

@@ -10,17 +10,17 @@ use Rattle.nb_groups.specs.declared.limits.TheConstants.{KEEPER}
 use Rattle.nb_groups.specs.declared.found.Offer.{Offer}
 
 -- what offers are seen as: the keeper's key, and for products and groups a price
-pub record Terms : Type 0 where
+pub record Tariff : Type 0 where
   pub keeper : List ℕ
   pub offers : List Offer
 
 -- for which product and which group it is
-abbrev pub kind_of : Offer → ℕ × ℕ
-kind_of o = (o.product, o.group)
+abbrev pub key_of : Offer → ℕ × ℕ
+key_of o = (o.product, o.group)
 
 -- it is the same product and the same group
-abbrev pub same_kind : ℕ × ℕ → ℕ × ℕ → Bool
-same_kind a b = nat_eq a.0 b.0 && nat_eq a.1 b.1
+abbrev pub same_key : ℕ × ℕ → ℕ × ℕ → Bool
+same_key a b = nat_eq a.0 b.0 && nat_eq a.1 b.1
 
 -- that of an entry of the map
 abbrev pub offer_at : (ℕ × ℕ) × ℕ → Offer
@@ -28,8 +28,8 @@ offer_at e = record { product = e.0.0; group = e.0.1; price = e.1 }
 
 -- the price of a product for a group, if one is offered
 abbrev pub price_for : List Offer → ℕ × ℕ → Option ℕ
-price_for [] kind = None
-price_for (o ∷ offers) kind = if same_kind kind (kind_of o) then Some o.price else price_for offers kind
+price_for [] key = None
+price_for (o ∷ offers) key = if same_key key (key_of o) then Some o.price else price_for offers key
 
 -- the offer of a product for a group, if there is one
 abbrev pub offer_for : ℕ → ℕ → Option ℕ → Option Offer
@@ -54,10 +54,14 @@ offer_bytes o = decimal o.product ++ SEMICOLON ∷ (decimal o.group ++ SEMICOLON
 abbrev pub offers_bytes : List Offer → List ℕ
 offers_bytes offers = flat_map offer_bytes offers
 
+-- no two offers are for one product and one group
+abbrev pub AreApart : List Offer → Type 0
+AreApart offers = IsDistinct same_key (map key_of offers)
+
 -- each is an offer, and no two are for one product and one group
 pub record AreOffers (offers : List Offer) : Type 0 where
   pub all : AllByRecursion IsOffer offers
-  pub apart : IsDistinct same_kind (map kind_of offers)
+  pub apart : AreApart offers
 
 -- a line of the keeper stands at the front of the bytes: "keeper ", and the 64 digits of the key, of either case
 pub record BeginsWithKeeper (bytes keeper rest : List ℕ) : Type 0 where

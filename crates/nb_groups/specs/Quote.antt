@@ -9,7 +9,7 @@ use Rattle.nb_groups.specs.declared.membership.Membership.{Membership}
 use Rattle.nb_groups.specs.declared.quoting.Denial.{Denial}
 use Rattle.nb_groups.specs.declared.quoting.Denial.TheVariants.{WrongConsumer, Expired, NoOffer}
 use Rattle.nb_groups.specs.declared.quoting.Quoted.{Quoted}
-use Rattle.nb_groups.specs.Offers.{Terms, offers_for}
+use Rattle.nb_groups.specs.Offers.{Tariff, offers_for}
 use Rattle.nb_groups.specs.Spelling.{IsMembership, credential_of}
 use Rattle.nb_groups.specs.Reading.{membership_in}
 
@@ -32,11 +32,11 @@ some_offer product [] = Err (NoOffer product)
 some_offer product (o ∷ offers) = Ok (o ∷ offers)
 
 -- the offers of a product for the groups of the one who asks with a request at a moment; or the first reason why there are none
-abbrev pub offers_shown : Terms → ℕ → PartyId → List ℕ → ℕ → Result (List Offer) Denial
-offers_shown terms product asked request now = do
-  m ← membership_in terms.keeper request
+abbrev pub offers_shown : Tariff → ℕ → PartyId → List ℕ → ℕ → Result (List Offer) Denial
+offers_shown tariff product asked request now = do
+  m ← membership_in tariff.keeper request
   holds ← admitted m asked now
-  some_offer product (offers_for terms.offers product m.groups)
+  some_offer product (offers_for tariff.offers product m.groups)
 
 -- the least of a price and those of offers
 abbrev pub least : ℕ → List Offer → ℕ
@@ -67,5 +67,5 @@ quoted_of product None shown = Err (record { id = product })
 quoted_of product (Some p) shown = Ok (quoted_with p.price shown)
 
 -- what a product costs who asks with a request at a moment
-abbrev pub quote_of : List Product → Terms → ℕ → PartyId → List ℕ → ℕ → Result Quoted NoProduct
-quote_of products terms product asked request now = quoted_of product (product_in products product) (offers_shown terms product asked request now)
+abbrev pub quote_of : List Product → Tariff → ℕ → PartyId → List ℕ → ℕ → Result Quoted NoProduct
+quote_of products tariff product asked request now = quoted_of product (product_in products product) (offers_shown tariff product asked request now)

@@ -2,7 +2,7 @@
 use Rattle.std.specs.Prelude.{ℕ, ◌+◌, List, [], ◌∷◌, codes, length, Option, None, Some, Result, Ok, Err}
 use Rattle.nb_units.specs.Fields.{◌>>=◌, u32_at, u64_at, bytes_at, done_at, or_place, allowed}
 use Rattle.nb_seal.specs.Seal.{text_in, iv_shown}
-use Rattle.nb_groups.specs.declared.limits.TheConstants.{MAX_TEXT}
+use Rattle.nb_groups.specs.declared.limits.TheConstants.{GROUPS_BYTES}
 use Rattle.nb_groups.specs.declared.membership.Membership.{Membership}
 use Rattle.nb_groups.specs.declared.quoting.Denial.{Denial}
 use Rattle.nb_groups.specs.declared.quoting.Denial.TheVariants.{NoCredential, BadSeal, Malformed}
@@ -13,7 +13,7 @@ unfoldable pub membership_of : List ℕ → Result Membership ℕ
 membership_of bytes = do
   consumer ← or_place (u32_at bytes 0)
   until ← or_place (u64_at bytes 4)
-  groups ← or_place (bytes_at MAX_TEXT bytes 12)
+  groups ← or_place (bytes_at GROUPS_BYTES bytes 12)
   lawful ← allowed (are_groups_bytes groups) 12
   end ← or_place (done_at bytes (16 + length groups))
   Ok (record { consumer = record { 0 = consumer }; until = until; groups = groups_in groups })

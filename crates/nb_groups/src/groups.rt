@@ -1,7 +1,7 @@
 //! The groups of a credential, as numbers and as bytes.
 
 ghost use Rattle.std.specs.Prelude.{◌≡◌, ◌≤◌, ◌*◌, length, IsTrue};
-ghost use Rattle.nb_groups.specs.declared.limits.TheConstants.{MAX_TEXT};
+ghost use Rattle.nb_groups.specs.declared.limits.TheConstants.{GROUPS_BYTES};
 ghost use Rattle.nb_groups.specs.Groups as lists;
 
 use crate::limits::{GROUP, MAX_GROUPS};
@@ -39,7 +39,7 @@ pub fn are_groups(groups: &[u32]) -> bool
 impl Groups {
     // The numbers that the bytes spell, four bytes each; fewer at the end spell none.
     pub(crate) fn read(text: &[u8]) -> Groups
-        requires { length text.now ≤ MAX_TEXT }
+        requires { length text.now ≤ GROUPS_BYTES }
         ensures { result ≡ lists.groups_in text.now }
     {
         let mut numbers = ArrayVec::new();

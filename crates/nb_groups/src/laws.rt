@@ -1,6 +1,9 @@
 //! What holds of every credential, of every list of offers and of every quote. Each function here does nothing: its contract is the law.
 
 ghost use Rattle.nb_groups.specs.Laws as law;
+ghost use Rattle.nb_groups.specs.Offers.{AreApart};
+
+use crate::offers::Offers;
 
 /// A law: what was spelled of a credential's text is read as what it says.
 pub fn membership_reads_back()
@@ -13,7 +16,7 @@ pub fn membership_spells_back()
 {}
 
 /// A law: two memberships with one spelling are one.
-pub fn one_spelling()
+pub fn one_membership()
     ensures { law.OneMembership }
 {}
 
@@ -22,7 +25,12 @@ pub fn credential_opens()
     ensures { law.CredentialOpens }
 {}
 
-/// A law: a credential holds for its consumer up to its last second, and for nobody else and no later.
+/// A law: bytes are opened under a key exactly where they are a credential that is sealed under it.
+pub fn opened_exactly()
+    ensures { law.OpenedExactly }
+{}
+
+/// A law: what a credential says is admitted for its consumer up to its last second, and for nobody else and no later.
 pub fn holds_until()
     ensures { law.HoldsUntil }
 {}
@@ -32,10 +40,37 @@ pub fn one_offer()
     ensures { law.OneOffer }
 {}
 
-/// A law: what is quoted with a credential is the least of the shelf's price and of those that are offered for its groups, and the group that is told
-/// is the smallest that has it.
+/// A law: bytes are read as one list of offers, or to one first fault, wherever there is memory.
+pub fn one_reading()
+    ensures { law.OneReading }
+{}
+
+/// A law: bytes are read up to an empty line as one list of offers and one rest, or to one first fault, wherever there is memory.
+pub fn one_front()
+    ensures { law.OneFront }
+{}
+
+/// A law: no two of a merchant's offers are for one product and one group.
+pub fn offers_apart(offers: &Offers)
+    ensures { AreApart offers.now.offers }
+{
+    offers.apart()
+}
+
+/// A law: what is quoted without a denial, from offers of which no two are for one product and group, is the least of the shelf's price and of those
+/// that are offered for the groups of the credential that the request is, and the group that is told is the smallest that has it.
 pub fn quote_is_least()
-    ensures { law.ChosenIsLeast }
+    ensures { law.QuoteIsLeast }
+{}
+
+/// A law: what is quoted with a denial is the shelf's price, of no group.
+pub fn denied_is_shelf()
+    ensures { law.DeniedIsShelf }
+{}
+
+/// A law: of a credential that holds it is told that there is no offer exactly where none is for the product and one of its groups.
+pub fn no_offer_exactly()
+    ensures { law.NoOfferExactly }
 {}
 
 /// A law: the limits in numbers, and the words in texts.

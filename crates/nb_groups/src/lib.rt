@@ -28,7 +28,7 @@ mod quoting;
 
 pub use fault::OffersFault;
 pub use groups::are_groups;
-pub use limits::{CREDENTIAL_BYTES, CREDENTIAL_LABEL, MAX_GROUPS, MAX_OFFERS};
+pub use limits::{CREDENTIAL_BYTES, CREDENTIAL_LABEL, MAX_GROUPS, OFFERS_BYTES};
 pub use membership::credential;
 pub use offers::Offers;
 pub use quoting::{Denial, Quoted, quote};

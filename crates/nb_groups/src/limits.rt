@@ -9,16 +9,16 @@ pub const MAX_GROUPS: usize = 4;
 pub(crate) const GROUP: usize = 4;
 
 // The most bytes of the groups of a credential.
-pub(crate) const MAX_TEXT: usize = MAX_GROUPS * GROUP;
+pub(crate) const GROUPS_BYTES: usize = MAX_GROUPS * GROUP;
 
 /// The most bytes of a credential, sealed.
-pub const CREDENTIAL_BYTES: usize = SEAL + PARTY + MOMENT + LENGTH + MAX_TEXT;
+pub const CREDENTIAL_BYTES: usize = SEAL + PARTY + MOMENT + LENGTH + GROUPS_BYTES;
 
 /// A credential is sealed under this label.
 pub const CREDENTIAL_LABEL: [u8; 4] = *b"cred";
 
-/// The most bytes of a list of offers: 256 MiB.
-pub const MAX_OFFERS: usize = 1 << 28;
+/// The most bytes of a list of offers that is read: 256 MiB.
+pub const OFFERS_BYTES: usize = 1 << 28;
 
 // The word of the keeper's line, with the space behind it.
 pub(crate) const KEEPER: [u8; 7] = *b"keeper ";

@@ -1,12 +1,12 @@
-ghost use Rattle.std.specs.Prelude.{◌≡◌, ◌≤◌, ◌+◌, ◌*◌, length, IsTrue, IfOk};
+ghost use Rattle.std.specs.Prelude.{◌≡◌, ◌≤◌, ◌+◌, ◌*◌, length, IsTrue};
 ghost use Rattle.nb_units.specs.Reads.{Reads};
 ghost use Rattle.nb_groups.specs.declared.limits.TheConstants.{CREDENTIAL_BYTES};
 ghost use Rattle.nb_groups.specs.Groups.{are_groups};
-ghost use Rattle.nb_groups.specs.Spelling.{IsMembership, membership_bytes, credential_of};
+ghost use Rattle.nb_groups.specs.Spelling.{membership_bytes, credential_of};
 ghost use Rattle.nb_groups.specs.Reading.{membership_of, membership_in};
 
 use crate::groups::{Groups, are_groups, spelled};
-use crate::limits::{CREDENTIAL_BYTES, CREDENTIAL_LABEL, GROUP, MAX_TEXT};
+use crate::limits::{CREDENTIAL_BYTES, CREDENTIAL_LABEL, GROUP, GROUPS_BYTES};
 use crate::quoting::Denial;
 use nb_seal::{BadSeal, seal_to, unseal_to};
 use nb_units::{Buffer, Cut, Malformed, PartyId, Secret, Small, allow};
@@ -50,8 +50,7 @@ fn plain(consumer: PartyId, until: u64, groups: &[u32]) -> Buffer
 // What the credential says that the bytes are under the keeper's key, or why they are none.
 pub(crate) fn opened(bytes: &[u8], key: &Secret) -> Result<Membership, Denial>
     requires { length bytes.now ≤ CREDENTIAL_BYTES }
-    ensures is { result ≡ membership_in key.now bytes.now }
-    ensures sealed { IfOk result (λ m. IsMembership m × (bytes.now ≡ credential_of key.now m)) }
+    ensures { result ≡ membership_in key.now bytes.now }
 {
     if bytes.is_empty() {
         return Err(Denial::NoCredential);
@@ -70,22 +69,15 @@ pub(crate) fn opened(bytes: &[u8], key: &Secret) -> Result<Membership, Denial>
 }
 
 // What the bytes spell, or the place of the first field that fails.
+#[tactic(auto, unfolding(crate::specs::Reading::membership_of))]
 fn read(bytes: &[u8]) -> Result<Membership, Malformed>
     ensures reads { Reads result (membership_of bytes.now) }
-    ensures spelled { IfOk result (λ m. IsMembership m × (bytes.now ≡ membership_bytes m)) }
-{
-    read_fields(bytes)
-}
-
-#[tactic(auto, unfolding(crate::specs::Reading::membership_of))]
-fn read_fields(bytes: &[u8]) -> Result<Membership, Malformed>
-    ensures { Reads result (membership_of bytes.now) }
 {
     let mut cut = Cut::new(bytes);
     let consumer = cut.u32()?;
     let until = cut.u64()?;
     let place = cut.place();
-    let text = cut.bytes(MAX_TEXT as u32)?;
+    let text = cut.bytes(GROUPS_BYTES as u32)?;
     let groups = Groups::read(text);
     allow(
         text.len() == GROUP * groups.as_slice().len() && are_groups(groups.as_slice()),

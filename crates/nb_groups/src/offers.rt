@@ -1,6 +1,6 @@
 ghost use Rattle.std.specs.Prelude.{◌≡◌, ◌≤◌, [], length};
-ghost use Rattle.nb_groups.specs.declared.limits.TheConstants.{MAX_OFFERS};
-ghost use Rattle.nb_groups.specs.Offers.{price_for, offers_for};
+ghost use Rattle.nb_groups.specs.declared.limits.TheConstants.{OFFERS_BYTES};
+ghost use Rattle.nb_groups.specs.Offers.{AreApart, price_for, offers_for};
 ghost use Rattle.nb_groups.specs.Reads.{ReadsOffers, ReadsFront, ReadsLines, Adds};
 
 use crate::fault::OffersFault;
@@ -23,11 +23,14 @@ pub struct Offers {
 
 impl Model for Offers {
     ghost use Rattle.std.specs.Prelude.{map};
-    ghost use Rattle.nb_groups.specs.Offers.{Terms, offer_at};
+    ghost use Rattle.indexmap.specs.IndexMap.{IsUnique};
+    ghost use Rattle.nb_groups.specs.Offers.{Tariff, offer_at, same_key};
 
-    ghost Value = { Terms };
+    ghost Value = { Tariff };
 
     ghost view = { λ o. record { keeper = o.keeper; offers = map offer_at o.prices.entries } };
+
+    ghost invariant = { λ o. IsUnique same_key o.prices };
 }
 
 // The offers of the lines at the front of bytes, how many lines these are, and what follows them.
@@ -38,7 +41,7 @@ struct Lines<'a> {
 }
 
 impl Offers {
-    /// The offers that at most [`MAX_OFFERS`](crate::MAX_OFFERS) bytes spell: a line `keeper ` with the 64 hexadecimal digits, of either case, of the
+    /// The offers that at most [`OFFERS_BYTES`](crate::OFFERS_BYTES) bytes spell: a line `keeper ` with the 64 hexadecimal digits, of either case, of the
     /// keeper's key, and then lines `product;group;price`, none or any number. Each line ends with a line feed. The product and the group are
     /// from 0 to 4,294,967,295, the price from 1 to 1,000,000,000; each is decimal without sign or leading zero. No two lines are for one
     /// product and one group.
@@ -46,7 +49,7 @@ impl Offers {
     /// It answers the fault of the first line that is not of its form ([`OffersFault::BadLine`]) or is for the product and the group of one before
     /// it ([`OffersFault::Twice`]), and [`OffersFault::NoMemory`] where there is none for the offers.
     pub fn read(alloc: Global, bytes: &[u8]) -> Result<Offers, OffersFault>
-        requires { length bytes.now ≤ MAX_OFFERS }
+        requires { length bytes.now ≤ OFFERS_BYTES }
         ensures { ReadsOffers bytes.now result }
     {
         let Lines {
@@ -60,10 +63,10 @@ impl Offers {
         Ok(offers)
     }
 
-    /// The offers that stand before the first empty line, and what stands behind it. Where there is no empty line the one behind the last line is bad.
-    /// The faults are those of [`Offers::read`].
+    /// The offers that stand before the first empty line, and what stands behind it. The faults are those of [`Offers::read`]; where all lines are of
+    /// their form and no empty line ends them, the one behind the last is bad ([`OffersFault::BadLine`]).
     pub fn read_front(alloc: Global, bytes: &[u8]) -> Result<(Offers, &[u8]), OffersFault>
-        requires { length bytes.now ≤ MAX_OFFERS }
+        requires { length bytes.now ≤ OFFERS_BYTES }
         ensures { ReadsFront bytes.now result }
     {
         let Lines {
@@ -100,6 +103,13 @@ impl Offers {
         Ok(())
     }
 
+    // No two of the offers are for one product and one group.
+    pub(crate) fn apart(&self)
+        ensures { AreApart self.now.offers }
+    {
+        let _prices = &self.prices;
+    }
+
     // The price of the product for the group, if one is offered.
     fn price_for(&self, product: u32, group: u32) -> Option<u32>
         ensures { result ≡ price_for self.now.offers (product, group) }
@@ -132,7 +142,7 @@ impl Offers {
 
 // The offers of the lines at the front of the bytes, as many as there are.
 fn read_lines(alloc: Global, bytes: &[u8]) -> Result<Lines<'_>, OffersFault>
-    requires { length bytes.now ≤ MAX_OFFERS }
+    requires { length bytes.now ≤ OFFERS_BYTES }
     ensures { ReadsLines bytes.now result }
 {
     let first = match keeper_of(bytes) {

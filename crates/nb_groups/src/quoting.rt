@@ -1,6 +1,7 @@
-ghost use Rattle.std.specs.Prelude.{◌≡◌, ◌≤◌, length, IfOk, OnOk, None};
+ghost use Rattle.std.specs.Prelude.{◌≡◌, ◌≤◌, length, IfOk, None};
 ghost use Rattle.nb_groups.specs.declared.limits.TheConstants.{CREDENTIAL_BYTES};
 ghost use Rattle.nb_groups.specs.Quote as quotes;
+ghost use Rattle.nb_groups.specs.Laws as law;
 
 use crate::found::Found;
 use crate::membership::opened;
@@ -14,7 +15,7 @@ pub struct Quoted {
     pub price: Price,
     /// The smallest of the asker's groups with an offer of this price, or `None` where it is the shelf's.
     pub group: Option<u32>,
-    /// Why no offer for a group was looked at, or `None` where one was.
+    /// Why no offer for a group counted, or `None` where one did.
     pub denied: Option<Denial>,
 }
 
@@ -37,8 +38,8 @@ pub enum Denial {
 }
 
 /// What a product costs the consumer who asks with this request, of at most [`CREDENTIAL_BYTES`](crate::CREDENTIAL_BYTES) bytes, at this moment,
-/// in seconds since 1970-01-01 00:00 UTC: with a credential of the consumer's that holds, the least of the shelf's price and of those that are offered for
-/// one of its groups; else the shelf's, and the first reason why.
+/// in seconds since 1970-01-01 00:00 UTC: with a credential of the consumer's that holds and an offer of the product for one of its groups, the least of
+/// the shelf's price and of those that are offered for its groups; else the shelf's, and the first reason why.
 ///
 /// It answers [`NoProduct`] exactly where the shelf has no such product.
 pub fn quote(
@@ -52,12 +53,15 @@ pub fn quote(
     requires { length request.now ≤ CREDENTIAL_BYTES }
     ensures quoted { result ≡ quotes.quote_of c.now o.now product consumer request.now now }
 
-    // Who is not denied sent a credential of its own that the keeper sealed, and in time.
-    ensures carried { IfOk result (λ q. q.denied ≡ None → quotes.Carries o.now.keeper consumer request.now now) }
+    // Who is not denied sent a credential of its own, sealed under the keeper's key, and in time, and pays the least for its groups.
+    ensures carried { IfOk result (λ q. q.denied ≡ None → law.IsCarried c.now o.now product consumer request.now now q) }
 {
     let shelf = c.quote(product)?;
     match offers_shown(o, product, consumer, request, now) {
-        Ok(found) => Ok(chosen(shelf, &found)),
+        Ok(found) => {
+            o.apart();
+            Ok(chosen(shelf, &found))
+        }
         Err(denial) => Ok(Quoted {
             price: shelf,
             group: None,
@@ -76,7 +80,6 @@ fn offers_shown(
 ) -> Result<Found, Denial>
     requires { length request.now ≤ CREDENTIAL_BYTES }
     ensures shown { result ≡ quotes.offers_shown o.now product asked request.now now }
-    ensures carried { OnOk result (quotes.Carries o.now.keeper asked request.now now) }
 {
     let membership = opened(request, &o.keeper)?;
     if membership.consumer != asked {

@@ -1,5 +1,5 @@
 use Rattle.std.proofs.Common.{rules, ◌≡◌, Err, refl, sym, subst}
-use Rattle.nb_groups.specs.Offers.{Terms}
+use Rattle.nb_groups.specs.Offers.{Tariff}
 use Rattle.nb_groups.specs.Reads.{ReadsLines}
 use Rattle.nb_groups.proofs.Reading.{SoFar, first_line, one_more, smaller, not_added}
 use Rattle.nb_groups.proofs.offers.read_lines.Goals as goal
@@ -9,7 +9,7 @@ returns-in-None c = (refl, c.in-None.ensures.none refl)
 
 pub lines-init : goal.lines-init
 lines-init c =
-    subst (λ (t : Terms). SoFar c.args.bytes.now t c.in-Some.first.1.now 1) (sym c.new-offers.ensures) (first_line c.args.bytes.now c.in-Some.first.0 c.in-Some.first.1.now c.in-Some.ensures.some)
+    subst (λ (t : Tariff). SoFar c.args.bytes.now t c.in-Some.first.1.now 1) (sym c.new-offers.ensures) (first_line c.args.bytes.now c.in-Some.first.0 c.in-Some.first.1.now c.in-Some.ensures.some)
 
 pub lines-preserved : goal.lines-preserved
 lines-preserved c =
