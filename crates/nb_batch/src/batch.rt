@@ -61,10 +61,15 @@ pub fn serve<D: Disk, S: Source, K: Sink, C: Clock>(
     sink: &mut K,
     clock: &mut C,
 ) -> BatchEnd
+    // The requests answered, the turns and the states, what was read and sent, by how it ended, with the place of a cut or a bad input. A stop at any
+    // moment of the call leaves an image that stands for one of the states; where each is the first the content stays; the faults lie between the disk's
+    // counts. The disk holds the entries of the first state before the call and those of each turn's state behind it, and a stop since one of these and
+    // up to the next leaves those of the one or of the other.
     ensures served { batch.Served D.tells house.old house.new
         (record { left = S.left source.old; sent = K.sent sink.old; moments = C.moments clock.old })
         (record { left = S.left source.new; sent = K.sent sink.new; moments = C.moments clock.new }) result }
     ensures origin { house.new.origin ≡ house.old.origin }
+    // The count did not fall.
     ensures disk { D.tells.faults house.old.disk ≤ D.tells.faults house.new.disk }
     ensures source { S.faults source.old ≤ S.faults source.new }
     ensures sink { K.faults sink.old ≤ K.faults sink.new }

@@ -27,6 +27,7 @@ impl EndorsedOrder {
 
         // What is read is spelled so, and what is spelled so is read.
         ensures spelled { IfOk result (λ o. IsEndorsedOrder o × (bytes.now ≡ endorsed_bytes o)) }
+        // Where the bytes are the spelling of one within its limits, that one is read.
         ensures found { (o : EndorsedOrder) → IsEndorsedOrder o → bytes.now ≡ endorsed_bytes o → result ≡ Ok o }
     {
         read_fields(bytes)

@@ -34,6 +34,7 @@ impl Enrolment {
 
         // What is read is spelled so, and what is spelled so is read.
         ensures spelled { IfOk result (λ n. IsEnrolment n × (bytes.now ≡ enrolment_bytes n)) }
+        // Where the bytes are the spelling of one within its limits, that one is read.
         ensures found { (n : Enrolment) → IsEnrolment n → bytes.now ≡ enrolment_bytes n → result ≡ Ok n }
     {
         read_fields(bytes)

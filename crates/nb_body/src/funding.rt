@@ -27,10 +27,12 @@ impl Funding {
     pub fn read(bytes: &[u8]) -> Result<Funding, Malformed>
         // The fields in their order, and the first that fails.
         ensures reads { Reads result (funding_of bytes.now) }
+        // An amount that is read is in its range.
         ensures amount { IfOk result (λ asked. (1 ≤ asked.amount) × (asked.amount ≤ MAX_AMOUNT)) }
 
         // What is read is spelled so, and what is spelled so is read.
         ensures spelled { IfOk result (λ f. IsFunding f × (bytes.now ≡ funding_bytes f)) }
+        // Where the bytes are the spelling of one within its limits, that one is read.
         ensures found { (f : Funding) → IsFunding f → bytes.now ≡ funding_bytes f → result ≡ Ok f }
     {
         read_fields(bytes)

@@ -28,6 +28,7 @@ impl GoodsHead {
 
         // What is read is spelled so, and what is spelled so is read.
         ensures spelled { IfOk result (λ h. IsGoodsHead h × (bytes.now ≡ goods_head_bytes h)) }
+        // Where the bytes are the spelling of one within its limits, that one is read.
         ensures found { (h : GoodsHead) → IsGoodsHead h → bytes.now ≡ goods_head_bytes h → result ≡ Ok h }
     {
         read_fields(bytes)

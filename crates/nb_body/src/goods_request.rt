@@ -22,6 +22,7 @@ impl GoodsRequest {
 
         // What is read is spelled so, and what is spelled so is read.
         ensures spelled { IfOk result (λ r. IsGoodsRequest r × (bytes.now ≡ goods_request_bytes r)) }
+        // Where the bytes are the spelling of one within its limits, that one is read.
         ensures found { (r : GoodsRequest) → IsGoodsRequest r → bytes.now ≡ goods_request_bytes r → result ≡ Ok r }
     {
         read_fields(bytes)

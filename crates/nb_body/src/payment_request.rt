@@ -23,6 +23,7 @@ impl PaymentRequest {
 
         // What is read is spelled so, and what is spelled so is read.
         ensures spelled { IfOk result (λ r. IsPaymentRequest r × (bytes.now ≡ payment_request_bytes r)) }
+        // Where the bytes are the spelling of one within its limits, that one is read.
         ensures found { (r : PaymentRequest) → IsPaymentRequest r → bytes.now ≡ payment_request_bytes r → result ≡ Ok r }
     {
         read_fields(bytes)

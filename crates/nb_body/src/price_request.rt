@@ -27,6 +27,7 @@ impl PriceRequest {
 
         // What is read is spelled so, and what is spelled so is read.
         ensures spelled { IfOk result (λ r. IsPriceRequest r × (bytes.now ≡ price_request_bytes r)) }
+        // Where the bytes are the spelling of one within its limits, that one is read.
         ensures found { (r : PriceRequest) → IsPriceRequest r → bytes.now ≡ price_request_bytes r → result ≡ Ok r }
     {
         read_fields(bytes)

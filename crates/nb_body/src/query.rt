@@ -27,6 +27,7 @@ impl StatusQuery {
 
         // What is read is spelled so, and what is spelled so is read.
         ensures spelled { IfOk result (λ q. IsQuery q × (bytes.now ≡ query_bytes q)) }
+        // Where the bytes are the spelling of one within its limits, that one is read.
         ensures found { (q : StatusQuery) → IsQuery q → bytes.now ≡ query_bytes q → result ≡ Ok q }
     {
         read_fields(bytes)

@@ -24,6 +24,7 @@ impl Quote {
 
         // What is read is spelled so, and what is spelled so is read.
         ensures spelled { IfOk result (λ q. IsQuote q × (bytes.now ≡ quote_bytes q)) }
+        // Where the bytes are the spelling of one within its limits, that one is read.
         ensures found { (q : Quote) → IsQuote q → bytes.now ≡ quote_bytes q → result ≡ Ok q }
     {
         read_fields(bytes)

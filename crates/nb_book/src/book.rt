@@ -55,7 +55,9 @@ impl Book {
         requires most { cap ≤ MAX_CAP }
         ensures entries { IfOk result (λ book. book.entries ≡ []) }
         ensures cap { IfOk result (λ book. book.cap ≡ cap) }
+        // Memory for as many entries and balances as the cap.
         ensures places { IfOk result (λ book. AllByRecursion (λ n. cap ≤ n) book.places) }
+        // Each index has this key, two slots more than twice the cap, and memory for as many puts as such an index may have.
         ensures indexes { IfOk result (λ book. AllByRecursion (IsShaped (slots_for cap) key.now) book.indexes) }
     {
         Ok(Book {
@@ -65,6 +67,7 @@ impl Book {
 
     /// The party of this number, if it is enrolled.
     pub fn party(&self, id: PartyId) -> Option<Party>
+        // The party of the first enrolment of this number; None exactly where none names it.
         ensures found { result ≡ party_in self.now.entries id }
         ensures legal { Legal self.now.entries }
     {
@@ -74,6 +77,7 @@ impl Book {
     /// The account of this number with its balance now, if a party holds it.
     pub fn account(&self, id: AcctId) -> Option<Account>
         ensures found { result ≡ account_in self.now.entries id }
+        // Its balance is at most the total.
         ensures within { IfSome result (λ account. account.balance ≤ total self.now.entries) }
         ensures legal { Legal self.now.entries }
     {
@@ -101,6 +105,7 @@ impl Book {
 
     /// The fund of this reference, if there is one.
     pub fn reference(&self, r: &[u8; 16]) -> Option<Funded>
+        // The first fund with this reference; None exactly where none has it.
         ensures found { result ≡ funded_in self.now.entries r.now }
         ensures legal { Legal self.now.entries }
     {
@@ -165,6 +170,8 @@ impl Book {
     /// thousandths of a price and at most [`MAX_RATE`](crate::MAX_RATE).
     pub fn legal(&self, e: &Entry, version: u8, rate: u16) -> bool
         requires { MayRule version rate }
+        // True exactly where the entry may come next in a journal of this version and this rate: a payment with a fee in version 2 alone, and with the
+        // fee of the rate.
         ensures { IsTrue result ↔ NextUnder version rate self.now.entries e.now }
     {
         e.is_next_under(self, version, rate)
@@ -176,6 +183,7 @@ impl Book {
         requires room { length self.old.entries < self.old.cap }
         ensures entries { self.new.entries ≡ self.old.entries ++ e.now ∷ [] }
         ensures cap { self.new.cap ≡ self.old.cap }
+        // None of the lists that entries and puts are appended to took memory.
         ensures places { self.new.places ≡ self.old.places }
         ensures indexes { self.new.indexes ≡ self.old.indexes }
     {
@@ -186,6 +194,7 @@ impl Book {
     #[tactic(auto, using(crate::proofs::Growing::front_legal))]
     pub fn undo(&mut self)
         requires { 0 < length self.old.entries }
+        // The entries are those before the last one.
         ensures entries { self.new.entries ≡ take (length self.old.entries - 1) self.old.entries }
         ensures cap { self.new.cap ≡ self.old.cap }
         ensures places { self.new.places ≡ self.old.places }

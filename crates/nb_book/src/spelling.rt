@@ -66,6 +66,7 @@ pub fn read_entry(cut: &mut Cut) -> Result<Entry, EntryFault>
 
     // An entry that is read is spelled so, and one that is spelled so is read.
     ensures spelled { IfOk result (λ e. spelling.IsEntry e × StandsAt (spelling.entry_bytes e) cut.old.bytes cut.old.place) }
+    // Where the spelling of an entry within its limits stands at the place, that entry is read.
     ensures found { (e : Entry) → spelling.IsEntry e → StandsAt (spelling.entry_bytes e) cut.old.bytes cut.old.place → result ≡ Ok e }
 {
     match read_front(cut.rest()) {

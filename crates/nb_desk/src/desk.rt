@@ -42,6 +42,7 @@ impl<D: Disk + Drop> Desk<D> {
     /// Where there is no memory the vault comes back.
     pub fn open(alloc: Global, vault: Vault<D>) -> Result<(Desk<D>, Pass<D>), (NoMemory, Vault<D>)>
         requires { vault.lines ≡ [] }
+        // After Ok a pass of this desk, of number 0 and the vault's origin, which has seen nothing, made no line and found nothing.
         ensures ok { IfOk result (λ r. IsAt r.1 r.0 × (r.1.number ≡ 0) × (sees r.1 ≡ fresh_view vault.origin)) }
         ensures err { IfErr result (λ e. e.1 ≡ vault) }
     {
@@ -60,9 +61,13 @@ impl<D: Disk + Drop> Desk<D> {
         requires desk { IsAt pass self.old }
         requires number { number < MAX_PASSES }
         ensures same { IsSameDesk self.new self.old }
+        // After Ok the first pass is of this desk and has the number and the view of the one given.
         ensures first { IfOk result (λ r. IsAt r.0 self.new × (r.0.number ≡ pass.number) × (sees r.0 ≡ sees pass)) }
+        // The second has this number and the first's origin, has seen what the first had seen, and its found word has the number's bit clear.
         ensures second { IfOk result (λ r. IsAt r.1 self.new × (r.1.number ≡ number) × SplitOff number (sees pass) (sees r.1)) }
+        // No line of this number had been seen.
         ensures fresh { IfOk result (λ r. lines_by maker_of number (sees pass).seen ≡ []) }
+        // After an error it is Taken with a word that has the number's bit; the pass has gained that found word and nothing else.
         ensures taken { IfErr result (λ e. (word : ℕ) × (e.0 ≡ taken_in word) × IsAt e.1 self.new × (e.1.number ≡ pass.number) × FindsTaken word number (sees pass) (sees e.1)) }
         ensures memory { IfErr result (λ e. e.0 ≢ no_memory) }
     {
@@ -76,7 +81,9 @@ impl<D: Disk + Drop> Desk<D> {
         ensures same { IsSameDesk self.new self.old }
         ensures desk { IsAt result self.new }
         ensures number { result.number ≡ first.number }
+        // It has seen the longer of the two lists; its parts are the first's and then the second's, its found words too.
         ensures view { sees result ≡ joined (sees first) (sees second) }
+        // The list that it has seen begins with that of the first and with that of the second.
         ensures begins { StartsWith (sees result).seen (sees first).seen × StartsWith (sees result).seen (sees second).seen }
     {
         self.turn.join(first, second)
@@ -107,6 +114,8 @@ impl<D: Disk + Drop> Desk<D> {
         requires room { REPLY_ROOM ≤ spare_of out.old }
         ensures desk { IsAt result.0 self.now }
         ensures number { result.0.number ≡ pass.number }
+        // Busy: its word is 1, the pass gained the found word (0, 1), and nothing else that it knows, no place and no byte of `out` has changed. Any
+        // other answer: it gained the found word (0, 0) and has seen more, and the answer is as `Gives` says.
         ensures tries { Tries D.tells pass.number (sees pass) (sees result.0) (request_of kind body.now moment ∷ []) (place_asked result.1) out.old.items out.new.items (all_asked result.1) }
         ensures room { vec_capacity out.new ≡ vec_capacity out.old }
     {
@@ -131,6 +140,10 @@ impl<D: Disk + Drop> Desk<D> {
         ensures desk { IsAt result.0 self.now }
         ensures number { result.0.number ≡ pass.number }
         ensures goes_on { GoesOnAtLast (sees pass) (sees result.0) }
+        // Never Busy. There was a vault that met what the pass knew, and made one turn under the pass's number: Served, where the turn decided, with its
+        // places and replies; DiskFault, where the disk failed; Worn, with 1,000, where so many turns had failed. The pass has seen what it had seen,
+        // then lines of others, none of them of its number or of one joined into it, and then the lines of its turn, under the next turn's number, and
+        // nothing else; states over these lines were led from one to the other by the turn. Of the disk it says what the vault's answer says.
         ensures gives { Gives D.tells pass.number (sees pass) (sees result.0) (request_of kind body.now moment ∷ []) (place_asked result.1) out.old.items out.new.items (all_asked result.1) }
         ensures room { vec_capacity out.new ≡ vec_capacity out.old }
     {
@@ -157,6 +170,7 @@ impl<D: Disk + Drop> Desk<D> {
         requires room { REPLY_ROOM * length asks.now ≤ spare_of out.old }
         ensures desk { IsAt result.0 self.now }
         ensures number { result.0.number ≡ pass.number }
+        // As of `try_ask`.
         ensures tries { (found : List ℕ) × (ats.new.items ≡ ats.old.items ++ found) × Tries D.tells pass.number (sees pass) (sees result.0) (requests_of bytes.now asks.now) found out.old.items out.new.items result.1 }
         ensures room { vec_capacity out.new ≡ vec_capacity out.old }
         ensures places { vec_capacity ats.new ≡ vec_capacity ats.old }
@@ -187,6 +201,7 @@ impl<D: Disk + Drop> Desk<D> {
         ensures desk { IsAt result.0 self.now }
         ensures number { result.0.number ≡ pass.number }
         ensures goes_on { GoesOnAtLast (sees pass) (sees result.0) }
+        // As of `ask`.
         ensures gives { (found : List ℕ) × (ats.new.items ≡ ats.old.items ++ found) × Gives D.tells pass.number (sees pass) (sees result.0) (requests_of bytes.now asks.now) found out.old.items out.new.items result.1 }
         ensures room { vec_capacity out.new ≡ vec_capacity out.old }
         ensures places { vec_capacity ats.new ≡ vec_capacity ats.old }
@@ -216,7 +231,9 @@ impl<D: Disk + Drop> Desk<D> {
         requires room { length asks.now ≤ vec_capacity drafts.old }
         ensures desk { IsAt result.0 self.now }
         ensures number { result.0.number ≡ pass.number }
+        // With the joined drafts in place of the replies, behind nothing: where nothing was asked they are nothing.
         ensures tries { (found : List ℕ) × (ats.new.items ≡ ats.old.items ++ found) × Tries D.tells pass.number (sees pass) (sees result.0) (requests_of bytes.now asks.now) found [] (joined_frames drafts.new.items) result.1 }
+        // There is one draft for each request at most.
         ensures few { length drafts.new.items ≤ length asks.now }
         ensures room { vec_capacity drafts.new ≡ vec_capacity drafts.old }
         ensures places { vec_capacity ats.new ≡ vec_capacity ats.old }
@@ -249,7 +266,9 @@ impl<D: Disk + Drop> Desk<D> {
         ensures desk { IsAt result.0 self.now }
         ensures number { result.0.number ≡ pass.number }
         ensures goes_on { GoesOnAtLast (sees pass) (sees result.0) }
+        // As of `ask_all`, with the joined drafts in place of the replies, behind nothing: where the turn did not decide they are nothing.
         ensures gives { (found : List ℕ) × (ats.new.items ≡ ats.old.items ++ found) × Gives D.tells pass.number (sees pass) (sees result.0) (requests_of bytes.now asks.now) found [] (joined_frames drafts.new.items) result.1 }
+        // There is one draft for each request at most.
         ensures few { length drafts.new.items ≤ length asks.now }
         ensures room { vec_capacity drafts.new ≡ vec_capacity drafts.old }
         ensures places { vec_capacity ats.new ≡ vec_capacity ats.old }

@@ -41,6 +41,7 @@ pub struct Endorsement {
 pub fn write_sealed(e: &Endorsement, key: &Secret, out: &mut Vec<u8>)
     requires memo { length e.now.memo ≤ MAX_MEMO }
     requires room { MAX_SEALED ≤ spare_of out.old }
+    // The seal of the endorsement's spelling under the key and the label "endo" is appended.
     ensures bytes { out.new.items ≡ out.old.items ++ seal_of key.now (codes "endo") (endorsement_bytes e.now) }
     ensures fits { IsEndorsement e.now }
     ensures spare { spare_of out.old ≤ spare_of out.new + MAX_SEALED }
@@ -63,6 +64,7 @@ pub fn read_sealed(bytes: &[u8], key: &Secret) -> Result<Endorsement, SealedFaul
 
     // An endorsement that is read was sealed so, and one that was sealed so is read.
     ensures spelled { IfOk result (λ e. IsEndorsement e × Opens key.now (codes "endo") bytes.now (endorsement_bytes e)) }
+    // Where the bytes are the seal of the spelling of one within its limits, that one is read.
     ensures found { (e : Endorsement) → IsEndorsement e → Opens key.now (codes "endo") bytes.now (endorsement_bytes e) → result ≡ Ok e }
 {
     opened(bytes, &KeyState::new(key), &mut [0; MAX_SEALED])
@@ -81,7 +83,9 @@ pub struct DigestedEndorsement {
 pub fn read_sealed_with(bytes: &[u8], key: &KeyState) -> Result<DigestedEndorsement, SealedFault>
     requires short { length bytes.now ≤ MAX_SEALED }
     ensures reads { ReadsSealed endorsement_of key.now (codes "endo") bytes.now (undigested result) }
+    // After Ok the digest is that of the endorsement.
     ensures digest { IfOk result (λ read. read.digest ≡ endorsement_digest read.endorsement) }
+    // As of `read_sealed`, under the state's key.
     ensures spelled { IfOk result (λ read. IsEndorsement read.endorsement × Opens key.now (codes "endo") bytes.now (endorsement_bytes read.endorsement)) }
 {
     let mut plain = [0u8; MAX_SEALED];

@@ -87,6 +87,7 @@ impl Receipt {
         price: Price,
     ) -> Option<u8>
         ensures first { result ≡ first_difference self.now epoid.now consumer merchant product price }
+        // There is none exactly where all five are the receipt's.
         ensures none { (result ≡ None) ↔ IsOf self.now epoid.now consumer merchant product price }
     {
         if self.epoid != *epoid {
@@ -184,6 +185,7 @@ pub fn seal_receipt(s: &Signed, key: &Secret) -> [u8; RECEIPT_BYTES]
 pub fn write_receipt(s: &Signed, key: &Secret, out: &mut Vec<u8>)
     requires lawful { ReceiptKeepsRules s.now.receipt }
     requires room { RECEIPT_BYTES ≤ spare_of out.old }
+    // The seal of the signed receipt is appended, 167 bytes.
     ensures bytes { out.new.items ≡ out.old.items ++ seal_of key.now (codes "rcpt") (spelling.signed_bytes s.now) }
     ensures fits { spelling.IsSigned s.now }
     ensures long { vec_len out.new ≡ vec_len out.old + RECEIPT_BYTES }
@@ -196,6 +198,7 @@ pub fn write_receipt(s: &Signed, key: &Secret, out: &mut Vec<u8>)
 pub fn write_receipt_with(s: &Signed, key: &KeyState, out: &mut Vec<u8>)
     requires lawful { ReceiptKeepsRules s.now.receipt }
     requires room { RECEIPT_BYTES ≤ spare_of out.old }
+    // As of `write_receipt`, under the key of this state.
     ensures bytes { out.new.items ≡ out.old.items ++ seal_of key.now (codes "rcpt") (spelling.signed_bytes s.now) }
     ensures fits { spelling.IsSigned s.now }
     ensures long { vec_len out.new ≡ vec_len out.old + RECEIPT_BYTES }
@@ -221,6 +224,7 @@ pub fn read_receipt(bytes: &[u8], key: &Secret) -> Result<Signed, SealedFault>
 
     // A receipt that is read was sealed so, and one that was sealed so is read.
     ensures spelled { IfOk result (λ s. spelling.IsSigned s × Opens key.now (codes "rcpt") bytes.now (spelling.signed_bytes s)) }
+    // Where the bytes are the seal of the spelling of a receipt within its limits and its tag, these are read.
     ensures found { (s : Signed) → spelling.IsSigned s → Opens key.now (codes "rcpt") bytes.now (spelling.signed_bytes s) → result ≡ Ok s }
 {
     opened(bytes, key)
@@ -306,6 +310,7 @@ pub fn read_signed(bytes: &[u8]) -> Result<Signed, Malformed>
 
     // A receipt that is read is spelled so, and one that is spelled so is read.
     ensures spelled { IfOk result (λ s. spelling.IsSigned s × (bytes.now ≡ spelling.signed_bytes s)) }
+    // Where the bytes are the spelling of a receipt within its limits and its tag, these are read.
     ensures found { (s : Signed) → spelling.IsSigned s → bytes.now ≡ spelling.signed_bytes s → result ≡ Ok s }
 {
     read_fields(bytes)

@@ -92,7 +92,9 @@ pub fn hide(h: &Hidden, key: &Secret) -> Small
 pub fn reveal(bytes: &[u8], key: &Secret) -> Result<Hidden, RevealFault>
     requires short { length bytes.now ≤ MAX_HIDDEN }
     ensures reveals { Reveals key.now bytes.now result }
+    // A hidden part that is revealed is within its limits, and the bytes are the seal of its spelling.
     ensures spelled { IfOk result (λ h. IsHidden h × Opens key.now (codes "hide") bytes.now (hidden_bytes h)) }
+    // Where the bytes are the seal of the spelling of one within its limits, that one is revealed.
     ensures found { (h : Hidden) → IsHidden h → Opens key.now (codes "hide") bytes.now (hidden_bytes h) → result ≡ Ok h }
 {
     reveal_with(bytes, &KeyState::new(key))
@@ -102,7 +104,9 @@ pub fn reveal(bytes: &[u8], key: &Secret) -> Result<Hidden, RevealFault>
 pub fn reveal_with(bytes: &[u8], key: &KeyState) -> Result<Hidden, RevealFault>
     requires short { length bytes.now ≤ MAX_HIDDEN }
     ensures reveals { Reveals key.now bytes.now result }
+    // As of `reveal`, under the state's key.
     ensures spelled { IfOk result (λ h. IsHidden h × Opens key.now (codes "hide") bytes.now (hidden_bytes h)) }
+    // As of `reveal`, under the state's key.
     ensures found { (h : Hidden) → IsHidden h → Opens key.now (codes "hide") bytes.now (hidden_bytes h) → result ≡ Ok h }
 {
     opened(bytes, key)

@@ -65,6 +65,7 @@ pub fn read_order(bytes: &[u8]) -> Result<Order, Malformed>
 
     // An order that is read is spelled so, and one that is spelled so is read.
     ensures spelled { IfOk result (λ o. IsOrder o × (bytes.now ≡ order_bytes o)) }
+    // Where the bytes are the spelling of an order within its limits, that order is read.
     ensures found { (o : Order) → IsOrder o → bytes.now ≡ order_bytes o → result ≡ Ok o }
 {
     read_fields(bytes)

@@ -77,6 +77,7 @@ impl Frames {
     pub fn feed(&mut self, piece: &[u8])
         requires short { length piece.now ≤ MAX_PIECE }
         requires ready { IsShort (front_of (waiting self.old)) }
+        // The stream has fewer than 2^63 bytes with the piece.
         requires near { self.old.taken + length (waiting self.old) + length piece.now < 2 ^ 63 }
         ensures { self.new ≡ fed self.old piece.now }
     {

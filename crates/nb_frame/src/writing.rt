@@ -11,6 +11,7 @@ use nb_units::frames::{FIRST_MAGIC, SECOND_MAGIC, VERSION};
 /// memory.
 pub fn write_header(kind: u8, body_len: u32, out: &mut Vec<u8>)
     requires { HEADER ≤ spare_of out.old }
+    // The magic, the version, the kind and the length of the body, in 8 bytes.
     ensures bytes { out.new.items ≡ out.old.items ++ (FIRST_MAGIC ∷ SECOND_MAGIC ∷ VERSION ∷ kind ∷ be4 body_len) }
     ensures spare { spare_of out.old ≤ spare_of out.new + HEADER }
     ensures room { vec_capacity out.new ≡ vec_capacity out.old }
@@ -30,6 +31,7 @@ pub fn write_frame(kind: u8, body: &[u8], out: &mut Vec<u8>)
     requires most { kind ≤ LAST_KIND }
     requires short { length body.now ≤ MAX_BODY }
     requires room { HEADER + length body.now ≤ spare_of out.old }
+    // The frame's one spelling is appended.
     ensures bytes { out.new.items ≡ out.old.items ++ frame (record { kind = kind; body = body.now }) }
     ensures room { vec_capacity out.new ≡ vec_capacity out.old }
 {

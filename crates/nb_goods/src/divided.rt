@@ -82,6 +82,7 @@ impl Parts {
         requires same_goods { self.now ≡ parts_of self.now.key goods.now }
         requires place { place % PART_BYTES ≡ 0 }
         requires within { place < self.now.total }
+        // After Ok the slice of the sealed goods from the place on: 1,000,000 bytes, or those that are left.
         ensures { IfOk result (λ part. part ≡ part_at (sealed_goods self.now.key goods.now) place) }
     {
         let start = place as usize;

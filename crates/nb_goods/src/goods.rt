@@ -77,6 +77,7 @@ pub fn goods_key(master: &Secret, merchant: PartyId, serial: u32) -> Secret
 /// than what [`open_goods`] takes. Answers [`NoMemory`] where there is none for the sealed goods.
 pub fn sealed(alloc: Global, key: &Secret, goods: &[u8]) -> Result<Blob, NoMemory>
     requires { length goods.now ≤ MAX_SEALED }
+    // After Ok the seal of the goods under the key and the label "good".
     ensures { IfOk result (λ bytes. bytes ≡ sealed_goods key.now goods.now) }
 {
     let mut bytes = Vec::with_capacity(alloc, SEAL + goods.len())?;

@@ -15,6 +15,7 @@ use nb_units::width::SEAL;
 /// memory is taken: it answers where [`open_goods`](crate::open_goods) has no memory for the goods.
 pub fn opens(key: &Secret, sealed: &[u8]) -> bool
     requires { length sealed.now ≤ MAX_SEALED }
+    // True: the bytes are some goods, sealed under the key.
     ensures opened { IsTrue result → (goods : List ℕ) × OpensTo key.now sealed.now goods }
     ensures refused { result ≡ false → OpensToNothing key.now sealed.now }
 {

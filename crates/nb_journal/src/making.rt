@@ -43,6 +43,7 @@ pub enum MagicRead {
 pub fn init<D: Disk>(disk: &mut D, head: &[u8; HEAD], cap: u32) -> Result<(), InitFault>
     ensures gives { InitGives D.tells disk.old disk.new cap (without_fee head.now) result }
     ensures spares { SparesJournal D.tells disk.old disk.new }
+    // After Ok the content is the one before with the front and a closed gate put at place 0; past these 97 bytes it is as before.
     ensures bytes { OnOk result (D.tells.content disk.new ≡ wrote_at (D.tells.content disk.old) 0 (front_bytes cap (without_fee head.now) ++ 0 ∷ [])) }
     ensures count { D.tells.faults disk.old ≤ D.tells.faults disk.new }
 {
@@ -61,6 +62,7 @@ pub fn init<D: Disk>(disk: &mut D, head: &[u8; HEAD], cap: u32) -> Result<(), In
 pub fn init2<D: Disk>(disk: &mut D, head: &[u8; HEAD], cap: u32, rate: u16) -> Result<(), InitFault>
     ensures gives { InitGives D.tells disk.old disk.new cap (with_fee head.now rate) result }
     ensures spares { SparesJournal D.tells disk.old disk.new }
+    // As of `init`, with a rate.
     ensures bytes { OnOk result (D.tells.content disk.new ≡ wrote_at (D.tells.content disk.old) 0 (front_bytes cap (with_fee head.now rate) ++ 0 ∷ [])) }
     ensures count { D.tells.faults disk.old ≤ D.tells.faults disk.new }
 {

@@ -46,6 +46,8 @@ pub fn lay<D: Disk>(disk: &mut D, image: &[u8]) -> Result<(), CopyFault>
 /// then on; a stop within the call leaves it with any eight bytes for its magic.
 pub fn crown<D: Disk>(disk: &mut D) -> Result<(), CopyFault>
     ensures gives { CrownGives D.tells disk.old disk.new result }
+    // Where a stop before the call leaves the content and nothing else, as after `lay`: a stop at any moment of the call leaves the content with its
+    // first eight bytes torn, and perhaps more behind its end (`LeavesOnly` with `TornCrown`). What that stands for is said by `laws::crown_stands`.
     ensures any_moment { Only (D.tells.content disk.old) (D.tells.allowed disk.old) → LeavesOnly D.tells disk.old disk.new (TornCrown (D.tells.content disk.old)) }
     ensures count { D.tells.faults disk.old ≤ D.tells.faults disk.new }
 {

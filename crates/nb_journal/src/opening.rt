@@ -52,6 +52,9 @@ impl<D: Disk> Journal<D> {
     /// may have `room` bytes.
     pub fn open(alloc: Global, disk: D, room: u32) -> Result<Opened<D>, (OpenFault, D)>
         requires { room ≤ MAX_ITEM }
+        // After Ok the journal is at rest with this front and these items, and the content is read as exactly these. `Unborn`: the content begins with
+        // no magic. `Damaged`: it begins with the magic of a version, and this is its first fault. `DiskFault`: the count rose between these two.
+        // `NoMemory`: a free answer.
         ensures gives { OpenGives D.tells disk room result }
         ensures nothing { Unwritten D.tells disk (disk_of result) }
         ensures count { D.tells.faults disk ≤ D.tells.faults (disk_of result) }

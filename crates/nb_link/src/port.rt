@@ -25,6 +25,7 @@ pub trait Port: Send + Drop {
     /// How many links it may still give: so many are to come, where they are told.
     fn left(&self) -> u32
         ensures left { result ≡ (seen self.now).left }
+        // So many are to come, where they are told.
         ensures told { IfSome (seen self.now).coming (λ links. length links ≡ result) };
 
     /// Gives the next link. A port that tells whether it listens does so no more where it gives its last one.

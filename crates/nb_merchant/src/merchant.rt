@@ -103,6 +103,8 @@ impl Merchant {
     /// Answers [`NoMemory`] where there is none for what has to be made or kept: then nothing changes.
     pub fn on_consumer(&mut self, message: &Message, moment: u64) -> Result<Step, NoMemory>
         requires { MessageKeepsRules message.now }
+        // After Ok the step of the table: the item of the row, spelled, whom the message is for, and the message; or the reason of the first test that
+        // fails.
         ensures step { IfOk result (λ step. step ≡ table.step_of (table.heard self.old message.now moment)) }
         ensures kept { OnOk result (self.new ≡ table.after self.old (table.heard self.old message.now moment)) }
         ensures err { OnErr result (self.new ≡ self.old) }
@@ -124,6 +126,7 @@ impl Merchant {
     /// [`on_consumer`](Merchant::on_consumer).
     pub fn on_server(&mut self, message: &Message) -> Result<Step, NoMemory>
         requires { MessageKeepsRules message.now }
+        // The same, at a message of the house.
         ensures step { IfOk result (λ step. step ≡ table.step_of (table.heard_of_house self.old message.now)) }
         ensures kept { OnOk result (self.new ≡ table.after self.old (table.heard_of_house self.old message.now)) }
         ensures err { OnErr result (self.new ≡ self.old) }
@@ -144,6 +147,7 @@ impl Merchant {
     /// What the merchant does where it heard nothing of a purchase for long: it endorses the kept order again, or passes the kept result
     /// on again.
     pub fn quiet(&mut self, consumer: PartyId, transaction: u64) -> Result<Step, NoMemory>
+        // The same, where nothing was heard of a purchase for long.
         ensures step { IfOk result (λ step. step ≡ table.step_of (table.silent self.old (table.purchase_by consumer transaction))) }
         ensures kept { OnOk result (self.new ≡ table.after self.old (table.silent self.old (table.purchase_by consumer transaction))) }
         ensures err { OnErr result (self.new ≡ self.old) }

@@ -53,7 +53,9 @@ pub fn sealed(
     plain: &[u8],
 ) -> Result<Blob, NoMemory>
     requires short { length plain.now ≤ MAX_TEXT }
+    // The seal of the text under the state's key and the label.
     ensures bytes { IfOk result (λ sealed. sealed ≡ seal_of key.now label.now plain.now) }
+    // It is 32 bytes longer than the text.
     ensures long { IfOk result (λ sealed. length sealed ≡ 32 + length plain.now) }
 {
     let mut bytes = Vec::with_capacity(alloc, SEAL + plain.len())?;

@@ -34,6 +34,7 @@ pub fn read_body(alloc: Global, kind: u8, body: &[u8]) -> Result<Message, BodyFa
     // A message that is read is spelled so, and can be written again; one that is spelled so is read.
     ensures spelled { IfOk result (λ m. IsMessage m × (kind_of m ≡ kind) × (body.now ≡ body_bytes m)) }
     ensures lawful { IfOk result MessageKeepsRules }
+    // Where the body is the spelling of a message within its limits, that one is read, or there was no memory.
     ensures found { (m : Message) → IsMessage m → kind_of m ≡ kind → body.now ≡ body_bytes m → (result ≡ Ok m) ⊎ (result ≡ Err fault.NoMemory) }
 {
     read_kind(alloc, kind, body)

@@ -47,8 +47,11 @@ const MOST_BODY: usize = 2 * (LENGTH + RECEIPT_BYTES);
 pub fn write_reply(reply: &Reply, keys: &ReplyKeys, out: &mut Vec<u8>)
     requires lawful { HasLawfulReceipts reply.now }
     requires room { REPLY_ROOM ≤ spare_of out.old }
+    // The reply's one frame is appended. Receipts are signed under the house's key. Sealed for one party, under its key, are each receipt of a result, a
+    // whole status, a whole grant and the ticket in it.
     ensures bytes { out.new.items ≡ out.old.items ++ layout.reply_bytes keys.now reply.now }
     ensures fits { IsReply reply.now }
+    // That frame has at most 350 bytes.
     ensures short { length (layout.reply_bytes keys.now reply.now) ≤ LONGEST_REPLY }
     ensures room { vec_capacity out.new ≡ vec_capacity out.old }
 {

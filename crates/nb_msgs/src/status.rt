@@ -38,6 +38,7 @@ impl StatusText {
 
         // A status that is read is spelled so, and one that is spelled so is read.
         ensures spelled { IfOk result (λ t. texts.IsStatusText t × (bytes.now ≡ texts.text_bytes t)) }
+        // Where the bytes are the spelling of one within its limits, that one is read.
         ensures found { (t : StatusText) → texts.IsStatusText t → bytes.now ≡ texts.text_bytes t → result ≡ Ok t }
     {
         read_fields(bytes)

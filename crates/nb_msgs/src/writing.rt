@@ -19,11 +19,13 @@ use nb_units::{Blob, Buffer, NoMemory, PartyId};
 /// range. Where there is no memory for the frame, nothing is appended and no room is taken. A part of goods is copied once.
 pub fn write_message(m: &Message, out: &mut Vec<u8>) -> Result<(), NoMemory>
     requires lawful { bodies.MessageKeepsRules m.now }
+    // After Ok the message's one frame is appended.
     ensures ok { OnOk result (out.new.items ≡ out.old.items ++ bodies.message_bytes m.now) }
     ensures fits { bodies.IsMessage m.now }
 
     // Where it fails all is as before, and it fails only where the room for the frame was missing.
     ensures err { OnErr result ((out.new.items ≡ out.old.items) × (vec_capacity out.new ≡ vec_capacity out.old)) }
+    // Where there is room for the frame, it is Ok.
     ensures had { length (bodies.message_bytes m.now) ≤ spare_of out.old → IsOk result }
 {
     let front = front_of(m);

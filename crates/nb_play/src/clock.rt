@@ -32,7 +32,9 @@ impl DrillClock {
 
     /// Whether it tells all that it gave: until the count of its calls stays.
     pub fn tells(&self) -> bool
+        // True only where the moments that it gave are told: as many times the one moment as it was asked.
         ensures told { IsTrue result → told_by self.now ≡ Some (replicate self.now MOMENT) }
+        // True exactly where it was asked fewer than 2^64 - 1 times.
         ensures counts { IsTrue result ↔ (self.now < last_count) }
     {
         self.asked < u64::MAX

@@ -90,6 +90,7 @@ pub fn drill_head(seed: u64) -> [u8; 80]
 pub fn drill_frames(alloc: Global, seed: u64, orders: u32, i: u32) -> Result<Blob, NoMemory>
     requires few { orders ≤ MAX_ORDERS }
     requires within { i < count_of orders }
+    // After Ok the bytes of frame `i`: enrolments of eight consumers and eight merchants, money for each consumer, and then each order twice.
     ensures { IfOk result (λ blob. blob ≡ drill.frame_bytes seed i) }
 {
     if i < PARTIES {

@@ -46,6 +46,7 @@ impl DrillSource {
     /// The frames of a drill with so many orders, at most [`MAX_ORDERS`](crate::MAX_ORDERS).
     pub fn new(alloc: Global, seed: u64, orders: u32) -> DrillSource
         requires { orders ≤ MAX_ORDERS }
+        // What is left of the source are the bytes of all frames, one behind the other (`whole`), and no read failed.
         ensures { result ≡ whole seed orders }
     {
         DrillSource {

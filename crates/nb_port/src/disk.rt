@@ -35,7 +35,9 @@ pub trait Disk {
     fn read(&mut self, place: u64, buf: &mut [u8]) -> DiskRead
         ensures gives { DiskReadGives (tells.faults self.old) (tells.faults self.new) (tells.content self.old) place
             (length buf.old) buf.new result }
+        // Also after a failure.
         ensures content { tells.content self.new ≡ tells.content self.old }
+        // Those that there were and no others, also after a failure.
         ensures images { SameImages (tells.allowed self.old) (tells.allowed self.new) }
         ensures time { Elapses (tells.moment self.old) (tells.moment self.new) (tells.left self.old) (tells.left self.new) (tells.allowed self.new) }
         ensures count { tells.faults self.old ≤ tells.faults self.new };
@@ -43,6 +45,7 @@ pub trait Disk {
     /// Writes the piece at `place`, over what stands there and past the end. The place is within the content or at its end.
     /// The place and the length of the piece are together below 2^63, so that a signed file offset of 64 bits holds the end.
     fn write(&mut self, place: u64, piece: &[u8]) -> DiskOut
+        // Where the disk tells its content, the place is within it or at its end.
         requires inside { IfSome (tells.content self.old) (λ bytes. place ≤ length bytes) }
         requires small { place + length piece.now < 2 ^ 63 }
         ensures gives { DiskWriteGives (tells.faults self.old) (tells.faults self.new) (tells.content self.old) (tells.content self.new)

@@ -28,6 +28,7 @@ impl<'a> Model for ByteDisk<'a> {
 impl<'a> ByteDisk<'a> {
     /// A disk that holds these bytes from place 0 on, and has not failed.
     pub fn over(bytes: &'a [u8]) -> ByteDisk<'a>
+        // These bytes are its content, and a stop leaves them and nothing else, at every moment.
         ensures bytes { result.bytes ≡ bytes.now }
         ensures faults { result.faults ≡ 0 }
     {
@@ -58,6 +59,7 @@ impl<'a> Disk for ByteDisk<'a> {
         ensures gives { DiskReadGives self.old.faults self.new.faults (Some self.old.bytes) place (length buf.old) buf.new result }
         ensures content { Some self.new.bytes ≡ Some self.old.bytes }
         ensures images { SameImages (IsLent self.old) (IsLent self.new) }
+        // A stop leaves the lent bytes, before the call, within it and behind it.
         ensures time { Elapses 0 0 (λ _. IsLent self.old) (λ _. IsLent self.new) (IsLent self.new) }
         ensures count { self.old.faults ≤ self.new.faults }
         ensures works { result ≢ DiskRead.Failed }
@@ -72,6 +74,7 @@ impl<'a> Disk for ByteDisk<'a> {
         ensures gives { DiskWriteGives self.old.faults self.new.faults (Some self.old.bytes) (Some self.new.bytes) place piece.now result }
         ensures images { Follows (Torn place (length piece.now)) (IsLent self.old) (IsLent self.new) }
         ensures kept { NoneLost (IsLent self.old) (IsLent self.new) }
+        // As of a read.
         ensures time { Elapses 0 0 (λ _. IsLent self.old) (λ _. IsLent self.new) (IsLent self.new) }
         ensures count { self.old.faults ≤ self.new.faults }
         ensures fails { result ≡ DiskOut.Failed }
@@ -86,6 +89,7 @@ impl<'a> Disk for ByteDisk<'a> {
         ensures gives { DiskSyncGives self.old.faults self.new.faults (Some self.old.bytes) (IsLent self.old) (IsLent self.new) result }
         ensures content { Some self.new.bytes ≡ Some self.old.bytes }
         ensures images { NoneNew (IsLent self.old) (IsLent self.new) }
+        // As of a read.
         ensures time { Elapses 0 0 (λ _. IsLent self.old) (λ _. IsLent self.new) (IsLent self.new) }
         ensures count { self.old.faults ≤ self.new.faults }
         ensures works { result ≡ DiskOut.Done }

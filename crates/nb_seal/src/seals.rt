@@ -80,10 +80,13 @@ pub fn seal(
     out: &mut Vec<u8>,
 ) -> Result<(), NoMemory>
     requires { length plain.now ≤ MAX_TEXT }
+    // After Ok the text's seal under the key and the label is appended.
     ensures sealed { OnOk result (out.new.items ≡ out.old.items ++ seals.seal_of key.now label.now plain.now) }
     ensures unchanged { OnErr result (out.new.items ≡ out.old.items) }
     ensures as_before { OnErr result (vec_capacity out.new ≡ vec_capacity out.old) }
+    // Where the room was there before, the answer is Ok.
     ensures succeeds { CODE_BYTES + length plain.now ≤ spare_of out.old → IsOk result }
+    // The room fell by no more than 32 bytes and the text.
     ensures spare { spare_of out.old ≤ spare_of out.new + (CODE_BYTES + length plain.now) }
 {
     out.reserve(CODE_BYTES + plain.len())?;
@@ -95,8 +98,11 @@ pub fn seal(
 /// `out` keeps its capacity.
 pub fn seal_spare(key: &[u8; CODE_BYTES], label: &[u8; 4], plain: &[u8], out: &mut Vec<u8>)
     requires short { length plain.now ≤ MAX_TEXT }
+    // The room fell by no more than the seal.
     requires spare { CODE_BYTES + length plain.now ≤ spare_of out.old }
+    // The seal is appended.
     ensures sealed { out.new.items ≡ out.old.items ++ seals.seal_of key.now label.now plain.now }
+    // The room fell by no more than the seal.
     ensures spare { spare_of out.old ≤ spare_of out.new + (CODE_BYTES + length plain.now) }
     ensures room { vec_capacity out.new ≡ vec_capacity out.old }
 {
@@ -120,8 +126,11 @@ impl KeyState {
     #[tactic(auto, unfolding(crate::specs::Seal::seal_of))]
     pub fn seal_spare(&self, label: &[u8; 4], plain: &[u8], out: &mut Vec<u8>)
         requires short { length plain.now ≤ MAX_TEXT }
+        // The room fell by no more than the seal.
         requires spare { CODE_BYTES + length plain.now ≤ spare_of out.old }
+        // The seal is appended.
         ensures sealed { out.new.items ≡ out.old.items ++ seals.seal_of self.now label.now plain.now }
+        // The room fell by no more than the seal.
         ensures spare { spare_of out.old ≤ spare_of out.new + (CODE_BYTES + length plain.now) }
         ensures room { vec_capacity out.new ≡ vec_capacity out.old }
     {
@@ -154,8 +163,10 @@ impl KeyState {
     pub fn unseal_to(&self, label: &[u8; 4], bytes: &[u8], buf: &mut [u8]) -> Result<usize, BadSeal>
         requires short { length bytes.now ≤ CODE_BYTES + MAX_TEXT }
         requires room { length bytes.now ≤ length buf.old }
+        // After Ok(n) the first n bytes of buf are a text whose seal the bytes are.
         ensures opened { IfOk result (λ n. seals.Opens self.now label.now bytes.now (take n buf.new)) }
         ensures len { IfOk result (λ n. n + CODE_BYTES ≡ length bytes.now) }
+        // What stands behind the text in buf is as before.
         ensures rest { IfOk result (λ n. drop n buf.new ≡ drop n buf.old) }
         ensures refused { OnErr result (seals.IsNoSeal self.now label.now bytes.now) }
         ensures front { IfErr result (λ bad. bad.iv ≡ seals.iv_shown bytes.now) }
@@ -188,7 +199,9 @@ pub fn unseal(
     ensures refused { IfErr result (Refuses key.now label.now bytes.now) }
     ensures unchanged { OnErr result (out.new.items ≡ out.old.items) }
     ensures kept { OnErr result (spare_of out.old ≤ spare_of out.new) }
+    // The room fell by no more than the text.
     ensures spare { spare_of out.old ≤ spare_of out.new + (length bytes.now - CODE_BYTES) }
+    // Where the room for the text was there before, the answer is not `NoMemory`.
     ensures room { length bytes.now - CODE_BYTES ≤ spare_of out.old → result ≢ Err Unsealed.NoMemory }
 {
     let (iv, text) = parts_of(bytes)?;
@@ -212,8 +225,10 @@ pub fn unseal_to(
 ) -> Result<usize, BadSeal>
     requires short { length bytes.now ≤ CODE_BYTES + MAX_TEXT }
     requires room { length bytes.now ≤ length buf.old }
+    // After Ok(n) the first n bytes of buf are a text whose seal the bytes are.
     ensures opened { IfOk result (λ n. seals.Opens key.now label.now bytes.now (take n buf.new)) }
     ensures len { IfOk result (λ n. n + CODE_BYTES ≡ length bytes.now) }
+    // What stands behind the text in buf is as before.
     ensures rest { IfOk result (λ n. drop n buf.new ≡ drop n buf.old) }
     ensures refused { OnErr result (seals.IsNoSeal key.now label.now bytes.now) }
     ensures front { IfErr result (λ bad. bad.iv ≡ seals.iv_shown bytes.now) }

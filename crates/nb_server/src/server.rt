@@ -57,6 +57,7 @@ pub fn serve_all<
     requires none { vault.lines ≡ [] }
     requires some { 1 ≤ vec_len workers }
     requires few { vec_len workers ≤ MAX_WORKERS }
+    // From the vault and the workers that were given to those that come back, with their ends.
     ensures ok { IfOk result (λ served. AllSessions D.tells vault served.vault (map (worker_seen P.seen C.moments) workers.items) (map (worker_seen P.seen C.moments) served.workers.items) served.ends.items) }
     ensures err { IfErr result (λ e. (e.1 ≡ vault) × (e.2 ≡ workers)) }
 {

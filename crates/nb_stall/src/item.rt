@@ -63,6 +63,7 @@ impl Item {
 
         // What is read is spelled so, and what is spelled so is read.
         ensures spelled { IfOk result (λ item. IsItem item × (bytes.now ≡ item_bytes item)) }
+        // What is spelled so is read.
         ensures found { (item : Item) → IsItem item → bytes.now ≡ item_bytes item → result ≡ Ok item }
     {
         read_fields(bytes)

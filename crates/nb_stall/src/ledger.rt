@@ -18,6 +18,8 @@ pub fn note(
     item: &Item,
     parts: Option<Parts>,
 ) -> Result<(), NoMemory>
+    // After Ok what is held at the item's purchase is what was held, with the item more and with the parts where there are some (`noted`); at every
+    // other purchase it is what was held.
     ensures noted { OnOk result ((q : Purchase) → get purchase_cmp sales.new q ≡ noted_at item.now parts q (get purchase_cmp sales.old q)) }
     ensures same { OnErr result (sales.new.entries ≡ sales.old.entries) }
 {
@@ -51,6 +53,7 @@ pub fn note(
 /// Appends the goods that were sealed, where the item says so. There must be room for one more.
 pub fn note_delivery(deliveries: &mut Vec<Delivery>, item: &Item)
     requires { vec_len deliveries.old < vec_capacity deliveries.old }
+    // The goods that the item says were sealed stand behind the others; an item that says nothing of goods changes nothing.
     ensures { deliveries.new.items ≡ deliveries.old.items ++ deliveries_in (item.now ∷ []) }
 {
     match item {

@@ -42,6 +42,7 @@ pub fn open_for(stall: &Stall, ticket: &[u8], moment: u64) -> Result<Ticket, Rea
 pub fn open_price_request(session: &KeyState, sealed: &[u8]) -> Result<AskedPrice, Reason>
     requires { length sealed.now ≤ MAX_SEALED_PRICE_REQUEST }
     ensures request { opened body.price_request_of session.now (codes "m001") sealed.now ≡ tests.request_in result }
+    // The digest is the SHA-256 of the request's bytes.
     ensures digest { IfOk result (λ asked. asked.digest ≡ request_digest asked.request) }
 {
     let mut plain = [0u8; MAX_SEALED_PRICE_REQUEST];

@@ -41,6 +41,7 @@ pub fn goods_message(
     requires same_goods { parts.now ≡ parts_of parts.now.key goods.now }
     requires starts { place % PART_BYTES ≡ 0 }
     requires within { place < parts.now.total }
+    // The message with that part, and with what is said of it, sealed under the session key; or there was no memory.
     ensures { IfOk result (λ message. message ≡ messages.goods_message session.now transaction epoid (sealed_goods parts.now.key goods.now) place) }
 {
     let head = GoodsHead {

@@ -120,7 +120,10 @@ impl<F: PositionalFile + Drop> Disk for FileDisk<F> {
     }
 
     fn read(&mut self, place: u64, buf: &mut [u8]) -> DiskRead
+        // What the buffer holds is what the file's content has there, fewer bytes than there is room for only where the content ends; the content is
+        // that from before where the file was prepared (`kept`), and else that which preparing it left.
         ensures bytes { DiskReadGives self.old.faults self.new.faults (F.content self.new.file) place (length buf.old) buf.new result }
+        // A prepared file stays prepared, with the content that it had.
         ensures kept { self.old.state ≡ FileState.Prepared → (self.new.state ≡ FileState.Prepared) × (F.content self.new.file ≡ F.content self.old.file) }
         ensures first { result ≢ reads.Failed → self.new.state ≡ FileState.Prepared }
         ensures stays { StaysFailed self.old self.new (result ≡ reads.Failed) }
@@ -136,7 +139,9 @@ impl<F: PositionalFile + Drop> Disk for FileDisk<F> {
     fn write(&mut self, place: u64, piece: &[u8]) -> DiskOut
         requires small { place + length piece.now < 2 ^ 63 }
         ensures told { result ≡ outs.Failed → Rose self.old.faults self.new.faults }
+        // Exactly the piece stands at its place, and nothing else changed; one that failed changed nothing outside its range.
         ensures bytes { WritesFrom F.content self.old self.new place piece.now result }
+        // A prepared file stays prepared.
         ensures kept { self.old.state ≡ FileState.Prepared → self.new.state ≡ FileState.Prepared }
         ensures first { result ≡ outs.Done → self.new.state ≡ FileState.Prepared }
         ensures stays { StaysFailed self.old self.new (result ≡ outs.Failed) }
@@ -150,8 +155,11 @@ impl<F: PositionalFile + Drop> Disk for FileDisk<F> {
     }
 
     fn sync(&mut self) -> DiskOut
+        // Once done, the file is prepared and the device has what its content is.
         ensures durable { result ≡ outs.Done → (self.new.state ≡ FileState.Prepared) × (F.durable self.new.file ≡ F.content self.new.file) }
+        // Of a prepared file the content is as before.
         ensures kept { self.old.state ≡ FileState.Prepared → F.content self.new.file ≡ F.content self.old.file }
+        // Once failed, the count rose and each later call fails.
         ensures failed { result ≡ outs.Failed → (self.new.state ≡ FileState.Failed) × Rose self.old.faults self.new.faults }
         ensures stays { StaysFailed self.old self.new (result ≡ outs.Failed) }
         ensures count { self.old.faults ≤ self.new.faults }

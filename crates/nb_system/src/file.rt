@@ -55,6 +55,7 @@ pub trait PositionalFile {
     fn read_at(&mut self, place: u64, buf: &mut [u8]) -> FileRead
         requires faithful { faithful self.old }
         requires named { named self.old }
+        // The end of the piece is below 2^63.
         requires small { place < 2 ^ 63 }
         ensures gives { FileReadGives (content self.old) place (length buf.old) buf.new result }
         ensures content { content self.new ≡ content self.old }
@@ -74,7 +75,9 @@ pub trait PositionalFile {
     fn sync_all(&mut self) -> DiskOut
         ensures content { content self.new ≡ content self.old }
         ensures synced { result ≡ outs.Done → synced self.new }
+        // A faithful file stays so, and the device has its content.
         ensures durable { result ≡ outs.Done → faithful self.old → faithful self.new × (durable self.new ≡ content self.new) }
+        // A name that the folder keeps is kept.
         ensures named { result ≡ outs.Done → named self.old → named self.new };
 
     /// Drops the pages that are kept in memory, so that what is read from then on is what the device has.

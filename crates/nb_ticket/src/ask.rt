@@ -32,6 +32,7 @@ impl TicketAsk {
 
         // A request that is read is spelled so, and one that is spelled so is read.
         ensures spelled { IfOk result (λ t. IsAsk t × (bytes.now ≡ ask_bytes t)) }
+        // Where the bytes are the spelling of one within its limits, that one is read.
         ensures found { (t : TicketAsk) → IsAsk t → bytes.now ≡ ask_bytes t → result ≡ Ok t }
     {
         read_fields(bytes)

@@ -104,6 +104,7 @@ pub fn open_grant(bytes: &[u8], key: &Secret) -> Result<Granted, GrantFault>
 
     // A grant that is opened was sealed so, and one that was sealed so is opened.
     ensures spelled { IfOk result (λ g. IsGranted g × Opens key.now (codes "gran") bytes.now (granted_bytes g)) }
+    // Where the bytes are the seal of the spelling of a grant within its limits, that one is opened.
     ensures found { (g : Granted) → IsGranted g → Opens key.now (codes "gran") bytes.now (granted_bytes g) → result ≡ Ok g }
 {
     opened(bytes, key)

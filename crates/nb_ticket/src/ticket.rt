@@ -117,6 +117,7 @@ pub fn open_ticket(
 
     // A ticket that is opened was sealed so; and of the bytes that a ticket was sealed as, that ticket is opened, where it holds.
     ensures spelled { IfOk result (λ t. IsTicket t × Opens key.now (codes "tick") bytes.now (ticket_bytes t)) }
+    // Where the bytes are the seal of the spelling of a ticket within its limits, the answer is what `admitted` gives of that one.
     ensures found { (t : Ticket) → IsTicket t → Opens key.now (codes "tick") bytes.now (ticket_bytes t) → result ≡ admitted t asked now }
 {
     match opened(bytes, key) {

@@ -27,6 +27,7 @@ impl<T: Chronicle + Drop> Turn<T> {
     /// the value comes back.
     pub fn open(alloc: Global, value: T) -> Result<(Turn<T>, Pass<T>), (NoMemory, T)>
         requires { T.history value ≡ [] }
+        // After Ok a pass of this turn, of number 0 and the value's origin, which has seen nothing, made no line and found nothing.
         ensures ok { IfOk result (λ r. Belongs r.1 r.0 × (r.1.number ≡ 0) × (sees r.1 ≡ fresh_view (T.origin value))) }
         ensures err { IfErr result (λ e. e.1 ≡ value) }
     {

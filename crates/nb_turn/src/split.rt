@@ -37,9 +37,13 @@ impl<T: Chronicle + Drop> Turn<T> {
         requires turn { Belongs pass self.old }
         requires number { number < MAX_PASSES }
         ensures same { IsSame self.new self.old }
+        // After Ok the first pass is of this turn and has the number and the view of the one given.
         ensures first { IfOk result (λ r. Belongs r.0 self.new × (r.0.number ≡ pass.number) × (sees r.0 ≡ sees pass)) }
+        // The second has this number and the first's origin, has seen what the first had seen, and its found word has the number's bit clear.
         ensures second { IfOk result (λ r. Belongs r.1 self.new × (r.1.number ≡ number) × SplitOff number (sees pass) (sees r.1)) }
+        // No line of this number had been seen: the second has no lines.
         ensures fresh { IfOk result (λ r. lines_by T.maker number (sees pass).seen ≡ []) }
+        // After an error it is Taken with a word that has the number's bit; the pass has gained that found word and nothing else.
         ensures taken { IfErr result (λ e. (word : ℕ) × (e.0 ≡ taken_in word) × Belongs e.1 self.new × (e.1.number ≡ pass.number) × FindsTaken word number (sees pass) (sees e.1)) }
         ensures memory { IfErr result (λ e. e.0 ≢ no_memory) }
     {
@@ -77,7 +81,9 @@ impl<T: Chronicle + Drop> Turn<T> {
         ensures same { IsSame self.new self.old }
         ensures turn { Belongs result self.new }
         ensures number { result.number ≡ first.number }
+        // It has seen the longer of the two lists; its parts are the first's and then the second's, its found words too.
         ensures view { sees result ≡ joined (sees first) (sees second) }
+        // The list that it has seen begins with that of the first and with that of the second.
         ensures begins { StartsWith (sees result).seen (sees first).seen × StartsWith (sees result).seen (sees second).seen }
     {
         let Pass {

@@ -18,7 +18,11 @@ impl<T: Chronicle + Drop> Turn<T> {
     /// Takes the turn where it is free.
     pub fn try_take(&self, pass: Pass<T>) -> Result<Held<T>, (Busy, Pass<T>)>
         requires { Belongs pass self.now }
+        // After Ok a Held of this turn and of the pass's number. The pass gained one found word, (0, 0). The value meets what the pass knew (`Meets`):
+        // it has its origin, its lines begin with all that the pass had seen, and for each part they begin with what that one had seen last, its own
+        // lines being exactly those of its number. The pass has seen all lines.
         ensures ok { IfOk result (λ h. IsOf h self.now × (h.hold.number ≡ pass.number) × TakenOnce T.origin T.history T.maker (sees pass) (held_sees h) h.value) }
+        // After Busy: its word is 1, the pass has its number, and gained one found word, (0, 1); nothing else that it knows has changed.
         ensures busy { IfErr result (λ e. (e.0.word ≡ 1) × Belongs e.1 self.now × (e.1.number ≡ pass.number) × (sees e.1 ≡ found_one 0 1 (sees pass))) }
     {
         let Pass {
@@ -64,11 +68,14 @@ impl<T: Chronicle + Drop> Turn<T> {
     pub fn give(&self, held: Held<T>) -> Pass<T>
         requires turn { IsOf held self.now }
         requires origin { (held_sees held).origin ≡ Some (T.origin held.value) }
+        // The lines begin with those at taking.
         requires begins { StartsWith (T.history held.value) (held_sees held).seen }
+        // Each line behind those at taking has the pass's number.
         requires made { AllByRecursion (λ l. T.maker l ≡ held.hold.number) (drop (length (held_sees held).seen) (T.history held.value)) }
         ensures turn { Belongs result self.now }
         ensures number { result.number ≡ held.hold.number }
         ensures seen { (sees result).seen ≡ T.history held.value }
+        // That it has seen them is all that has changed of what it knows, and its first part has seen them too: so the new lines are among its own.
         ensures view { sees result ≡ gave (reseen (T.history held.value) (held_sees held)) }
     {
         let Held { value, hold } = held;

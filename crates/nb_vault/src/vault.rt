@@ -57,11 +57,16 @@ impl<D: Disk> Vault<D> {
         out: &mut Vec<u8>,
     ) -> Answer
         requires { REPLY_ROOM ≤ spare_of out.old }
+        // What is said of `answer_all`, of the one request, with its place in the answer.
         ensures turn { TurnOf D.tells self.old self.new by (request_of kind body.now moment ∷ []) (place_in result) out.old.items out.new.items (all_of result) }
         ensures origin { self.new.origin ≡ self.old.origin }
+        // Each image that a stop leaves at any moment of the call, and within its calls of the disk, stands for the entries before or after it, each
+        // with or without what is in doubt then.
         ensures any_moment { LeavesOnly D.tells self.old.disk self.new.disk
             (λ image. StandsForState self.old image ⊎ StandsForState self.new image) }
+        // That each image stands for no other list is the law `one_list`.
         ensures durable { DurableWhere D.tells self.new (all_of result) }
+        // Where the state of the house after the call is the one before (entries, doubt and number of faults), the content of the disk is as before.
         ensures quiet { state_of self.new ≡ state_of self.old → D.tells.content self.new.disk ≡ D.tells.content self.old.disk }
         ensures same { SameWhere self.old self.new (all_of result) }
         ensures fault { FaultWithin D.tells self.old self.new (all_of result) }
@@ -103,11 +108,20 @@ impl<D: Disk> Vault<D> {
         requires within { All (IsWithin bytes.now) asks.now }
         requires places { vec_len ats.old + length asks.now ≤ vec_capacity ats.old }
         requires room { REPLY_ROOM * length asks.now ≤ spare_of out.old }
+        // One turn of the house over all requests, from the state before to the state after. `Answered`: the turn decided over some entries, the first
+        // verdict over these and each other over those with the entries recorded before it; their places stand behind `ats` and their replies behind
+        // `out`, and nothing else. `DiskFault`: the turn failed between these counts; `Worn`: 1,000 turns failed before; then both are as before. The
+        // new lines are those of that very turn, made by `by`, with the next number. State, lines and disk tell the same of it: where it decided, what
+        // is written is one item of all that was recorded, behind an open gate and before a closed one, or nothing where nothing was recorded; where it
+        // failed, either what its verdicts record is in doubt, and only bytes of the item's range may have changed, or what was in doubt could not be
+        // settled, and nothing was written.
         ensures turn { TurnAll D.tells self.old self.new by (requests_of bytes.now asks.now) ats.old.items ats.new.items out.old.items out.new.items result }
         ensures origin { self.new.origin ≡ self.old.origin }
+        // As of `answer`.
         ensures any_moment { LeavesOnly D.tells self.old.disk self.new.disk
             (λ image. StandsForState self.old image ⊎ StandsForState self.new image) }
         ensures durable { DurableWhere D.tells self.new result }
+        // As of `answer`.
         ensures quiet { state_of self.new ≡ state_of self.old → D.tells.content self.new.disk ≡ D.tells.content self.old.disk }
         ensures same { SameWhere self.old self.new result }
         ensures fault { FaultWithin D.tells self.old self.new result }
@@ -150,11 +164,13 @@ impl<D: Disk> Vault<D> {
         // The drafts, joined, are the replies that `answer_all` appends. At a fault, and of a worn vault, there are none.
         ensures turn { TurnAll D.tells self.old self.new by (requests_of bytes.now asks.now) ats.old.items ats.new.items [] (joined drafts.new.items) result }
         ensures origin { self.new.origin ≡ self.old.origin }
+        // As of `answer`.
         ensures any_moment { LeavesOnly D.tells self.old.disk self.new.disk
             (λ image. StandsForState self.old image ⊎ StandsForState self.new image) }
         // Where it answered, each image that a later stop leaves has the entries, and no byte of a reply exists yet: a reply is made of its draft,
         // behind the sync of the gate. So what is handed out is durable before its first byte is made.
         ensures durable { DurableWhere D.tells self.new result }
+        // As of `answer`.
         ensures quiet { state_of self.new ≡ state_of self.old → D.tells.content self.new.disk ≡ D.tells.content self.old.disk }
         ensures same { SameWhere self.old self.new result }
         ensures fault { FaultWithin D.tells self.old self.new result }

@@ -91,6 +91,7 @@ impl Item {
 
         // An item that is read is spelled so, and can be spelled again; one that is spelled so is read.
         ensures spelled { IfOk result (λ item. spelling.IsItem item × (bytes.now ≡ spelling.item_bytes item)) }
+        // Where the bytes are the spelling of one within its limits, that one is read, or there was no memory.
         ensures found { (item : Item) → spelling.IsItem item → bytes.now ≡ spelling.item_bytes item → (result ≡ Ok item) ⊎ (result ≡ Err fault.NoMemory) }
     {
         read_kind(alloc, bytes)

@@ -114,6 +114,7 @@ impl Purchase {
 
 /// What is left of a purchase that ended so with a receipt.
 pub fn stage_ended(receipt: &Receipt, end: &End) -> Stage
+    // What is left of a purchase that ended so.
     ensures stage { (sealed : List ℕ) → end.now ≡ end_of receipt.now sealed → result ≡ state.stage_ended receipt.now sealed }
     ensures sound { StageIsSound result }
 {
@@ -160,6 +161,7 @@ pub fn with_head(stage: &Stage, head: Option<GoodsHead>) -> Stage
 /// The stage behind an order.
 pub fn ordered_from(stage: &Stage, order: &Order) -> Stage
     ensures stage { result ≡ state.ordered_from stage.now order.now }
+    // It keeps to its limits where the stage before and the order do.
     ensures sound { StageIsSound stage.now → length order.now.hidden ≤ MAX_HIDDEN → StageIsSound result }
 {
     match stage {

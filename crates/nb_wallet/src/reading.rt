@@ -56,6 +56,7 @@ pub fn open_head(session: &Secret, sealed: &[u8]) -> Result<GoodsHead, Reason>
 pub fn open_status(key: &Secret, sealed: &[u8]) -> Result<StatusText, Reason>
     requires { length sealed.now ≤ MOST_STATUS }
     ensures opened { result ≡ opened text_of key.now (codes "stat") sealed.now }
+    // A receipt in it keeps the rules.
     ensures lawful { IfOk result (λ t. IfSome t.receipt (λ s. ReceiptKeepsRules s.receipt)) }
 {
     let mut plain = [0u8; MOST_STATUS];

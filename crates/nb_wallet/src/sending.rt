@@ -62,8 +62,11 @@ pub fn price_request(
     pass: &SessionTicket,
     start: &Start,
 ) -> Result<Message, NoMemory>
+    // The request is not longer than it may be.
     requires request { length start.now.request ≤ MAX_REQUEST }
+    // Nor is the ticket.
     requires pass { PassKeepsRules pass.now }
+    // The message, or there was no memory.
     ensures message { IfOk result (λ message. message ≡ messages.price_request pass.now start.now) }
     ensures lawful { IfOk result MessageKeepsRules }
 {
@@ -82,6 +85,7 @@ pub fn goods_request(
     place: u64,
 ) -> Result<Message, NoMemory>
     requires pass { PassKeepsRules pass.now }
+    // The message, or there was no memory.
     ensures message { IfOk result (λ message. message ≡ messages.goods_request pass.now start.now place) }
     ensures lawful { IfOk result MessageKeepsRules }
 {
@@ -103,8 +107,11 @@ pub fn payment(
     start: &Start,
     order: &Order,
 ) -> Result<Message, NoMemory>
+    // The hidden part is not longer than it may be.
     requires hidden { length order.now.hidden ≤ MAX_HIDDEN }
+    // Nor is the ticket.
     requires pass { PassKeepsRules pass.now }
+    // The message, or there was no memory.
     ensures message { IfOk result (λ message. message ≡ messages.payment pass.now start.now order.now) }
     ensures lawful { IfOk result MessageKeepsRules }
 {
@@ -155,6 +162,7 @@ pub fn order_for(
     epoid: Epoid,
     checksum: &Digest,
 ) -> Order
+    // Request and memo are not longer than they may be.
     requires { StartKeepsRules start.now }
     ensures order { result ≡ messages.order_for wallet.now start.now price epoid checksum.now }
     ensures hidden { length result.hidden ≤ MAX_HIDDEN }

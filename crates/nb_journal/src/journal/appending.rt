@@ -14,12 +14,16 @@ impl<D: Disk> Journal<D> {
     pub fn append(&mut self, item: &[u8]) -> Result<(), AppendFault>
         requires fresh { self.old.stale ≡ false }
         requires gate { HasGate D.tells self.old }
+        // After Ok a journal that was at rest is at rest with the item behind the others. `Full`, `TooBig`: nothing was done. `DiskFault`: the count
+        // rose between these two, and a journal that was at rest has this item in doubt.
         ensures gives { AppendGives D.tells self.old self.new item.now result }
         ensures bytes { AppendWrites (D.tells.content self.old.disk) (D.tells.content self.new.disk) self.old.gate item.now result }
         ensures fits { AppendFits self.old item.now result }
         ensures doubt { DoubtAfterAppend self.new result }
         ensures limits { SameLimits self.old self.new }
         ensures count { D.tells.faults self.old.disk ≤ D.tells.faults self.new.disk }
+        // Of a journal that was at rest: a stop at any moment of the call leaves the items before it, or those with the item (`LeavesOnly` with
+        // `BeforeOrAfter`).
         ensures any_moment { (front : List ℕ) (items : List (List ℕ)) → AtRest D.tells front items self.old
             → LeavesOnly D.tells self.old.disk self.new.disk (BeforeOrAfter front items item.now) }
     {

@@ -18,6 +18,7 @@ impl<D: Disk> Journal<D> {
         ensures nothing { Unwritten D.tells self.old.disk self.new.disk }
         ensures limits { SameLimits self.old self.new }
         ensures count { D.tells.faults self.old.disk ≤ D.tells.faults self.new.disk }
+        // Of a journal with an item in doubt: a stop at any moment of the call leaves the items without it, or with it.
         ensures any_moment { (front : List ℕ) (items : List (List ℕ)) (item : List ℕ) → InDoubt D.tells front items item self.old
             → LeavesOnly D.tells self.old.disk self.new.disk (BeforeOrAfter front items item) }
     {

@@ -54,6 +54,7 @@ impl MemLink {
         fails: &[u64],
     ) -> Result<MemLink, NoMemory>
         requires { 0 < step }
+        // After Ok these bytes are left, this step, nothing was sent or read, no call was made; reads and writes are counted together.
         ensures { IfOk result (λ link. link ≡ record (new_link content.now step fails.now) { spare_reads = link.spare_reads; spare = link.spare }) }
     {
         Ok(MemLink {
@@ -90,6 +91,7 @@ impl Link for MemLink {
         requires { 0 < length buf.old }
         ensures reads { LinkReads (link_told self.old) (link_told self.new) (length buf.old) buf.new result }
         ensures fails { IsNextToFail self.old.calls → result ≡ ReadOut.Failed }
+        // It fails only at a call that is to fail, or where there was no room to record a read.
         ensures only { result ≡ ReadOut.Failed → IsNextToFail self.old.calls ⊎ (self.old.spare_reads < 1) }
         ensures state { LinkTakes self.old self.new (length buf.old) result }
         ensures spare { self.old.spare_reads ≤ self.new.spare_reads + 1 }
@@ -122,6 +124,7 @@ impl Link for MemLink {
         requires { 0 < length piece.now }
         ensures writes { LinkWrites (link_told self.old) (link_told self.new) piece.now result }
         ensures fails { IsNextToFail self.old.calls → result ≡ WriteOut.Failed }
+        // It fails only at a call that is to fail, or where the room was smaller than the piece.
         ensures only { result ≡ WriteOut.Failed → IsNextToFail self.old.calls ⊎ (self.old.spare < length piece.now) }
         ensures state { LinkSends self.old self.new piece.now result }
         ensures spare { self.old.spare ≤ self.new.spare + length piece.now }

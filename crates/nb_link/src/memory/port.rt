@@ -49,6 +49,7 @@ impl MemPort {
     /// that are to fail, counted from 1; one that is Closed is not counted.
     pub fn new(alloc: Global, links: Vec<MemLink>, fails: &[u64]) -> Result<MemPort, NoMemory>
         requires { vec_len links < 2 ^ 32 }
+        // After Ok these links are to come, none is out or was taken back, no call was made; it listens where there is a link.
         ensures { IfOk result (λ port. port ≡ new_port links.items fails.now) }
     {
         let mut coming = links;
@@ -84,6 +85,7 @@ impl Port for MemPort {
 
     fn next(&mut self) -> PortOut<MemLink>
         ensures gives { NextGives link_told (port_told self.old) (port_told self.new) result }
+        // Where a link is to come it fails exactly where it is one of the calls that are to fail; one that is Closed is not counted.
         ensures fails { self.old.coming ≢ [] → ((result ≡ outs.Failed) ↔ IsNextToFail self.old.calls) }
         ensures state { PortNexts self.old self.new result }
     {
@@ -107,6 +109,7 @@ impl Port for MemPort {
     fn back(&mut self, link: MemLink)
         requires { 0 < self.old.out }
         ensures takes { TakesBack (port_told self.old) (port_told self.new) (link_told link) }
+        // The link is the last of those taken back, one less is out, and nothing else changed.
         ensures state { self.new ≡ record self.old { taken = self.old.taken ++ link ∷ []; out = self.old.out - 1 } }
     {
         self.out -= 1;

@@ -53,6 +53,7 @@ impl Clock for MemClock {
     #[tactic(auto, using(crate::proofs::Moments::told_next))]
     fn now(&mut self) -> u64
         ensures gives { Gives (told_by self.old) (told_by self.new) result }
+        // The next of its moments, and at the end the last one again, or 0 where there are none.
         ensures moment { result ≡ moment_at self.old.moments self.old.calls }
         ensures counted { self.new ≡ record self.old { calls = one_more self.old.calls } }
     {

@@ -50,6 +50,7 @@ impl MemDisk {
     /// A disk that holds the bytes of `content` from place 0 on, and of which a stop leaves these. `fails` has the numbers of
     /// the calls that are to fail, from 1, all kinds together.
     pub fn new(alloc: Global, content: &[u8], fails: &[u64]) -> Result<MemDisk, NoMemory>
+        // This content, which is its start too; no step and no call was made.
         ensures content { IfOk result (λ disk. content_of disk ≡ content.now) }
         ensures start { IfOk result (λ disk. disk.start ≡ content.now) }
         ensures steps { IfOk result (λ disk. disk.steps ≡ []) }
@@ -84,6 +85,7 @@ impl MemDisk {
         requires { moment ≤ length self.now.steps }
         ensures left { IfOk result (Images self.now.start (take moment self.now.steps)) }
         ensures since { IfOk result (⟦<MemDisk as Disk>⟧.tells.left self.now moment) }
+        // After Ok it is `image_at`, the image at that moment with what the fill says in the ranges that were written since the last sync that was done.
         ensures exact { IfOk result (λ image. image ≡ image_at self.now.start self.now.steps moment fill) }
     {
         let steps = &self.steps.as_slice()[..moment as usize];
@@ -120,7 +122,9 @@ impl Disk for MemDisk {
             (LeftFrom self.new.start self.new.steps) (Images self.new.start self.new.steps) }
         ensures count { self.old.calls.faults ≤ self.new.calls.faults }
         ensures fails { NextFails self.old.calls → result ≡ DiskRead.Failed }
+        // It fails only at a call that is to fail, or where there was no room for two steps more.
         ensures only { result ≡ DiskRead.Failed → NextFails self.old.calls ⊎ (self.old.spare < 2) }
+        // It is recorded as two pauses, or, where it fails for want of room, not at all.
         ensures state { DiskReads self.old self.new result }
         ensures spare { self.old.spare ≤ self.new.spare + 2 }
     {
@@ -147,6 +151,7 @@ impl Disk for MemDisk {
             (LeftFrom self.new.start self.new.steps) (Images self.new.start self.new.steps) }
         ensures count { self.old.calls.faults ≤ self.new.calls.faults }
         ensures fails { NextFails self.old.calls → result ≡ DiskOut.Failed }
+        // It fails only at a call that is to fail, or where it is not recorded.
         ensures only { result ≡ DiskOut.Failed → NextFails self.old.calls ⊎ (self.new.steps ≡ self.old.steps) }
         ensures state { DiskWrites self.old self.new place piece.now result }
         ensures spare { self.old.spare ≤ self.new.spare + 2 }
@@ -177,7 +182,9 @@ impl Disk for MemDisk {
             (LeftFrom self.new.start self.new.steps) (Images self.new.start self.new.steps) }
         ensures count { self.old.calls.faults ≤ self.new.calls.faults }
         ensures fails { NextFails self.old.calls → result ≡ DiskOut.Failed }
+        // It fails only at a call that is to fail, or where there was no room for two steps more.
         ensures only { result ≡ DiskOut.Failed → NextFails self.old.calls ⊎ (self.old.spare < 2) }
+        // One that works is recorded as a sync, one that fails as two pauses or, for want of room, not at all.
         ensures state { DiskSyncs self.old self.new result }
         ensures spare { self.old.spare ≤ self.new.spare + 2 }
     {

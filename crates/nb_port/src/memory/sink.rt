@@ -60,6 +60,7 @@ impl Sink for MemSink {
             (Some self.new.sent) piece.now result }
         ensures count { self.old.calls.faults ≤ self.new.calls.faults }
         ensures fails { NextFails self.old.calls → result ≡ WriteOut.Failed }
+        // It fails only at a call that is to fail, or where the room was smaller than the piece.
         ensures only { result ≡ WriteOut.Failed →
             NextFails self.old.calls ⊎ (self.old.spare < length piece.now) }
         ensures state { SinkWrites self.old self.new piece.now result }

@@ -39,6 +39,7 @@ impl MemSource {
         fails: &[u64],
     ) -> Result<MemSource, NoMemory>
         requires { 0 < step }
+        // After Ok these bytes are left, this step, no call was made.
         ensures { IfOk result (λ source. source ≡
             record { left = content.now; step = step; calls = no_calls fails.now }) }
     {

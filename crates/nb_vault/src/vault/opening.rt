@@ -64,6 +64,11 @@ impl<D: Disk> Vault<D> {
     /// Opens the vault on a disk: all that was written is made to stay, and its entries are read. Nothing is written. All memory of
     /// the vault is taken here: for as many entries as its cap says, for the lines of all turns that may come, for the drafts of a turn, and for the states of keys that are kept.
     pub fn open(alloc: Global, disk: D) -> Result<Vault<D>, (VaultFault, D)>
+        // After Ok there is no line; the count of faults in `origin` is the disk's before the call; the content before the call stands for the entries
+        // of `origin`, Legal under its version and rate; nothing is in doubt, and each image that a stop leaves stands for them alone. `Unborn`,
+        // `Damaged`: as `Journal::open` tells them. `BadEntry`: the content is a whole journal, the items before this one spell a list that is Legal and
+        // within the cap, and this one does not spell 1 to 32 entries with which the list stays so. `DiskFault`: the count rose between these two.
+        // `NoMemory` is free.
         ensures gives { VaultOpenGives D.tells disk result }
         ensures whole { WholeOpens (D.tells.content disk) result }
         ensures nothing { Unwritten D.tells disk (disk_in result) }
