@@ -31,6 +31,7 @@ pub record HasLast (waits : List ℕ) : Type 0 where
   pub short : IsShort (front_of before)
   pub most : length piece ≤ MAX_PIECE
 
+-- what waits is so, or as it was
 abbrev pub IsNewest : Collected → Collected → Type 0
 IsNewest old new = (waiting new ≡ waiting old) ⊎ HasLast (waiting new)
 

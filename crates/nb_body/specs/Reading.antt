@@ -18,6 +18,7 @@ use Rattle.nb_body.specs.declared.payment_request.PaymentRequest.{PaymentRequest
 abbrev pub is_role : ℕ → Bool
 is_role role = role == CONSUMER_ROLE || role == MERCHANT_ROLE
 
+-- whether a number is an amount that may be moved
 abbrev pub is_amount : ℕ → Bool
 is_amount amount = nat_le 1 amount && nat_le amount MAX_AMOUNT
 

@@ -63,6 +63,7 @@ puts_from key at (e ∷ es) = puts_at (key e) at ++ puts_from key (at + 1) es
 abbrev pub place_if : (Entry → Bool) → ℕ → Entry → Option ℕ
 place_if test at e = if test e then Some at else None
 
+-- the place of the first entry that passes a test
 abbrev pub first_place : (Entry → Bool) → List Entry → Option ℕ
 first_place test H = first_from (place_if test) 0 H
 

@@ -27,6 +27,7 @@ phase_at (end.Paid goods) = phase.Paid (length goods)
 phase_at (end.Refused code) = phase.Refused code
 phase_at end.Foul = phase.Foul
 
+-- the phase of a purchase, where it is known
 abbrev pub phase_in : Option Purchase → Option Phase
 phase_in (Some p) = Some (phase_of p.stage p.held)
 phase_in None = None
@@ -56,6 +57,7 @@ abbrev pub goods_at : End → Option (List ℕ)
 goods_at (end.Paid goods) = Some goods
 goods_at other = None
 
+-- the goods of a purchase that is known and was paid
 abbrev pub goods_in : Option Purchase → Option (List ℕ)
 goods_in (Some p) = goods_of p.stage p.held
 goods_in None = None

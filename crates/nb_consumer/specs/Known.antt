@@ -43,8 +43,10 @@ AskedSo w s (stage.Wanted pass price head) = IsPriceWithin price s.limit
 AskedSo w s (stage.Ordered pass order least) = OrderIsFor w s order × IsPriceWithin order.price s.limit
 AskedSo w s other = Unit {0}
 
+-- a purchase is what its stage says, within its limit, and of what was asked for
 abbrev pub PurchaseSo : Wallet → Purchase → Type 0
 PurchaseSo w p = HeldSo p.stage p.held × AskedSo w p.start p.stage
 
+-- so are all that are known
 abbrev pub AllSo : Buyer → Type 0
 AllSo b = AllByRecursion (PurchaseSo b.wallet) b.purchases

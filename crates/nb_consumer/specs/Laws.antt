@@ -78,6 +78,7 @@ pub record PaysAgain (b : Buyer) (transaction : ℕ) (to : To) (message : Messag
   pub ordered : owing_in purchase.stage ≡ Some owing
   pub again : (place : ℕ) → status_told transaction purchase owing place None ≡ Ok (deed.Hears transaction place to message)
 
+-- an order and a receipt that are kept keep to what they answer
 abbrev pub KeepsSo : Buyer → Item → Message → Type 0
 KeepsSo b (item.Ordered transaction order part) sent = OrderSo b transaction order part sent
 KeepsSo b other sent = Unit {0}
@@ -110,6 +111,7 @@ EndsHeard b (message.Status sealed) transaction receipt = (text : StatusText) ×
     × (ordered_with b.orders (epoid_bytes text.epoid) ≡ Some transaction)
 EndsHeard b other transaction receipt = ⊥
 
+-- law: where a purchase ends, its receipt was sealed under the consumer's key in this message
 abbrev pub EndsAreHeard : Type 0
 EndsAreHeard = (b : Buyer) (m : Message) (transaction : ℕ) (receipt : Signed) (how : End) → heard b m ≡ Ok (deed.Ends transaction receipt how) → EndsHeard b m transaction receipt
 
@@ -156,6 +158,7 @@ abbrev pub SaidAgain : Buyer → Item → To → Message → Type 0
 SaidAgain b (item.Ordered transaction order part) to message = PaysAgain b transaction to message
 SaidAgain b other to message = silent b (number_in other) ≡ Ok (deed.Sends to message)
 
+-- behind what a row keeps, a quiet time says again what was sent with it
 abbrev pub RowSaysAgain : Buyer → Result Deed Reason → Type 0
 RowSaysAgain b (Ok (deed.Keeps item to message)) = SaidAgain (remembered b item) item to message
 RowSaysAgain b other = Unit {0}

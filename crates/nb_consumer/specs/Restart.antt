@@ -57,6 +57,7 @@ is_rest (Some k) held o part = is_same_epoid o.epoid k.epoid && length part == k
 abbrev pub is_short : List ℕ → List ℕ → Bool
 is_short held part = nat_le (length held + length part) MAX_SEALED
 
+-- a row keeps an order like this where these goods are wanted
 abbrev pub order_follows : Wallet → Purchase → Order → List ℕ → Wanting → Bool
 order_follows w p o part v = order_names w p v.price o (p.held ++ part) && is_rest v.head p.held o part && is_short p.held part
 
@@ -76,6 +77,7 @@ allows b (item.Ended transaction receipt) = holds_for (purchase_of b transaction
 abbrev pub behind_allowed : Buyer → Item → Option Buyer
 behind_allowed b item = if allows b item then Some (remembered b item) else None
 
+-- what is known behind an item that was read, or none
 abbrev pub behind_read : Buyer → Result Item ℕ → Option Buyer
 behind_read b (Ok item) = behind_allowed b item
 behind_read b (Err bad) = None
@@ -106,9 +108,11 @@ abbrev pub untold_stage : Stage → Stage
 untold_stage (stage.Ordered pass order least) = stage.Ordered pass order 0
 untold_stage other = other
 
+-- a purchase without the place that it was told
 abbrev pub untold_purchase : Purchase → Purchase
 untold_purchase p = record p { stage = untold_stage p.stage }
 
+-- a consumer without the places that it was told
 abbrev pub untold : Buyer → Buyer
 untold b = record b { purchases = map untold_purchase b.purchases }
 

@@ -11,6 +11,7 @@ use Rattle.nb_wallet.specs.declared.item.Item.TheVariants as item
 use Rattle.nb_wallet.specs.declared.purchase.Stage.TheVariants as stage
 use Rattle.nb_wallet.specs.declared.purchase.Purchase.{Purchase}
 
+-- what a consumer is seen as: its wallet, the purchases that it knows, and which was ordered with which identifier
 pub record Buyer : Type 0 where
   pub wallet : Wallet
   -- in the order in which they were started
@@ -24,6 +25,7 @@ new_buyer w = record { wallet = w; purchases = []; orders = [] }
 
 -- ---- look-ups
 
+-- the number of a purchase
 abbrev pub number_of : Purchase → ℕ
 number_of p = p.start.transaction
 
@@ -31,6 +33,7 @@ number_of p = p.start.transaction
 abbrev pub place_of : List Purchase → ℕ → Option ℕ
 place_of purchases transaction = position (nat_eq transaction) (map number_of purchases)
 
+-- the purchase at a place, if there is one
 abbrev pub purchase_at : List Purchase → Option ℕ → Option Purchase
 purchase_at purchases (Some i) = slice_get purchases i
 purchase_at purchases None = None
@@ -55,10 +58,12 @@ behind_item (item.Ordered transaction order part) p = record p { stage = ordered
 behind_item (item.Ended transaction receipt) p = record p { stage = stage_ended receipt.receipt p.held }
 behind_item (item.Started start) p = p
 
+-- the purchases, of which that at a place has changed, where it is there
 abbrev pub changed_with : List Purchase → ℕ → (Purchase → Purchase) → Option Purchase → List Purchase
 changed_with purchases i change (Some p) = set purchases i (change p)
 changed_with purchases i change None = purchases
 
+-- the purchases, of which that at a place has changed, where there is a place
 abbrev pub changed_at : List Purchase → Option ℕ → (Purchase → Purchase) → List Purchase
 changed_at purchases (Some i) change = changed_with purchases i change (slice_get purchases i)
 changed_at purchases None change = purchases
@@ -96,5 +101,6 @@ remembered b other = record b { purchases = changed b.purchases (number_in other
 
 -- ---- the greatest place
 
+-- a purchase that was told this place by a status without a receipt
 abbrev pub raised : ℕ → Purchase → Purchase
 raised place p = record p { stage = raised_from p.stage place }

@@ -45,6 +45,7 @@ use Rattle.nb_wallet.specs.Messages.{ticket_request, price_request, goods_reques
 
 -- ---- a start: the number is not known. A ticket is asked for
 
+-- the row of a start
 unfoldable pub started : Buyer → Start → Result Deed Reason
 started b s = do
   new ← unless (is_none (place_of b.purchases s.transaction)) reason.State
@@ -52,13 +53,16 @@ started b s = do
 
 -- ---- a grant, of a purchase that a ticket was asked for: 1 its merchant is the purchase's. A price is asked for
 
+-- whether a purchase waits for its ticket
 abbrev pub is_ticketing : Stage → Bool
 is_ticketing stage.Ticketing = true
 is_ticketing other = false
 
+-- the session and its ticket, as a grant gives them
 abbrev pub pass_of : Granted → SessionTicket
 pass_of g = record { session = g.session; ticket = g.ticket }
 
+-- the row of a grant
 unfoldable pub granted : Buyer → List ℕ → Result Deed Reason
 granted b sealed = do
   g ← opened granted_of b.wallet.key (codes "gran") sealed
@@ -69,6 +73,7 @@ granted b sealed = do
 
 -- ---- a quote, of a purchase that a price was asked for: 1 number; 2 product; 3 price from 1 to the limit. The goods are asked for
 
+-- a price from 1 to the limit
 abbrev pub is_price : Price → Price → Bool
 is_price price limit = nat_le 1 price.0 && nat_le price.0 limit.0
 
@@ -77,6 +82,7 @@ abbrev pub pass_of_asked : Stage → Option SessionTicket
 pass_of_asked (stage.Asked pass) = Some pass
 pass_of_asked other = None
 
+-- the tests of a quote, and the price in it
 unfoldable pub price_quoted : Start → SessionTicket → List ℕ → Result Price Reason
 price_quoted s pass sealed = do
   q ← opened quote_of pass.session (codes "m002") sealed
@@ -85,6 +91,7 @@ price_quoted s pass sealed = do
   price ← field 3 (is_price q.price s.limit)
   Ok q.price
 
+-- the row of a quote
 unfoldable pub quoted : Buyer → ℕ → List ℕ → Result Deed Reason
 quoted b transaction sealed = do
   p ← found reason.Unknown (purchase_of b transaction)
@@ -128,6 +135,7 @@ part_kept p w h part = deed.Keeps (item.Part h part) (to.Merchant p.start.mercha
 abbrev pub order_made : Buyer → Purchase → Wanting → GoodsHead → Order
 order_made b p w h = order_for b.wallet p.start w.price h.epoid h.checksum
 
+-- all parts are there: the order is kept with the last one, and sent
 abbrev pub goods_ordered : Buyer → ℕ → Purchase → Wanting → GoodsHead → List ℕ → Deed
 goods_ordered b transaction p w h part =
     deed.Keeps (item.Ordered transaction (order_made b p w h) part) (to.Merchant p.start.merchant) (payment w.pass p.start (order_made b p w h))
@@ -137,12 +145,14 @@ abbrev pub goods_wrong : ℕ → Purchase → Wanting → Option GoodsHead → R
 goods_wrong transaction p w (Some held) = Ok (deed.Keeps (item.Forgotten transaction) (to.Merchant p.start.merchant) (goods_request w.pass p.start 0))
 goods_wrong transaction p w None = Err (reason.Field 4)
 
+-- a part that fits is kept; the last one makes the order where all parts have the checksum, and else the parts are wrong
 abbrev pub goods_came : Buyer → ℕ → Purchase → Wanting → GoodsHead → List ℕ → Result Deed Reason
 goods_came b transaction p w h part =
     if nat_lt (h.place + length part) h.total then Ok (part_kept p w h part)
     else if bytes_eq (sha256 (p.held ++ part)) h.checksum then Ok (goods_ordered b transaction p w h part)
     else goods_wrong transaction p w w.head
 
+-- the row of a part
 unfoldable pub delivered : Buyer → ℕ → List ℕ → List ℕ → Result Deed Reason
 delivered b transaction head part = do
   p ← found reason.Unknown (purchase_of b transaction)
@@ -162,14 +172,17 @@ abbrev pub none_failed : Option ℕ → Result (Unit {0}) Reason
 none_failed None = Ok tt
 none_failed (Some n) = Err (reason.Field n)
 
+-- the receipt is of this order
 unfoldable pub receipt_fits : Order → Receipt → Result (Unit {0}) Reason
 receipt_fits o r = none_failed (first_difference r o.epoid o.consumer o.merchant o.product o.price)
 
+-- a receipt that fits the order ends its purchase
 unfoldable pub receipt_told : ℕ → Purchase → Owing → Signed → Result Deed Reason
 receipt_told transaction p o s = do
   fits ← receipt_fits o.order s.receipt
   Ok (deed.Ends transaction s (end_of s.receipt p.held))
 
+-- the row of a receipt that a merchant passed on
 unfoldable pub passed : Buyer → ℕ → List ℕ → Result Deed Reason
 passed b transaction part = do
   p ← found reason.Unknown (purchase_of b transaction)
@@ -179,10 +192,12 @@ passed b transaction part = do
 
 -- ---- a status, of a purchase that was ordered: with a receipt as above, without one the order is sent again
 
+-- with a receipt a status ends the purchase, without one the order is sent again
 abbrev pub status_told : ℕ → Purchase → Owing → ℕ → Option Signed → Result Deed Reason
 status_told transaction p o place (Some s) = receipt_told transaction p o s
 status_told transaction p o place None = Ok (deed.Hears transaction place (to.Merchant p.start.merchant) (payment o.pass p.start o.order))
 
+-- the row of a status
 unfoldable pub told_status : Buyer → List ℕ → Result Deed Reason
 told_status b sealed = do
   t ← opened text_of b.wallet.key (codes "stat") sealed
@@ -193,6 +208,7 @@ told_status b sealed = do
 
 -- ---- nothing was heard for long: the last message again, and the status of an order
 
+-- what is said again at each stage of a purchase
 abbrev pub unheard : Wallet → Purchase → Stage → Result Deed Reason
 unheard w p stage.Ticketing = Ok (deed.Sends to.Server (ticket_request w p.start))
 unheard w p (stage.Asked pass) = Ok (deed.Sends (to.Merchant p.start.merchant) (price_request pass p.start))
@@ -200,6 +216,7 @@ unheard w p (stage.Wanted pass price head) = Ok (deed.Sends (to.Merchant p.start
 unheard w p (stage.Ordered pass order least) = Ok (deed.Sends to.Server (status_query w order.epoid least))
 unheard w p ended = Err reason.State
 
+-- the row of a purchase of which nothing was heard for long
 unfoldable pub silent : Buyer → ℕ → Result Deed Reason
 silent b transaction = do
   p ← found reason.Unknown (purchase_of b transaction)
@@ -207,6 +224,7 @@ silent b transaction = do
 
 -- ---- what is done at a message
 
+-- the row of a message, by its kind
 abbrev pub heard : Buyer → Message → Result Deed Reason
 heard b (message.Grant sealed) = granted b sealed
 heard b (message.Quote transaction sealed) = quoted b transaction sealed

@@ -4,6 +4,7 @@ use Rattle.nb_epo.specs.declared.order.Order.{Order}
 use Rattle.nb_epo.specs.Spelling.{order_bytes}
 use Rattle.nb_epo.specs.Reading.{order_of}
 
+-- the 32 bytes at the place of the checksum in the spelling of an order
 abbrev pub checksum_in : List ℕ → List ℕ
 checksum_in bytes = take 32 (drop 36 bytes)
 

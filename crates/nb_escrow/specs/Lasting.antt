@@ -24,9 +24,11 @@ PartyStays = (H more : List Entry) (id : PartyId) (party : Party) → party_in H
 abbrev pub HolderStays : Type 0
 HolderStays = (H more : List Entry) (acct : AcctId) (holder : PartyId) → holder_in H acct ≡ Some holder → holder_in (H ++ more) acct ≡ Some holder
 
+-- law: a fund that is found in a list of entries is found as the same in every longer one
 abbrev pub FundStays : Type 0
 FundStays = (H more : List Entry) (reference : List ℕ) (fund : Funded) → funded_in H reference ≡ Some fund → funded_in (H ++ more) reference ≡ Some fund
 
+-- law: so is the entry that settles an order
 abbrev pub OrderStays : Type 0
 OrderStays = (H more : List Entry) (order : Epoid) (kept : Kept) → order_in H order ≡ Some kept → order_in (H ++ more) order ≡ Some kept
 

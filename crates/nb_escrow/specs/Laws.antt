@@ -108,15 +108,18 @@ abbrev pub IsEnrolment : Entry → Type 0
 IsEnrolment (Enrol id role acct nonce key) = Unit {0}
 IsEnrolment other = ⊥
 
+-- an entry is a fund
 abbrev pub IsFund : Entry → Type 0
 IsFund (Fund acct amount reference) = Unit {0}
 IsFund other = ⊥
 
+-- an entry is a payment, with a fee or without
 abbrev pub IsPayment : Entry → Type 0
 IsPayment (Paid digest epoid consumer merchant product price cacct macct moment key) = Unit {0}
 IsPayment (Charged digest epoid consumer merchant product price fee cacct macct moment key) = Unit {0}
 IsPayment other = ⊥
 
+-- an entry refuses an order
 abbrev pub IsRefusedOrder : Entry → Type 0
 IsRefusedOrder (Refused digest epoid consumer merchant product price code a b moment) = Unit {0}
 IsRefusedOrder other = ⊥
@@ -126,10 +129,12 @@ abbrev pub AreReceipts : Reply → Type 0
 AreReceipts (Receipts merchant consumer) = Unit {0}
 AreReceipts other = ⊥
 
+-- a reply is a status
 abbrev pub IsStatusReply : Reply → Type 0
 IsStatusReply (Status place epoid receipt) = Unit {0}
 IsStatusReply other = ⊥
 
+-- a reply is a grant
 abbrev pub IsGrant : Reply → Type 0
 IsGrant (Grant consumer merchant nonce until session) = Unit {0}
 IsGrant other = ⊥

@@ -48,6 +48,7 @@ abbrev pub unread_endorsement : SealedFault → Refusal
 unread_endorsement (sealed.BadSeal iv) = refusal_with NOT_SEALED iv
 unread_endorsement (sealed.Malformed place) = refusal MALFORMED place IN_ENDORSEMENT
 
+-- what a fault of a hidden part is told as
 abbrev pub unread_hidden : RevealFault → Refusal
 unread_hidden (reveal.BadSeal iv) = refusal_with NOT_SEALED iv
 unread_hidden (reveal.Malformed place) = refusal MALFORMED place IN_HIDDEN

@@ -105,6 +105,7 @@ receipt_at shown at other = None
 abbrev pub merchant_receipt : Kept → Option Receipt
 merchant_receipt kept = receipt_at shown_to_merchant kept.at kept.entry
 
+-- the consumer's receipt of an entry that was found
 abbrev pub consumer_receipt : Kept → Option Receipt
 consumer_receipt kept = receipt_at shown_to_consumer kept.at kept.entry
 

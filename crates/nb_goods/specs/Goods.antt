@@ -28,6 +28,7 @@ OpensToNothing key bytes = (goods : List ℕ) → ¬ OpensTo key bytes goods
 abbrev pub piece_at : ℕ → List ℕ → ℕ → List ℕ
 piece_at size bytes place = take size (drop place bytes)
 
+-- the first n of them
 abbrev pub first_pieces : ℕ → List ℕ → ℕ → List (List ℕ)
 first_pieces size bytes zero = []
 first_pieces size bytes (suc n) = first_pieces size bytes n ++ piece_at size bytes (n * size) ∷ []

@@ -155,6 +155,7 @@ OtherGoodsAreBad = (shop : Shop) (others : List Product) (front back : List Item
 abbrev pub IsServed : PartyId → Answer → Type 0
 IsServed consumer a = IfSome a.keep (λ x. (purchase_of x).consumer ≡ consumer) × ((a.to ≡ to.Consumer consumer) ⊎ (a.to ≡ to.Server))
 
+-- law: what is done at a consumer's message is done for the one whose ticket it shows
 abbrev pub AskerIsServed : Type 0
 AskerIsServed = (shop : Shop) (m : Message) (moment : ℕ)
     → ((a : Answer) → heard shop m moment ≡ Ok a → (consumer : PartyId) × (asker_in shop m moment ≡ Some consumer) × IsServed consumer a)

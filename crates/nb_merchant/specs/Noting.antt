@@ -39,6 +39,7 @@ PartsOf stall goods (item.Delivered p epoid checksum) parts = parts ≡ Some (pa
 PartsOf stall goods (item.Settled p part) parts = (parts ≡ None) × (length part ≤ MAX_PART)
 PartsOf stall goods other parts = parts ≡ None
 
+-- so it is of an item that is kept next, behind what is known
 abbrev pub HasParts : Shop → Item → Option Divided → Type 0
 HasParts shop x parts = PartsOf shop.stall (goods_held shop.products (sale_in shop.items (purchase_of x))) x parts
 
@@ -71,6 +72,7 @@ IsPlain (item.Delivered p epoid checksum) parts = ⊥
 IsPlain (item.Settled p part) parts = (parts ≡ None) × (length part ≤ MAX_PART)
 IsPlain other parts = parts ≡ None
 
+-- a row that seals no goods plans nothing
 abbrev pub PlansPlain : Planned → Type 0
 PlansPlain planned = IfSome planned.answer.keep (λ x. IsPlain x planned.parts)
 

@@ -6,6 +6,7 @@ use Rattle.nb_stall.specs.declared.stall.Stall.{Stall}
 use Rattle.nb_stall.specs.declared.item.Item.{Item}
 use Rattle.nb_stall.specs.Messages.{key_of}
 
+-- what a merchant is seen as
 pub record Shop : Type 0 where
   pub stall : Stall
   pub products : List Product
@@ -24,6 +25,7 @@ abbrev pub goods_of : Option Product → List ℕ
 goods_of None = []
 goods_of (Some p) = p.goods
 
+-- the goods of the product of this number in a catalogue
 abbrev pub goods_in : List Product → ℕ → List ℕ
 goods_in products id = goods_of (product_in products id)
 

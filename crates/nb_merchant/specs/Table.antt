@@ -58,6 +58,7 @@ abbrev pub price_of : Option Product → Result Price Reason
 price_of None = Err (reason.Field 1)
 price_of (Some product) = Ok (record { 0 = product.price })
 
+-- the row of a request for a price of a purchase that is new
 unfoldable pub first_quote : List Product → List ℕ → PartyId → PriceRequest → Result Answer Reason
 first_quote products session consumer r = do
   price ← price_of (product_in products r.product)
@@ -77,10 +78,12 @@ quote_again session consumer r sale = do
     message = quote_message session (record { transaction = r.transaction; product = sale.product; price = sale.price });
   })
 
+-- the row of a request for a price, by whether the purchase is known
 abbrev pub quoted : List Product → List ℕ → PartyId → PriceRequest → Option Sale → Result Answer Reason
 quoted products session consumer r None = first_quote products session consumer r
 quoted products session consumer r (Some sale) = quote_again session consumer r sale
 
+-- the rows of a request for a price: its ticket, its sealed part, and then by the purchase
 unfoldable pub price_asked : Shop → List ℕ → List ℕ → ℕ → Result Answer Reason
 price_asked shop ticket sealed moment = do
   t ← ticket_in shop.stall ticket moment
@@ -120,12 +123,14 @@ part_again key goods session consumer r epoid = do
     message = goods_message session r.transaction epoid (sealed_goods key goods) r.place;
   })
 
+-- the row of a request for goods, by whether the goods were sealed before
 abbrev pub delivered : Shop → List ℕ → PartyId → GoodsRequest → Sale → ℕ → Option Epoid → Result Answer Reason
 delivered shop session consumer r sale moment None =
     first_part shop.stall (goods_in shop.products sale.product) (next_serial shop.items) session consumer r moment
 delivered shop session consumer r sale moment (Some epoid) =
     part_again (key_of shop.stall epoid.serial) (goods_in shop.products sale.product) session consumer r epoid
 
+-- the rows of a request for goods: its ticket, its sealed part, and then by the purchase
 unfoldable pub goods_asked : Shop → List ℕ → List ℕ → ℕ → Result Answer Reason
 goods_asked shop ticket sealed moment = do
   t ← ticket_in shop.stall ticket moment
@@ -150,11 +155,13 @@ order_fits stall consumer sale epoid checksum o = do
 abbrev pub order_read : List ℕ → Result Order Reason
 order_read order = or_seal (order_of order)
 
+-- the seven tests of an order, in order
 unfoldable pub order_taken : Stall → Purchase → Sale → Epoid → List ℕ → List ℕ → Result (Unit {0}) Reason
 order_taken stall p sale epoid checksum order = do
   o ← order_read order
   order_fits stall p.consumer sale epoid checksum o
 
+-- the row of an order of a purchase that has none
 unfoldable pub first_order : Stall → Purchase → Sale → Epoid → List ℕ → List ℕ → Result Answer Reason
 first_order stall p sale epoid checksum order = do
   taken ← order_taken stall p sale epoid checksum order
@@ -164,6 +171,7 @@ first_order stall p sale epoid checksum order = do
 abbrev pub endorses_again : Stall → Epoid → List ℕ → Answer
 endorses_again stall epoid order = record { keep = None; to = to.Server; message = endorsed_message stall epoid order }
 
+-- the kept result is passed on again
 abbrev pub passes_again : Purchase → List ℕ → Answer
 passes_again p part = record { keep = None; to = to.Consumer p.consumer; message = message.Passed p.transaction part }
 
@@ -179,6 +187,7 @@ order_settled p kept part order = do
   same ← field 1 (bytes_eq order kept)
   Ok (passes_again p part)
 
+-- the row of an order, by how far its purchase has come
 abbrev pub ordered : Shop → Purchase → Sale → List ℕ → Progress → Result Answer Reason
 ordered shop p sale order progress.Quoted = Err reason.State
 ordered shop p sale order (progress.Delivered epoid) =
@@ -186,6 +195,7 @@ ordered shop p sale order (progress.Delivered epoid) =
 ordered shop p sale order (progress.Endorsed epoid kept) = order_again shop.stall epoid kept order
 ordered shop p sale order (progress.Settled epoid kept part) = order_settled p kept part order
 
+-- the rows of an order: its ticket, and then by the purchase
 unfoldable pub order_sent : Shop → List ℕ → List ℕ → ℕ → Result Answer Reason
 order_sent shop ticket sealed moment = do
   t ← ticket_in shop.stall ticket moment
@@ -203,6 +213,7 @@ first_result p sale r part = do
   price ← field 3 (r.price.0 == sale.price.0)
   Ok (record { keep = Some (item.Settled p part); to = to.Consumer p.consumer; message = message.Passed p.transaction part })
 
+-- the row of a result, by how far its purchase has come
 abbrev pub resulted : Purchase → Sale → Receipt → List ℕ → Progress → Result Answer Reason
 resulted p sale r part (progress.Endorsed epoid order) = first_result p sale r part
 resulted p sale r part other = Err reason.State
@@ -224,6 +235,7 @@ unheard stall p (progress.Delivered epoid) = Err reason.State
 unheard stall p (progress.Endorsed epoid order) = Ok (endorses_again stall epoid order)
 unheard stall p (progress.Settled epoid order part) = Ok (passes_again p part)
 
+-- the rows of a purchase of which nothing was heard for long
 unfoldable pub silent : Shop → Purchase → Result Answer Reason
 silent shop p = do
   sale ← found reason.Unknown (sale_in shop.items p)
@@ -250,6 +262,7 @@ abbrev pub asker_of : Result Ticket Reason → Option PartyId
 asker_of (Ok ticket) = Some ticket.consumer
 asker_of (Err why) = None
 
+-- the consumer whose ticket a message shows, of any kind
 abbrev pub asker_in : Shop → Message → ℕ → Option PartyId
 asker_in shop (message.PriceAsk ticket sealed) moment = asker_of (ticket_in shop.stall ticket moment)
 asker_in shop (message.GoodsAsk ticket sealed) moment = asker_of (ticket_in shop.stall ticket moment)
@@ -266,6 +279,7 @@ abbrev pub listed : Option Item → List Item
 listed None = []
 listed (Some x) = x ∷ []
 
+-- what is kept by a row: an item or none
 abbrev pub kept_by : Result Answer Reason → List Item
 kept_by (Ok answer) = listed answer.keep
 kept_by (Err why) = []

@@ -64,6 +64,7 @@ part_in other = []
 abbrev pub message_frame : Message → Frame
 message_frame m = record { kind = kind_of m; body = body_bytes m }
 
+-- the bytes of a message's frame
 abbrev pub message_bytes : Message → List ℕ
 message_bytes m = frame (message_frame m)
 

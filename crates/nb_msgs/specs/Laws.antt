@@ -44,6 +44,7 @@ abbrev pub status_length : Option Signed → ℕ
 status_length None = 25
 status_length (Some s) = 160
 
+-- law: so many bytes a status has before it is sealed
 abbrev pub StatusIsAsLong : Type 0
 StatusIsAsLong = (t : StatusText) → IsStatusText t → length (text_bytes t) ≡ status_length t.receipt
 

@@ -72,27 +72,35 @@ made message_with (Err place) = Err place
 abbrev pub price_ask_of : List ℕ → Result Message ℕ
 price_ask_of body = made (λ p. message.PriceAsk p.0 p.1) (two_texts_of TICKET_BYTES MAX_SEALED_PRICE_REQUEST body)
 
+-- the message of kind 02 that a body spells, or the bad place
 abbrev pub quote_of : List ℕ → Result Message ℕ
 quote_of body = made (λ p. message.Quote p.0 p.1) (numbered_text_of MAX_SEALED_QUOTE body)
 
+-- the message of kind 03 that a body spells, or the bad place
 abbrev pub goods_ask_of : List ℕ → Result Message ℕ
 goods_ask_of body = made (λ p. message.GoodsAsk p.0 p.1) (two_texts_of TICKET_BYTES MAX_SEALED_GOODS_REQUEST body)
 
+-- the message of kind 05 that a body spells, or the bad place
 abbrev pub payment_of : List ℕ → Result Message ℕ
 payment_of body = made (λ p. message.Order p.0 p.1) (two_texts_of TICKET_BYTES MAX_SEALED_PAYMENT body)
 
+-- the message of kind 06 that a body spells, or the bad place
 abbrev pub endorsed_message_of : List ℕ → Result Message ℕ
 endorsed_message_of body = made (λ o. message.Endorsed o.merchant o.sealed) (endorsed_of body)
 
+-- the message of kind 07 that a body spells, or the bad place
 abbrev pub result_of : List ℕ → Result Message ℕ
 result_of body = made (λ p. message.Result p.0 p.1) (two_texts_of RECEIPT_BYTES RECEIPT_BYTES body)
 
+-- the message of kind 08 that a body spells, or the bad place
 abbrev pub passed_of : List ℕ → Result Message ℕ
 passed_of body = made (λ p. message.Passed p.0 p.1) (numbered_text_of RECEIPT_BYTES body)
 
+-- the message of kind 0A that a body spells, or the bad place
 abbrev pub status_of : List ℕ → Result Message ℕ
 status_of body = made message.Status (whole_of MOST_STATUS body)
 
+-- the message of kind 0C that a body spells, or the bad place
 abbrev pub grant_of : List ℕ → Result Message ℕ
 grant_of body = made message.Grant (whole_of GRANT_BYTES body)
 

@@ -40,5 +40,6 @@ reply_length (Grant consumer merchant nonce until session) = 176
 reply_length (Done acct at balance) = 28
 reply_length (Refused refusal) = 57
 
+-- law: the frame of each reply has so many bytes
 abbrev pub ReplyIsAsLong : Type 0
 ReplyIsAsLong = (keys : ReplyKeys) (reply : Reply) → IsReply reply → length (reply_bytes keys reply) ≡ reply_length reply

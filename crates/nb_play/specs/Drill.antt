@@ -29,9 +29,11 @@ key_of seed name = sha256 (be8 seed ++ be4 name)
 abbrev pub head_of : ℕ → List ℕ
 head_of seed = key_of seed HOUSE_NAME ++ key_of seed OPERATOR_NAME ++ replicate 16 0
 
+-- the party of number n
 abbrev pub party : ℕ → PartyId
 party n = record { 0 = n }
 
+-- the account of number n
 abbrev pub account : ℕ → AcctId
 account n = record { 0 = n }
 
@@ -50,6 +52,7 @@ party_of seed n = record {
   tag = NOTHING;
 }
 
+-- the enrolment of party n, with the operator's tag
 abbrev pub enrolment : ℕ → ℕ → Enrolment
 enrolment seed n = record (party_of seed n) { tag = tag_of seed (codes "enro") (enrolment_bytes (party_of seed n)) }
 
@@ -57,6 +60,7 @@ enrolment seed n = record (party_of seed n) { tag = tag_of seed (codes "enro") (
 abbrev pub money_of : ℕ → Funding
 money_of n = record { acct = account n; amount = FUNDED; reference = replicate 12 0 ++ be4 n; tag = NOTHING }
 
+-- the money for account n, with the operator's tag
 abbrev pub funding : ℕ → ℕ → Funding
 funding seed n = record (money_of n) { tag = tag_of seed (codes "fund") (funding_bytes (money_of n)) }
 
@@ -64,9 +68,11 @@ funding seed n = record (money_of n) { tag = tag_of seed (codes "fund") (funding
 abbrev pub consumer_of : ℕ → ℕ → ℕ
 consumer_of seed i = 1 + draw_of seed (3 * i) % CONSUMERS
 
+-- whom it buys from in order i
 abbrev pub merchant_of : ℕ → ℕ → ℕ
 merchant_of seed i = FIRST_MERCHANT + draw_of seed (3 * i + 1) % MERCHANTS
 
+-- for what price it buys in order i
 abbrev pub price_of : ℕ → ℕ → ℕ
 price_of seed i = 1 + draw_of seed (3 * i + 2) % MOST_PRICE
 
@@ -85,6 +91,7 @@ terms_of seed i consumer merchant = record {
   tag = NOTHING;
 }
 
+-- order i, with the consumer's tag
 abbrev pub order_of : ℕ → ℕ → ℕ → ℕ → Order
 order_of seed i consumer merchant = signed_order (key_of seed consumer) (terms_of seed i consumer merchant)
 
@@ -104,6 +111,7 @@ endorsed seed i consumer merchant = endorsed_bytes (record {
   sealed = seal_of (key_of seed merchant) (codes "endo") (endorsement_bytes (endorsement_of seed i consumer merchant));
 })
 
+-- the frame that hands order i in
 abbrev pub order_frame : ℕ → ℕ → Frame
 order_frame seed i = record { kind = ORDER_REQUEST; body = endorsed seed i (consumer_of seed i) (merchant_of seed i) }
 
@@ -114,5 +122,6 @@ frame_at seed place =
     else if nat_lt place (PARTIES + CONSUMERS) then record { kind = FUND_REQUEST; body = funding_bytes (funding seed (place + 1 - PARTIES)) }
     else order_frame seed ((place - (PARTIES + CONSUMERS)) / 2)
 
+-- the bytes of that frame
 abbrev pub frame_bytes : ℕ → ℕ → List ℕ
 frame_bytes seed place = frame (frame_at seed place)

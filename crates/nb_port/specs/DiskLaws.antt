@@ -50,6 +50,7 @@ torn_put_to (suc place) bytes (x ∷ xs) =
     let rest = torn_put_to place bytes xs in
     (suc-le-suc rest.0, ap (λ (ys : List ℕ). x ∷ ys) rest.1, rest.2)
 
+-- bytes that are put at a place are torn there
 pub torn_put : (place : ℕ) (bytes old : List ℕ) → Torn place (length bytes) old (put_at old place bytes)
 unfolding put_at
 torn_put place bytes old =
@@ -66,9 +67,11 @@ content_after s (Tore place bytes ∷ xs) is =
     content_after (step s (Tore place bytes)) xs (s.content, is, torn_same place (length bytes) s.content)
 content_after s (Synced ∷ xs) is = content_after (step s Synced) xs refl
 
+-- the content of a disk in memory is one of its images
 pub content_left : (start : List ℕ) (steps : List DiskStep) → Images start steps (after (fresh start) steps).content
 content_left start steps = content_after (fresh start) steps refl
 
+-- so is the content that it tells
 pub content_now : (start : List ℕ) (steps : List DiskStep) (c : List ℕ) → Some (after (fresh start) steps).content ≡ Some c
     → Images start steps c
 content_now start steps c is =

@@ -17,6 +17,7 @@ pub record Told : Type 0 where
   pub kept : List ℕ
   pub pending : List Range
 
+-- at the start the content is kept, and nothing is pending
 abbrev pub fresh : List ℕ → Told
 fresh start = record { content = start; kept = start; pending = [] }
 
@@ -28,6 +29,7 @@ step s (Wrote place bytes) =
 step s (Tore place bytes) = record { content = s.content; kept = s.kept; pending = (place, bytes) ∷ s.pending }
 step s Synced = record { content = s.content; kept = s.content; pending = [] }
 
+-- what all steps make of it, one after another
 abbrev pub after : Told → List DiskStep → Told
 after s [] = s
 after s (x ∷ xs) = after (step s x) xs
@@ -37,6 +39,7 @@ abbrev pub Leaves : List ℕ → List Range → List ℕ → Type 0
 Leaves kept [] c = c ≡ kept
 Leaves kept (w ∷ ws) c = (d : List ℕ) × Leaves kept ws d × Torn w.0 (length w.1) d c
 
+-- what a stop may leave: what was kept, with each pending write torn
 abbrev pub Allowed : Told → List ℕ → Type 0
 Allowed s c = Leaves s.kept s.pending c
 

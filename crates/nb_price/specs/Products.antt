@@ -3,6 +3,7 @@ use Rattle.std.specs.Prelude.{ℕ, List, [], ◌∷◌, map, nat_eq, Option, Non
 use Rattle.nb_price.specs.declared.catalogue.Goods.{Goods}
 use Rattle.nb_price.specs.Shelf.{Item}
 
+-- a product of a shelf: its number, its price and its goods
 pub record Product : Type 0 where
   pub id : ℕ
   pub price : ℕ

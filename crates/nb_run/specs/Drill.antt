@@ -29,11 +29,13 @@ use Rattle.nb_run.specs.Run.{Batch, NotOpened}
 
 -- ---- the line
 
+-- whether an entry pays an order
 abbrev pub is_paid : Entry → Bool
 is_paid (Paid digest epoid consumer merchant product price cacct macct moment key) = true
 is_paid (Charged digest epoid consumer merchant product price fee cacct macct moment key) = true
 is_paid other = false
 
+-- whether an entry refuses an order
 abbrev pub is_refused : Entry → Bool
 is_refused (Refused digest epoid consumer merchant product price code a b moment) = true
 is_refused other = false

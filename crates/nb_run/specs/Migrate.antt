@@ -131,6 +131,7 @@ pub record IsFirstInput (left : Option (List ℕ)) : Type 0 where
 
 -- ---- for the contracts of private functions alone
 
+-- what looking at an input answers: the gate at which its journal ends, or the end that refuses it
 abbrev pub JudgedAs : List ℕ → Result ℕ MigrateEnd → Type 0
 JudgedAs image (Ok gate) = EndsAt image gate
 JudgedAs image (Err end) = IsRefused image end

@@ -36,6 +36,7 @@ pub record IsFaultless (old new : WorkerSeen) : Type 0 where
   pub frames : GaveFrames given taken
   pub count : Rose old.port.faults new.port.faults → ⊥
 
+-- so it is of each worker
 abbrev pub AreFaultless : List WorkerSeen → List WorkerSeen → Type 0
 AreFaultless [] [] = Unit {0}
 AreFaultless (old ∷ olds) (new ∷ news) = IsFaultless old new × AreFaultless olds news
@@ -62,6 +63,7 @@ pub record ServesWhole (old : WorkerSeen) (end : WorkerEnd) : Type 0 where
   pub whole : AreWhole links end.records.items
   pub how : ((end.how ≡ how.Closed) × (length end.records.items ≡ length links)) ⊎ (end.how ≡ how.NoMemory)
 
+-- so did each worker
 abbrev pub AllServeWhole : List WorkerSeen → List WorkerEnd → Type 0
 AllServeWhole [] [] = Unit {0}
 AllServeWhole (old ∷ olds) (end ∷ ends) = ServesWhole old end × AllServeWhole olds ends

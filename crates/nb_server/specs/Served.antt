@@ -25,6 +25,7 @@ pub record WorkerSeen : Type 0 where
   pub port : PortSeen
   pub clock : Option (List ℕ)
 
+-- a worker as it is seen
 abbrev pub worker_seen : {P C : Type 0} → (P → PortSeen) → (C → Option (List ℕ)) → Worker P C → WorkerSeen
 worker_seen seen moments worker = record { port = seen worker.port; clock = moments worker.clock }
 
@@ -42,9 +43,11 @@ pub record Sessioned : Type 0 where
 abbrev pub records_of : List Sessioned → List Record
 records_of sessions = map (λ (s : Sessioned). s.told) sessions
 
+-- the links as they were given, in the order of the sessions
 abbrev pub links_given : List Sessioned → List LinkSeen
 links_given sessions = map (λ (s : Sessioned). s.given) sessions
 
+-- the links as they were taken back, in the order of the sessions
 abbrev pub links_taken : List Sessioned → List LinkSeen
 links_taken sessions = map (λ (s : Sessioned). s.taken) sessions
 
@@ -118,6 +121,7 @@ AreServed tells origin lines n olds news ends = ⊥
 abbrev pub ends_by : ℕ → List WorkerEnd → List WorkerEnd
 ends_by by ends = filter (λ (end : WorkerEnd). end.pass == by) ends
 
+-- the records of those that asked with the pass of this number, in the order of workers and then of records
 abbrev pub records_by : ℕ → List WorkerEnd → List Record
 records_by by ends = flat_map (λ (end : WorkerEnd). end.records.items) (ends_by by ends)
 

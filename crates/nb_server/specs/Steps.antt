@@ -55,6 +55,7 @@ pub record PassSeen : Type 0 where
   pub number : ℕ
   pub view : View Origin Line
 
+-- a pass as it is seen
 abbrev pub pass_seen : {D : Type 0} {d : Ghosts (Chronicled D) Origin Line} → Pass (Chronicled D) Origin Line d → PassSeen
 pass_seen pass = record { turn = turn_of pass; number = pass.number; view = sees pass }
 
@@ -94,6 +95,7 @@ pub record AreSplit {S P C : Type 0} (know : S → PassSeen) (id : TableId) (ori
 
 -- ---- the threads
 
+-- a job at this stage may run: it waits, or has a pass of this desk
 abbrev pub StageCanRun : {S : Type 0} → (S → PassSeen) → TableId → Stage S → Type 0
 StageCanRun know id Waits = Unit {0}
 StageCanRun know id (Asks pass) = (know pass).turn ≡ id
@@ -123,6 +125,7 @@ AreRun tells know tell id js ks = ⊥
 
 -- ---- behind the threads
 
+-- what a job came to: it waits still, and its worker is as it was, or it ran with a fresh pass of its number
 abbrev pub DoneAt : {D S P C : Type 0} → DiskTells D → (S → PassSeen) → (Worker P C → WorkerSeen) → TableId → Option Origin → ℕ → Worker P C → Worker P C → Stage S → Type 0
 DoneAt tells know tell id origin n old new Waits = (n ≢ 0) × (new ≡ old)
 DoneAt tells know tell id origin n old new (Asks pass) = ⊥
@@ -164,11 +167,13 @@ pub record Done : Type 0 where
   pub last : View Origin Line
   pub end : WorkerEnd
 
+-- worker n was served with its own pass or with the first one, and its end says how
 pub record IsDone {D : Type 0} (tells : DiskTells D) (origin : Option Origin) (n : ℕ) (d : Done) : Type 0 where
   pub by_own : (d.end.pass ≡ n) ⊎ (d.end.pass ≡ 0)
   pub own : IsOwn origin d.end.pass d.first
   pub serves : Serves tells d.end.pass d.first d.last d.before d.after n d.end
 
+-- so was each, from worker n on
 abbrev pub WereDone : {D : Type 0} → DiskTells D → Option Origin → ℕ → List Done → Type 0
 WereDone tells origin n [] = Unit {0}
 WereDone tells origin n (d ∷ ds) = IsDone tells origin n d × WereDone tells origin (n + 1) ds
@@ -187,6 +192,7 @@ abbrev pub HoldsPass : {S : Type 0} → (S → PassSeen) → TableId → Done �
 HoldsPass know id d None = d.end.pass ≡ 0
 HoldsPass know id d (Some pass) = ((know pass).turn ≡ id) × ((know pass).view ≡ d.last) × (d.first.seen ≡ [])
 
+-- so is each worker's pass held
 abbrev pub AreHeld : {S : Type 0} → (S → PassSeen) → TableId → List Done → List (Option S) → Type 0
 AreHeld know id [] [] = Unit {0}
 AreHeld know id (d ∷ ds) (p ∷ ps) = HoldsPass know id d p × AreHeld know id ds ps

@@ -71,9 +71,11 @@ moments_of requests = map (λ (request : Request). request.moment) requests
 abbrev pub requests_in : List Turned → List Request
 requests_in turns = flat_map (λ (turn : Turned). turn.requests) turns
 
+-- the frames of all turns, in order
 abbrev pub frames_in : List Turned → List Frame
 frames_in turns = frames_of (requests_in turns)
 
+-- the moments of all turns, in order
 abbrev pub moments_in : List Turned → List ℕ
 moments_in turns = moments_of (requests_in turns)
 
@@ -81,6 +83,7 @@ moments_in turns = moments_of (requests_in turns)
 abbrev pub marks_in : House → List Turned → List Mark
 marks_in house turns = marks (answers_in house turns)
 
+-- the replies of all turns, one behind another
 abbrev pub replies_in : House → List Turned → List ℕ
 replies_in house turns = replies (answers_in house turns)
 
@@ -204,6 +207,7 @@ pub record Around : Type 0 where
   pub link : LinkSeen
   pub moments : Option (List ℕ)
 
+-- what a pass, a link and a clock are around a session
 abbrev pub around : View Origin Line → LinkSeen → Option (List ℕ) → Around
 around view link moments = record { view = view; link = link; moments = moments }
 

@@ -86,6 +86,7 @@ pub record Point : Type 0 where
   pub moments : List ℕ
   pub marks : List Mark
 
+-- a point in a session
 abbrev pub point : View Origin Line → LinkSeen → Option (List ℕ) → Collected → List ℕ → List Mark → Point
 point view link clock held moments marks = record { view = view; link = link; clock = clock; held = held; moments = moments; marks = marks }
 

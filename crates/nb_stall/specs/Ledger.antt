@@ -32,6 +32,7 @@ abbrev pub serials_from : ℕ → List Delivery → Type 0
 serials_from n [] = Unit {0}
 serials_from n (d ∷ deliveries) = (d.epoid.serial ≡ n) × serials_from (n + 1) deliveries
 
+-- they are, from 1 on
 abbrev pub AreSerials : List Delivery → Type 0
 AreSerials deliveries = serials_from 1 deliveries
 

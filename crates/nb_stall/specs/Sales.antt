@@ -58,6 +58,7 @@ stage_of (progress.Delivered epoid) = stage.Delivered
 stage_of (progress.Endorsed epoid order) = stage.Endorsed
 stage_of (progress.Settled epoid order part) = stage.Settled
 
+-- the identifier that the goods of a purchase were sealed for, if they were
 abbrev pub epoid_in : Progress → Option Epoid
 epoid_in progress.Quoted = None
 epoid_in (progress.Delivered epoid) = Some epoid

@@ -38,5 +38,6 @@ module _ {T O L : Type 0} (origin : T → O) (history_of : T → List L) (maker 
   abbrev pub KeptAt : ℕ → ℕ → ℕ → List (maybe.Option (Option T)) → List (View O L) → Type 0
   KeptAt turn count bits homes views = (history : List L) × (holder : ℕ) × (owner : ℕ → ℕ × ℕ) × KeptWith origin history_of maker start history holder owner turn count bits homes views
 
+  -- so it is of a state of the table, which has three words
   abbrev pub Kept : State (Option T) (View O L) → Type 0
   Kept s = (length s.words ≡ 3) × KeptAt (slice_index s.words 0) (slice_index s.words 1) (slice_index s.words 2) s.homes s.views

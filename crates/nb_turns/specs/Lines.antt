@@ -46,14 +46,17 @@ abbrev pub adopted : Line → Option Entry
 adopted (Adopted by turn entry) = Some entry
 adopted other = None
 
+-- whether a line keeps the entry that was in doubt
 abbrev pub is_adopted : Line → Bool
 is_adopted (Adopted by turn entry) = true
 is_adopted other = false
 
+-- whether a line tells an entry that came in doubt
 abbrev pub is_doubt : Line → Bool
 is_doubt (Doubt by turn entry) = true
 is_doubt other = false
 
+-- whether a line tells that the disk failed
 abbrev pub is_fault : Line → Bool
 is_fault (Fault by turn before after) = true
 is_fault other = false
@@ -86,6 +89,7 @@ abbrev pub one_above : List Line → ℕ
 one_above [] = 0
 one_above (line ∷ older) = turn_of line + 1
 
+-- the number of the next turn behind a list of lines
 abbrev pub next_turn : List Line → ℕ
 next_turn lines = one_above (reverse lines)
 

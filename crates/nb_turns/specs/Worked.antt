@@ -50,18 +50,23 @@ small_house = record { rules = small_rules; fault = λ (before after : ℕ). 50 
 abbrev pub enrol_one : Request
 enrol_one = record { kind = ENROL_REQUEST; body = 1 ∷ []; moment = 0 }
 
+-- the second request enrols 2
 abbrev pub enrol_two : Request
 enrol_two = record { kind = ENROL_REQUEST; body = 2 ∷ []; moment = 0 }
 
+-- the third one funds account 1
 abbrev pub fund_one : Request
 fund_one = record { kind = FUND_REQUEST; body = 1 ∷ 500 ∷ []; moment = 0 }
 
+-- all three, in this order
 abbrev pub three_requests : List Request
 three_requests = enrol_one ∷ enrol_two ∷ fund_one ∷ []
 
+-- what the two enrolments record
 abbrev pub two_entries : List Entry
 two_entries = enrolment 1 ∷ enrolment 2 ∷ []
 
+-- what all three record
 abbrev pub three_entries : List Entry
 three_entries = enrolment 1 ∷ enrolment 2 ∷ funding 1 500 ∷ []
 

@@ -38,6 +38,7 @@ pub record IsGood (image : List ℕ) : Type 0 where
   pub whole : (item place : ℕ) → IsDamaged image item place → ⊥
   pub lawful : (item : ℕ) → IsBadEntry image item → ⊥
 
+-- law: what stands for a list of entries is not unborn, not damaged, and has no bad entry
 abbrev pub WholeIsGood : Type 0
 WholeIsGood = (image : List ℕ) (charter : Charter) (cap : ℕ) (entries : List Entry) → StandsFor charter cap entries image → IsGood image
 
@@ -73,6 +74,7 @@ OpensWhole charter cap entries (Err (opens.DiskFault before after, disk)) = ⊤
 OpensWhole charter cap entries (Err (opens.NoMemory, disk)) = ⊤
 OpensWhole charter cap entries (Err other) = ⊥
 
+-- what opening answers where the content stands for a list of entries
 abbrev pub WholeOpens : {D : Type 0} → Option (List ℕ) → Result (Chronicled D) (VaultFault × D) → Type 0
 WholeOpens content result = (image : List ℕ) (charter : Charter) (cap : ℕ) (entries : List Entry) → content ≡ Some image → StandsFor charter cap entries image → OpensWhole charter cap entries result
 
@@ -123,6 +125,7 @@ RestoreFails o disk (opens.BadEntry item) = FirstBad (charter_of o) o.cap o.item
 RestoreFails o disk opens.NoMemory = disk ≡ o.journal.disk
 RestoreFails o disk other = ⊥
 
+-- what restoring the entries of an opened journal answers
 abbrev pub RestoreGives : {D : Type 0} → DiskTells D → Opened D → ℕ → Result (Parts D × ReplyRoom) (VaultFault × D) → Type 0
 RestoreGives tells o count (Ok r) = IsRestored tells o count r.0 × (MAX_REQUESTS ≤ vec_capacity r.1.drafts)
 RestoreGives tells o count (Err e) = RestoreFails o e.1 e.0

@@ -73,6 +73,7 @@ pub record Gathers {D : Type 0} (tells : DiskTells D) (r : Records D) : Type 0 w
 abbrev pub doubt_of : {D : Type 0} → Records D → List Entry
 doubt_of r = if r.journal.stale then r.group.items else []
 
+-- the disk under the journal of these records
 abbrev pub disk_under : {D : Type 0} → Records D → D
 disk_under r = r.journal.disk
 

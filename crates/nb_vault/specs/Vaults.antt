@@ -150,6 +150,7 @@ abbrev pub handed_places : House → List Request → Outcome → List ℕ
 handed_places house requests (Decides over) = places (decided house over requests)
 handed_places house requests other = []
 
+-- the replies that are handed out of a turn that went so
 abbrev pub handed_replies : House → List Request → Outcome → List ℕ
 handed_replies house requests (Decides over) = replies (decided house over requests)
 handed_replies house requests other = []

@@ -16,6 +16,7 @@ held_behind change.Same held = held
 held_behind (change.More part) held = held ++ part
 held_behind change.Forgotten held = []
 
+-- a purchase at a stage, with the parts behind a change
 abbrev pub changed_to : Stage → Change → Purchase → Purchase
 changed_to stage parts p = record { start = p.start; stage = stage; held = held_behind parts p.held }
 
@@ -29,6 +30,7 @@ abbrev pub HeadIsSound : Option GoodsHead → Type 0
 HeadIsSound None = Unit {0}
 HeadIsSound (Some h) = h.total ≤ MAX_SEALED
 
+-- what a stage keeps to: no text is longer than it may be
 abbrev pub StageIsSound : Stage → Type 0
 StageIsSound (stage.Asked pass) = PassKeepsRules pass
 StageIsSound (stage.Wanted pass price head) = PassKeepsRules pass × HeadIsSound head

@@ -61,5 +61,6 @@ unsigned_order w s price epoid checksum = record {
   tag = replicate 32 0;
 }
 
+-- the order of a purchase, with the consumer's tag
 abbrev pub order_for : Wallet → Start → Price → Epoid → List ℕ → Order
 order_for w s price epoid checksum = signed_order w.key (unsigned_order w s price epoid checksum)

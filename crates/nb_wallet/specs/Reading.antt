@@ -53,6 +53,7 @@ from_place place (Err bad) = Err (min (bad + place) (2 ^ 64 - 1))
 abbrev pub order_within : List ℕ → Result Order ℕ
 order_within text = from_place 13 (order_of text)
 
+-- the signed receipt in an item that says how a purchase ended
 abbrev pub receipt_within : List ℕ → Result Signed ℕ
 receipt_within text = from_place 9 (signed_of text)
 

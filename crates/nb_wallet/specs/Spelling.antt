@@ -41,6 +41,7 @@ behind_front front part = front ++ part
 unfoldable pub ordered_front : ℕ → List ℕ → List ℕ → List ℕ
 ordered_front transaction order part = (ORDERED ∷ []) ++ be8 transaction ++ sized order ++ be4 (length part)
 
+-- the one spelling of an order that is kept, with the last part
 abbrev pub ordered_bytes : ℕ → List ℕ → List ℕ → List ℕ
 ordered_bytes transaction order part = behind_front (ordered_front transaction order part) part
 
@@ -52,6 +53,7 @@ ended_bytes transaction receipt = (ENDED ∷ []) ++ be8 transaction ++ signed_by
 unfoldable pub part_front : GoodsHead → List ℕ → List ℕ
 part_front head part = (PART ∷ []) ++ be8 head.transaction ++ epoid_bytes head.epoid ++ be8 head.total ++ head.checksum ++ be8 head.place ++ be4 (length part)
 
+-- the one spelling of a part that is not the last
 abbrev pub part_bytes : GoodsHead → List ℕ → List ℕ
 part_bytes head part = behind_front (part_front head part) part
 
@@ -76,9 +78,11 @@ item_bytes (item.Forgotten transaction) = forgotten_bytes transaction
 abbrev pub StartKeepsRules : Start → Type 0
 StartKeepsRules s = (length s.request ≤ MAX_REQUEST) × (length s.memo ≤ MAX_MEMO)
 
+-- the ticket of a session is not longer than it may be
 abbrev pub PassKeepsRules : SessionTicket → Type 0
 PassKeepsRules pass = length pass.ticket ≤ TICKET_BYTES
 
+-- no text of an item is longer than it may be, and its receipt keeps the rules
 abbrev pub ItemKeepsRules : Item → Type 0
 ItemKeepsRules (item.Started start) = StartKeepsRules start
 ItemKeepsRules (item.Granted transaction pass) = PassKeepsRules pass
@@ -96,10 +100,12 @@ pub record IsStart (s : Start) : Type 0 where
   pub request : length s.request ≤ MAX_REQUEST
   pub memo : length s.memo ≤ MAX_MEMO
 
+-- each field of a session's ticket is within its limits
 pub record IsPass (pass : SessionTicket) : Type 0 where
   pub session : length pass.session ≡ 32
   pub ticket : length pass.ticket ≤ TICKET_BYTES
 
+-- each field of an item is within its limits
 abbrev pub IsItem : Item → Type 0
 IsItem (item.Started start) = IsStart start
 IsItem (item.Granted transaction pass) = (transaction < 2 ^ 64) × IsPass pass

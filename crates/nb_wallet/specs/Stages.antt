@@ -16,6 +16,7 @@ abbrev pub end_opened : Option (List ℕ) → End
 end_opened (Some goods) = end.Paid goods
 end_opened None = end.Foul
 
+-- how a purchase ends with this key, if there is one, and these sealed goods
 abbrev pub end_with : Option (List ℕ) → List ℕ → End
 end_with (Some key) sealed = end_opened (text_in key (codes "good") sealed)
 end_with None sealed = end.Foul
@@ -24,10 +25,12 @@ end_with None sealed = end.Foul
 abbrev pub end_of : Receipt → List ℕ → End
 end_of r sealed = if r.code == PAID_CODE then end_with r.key sealed else end.Refused r.code
 
+-- what is left of a purchase whose goods the key opened, or did not
 abbrev pub stage_opened : List ℕ → Option (List ℕ) → Stage
 stage_opened key (Some goods) = stage.Paid key
 stage_opened key None = stage.Foul
 
+-- what is left of a purchase with this key, if there is one, and these sealed goods
 abbrev pub stage_with : Option (List ℕ) → List ℕ → Stage
 stage_with (Some key) sealed = stage_opened key (text_in key (codes "good") sealed)
 stage_with None sealed = stage.Foul
@@ -36,14 +39,17 @@ stage_with None sealed = stage.Foul
 abbrev pub stage_ended : Receipt → List ℕ → Stage
 stage_ended r sealed = if r.code == PAID_CODE then stage_with r.key sealed else stage.Refused r.code
 
+-- the stage behind a quote: the goods are wanted at this price, where it was asked for
 abbrev pub wanted_from : Stage → Price → Stage
 wanted_from (stage.Asked pass) price = stage.Wanted pass price None
 wanted_from other price = other
 
+-- the stage behind a part, with what was said of it, where goods are wanted
 abbrev pub with_head : Stage → Option GoodsHead → Stage
 with_head (stage.Wanted pass price held) head = stage.Wanted pass price head
 with_head other head = other
 
+-- the stage behind an order, where goods were wanted
 abbrev pub ordered_from : Stage → Order → Stage
 ordered_from (stage.Wanted pass price head) order = stage.Ordered pass order 0
 ordered_from other order = other

@@ -23,6 +23,7 @@ pub record IsConsumer {C M : Type 0} (p : Rules C M) (w : World C M) (id : Party
   pub first : consumer_at p w id ≡ Some place
   pub stands : slice_get w.consumers place ≡ Some c
 
+-- the first merchant that is this party is this one
 pub record IsMerchant {C M : Type 0} (p : Rules C M) (w : World C M) (id : PartyId) (m : M) : Type 0 where
   pub place : ℕ
   pub first : merchant_at p w id ≡ Some place

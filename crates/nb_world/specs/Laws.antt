@@ -141,6 +141,7 @@ pub record HasOrigins {C M : Type 0} (first w : World C M) : Type 0 where
   pub as_many : length w.durable ≡ length first.durable + length w.origins
   pub in_order : (k : ℕ) (origin : Origin) → slice_get w.origins k ≡ Some origin → origin.place ≡ length first.durable + k
 
+-- law: so it is along every run
 abbrev pub EntriesHaveOrigins : Type 0 → Type 0 → Type 0
 EntriesHaveOrigins C M = (p : Rules C M) (w : World C M) → w.origins ≡ [] → (es : List Event) → HasOrigins w (run p w es)
 
@@ -216,6 +217,7 @@ pub record IsStopped {C M : Type 0} (w : World C M) (keep : Bool) (behind : Worl
   pub answered : (c : ℕ) (call : Call) → slice_get w.calls c ≡ Some call → call.phase ≡ Answered → slice_get behind.calls c ≡ Some call
   pub unanswered : (c : ℕ) (call gone : Call) → slice_get w.calls c ≡ Some call → slice_get behind.calls c ≡ Some gone → call.phase ≢ Answered → gone.phase ≡ Gone
 
+-- law: what is behind a stop is so
 abbrev pub StopLeaves : Type 0 → Type 0 → Type 0
 StopLeaves C M = (p : Rules C M) (w : World C M) (keep : Bool) → IsStopped w keep (next p w (on.Stop keep))
 
@@ -229,6 +231,7 @@ IsQuiet (on.Open c) = ⊥
 IsQuiet (on.Stop keep) = ⊥
 IsQuiet other = Unit {0}
 
+-- law: an event that is neither an opening nor a stop changes no durable entry
 abbrev pub OthersAddNothing : Type 0 → Type 0 → Type 0
 OthersAddNothing C M = (p : Rules C M) (w : World C M) (e : Event) → IsQuiet e → (next p w e).durable ≡ w.durable
 
@@ -260,6 +263,7 @@ abbrev pub AnswerReplies : Type 0 → Type 0 → Type 0
 AnswerReplies C M = (p : Rules C M) (w : World C M) (c : ℕ) (fits : Fits p w (on.Answer c)) (packet : Packet) (moment : ℕ)
     → Asks w c packet moment → RepliesTo w fits.0.turn c packet.maker (next p w (on.Answer c))
 
+-- an event hands out a reply
 abbrev pub IsAnswer : Event → Type 0
 IsAnswer (on.Answer c) = Unit {0}
 IsAnswer other = ⊥

@@ -43,6 +43,7 @@ pub record ConsumerWent {C M : Type 0} (w : World C M) (place : ℕ) (id : Party
   pub has_sent : HasSent w (by.Consumer id) sent behind
   pub house : IsSameHouse w behind
 
+-- the merchant at this place became this one and sent this, and all else is as before
 pub record MerchantWent {C M : Type 0} (w : World C M) (place : ℕ) (id : PartyId) (m : M) (sent : Option Sending) (behind : World C M) : Type 0 where
   pub became : Became w.merchants place m behind.merchants
   pub consumers : behind.consumers ≡ w.consumers
@@ -54,6 +55,7 @@ abbrev pub ConsumerGoes : {C M : Type 0} → World C M → ℕ → PartyId → G
 ConsumerGoes w place id Stays behind = behind ≡ w
 ConsumerGoes w place id (Goes c sent) behind = ConsumerWent w place id c sent behind
 
+-- so it went on, or where it stays nothing changed
 abbrev pub MerchantGoes : {C M : Type 0} → World C M → ℕ → PartyId → Going M → World C M → Type 0
 MerchantGoes w place id Stays behind = behind ≡ w
 MerchantGoes w place id (Goes m sent) behind = MerchantWent w place id m sent behind
@@ -81,5 +83,6 @@ pub record MerchantDoes {C M : Type 0} (p : Rules C M) (w : World C M) (place : 
 abbrev pub ConsumerSteps : Type 0 → Type 0 → Type 0
 ConsumerSteps C M = (p : Rules C M) (w : World C M) (id : PartyId) (c : C) (is : IsConsumer p w id c) → ConsumerDoes p w is.place id c
 
+-- law: so it is of each merchant of every world
 abbrev pub MerchantSteps : Type 0 → Type 0 → Type 0
 MerchantSteps C M = (p : Rules C M) (w : World C M) (id : PartyId) (m : M) (is : IsMerchant p w id m) → MerchantDoes p w is.place id m

@@ -51,6 +51,7 @@ abbrev pub consumer_goes : {C M : Type 0} → World C M → ℕ → PartyId → 
 consumer_goes w i id Stays = w
 consumer_goes w i id (Goes c sent) = record w { consumers = set w.consumers i c; packets = w.packets ++ packets_of (by.Consumer id) sent }
 
+-- the world behind a step of the merchant at a place
 abbrev pub merchant_goes : {C M : Type 0} → World C M → ℕ → PartyId → Going M → World C M
 merchant_goes w i id Stays = w
 merchant_goes w i id (Goes m sent) = record w { merchants = set w.merchants i m; packets = w.packets ++ packets_of (by.Merchant id) sent }
@@ -59,6 +60,7 @@ merchant_goes w i id (Goes m sent) = record w { merchants = set w.merchants i m;
 abbrev pub consumer_at : {C M : Type 0} → Rules C M → World C M → PartyId → Option ℕ
 consumer_at p w id = position (p.is_consumer id) w.consumers
 
+-- the place of the merchant that is this party
 abbrev pub merchant_at : {C M : Type 0} → Rules C M → World C M → PartyId → Option ℕ
 merchant_at p w id = position (p.is_merchant id) w.merchants
 
@@ -73,6 +75,7 @@ abbrev pub started : {C M : Type 0} → World C M → ℕ → PartyId → Going 
 started w i id Stays = None
 started w i id (Goes c sent) = Some (consumer_goes w i id (Goes c sent))
 
+-- the row of a consumer that starts a purchase
 unfoldable pub buy_of : {C M : Type 0} → Rules C M → World C M → PartyId → Start → Option (World C M)
 buy_of p w id start = do
   i ← consumer_at p w id
@@ -81,6 +84,7 @@ buy_of p w id start = do
   memo ← where_so (nat_le (length start.memo) MAX_MEMO)
   started w i id (p.consumer_starts c start)
 
+-- the row of a consumer that heard nothing of a purchase for long
 unfoldable pub quiet_consumer_of : {C M : Type 0} → Rules C M → World C M → PartyId → ℕ → Option (World C M)
 quiet_consumer_of p w id tid = do
   i ← consumer_at p w id
@@ -88,6 +92,7 @@ quiet_consumer_of p w id tid = do
   known ← where_so (p.has_purchase tid c)
   Some (consumer_goes w i id (p.consumer_waited c tid))
 
+-- the row of a merchant that heard nothing of a purchase for long
 unfoldable pub quiet_merchant_of : {C M : Type 0} → Rules C M → World C M → PartyId → PartyId → ℕ → Option (World C M)
 quiet_merchant_of p w id consumer tid = do
   i ← merchant_at p w id
@@ -95,12 +100,14 @@ quiet_merchant_of p w id consumer tid = do
   known ← where_so (p.has_sale consumer tid m)
   Some (merchant_goes w i id (p.merchant_waited m consumer tid))
 
+-- the row of a consumer that starts again
 unfoldable pub restart_consumer_of : {C M : Type 0} → Rules C M → World C M → PartyId → Option (World C M)
 restart_consumer_of p w id = do
   i ← consumer_at p w id
   c ← slice_get w.consumers i
   Some (record w { consumers = set w.consumers i (p.consumer_again c) })
 
+-- the row of a merchant that starts again
 unfoldable pub restart_merchant_of : {C M : Type 0} → Rules C M → World C M → PartyId → Option (World C M)
 restart_merchant_of p w id = do
   i ← merchant_at p w id
@@ -117,6 +124,7 @@ consumer_gets p w packet id = do
   c ← slice_get w.consumers i
   Some (if p.is_body packet.kind packet.body then consumer_goes w i id (p.consumer_hears c packet.kind packet.body) else w)
 
+-- a packet reaches the merchant that is this party
 abbrev pub merchant_gets : {C M : Type 0} → Rules C M → World C M → Packet → PartyId → Option (World C M)
 merchant_gets p w packet id = do
   i ← merchant_at p w id
@@ -127,16 +135,19 @@ merchant_gets p w packet id = do
 abbrev pub server_gets : {C M : Type 0} → World C M → ℕ → World C M
 server_gets w k = record w { calls = w.calls ++ record { packet = k; moment = w.moment; phase = Waiting } ∷ [] }
 
+-- a packet reaches whom it is for
 abbrev pub delivered_to : {C M : Type 0} → Rules C M → World C M → ℕ → Packet → To → Option (World C M)
 delivered_to p w k packet to.Server = Some (server_gets w k)
 delivered_to p w k packet (to.Merchant id) = merchant_gets p w packet id
 delivered_to p w k packet (to.Consumer id) = consumer_gets p w packet id
 
+-- the row of a packet that is delivered: the one of this number
 unfoldable pub deliver_of : {C M : Type 0} → Rules C M → World C M → ℕ → Option (World C M)
 deliver_of p w k = do
   packet ← slice_get w.packets k
   delivered_to p w k packet packet.to
 
+-- the row of a packet that somebody puts there
 unfoldable pub inject_of : {C M : Type 0} → Rules C M → World C M → To → ℕ → List ℕ → Option (World C M)
 inject_of p w addressee kind body = do
   served ← where_so (nat_le 1 kind && nat_le kind LAST_KIND)
@@ -161,6 +172,7 @@ set_phase phase [] c = []
 set_phase phase (call ∷ calls) zero = in_phase phase call ∷ calls
 set_phase phase (call ∷ calls) (suc c) = call ∷ set_phase phase calls c
 
+-- the row of a waiting call that takes the turn
 unfoldable pub turn_of : {C M : Type 0} → Rules C M → World C M → ℕ → Option (World C M)
 turn_of p w c = do
   free ← where_so (is_none w.turn)
@@ -172,6 +184,7 @@ turn_of p w c = do
     calls = set_phase InTurn w.calls c;
   })
 
+-- the row of a turn whose entry is written
 unfoldable pub write_of : {C M : Type 0} → World C M → ℕ → Option (World C M)
 write_of w c = do
   t ← w.turn
@@ -184,6 +197,7 @@ write_of w c = do
 abbrev pub origin_of : List Entry → ℕ → Origin
 origin_of entries c = record { place = length entries; call = c }
 
+-- the row of a turn whose entry is opened: it is durable then
 unfoldable pub open_of : {C M : Type 0} → World C M → ℕ → Option (World C M)
 open_of w c = do
   t ← w.turn
@@ -209,6 +223,7 @@ node_of (by.Consumer id) = Some (to.Consumer id)
 node_of (by.Merchant id) = Some (to.Merchant id)
 node_of other = None
 
+-- whom the reply to a call is for
 abbrev pub asker_of : {C M : Type 0} → World C M → ℕ → Option To
 asker_of w c = do
   call ← slice_get w.calls c
@@ -223,6 +238,7 @@ reply_to t addressee = record { kind = t.verdict.kind; body = t.verdict.body; ma
 abbrev pub acknowledged_by : Turning → List Acknowledged
 acknowledged_by t = option_to_list (option_map (λ (entry : Entry). record { entry = entry; place = t.at }) t.verdict.entry)
 
+-- the row of a call whose reply is handed out
 unfoldable pub answer_of : {C M : Type 0} → World C M → ℕ → Option (World C M)
 answer_of w c = do
   t ← w.turn
@@ -240,6 +256,7 @@ abbrev pub phase_stopped : CallPhase → CallPhase
 phase_stopped Answered = Answered
 phase_stopped other = Gone
 
+-- what becomes of a call where the house stops
 abbrev pub stopped : Call → Call
 stopped call = in_phase (phase_stopped call.phase) call
 
@@ -253,6 +270,7 @@ abbrev pub origins_left : List Entry → Bool → Option Turning → List Origin
 origins_left entries keep None = []
 origins_left entries keep (Some t) = option_to_list (option_map (λ (entry : Entry). origin_of entries t.call) (left keep (Some t)))
 
+-- the row of a house that stops, with the entry that is written left or not
 unfoldable pub stop_of : {C M : Type 0} → World C M → Bool → World C M
 stop_of w keep = record w {
   turn = None;
@@ -285,6 +303,7 @@ abbrev pub or_same : {A : Type 0} → A → Option A → A
 or_same old None = old
 or_same old (Some new) = new
 
+-- the world behind an event, which is as it was where the event does not fit
 abbrev pub next : {C M : Type 0} → Rules C M → World C M → Event → World C M
 next p w e = or_same w (step p w e)
 

@@ -20,6 +20,7 @@ use Rattle.nb_world.specs.Steps.{answer_of, next, run}
 abbrev pub ruling_of : Verdict → Ruling
 ruling_of verdict = record { reply = frame (record { kind = verdict.kind; body = verdict.body }); entry = verdict.entry }
 
+-- the house of nb_turns that goes by the verdicts of a world
 abbrev pub house_of : {C M : Type 0} → Rules C M → (ℕ → ℕ → List ℕ) → List ℕ → House
 house_of p fault worn = record { rules = λ (entries : List Entry) (request : Request). ruling_of (p.verdict entries request); fault = fault; worn = worn }
 
@@ -44,6 +45,7 @@ pub data Play : Type 0 where
   Answers : Play
   Stops : Bool → Play
 
+-- a request and what it plays: when, of which kind, with which body
 pub record Played : Type 0 where
   pub request : Request
   pub play : Play
@@ -57,6 +59,7 @@ abbrev pub records : ℕ → Option Entry → List Event
 records n None = []
 records n (Some entry) = on.Write n ∷ on.Open n ∷ []
 
+-- the events behind the turn of a request
 abbrev pub ends : ℕ → Play → Option Entry → List Event
 ends n Answers entry = records n entry ++ on.Answer n ∷ []
 ends n (Stops keep) entry = on.Write n ∷ on.Stop keep ∷ []
@@ -122,6 +125,7 @@ abbrev pub reply_of_turn : Option Turning → List (List ℕ)
 reply_of_turn None = []
 reply_of_turn (Some t) = frame (record { kind = t.verdict.kind; body = t.verdict.body }) ∷ []
 
+-- the frame that an event hands out in this world, if it does
 abbrev pub told_at : {C M : Type 0} → World C M → Event → List (List ℕ)
 told_at w (on.Answer c) = if is_some (answer_of w c) then reply_of_turn w.turn else []
 told_at w other = []
@@ -135,6 +139,7 @@ told_along p w (e ∷ es) = told_at w e ++ told_along p (next p w e) es
 abbrev pub reply_with_place : Reply → Option (List ℕ)
 reply_with_place answer = option_map (λ (place : ℕ). answer.reply) (place_of answer.mark)
 
+-- the frames of these replies, in order
 abbrev pub told_by : List Reply → List (List ℕ)
 told_by answers = filter_map reply_with_place answers
 

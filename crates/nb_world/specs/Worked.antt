@@ -52,6 +52,7 @@ small_world_rules = record {
   merchant_again = λ m. 0;
 }
 
+-- a small world, in which nothing has happened
 abbrev pub small_world : World ℕ ℕ
 small_world = record {
   consumers = 0 ∷ [];
@@ -66,9 +67,11 @@ small_world = record {
   moment = 0;
 }
 
+-- a purchase of product 1 from the second party
 abbrev pub small_start : Start
 small_start = record { transaction = 1; merchant = second_party; product = 1; limit = record { 0 = 5 }; request = []; memo = [] }
 
+-- the packet by which the consumer enrols itself
 abbrev pub enrolling : Packet
 enrolling = record { kind = ENROL_REQUEST; body = 1 ∷ []; maker = by.Consumer first_party; to = to.Server }
 
@@ -95,6 +98,7 @@ abbrev pub stopped_and_again : List Event
 stopped_and_again =
     on.Buy first_party small_start ∷ on.Deliver 0 ∷ on.Turn 0 ∷ on.Write 0 ∷ on.Stop true ∷ on.Deliver 0 ∷ on.Turn 1 ∷ on.Answer 1 ∷ []
 
+-- law in numbers: the world behind these events
 abbrev pub LeftAndTold : Type 0
 LeftAndTold = run small_world_rules small_world stopped_and_again ≡ record small_world {
   packets = enrolling ∷ record { kind = DONE_REPLY; body = 1 ∷ 0 ∷ 0 ∷ []; maker = by.Server 1 1; to = to.Consumer first_party } ∷ [];
@@ -110,6 +114,7 @@ abbrev pub injected_and_unfit : List Event
 injected_and_unfit =
     on.Inject to.Server ENROL_REQUEST (1 ∷ []) ∷ on.Deliver 0 ∷ on.Turn 0 ∷ on.Write 0 ∷ on.Open 0 ∷ on.Answer 0 ∷ on.Deliver 1 ∷ on.Turn 0 ∷ []
 
+-- law in numbers: the world behind these events
 abbrev pub InjectedIsRecorded : Type 0
 InjectedIsRecorded = (run small_world_rules small_world injected_and_unfit ≡ record small_world {
   packets = record { kind = ENROL_REQUEST; body = 1 ∷ []; maker = by.Network; to = to.Server } ∷ [];
@@ -150,6 +155,7 @@ two_consumers_rules = record small_world_rules {
   merchant_waited = λ m id tid. Goes (m + 1) (Some enrols_itself);
 }
 
+-- the small world with a second consumer
 abbrev pub two_consumers : World ℕ ℕ
 two_consumers = record small_world { consumers = 0 ∷ 10 ∷ [] }
 
@@ -159,6 +165,7 @@ merchant_is_answered =
     on.Clock 3 ∷ on.Inject (to.Consumer third_party) DONE_REPLY (1 ∷ []) ∷ on.Deliver 0 ∷ on.RestartConsumer third_party
     ∷ on.QuietMerchant second_party first_party 1 ∷ on.Deliver 1 ∷ on.Turn 0 ∷ on.Write 0 ∷ on.Open 0 ∷ on.Answer 0 ∷ on.Deliver 2 ∷ []
 
+-- law in numbers: the world behind these events
 abbrev pub EachNodeItsOwn : Type 0
 EachNodeItsOwn = run two_consumers_rules two_consumers merchant_is_answered ≡ record two_consumers {
   consumers = 0 ∷ 111 ∷ [];
@@ -180,6 +187,7 @@ EachNodeItsOwn = run two_consumers_rules two_consumers merchant_is_answered ≡ 
 abbrev pub two_asked : World ℕ ℕ
 two_asked = record small_world { packets = enrolling ∷ record { kind = ENROL_REQUEST; body = 2 ∷ []; maker = by.Network; to = to.Server } ∷ [] }
 
+-- the packet by which a request of these two is asked
 abbrev pub packet_of : Request → ℕ
 packet_of request = if slice_index_or request.body 0 0 == 1 then 0 else 1
 

@@ -67,6 +67,7 @@ abbrev pub is_decided : Stage → Bool
 is_decided stage.Decided = true
 is_decided other = false
 
+-- whether an entry of a turn is written and not opened
 abbrev pub is_written : Stage → Bool
 is_written stage.Written = true
 is_written other = false
@@ -76,6 +77,7 @@ abbrev pub written_at : Stage → Option Entry → Option Entry
 written_at stage.Written entry = entry
 written_at other entry = None
 
+-- the entry of the turn, if there is one, that is written and not opened
 abbrev pub entry_written : Option Turning → Option Entry
 entry_written None = None
 entry_written (Some t) = written_at t.stage t.verdict.entry
