@@ -9,6 +9,8 @@
 //! what was read is spelled as those bytes. Which values fields may have, and how long the records are, stands in `src/limits.rt`.
 //!
 //! Left to others: frames and kinds, keys, seals and tags, what an order says, and what comes of a request. No memory is taken.
+//!
+//! Not said: whose tags these are, and under which keys and labels the texts are sealed; `nb_escrow` tests the first, the nodes seal the second.
 #![tactic(auto)]
 
 mod endorsed;

@@ -16,6 +16,9 @@
 //! `specs/Laws.antt` and is proved by the functions of [`laws`].
 //!
 //! Left to others: where an entry is kept, and who may ask for it.
+//!
+//! Not said: that [`Book::new`] finds memory where there is some; what its key does, by which the keys of look-ups fall on slots: no public
+//! clause shows these, and none counts steps; and how a look-up finds its answer: a scan of the list would meet the contract.
 #![tactic(auto)]
 
 mod account;

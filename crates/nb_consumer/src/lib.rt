@@ -12,6 +12,9 @@
 //! and an order by its identifier, without going through the others.
 //!
 //! Left to others: the journal, links, and when nothing was heard for long.
+//!
+//! Not said: that there is memory for a step; that a look-up goes through no list: the clauses see lists, the code has maps by number and by
+//! identifier; and how many items were kept, which who keeps the journal counts: starting again asks for fewer than 2^32.
 #![tactic(auto)]
 
 mod consumer;

@@ -22,6 +22,9 @@
 //!
 //! Not said: that a cache keeps anything. A state that is given is that of its key whatever the slots hold, and what keeping saves is for bench to
 //! show.
+//!
+//! Not said: what the order's bytes in an endorsement say, which `nb_epo` reads; and which code a refused order gets and what its receipt shows
+//! to whom, which the decision says.
 #![tactic(auto)]
 
 mod cache;

@@ -9,6 +9,8 @@
 //! spelled is read as that value, and what was read is spelled as those bytes.
 //!
 //! Left to others: whose keys these are, whether the parties exist, and whether the price is there. No memory is taken.
+//!
+//! Not said: that a tag is hard to forge, and that a hidden part stays hidden.
 #![tactic(auto)]
 
 mod hidden;

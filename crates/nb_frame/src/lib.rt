@@ -10,6 +10,9 @@
 //! [`write_frame`] appends the one spelling of a frame, and [`write_header`] its header alone, for a body that is made in its place behind it.
 //!
 //! Left to others: where pieces come from, what a frame asks for, and what a frame is, which `nb_units` says.
+//!
+//! Not said: that there is memory for the buffer; and that [`Frames::feed`] takes no memory and moves what waits at most once: it has room for
+//! 1,114,120 bytes from its start on, within which an append succeeds.
 #![tactic(auto)]
 
 mod fault;

@@ -11,6 +11,9 @@
 //! are, with the sealed goods, two different lists with one digest, is proved by the functions of [`laws`].
 //!
 //! Left to others: which goods these are, what they cost, whose keys these are, and how parts travel.
+//!
+//! Not said: that there is no collision and that no two goods get one key, since that SHA-256 and HMAC are hard to find two texts for is no claim
+//! of the proofs; and how much memory and time a call takes: [`parts`] and [`opens`] are given no allocator, and `bench/run` measures the rest.
 #![tactic(auto)]
 
 mod divided;

@@ -13,6 +13,11 @@
 //! are cut by a link of their own.
 //!
 //! Left to others: the adapters to the system.
+//!
+//! Not said: that a maker, a read and a write of a [`MemLink`] find memory where there is some; into how many writes bytes are cut, and which
+//! points of a gate are passed, since a link tells no writes and a gate nothing; that a link that was taken back is one that was given: what a
+//! port took back is told; and what a buffer holds after a failed read and behind the bytes that a read gave. The trials of `houses` call each,
+//! and see the writes and the points by a link and a gate of their own.
 #![tactic(auto)]
 
 mod gate;

@@ -10,6 +10,11 @@
 //! every merchant is proved by the functions of [`laws`].
 //!
 //! Left to others: the journal that the items are kept in, links and clocks, who the consumers are, and whether a receipt is the house's.
+//!
+//! Not said: how much memory and time a call takes: a purchase is looked up in an ordered map, an identifier by its serial number, and each part
+//! costs one pass over its own bytes, since what parts are made from is held with the sale; that a receipt is the house's: a merchant has no key
+//! of the house, and one that opens under its own key is taken; and that the caller keeps an item before it sends the message: the step hands out
+//! both, and the order is the caller's.
 #![tactic(auto)]
 
 mod answer;

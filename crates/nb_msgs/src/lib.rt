@@ -12,6 +12,9 @@
 //! ([`laws::reply_is_message`]). What is sealed in a status is a [`StatusText`], in `specs/StatusText.antt`.
 //!
 //! Left to others: what is replied, what is sealed in the other messages, keys and seals, and the reading of frames from a stream.
+//!
+//! Not said: that there is memory for a message or its frame; that a part of goods is copied once, since the clauses see lists of bytes; and what
+//! the seals in a message hide: who has the key opens them, and `nb_body`, `nb_ticket`, `nb_endorse` and [`StatusText`] read what they hid.
 #![tactic(auto)]
 
 mod draft;

@@ -4,6 +4,8 @@
 //! each order is sent twice. Who buys from whom, and for what price, is drawn by a linear congruential generator ([`number_at`]). What
 //! each frame is stands in `specs/Drill.antt`, as a function of the seed and the place. [`DrillSource`] gives all of them one behind the other, as bytes;
 //! [`DrillClock`] stands at the moment of each request, and [`NullSink`] takes the replies.
+//!
+//! Not said: that there is memory for a frame; and what a house answers to these frames, which its decision says.
 #![tactic(auto)]
 
 mod clock;

@@ -20,6 +20,13 @@
 //! A [`ByteDisk`] reads bytes that are lent to it, of which a stop leaves these; its writes fail.
 //!
 //! Left to others: the adapters to the system, of which none tells its content.
+//!
+//! Not said, since no clause can: that a maker, a write of a [`MemSink`] or a call of a [`MemDisk`] finds memory where there is some, so that one
+//! which always fails for want of it, or by choice and is never recorded, meets the clauses. Nor what a buffer holds after a failed read and
+//! behind the bytes that a read gave; which images a disk has that does not tell; that a stop may leave a given image within a call or behind a
+//! write, but for the content and those from before: of a [`MemDisk`] alone the law [`laws::by_ranges`] says exactly which it may leave; nor
+//! where an image ends while a range is pending, since nothing says that a system adds no bytes behind those that were written. Tests call each
+//! maker, and have such calls recorded and work.
 #![tactic(auto)]
 
 mod clock;

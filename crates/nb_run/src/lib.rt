@@ -11,6 +11,16 @@
 //! leaves of the disk.
 //!
 //! Left to others: the real terminal, file and clock, and the lock on the file.
+//!
+//! Not said: what `main` does, which reads the words, opens, makes and locks the file and prints the line. An order between the bytes sent and
+//! the disk's moments: that an entry is durable before its reply is sent is said for each request by `Vault::answer` and `send_reply`. That a
+//! fault is told in the turn in which the disk failed, and that settling goes by the byte of the gate: the contract of `Vault::answer` says both
+//! of each turn. What stands behind the last gate, free by the format. What `init` leaves on a disk without a journal where the disk failed, and
+//! what a stop leaves there within it, and within `migrate` up to where the journal is laid: there was no entry to lose, or it stands in the
+//! input. How many calls of the disk these two make, and in which order, which the trials of `runs` count. What a real file keeps: `tests/kill`
+//! reads it after each kill, and what a failure of power leaves is not tried. That there is memory. How many bytes a read asks for, but that less
+//! than a piece is read ahead of the last answer. The bytes of a source that does not tell; that a count rises only where a call fails: one that
+//! was interrupted and worked has raised it too; and what a clock that stops telling gave.
 #![tactic(auto)]
 
 mod drill;

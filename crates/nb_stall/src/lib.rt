@@ -12,6 +12,9 @@
 //! (`specs/Tests.antt`). Goods are sealed part by part as they are asked for; what the parts are made from is held with the sale.
 //!
 //! Left to others: what is done at a message, and which items may stand one behind the other.
+//!
+//! Not said: that there is memory for a message or for a purchase more; and how much time a look-up takes: a purchase is looked up in an ordered
+//! map, an identifier by its serial number.
 #![tactic(auto)]
 
 mod delivery;

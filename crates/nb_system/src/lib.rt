@@ -11,6 +11,15 @@
 //!
 //! What is trusted of [`StdFile`] and [`SystemClock`] is one line for each call of the system, and that a write which begins at the limit of a
 //! file's size is not made. [`SystemClock`] counts nothing.
+//!
+//! Left to others: to open the file and its folder, and to lock it.
+//!
+//! Not said: that an adapter works where its object does, since one that counts a failure and answers it without calling its object meets the
+//! clauses; what bytes a real file or terminal gives or takes, and what time a [`SystemClock`] gives, which is 0 where the system knows none or
+//! one before 1970; that a file that tells is a real one: a [`StdFile`] does not tell, and docs/GUARANTEES.md has the premise in words that an
+//! operator can test; which calls of the file a [`FileDisk`] makes, and how often one that was interrupted is tried again: one that was
+//! interrupted and then worked has raised the count too. Tests call each adapter, count the calls, write a file through them, sync it and read it
+//! back, and sync a device that cannot be.
 #![tactic(auto)]
 
 mod clock;

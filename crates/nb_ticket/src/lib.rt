@@ -13,6 +13,9 @@
 //! Two of the house's calls over a key have one over its state beside them: [`request_ok_with`], [`session_key_with`].
 //!
 //! Left to others: whose keys these are, whether the parties are enrolled, and the clock. No memory is taken.
+//!
+//! Not said: to whom the house grants tickets, which `nb_escrow` decides; and that two requests never get one session key: it is a function of
+//! the house's key, the parties, the number and the moment, and that HMAC is hard to find two texts for is no claim of the proofs.
 #![tactic(auto)]
 
 mod ask;

@@ -19,6 +19,14 @@
 //!
 //! Left to others: that a pass gets on. No clause says that a turn is ever given back, that `take` ends, or that a thread is not
 //! passed over. Passes and turns that are used together belong together: that is a condition of each call (`Belongs`).
+//!
+//! Not said: that a number's bit is set exactly where a pass of that number was made: the rule has it one way, each number that stands in a view
+//! or made a line has its bit set. That a found word is what a swap, or setting a bit, found in a word of the table: found words are told by the
+//! step that the code names, so that a [`Turn::try_take`] that is always Busy, or a [`Turn::split`] that is always Taken, is refused by tests
+//! alone. That two passes of one turn have different numbers, that one [`Held`] is out at a time and that all passes have one origin: the rule
+//! has it, and no clause of a call. How long `try_take` looks; that [`Turn::open`] finds memory; and of lines that others made before another
+//! pass took the turn a pass knows nothing until it takes it or is joined. Only [`Turn::take`] and [`Turn::close`] may wait. `T: Drop` is asked
+//! of the value since a slot is emptied and filled by exchanges, which drop nothing when they run.
 #![tactic(auto)]
 
 mod chronicle;

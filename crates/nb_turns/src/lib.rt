@@ -11,6 +11,9 @@
 //! functions of [`laws`]. The rules of a house and the bytes of its refusals are parameters.
 //!
 //! Left to others: the rules, the bytes, and that a vault on a disk makes no other turns than these.
+//!
+//! Not said: which bytes replies and refusals have; and that the lines of others are those of turns too: a caller's clause says whose they are
+//! not, and that their turns have lower numbers.
 #![tactic(auto)]
 
 pub mod laws;

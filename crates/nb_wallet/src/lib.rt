@@ -13,6 +13,9 @@
 //! answers why it does not open.
 //!
 //! Left to others: which purchases there are, and what is done at a message.
+//!
+//! Not said: that there is memory for an item, a message or a part; that parts are held once and hashed once: the clauses see the bytes joined,
+//! and the state of the digest is held beside the parts.
 #![tactic(auto)]
 
 mod head;

@@ -11,6 +11,11 @@
 //! on a disk are events in `specs/Ties.antt`. The functions of [`laws`] prove it.
 //!
 //! Left to others: what nodes do, the verdict, the bytes of a disk, threads.
+//!
+//! Not said: what nodes do, that what they make is right and which bodies are spelled as they should be, all of which are parameters; that a
+//! party has one node: an event of a party is one of the first node that is it; that a packet arrives or a call is answered: no event has to
+//! happen; faults of a disk: in a world a fault and its settling are a stop; and that the verdicts of a house on a disk are those of a world: the
+//! law takes the house that goes by them, and which one a vault's is, `nb_vault` says.
 #![tactic(auto)]
 
 mod call;
