@@ -19,6 +19,35 @@ def stands_on():
     return {left.split()[0]: right.split() for left, _, right in lines if left.split()}
 
 
+# The crates by what they are for, as ARCHITECTURE.md shows them.
+GROUPS = {
+    "The outside": "nb_port nb_system nb_link nb_net nb_wire",
+    "Bytes and seals": "nb_units nb_seal nb_index nb_frame nb_body nb_ticket nb_epo nb_goods nb_endorse nb_msgs",
+    "The house": "nb_book nb_escrow nb_turns nb_journal nb_vault nb_standby nb_statement nb_turn nb_desk nb_session nb_server nb_batch",
+    "The parties": "nb_price nb_groups nb_stall nb_merchant nb_wallet nb_consumer nb_trade nb_buy nb_sell nb_judge",
+    "The world": "nb_world nb_parties nb_script nb_simulator nb_headline",
+    "Programs": "nb_play nb_words nb_run nb_work netbill nb_cases nb_lines layouts books trades worlds vaults runs houses bench bench_nodes",
+}
+
+
+# A first sentence that is longer is shown up to its first colon.
+LONG = 170
+
+
+def first_sentence(crate):
+    """What a crate is: the first sentence of its head, or of a long one what it is about."""
+    first = re.split(r"(?<=\.) ", head_of(root_of(crate))[0].replace("\n", " "))[0]
+    return first if len(first) <= LONG else re.split(r"[:;] ", first)[0].rstrip(".") + "."
+
+
+def layers():
+    """The crates in their groups, as lines of a page: each with the first sentence of its head."""
+    for group, names in GROUPS.items():
+        yield from (f"### {group}", "", "| Crate | What it is |", "|---|---|")
+        yield from (f"| {name} | {first_sentence(name)} |" for name in names.split() if name in stands_on())
+        yield ""
+
+
 def code_of(path):
     """The text of a source without its comments and, of Rattle, without its tests."""
     text = path.read_text()
