@@ -31,7 +31,7 @@ GROUPS = {
 
 
 # A first sentence that is longer is shown up to its first colon.
-LONG = 170
+LONG = 110
 
 
 def first_sentence(crate):
