@@ -55,6 +55,7 @@ fn lay_out(buf: &mut Vec<u8>, item: &[u8])
     requires room { length item.now + LEAD ≤ vec_capacity buf.old }
     requires item { length item.now < 2 ^ 32 }
     ensures body { buf.new.items ≡ body_bytes item.now }
+    ensures long { length buf.new.items ≡ length item.now + LEAD }
     ensures buffer { vec_capacity buf.old ≤ vec_capacity buf.new }
 {
     buf.clear();
