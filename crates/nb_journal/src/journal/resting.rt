@@ -25,7 +25,7 @@ impl<D> Journal<D> {
         ensures ok { IfOk result (IsOver disk place len cap room) }
         ensures err { IfErr result (λ given. given ≡ disk) }
     {
-        match Vec::from_elem(alloc, 0u8, (room as u64 + AROUND) as usize) {
+        match Vec::with_capacity(alloc, (room as u64 + AROUND) as usize) {
             Ok(buf) => Ok(Journal {
                 disk,
                 gate: place,
