@@ -54,7 +54,7 @@ enum Step {
 }
 
 /// Answers the frames of the source in order, each by one reply to the sink, at one moment of the clock.
-pub fn serve<D: Disk, S: Source, K: Sink, C: Clock>(
+pub fn answer_frames<D: Disk, S: Source, K: Sink, C: Clock>(
     alloc: Global,
     house: &mut Vault<D>,
     source: &mut S,

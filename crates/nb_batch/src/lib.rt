@@ -1,6 +1,6 @@
 //! One batch: the frames of a source are answered in order over a house whose entries are durable.
 //!
-//! [`serve`] reads pieces of the source, takes one frame of them after another, asks the clock, lets the vault answer, and sends the
+//! [`answer_frames`] reads pieces of the source, takes one frame of them after another, asks the clock, lets the vault answer, and sends the
 //! reply; it reads on only where less than a frame waits. Where the vault answers none, the reply is the refusal that says why. Where a
 //! write fails, or so many frames were answered, some of the last piece stay unanswered.
 //!
@@ -18,5 +18,5 @@ mod fetch;
 pub mod laws;
 mod send;
 
-pub use batch::{BatchEnd, MOST_FRAMES, limit, serve};
+pub use batch::{BatchEnd, MOST_FRAMES, answer_frames, limit};
 pub use send::{Sent, send_all};

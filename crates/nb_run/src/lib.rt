@@ -5,7 +5,7 @@
 //! output, `judge` rules on the case that is the input, and `buy` and `sell` are told as a [`Job`], too, `sell` with the shelf that is the input.
 //!
 //! [`nb_words::command_of`] reads the words. For `init` the head is read and the journal made; for `batch` the vault is opened, and
-//! [`nb_batch::serve`] answers; for `drill` both are done, over a source of its frames; for `migrate` the input is opened as a vault opens a journal, and laid on the disk; for `statement` the vault is opened, and
+//! [`nb_batch::answer_frames`] answers; for `drill` both are done, over a source of its frames; for `migrate` the input is opened as a vault opens a journal, and laid on the disk; for `statement` the vault is opened, and
 //! [`nb_statement::write`] tells its entries; for `judge` the input is read as a [`nb_judge::CaseBytes`], which rules; for `sell` it is read as a [`nb_price::Catalogue`]. [`run`] is all of it over any source, sink, disk and clock. Its contract says how it ends and why
 //! (`specs/Run.antt`, `specs/Init.antt`, `specs/Drill.antt`, `specs/Migrate.antt`, `specs/Statement.antt`, `specs/Judge.antt`, `specs/Selling.antt`), what is written to the output, byte for byte, and what a stop at any moment of a batch
 //! leaves of the disk.

@@ -31,7 +31,7 @@ use crate::judging::rule_on;
 use crate::migrate::move_journal;
 use crate::selling::take_stock;
 use crate::statement::write_statement;
-use nb_batch::{BatchEnd, serve};
+use nb_batch::{BatchEnd, answer_frames};
 use nb_port::{Clock, Disk, Sink, Source};
 use nb_turns::Line;
 use nb_units::NoMemory;
@@ -58,15 +58,22 @@ pub fn run<S: Source, K: Sink, D: Disk, C: Clock>(
     // Where it ends, with one of these statuses; else the work of a server, of a purchase or of one who sells is left to do, at such words alone, and there
     // always, unless there was no memory to read them, and for one who sells where its shelf is good, its source did not fail and there was memory.
     ensures status { (status : ℕ) → EndsWith result.0 status → runs.IsStatus status }
+    // The job of a server with so many workers, of so many links each, only at the words of one with these numbers.
     ensures work { (workers sessions : ℕ) → result.0 ≡ outcomes.Work (jobs.Serve workers sessions) → IsServe (map string_bytes words.now) workers sessions }
+    // And there always, or the run did not begin.
     ensures serve { (workers sessions : ℕ) → IsServe (map string_bytes words.now) workers sessions
         → (result.0 ≡ outcomes.Work (jobs.Serve workers sessions)) ⊎ runs.Unbegun result.0 source.old source.new sink.old sink.new disk result.1 clock.old clock.new }
+    // The job of a purchase only at the words of one with these numbers.
     ensures buys { (merchant : PartyId) (product : ℕ) (limit : Price) (transaction : ℕ) → result.0 ≡ outcomes.Work (jobs.Buy merchant product limit transaction)
         → IsBuy (map string_bytes words.now) merchant.0 product limit.0 transaction }
+    // And there always, or the run did not begin.
     ensures buy { (merchant : PartyId) (product : ℕ) (limit : Price) (transaction : ℕ) → IsBuy (map string_bytes words.now) merchant.0 product limit.0 transaction
         → (result.0 ≡ outcomes.Work (jobs.Buy merchant product limit transaction)) ⊎ runs.Unbegun result.0 source.old source.new sink.old sink.new disk result.1 clock.old clock.new }
+    // The job of who sells only at the words of one with this number, where the input was read to its end and is the shelf of these products.
     ensures sells { (links : ℕ) (products : List Product) → result.0 ≡ outcomes.Work (jobs.Sell links products)
         → IsSell (map string_bytes words.now) links × sales.IsStock (S.left source.old) (S.left source.new) products }
+    // And there with the shelf of the whole input; or its first bad item is told, that it is too long, that its source failed, or that memory was
+    // wanting.
     ensures sell { (links : ℕ) → IsSell (map string_bytes words.now) links
         → sales.StocksAs (S.left source.old) (S.left source.new) (S.faults source.old) (S.faults source.new) links result.0
         ⊎ runs.Unbegun result.0 source.old source.new sink.old sink.new disk result.1 clock.old clock.new }
@@ -82,9 +89,12 @@ pub fn run<S: Source, K: Sink, D: Disk, C: Clock>(
     // Status 2: the words, and nothing else; and there always, unless there was no memory to read them, which is not told of no words, a word
     // that is no name and a call for help. The disk is not touched at words that are no command, and where work is left to do.
     ensures words { EndsWith result.0 BAD_WORDS → IsCommand (map string_bytes words.now) → ⊥ }
+    // Else the status is 2; or there was no memory to read the words, each of which is a name, and the first not `help`.
     ensures none { (IsCommand (map string_bytes words.now) → ⊥)
         → EndsWith result.0 BAD_WORDS ⊎ (runs.Unbegun result.0 source.old source.new sink.old sink.new disk result.1 clock.old clock.new × MayBeRead (map string_bytes words.now)) }
+    // The place is then 0.
     ensures nowhere { EndsWith result.0 BAD_WORDS → Ends result.0 (λ ending. ending.place ≡ 0) }
+    // The disk is as before where the words are none of these, and where a job is left.
     ensures untouched { (IsCommand (map string_bytes words.now) → ⊥) ⊎ ((job : Job) × (result.0 ≡ outcomes.Work job)) → result.1 ≡ disk }
 
     // No count of faults falls.
@@ -92,13 +102,16 @@ pub fn run<S: Source, K: Sink, D: Disk, C: Clock>(
 
     // A fault is answered only where the count of that object rose.
     ensures source { EndsWith result.0 SOURCE_FAILED → Rose (S.faults source.old) (S.faults source.new) }
+    // Of the sink.
     ensures sink { EndsWith result.0 SINK_FAILED → Rose (K.faults sink.old) (K.faults sink.new) }
+    // Of the disk.
     ensures fault { EndsWith result.0 DISK_FAILED → Rose (D.tells.faults disk) (D.tells.faults result.1) }
 
     // What making a journal comes to. It sends nothing and asks for no moment, and nothing is written over a journal that is there.
     ensures init { (cap : ℕ) (rate : Option ℕ) → IsInit (map string_bytes words.now) cap rate
         → Ends result.0 (runs.InitIs D.tells (S.left source.old) (S.left source.new) (S.faults source.old) (S.faults source.new) disk result.1 cap rate)
         ⊎ runs.Unbegun result.0 source.old source.new sink.old sink.new disk result.1 clock.old clock.new }
+    // Sink and clock are as before, and where the content begins with a magic nothing is written, whatever is answered.
     ensures silent { (cap : ℕ) (rate : Option ℕ) → IsInit (map string_bytes words.now) cap rate
         → (sink.new ≡ sink.old) × (clock.new ≡ clock.old) × SparesJournal D.tells disk result.1 }
 
@@ -113,6 +126,7 @@ pub fn run<S: Source, K: Sink, D: Disk, C: Clock>(
     ensures migrate { (rate : ℕ) → IsMigrate (map string_bytes words.now) rate
         → Ends result.0 (moves.MigrateIs D.tells (S.left source.old) (S.left source.new) (S.faults source.old) (S.faults source.new) disk result.1 rate)
         ⊎ runs.Unbegun result.0 source.old source.new sink.old sink.new disk result.1 clock.old clock.new }
+    // Sink and clock are as before, and where the content begins with a magic nothing is written, whatever is answered.
     ensures still { (rate : ℕ) → IsMigrate (map string_bytes words.now) rate
         → (sink.new ≡ sink.old) × (clock.new ≡ clock.old) × SparesJournal D.tells disk result.1 }
 
@@ -127,6 +141,7 @@ pub fn run<S: Source, K: Sink, D: Disk, C: Clock>(
     ensures statement { (acct : AcctId) → IsStatement (map string_bytes words.now) acct.0
         → Ends result.0 (states.StatementIs D.tells disk result.1 (K.sent sink.old) (K.sent sink.new) acct)
         ⊎ runs.Unbegun result.0 source.old source.new sink.old sink.new disk result.1 clock.old clock.new }
+    // Source and clock are as before, nothing was written to the disk, and but after 0 and 4 the sink is as before.
     ensures quiet { (acct : AcctId) → IsStatement (map string_bytes words.now) acct.0
         → (source.new ≡ source.old) × (clock.new ≡ clock.old) × Unwritten D.tells disk result.1
         × ((EndsWith result.0 CLEAN → ⊥) → (EndsWith result.0 SINK_FAILED → ⊥) → sink.new ≡ sink.old) }
@@ -141,6 +156,7 @@ pub fn run<S: Source, K: Sink, D: Disk, C: Clock>(
     ensures judge { IsJudge (map string_bytes words.now)
         → Ends result.0 (judges.JudgeIs (S.left source.old) (S.left source.new) (S.faults source.old) (S.faults source.new) (K.sent sink.old) (K.sent sink.new) (K.faults sink.old) (K.faults sink.new))
         ⊎ runs.Unbegun result.0 source.old source.new sink.old sink.new disk result.1 clock.old clock.new }
+    // Disk and clock are as before, and but after 0 and 4 the sink is.
     ensures lone { IsJudge (map string_bytes words.now)
         → (result.1 ≡ disk) × (clock.new ≡ clock.old) × ((EndsWith result.0 CLEAN → ⊥) → (EndsWith result.0 SINK_FAILED → ⊥) → sink.new ≡ sink.old) }
 
@@ -161,6 +177,8 @@ pub fn run<S: Source, K: Sink, D: Disk, C: Clock>(
     ensures drill { (seed orders : ℕ) → IsDrill (map string_bytes words.now) seed orders
         → Ends result.0 (drills.DrillIs D.tells disk result.1 (K.sent sink.old) (K.sent sink.new) seed orders)
         ⊎ runs.Unbegun result.0 source.old source.new sink.old sink.new disk result.1 clock.old clock.new }
+    // Source and clock are as before; where the content begins with a magic nothing is written, whatever is answered; and the sink is as before but
+    // after 0 and 4.
     ensures apart { (seed orders : ℕ) → IsDrill (map string_bytes words.now) seed orders
         → (source.new ≡ source.old) × (clock.new ≡ clock.old) × SparesJournal D.tells disk result.1
         × ((EndsWith result.0 CLEAN → ⊥) → (EndsWith result.0 SINK_FAILED → ⊥) → sink.new ≡ sink.old) }
@@ -175,6 +193,7 @@ pub fn run<S: Source, K: Sink, D: Disk, C: Clock>(
     ensures closed { (IsCommand (map string_bytes words.now) → ⊥) ⊎ (Ends result.0 EndsEarly × IsBatch (map string_bytes words.now)) ⊎ ((job : Job) × (result.0 ≡ outcomes.Work job) × sales.IsUnread job)
         → (source.new ≡ source.old) × (sink.new ≡ sink.old) × (clock.new ≡ clock.old) }
 
+    // And nothing was written there.
     ensures unwritten { IsBatch (map string_bytes words.now) → Ends result.0 EndsEarly → Unwritten D.tells disk result.1 }
 
     // Whole frames alone over a journal, and nothing that fails: all is done, unless memory is wanting.
@@ -288,7 +307,7 @@ pub(crate) fn answer_batch<S: Source, K: Sink, D: Disk, C: Clock>(
             };
         }
     };
-    let end = serve(alloc, &mut house, source, sink, clock);
+    let end = answer_frames(alloc, &mut house, source, sink, clock);
     // What the disk is at rest in is what every vault keeps.
     house.witness();
     let (disk, lines) = house.into_parts();

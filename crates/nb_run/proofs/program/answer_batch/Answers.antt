@@ -21,37 +21,37 @@ returns-in-Err-clause-opens g c = λ journal no_disk.
 pub returns-clause-batch : goal.returns-clause-batch
 returns-clause-batch g c =
     let before : Outside = record { left = g.S.Source.left c.args.source.now; sent = g.K.Sink.sent c.args.sink.now; moments = g.C.Clock.moments c.args.clock.now } in
-    let after : Outside = record { left = g.S.Source.left c.serve-end.new.source; sent = g.K.Sink.sent c.serve-end.new.sink; moments = g.C.Clock.moments c.serve-end.new.clock } in
+    let after : Outside = record { left = g.S.Source.left c.answer_frames-end.new.source; sent = g.K.Sink.sent c.answer_frames-end.new.sink; moments = g.C.Clock.moments c.answer_frames-end.new.clock } in
     subst (λ (ending : Ending). BatchLines g.D.Disk.tells c.args.disk c.into_parts-disk.result.0 before after c.into_parts-disk.result.1.items ending) (sym c.ended.ensures)
-    (subst (λ (lines : List Line). BatchLines g.D.Disk.tells c.args.disk c.into_parts-disk.result.0 before after lines (ended c.serve-end.result)) (sym c.into_parts-disk.ensures.lines)
-    (subst (λ (disk : g.row.D.Denot). BatchLines g.D.Disk.tells c.args.disk disk before after c.serve-end.new.house.lines (ended c.serve-end.result)) (sym c.into_parts-disk.ensures.disk)
-    (batch_lines g.D.Disk.tells g.met.D.Disk.only_now c.serve-end.result c.args.disk c.in-Ok.house c.serve-end.new.house before after
-    c.in-Ok.ensures.gives c.in-Ok.ensures.nothing c.in-Ok.ensures.count c.serve-end.ensures.served c.witness.ensures.keeps c.serve-end.ensures.origin)))
+    (subst (λ (lines : List Line). BatchLines g.D.Disk.tells c.args.disk c.into_parts-disk.result.0 before after lines (ended c.answer_frames-end.result)) (sym c.into_parts-disk.ensures.lines)
+    (subst (λ (disk : g.row.D.Denot). BatchLines g.D.Disk.tells c.args.disk disk before after c.answer_frames-end.new.house.lines (ended c.answer_frames-end.result)) (sym c.into_parts-disk.ensures.disk)
+    (batch_lines g.D.Disk.tells g.met.D.Disk.only_now c.answer_frames-end.result c.args.disk c.in-Ok.house c.answer_frames-end.new.house before after
+    c.in-Ok.ensures.gives c.in-Ok.ensures.nothing c.in-Ok.ensures.count c.answer_frames-end.ensures.served c.witness.ensures.keeps c.answer_frames-end.ensures.origin)))
 
 pub returns-clause-counts : goal.returns-clause-counts
 returns-clause-counts g c = (
-  c.serve-end.ensures.source,
-  c.serve-end.ensures.sink,
-  subst (λ (disk : g.row.D.Denot). g.D.Disk.tells.faults c.args.disk ≤ g.D.Disk.tells.faults disk) (sym c.into_parts-disk.ensures.disk) (omega (arith, c.in-Ok.ensures.count, c.serve-end.ensures.disk)),
+  c.answer_frames-end.ensures.source,
+  c.answer_frames-end.ensures.sink,
+  subst (λ (disk : g.row.D.Denot). g.D.Disk.tells.faults c.args.disk ≤ g.D.Disk.tells.faults disk) (sym c.into_parts-disk.ensures.disk) (omega (arith, c.in-Ok.ensures.count, c.answer_frames-end.ensures.disk)),
 )
 
 pub returns-clause-whole : goal.returns-clause-whole
 returns-clause-whole g c = λ input no_sink.
     let before : Outside = record { left = g.S.Source.left c.args.source.now; sent = g.K.Sink.sent c.args.sink.now; moments = g.C.Clock.moments c.args.clock.now } in
-    let after : Outside = record { left = g.S.Source.left c.serve-end.new.source; sent = g.K.Sink.sent c.serve-end.new.sink; moments = g.C.Clock.moments c.serve-end.new.clock } in
+    let after : Outside = record { left = g.S.Source.left c.answer_frames-end.new.source; sent = g.K.Sink.sent c.answer_frames-end.new.sink; moments = g.C.Clock.moments c.answer_frames-end.new.clock } in
     subst EndsWhole (sym c.ended.ensures)
-    (whole_end g.D.Disk.tells c.in-Ok.house c.serve-end.new.house c.serve-end.result before after (g.S.Source.faults c.args.source.now) (g.S.Source.faults c.serve-end.new.source) (g.K.Sink.faults c.args.sink.now) (g.K.Sink.faults c.serve-end.new.sink)
-    c.serve-end.ensures.served c.serve-end.ensures.fault input no_sink)
+    (whole_end g.D.Disk.tells c.in-Ok.house c.answer_frames-end.new.house c.answer_frames-end.result before after (g.S.Source.faults c.args.source.now) (g.S.Source.faults c.answer_frames-end.new.source) (g.K.Sink.faults c.args.sink.now) (g.K.Sink.faults c.answer_frames-end.new.sink)
+    c.answer_frames-end.ensures.served c.answer_frames-end.ensures.fault input no_sink)
 
 pub returns-clause-opens : goal.returns-clause-opens
-returns-clause-opens g c = λ journal no_disk. subst (λ (ending : Ending). (ending.status ≢ NO_JOURNAL) × (ending.status ≢ DISK_FAILED)) (sym c.ended.ensures) (opened_end c.serve-end.result)
+returns-clause-opens g c = λ journal no_disk. subst (λ (ending : Ending). (ending.status ≢ NO_JOURNAL) × (ending.status ≢ DISK_FAILED)) (sym c.ended.ensures) (opened_end c.answer_frames-end.result)
 
 pub returns-clause-closed : goal.returns-clause-closed
 returns-clause-closed g c = λ early.
-    let same = c.serve-end.ensures.starved (early_end c.serve-end.result (subst EndsEarly c.ended.ensures early)) in
+    let same = c.answer_frames-end.ensures.starved (early_end c.answer_frames-end.result (subst EndsEarly c.ended.ensures early)) in
     (same.1, same.2, same.3)
 
 pub returns-clause-unwritten : goal.returns-clause-unwritten
 returns-clause-unwritten g c = λ early.
-    let same = (c.serve-end.ensures.starved (early_end c.serve-end.result (subst EndsEarly c.ended.ensures early))).0 in
+    let same = (c.answer_frames-end.ensures.starved (early_end c.answer_frames-end.result (subst EndsEarly c.ended.ensures early))).0 in
     subst (λ (disk : g.row.D.Denot). Unwritten g.D.Disk.tells c.args.disk disk) (sym (c.into_parts-disk.ensures.disk ∙ ap (λ house. house.disk) same)) c.in-Ok.ensures.nothing

@@ -3,7 +3,7 @@ use Rattle.nb_frame.specs.State.{Collected}
 use Rattle.nb_batch.specs.Batch.{Outside}
 use Rattle.nb_batch.proofs.Serving.{Ran, ran_none, ran_more, ran_taken, ended, spent, unbegun}
 use Rattle.nb_batch.proofs.Stepping.{leaves_now}
-use Rattle.nb_batch.proofs.batch.serve.Goals as goal
+use Rattle.nb_batch.proofs.batch.answer_frames.Goals as goal
 
 pub returns-in_default-clause-served : goal.returns-in_default-clause-served
 returns-in_default-clause-served g c =

@@ -1,7 +1,7 @@
 use Rattle.std.proofs.Common.{◌≤◌, vec_capacity}
 use Rattle.nb_msgs.specs.declared.reply.TheConstants.{REPLY_ROOM}
 use Rattle.nb_batch.proofs.Serving.{Ran}
-use Rattle.nb_batch.proofs.batch.serve.Given as goal
+use Rattle.nb_batch.proofs.batch.answer_frames.Given as goal
 
 -- so many frames were answered, and each reply was sent
 abbrev pub invariant-frames : goal.invariant-frames
