@@ -5,6 +5,7 @@ pub mod Reading
 pub mod Opening
 pub mod Layouts
 pub mod Once
+pub mod Naming
 pub mod Least
 pub mod Exactly
 pub mod Quotes

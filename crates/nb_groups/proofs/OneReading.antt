@@ -1,5 +1,5 @@
 -- Bytes are read as one list of offers, or to one first fault.
-use Rattle.std.proofs.Common.{◌≡◌, ◌≢◌, ◌⊎◌, ℕ, ◌<◌, List, [], ◌∷◌, ◌++◌, length, map, take, drop, Result, Ok, Err, false, inl, inr, refl, sym, ap, subst, ◌∙◌, arith, append_assoc, append-nil, true≢false}
+use Rattle.std.proofs.Common.{◌≡◌, ◌≢◌, ◌⊎◌, ℕ, ◌<◌, List, [], ◌∷◌, ◌++◌, length, map, take, drop, Result, Ok, Err, false, inl, inr, refl, sym, ap, subst, ◌∙◌, arith, append_assoc, append-nil, length-append, true≢false}
 use Rattle.std.specs.Prelude.{Contains, slice_index}
 use Rattle.std.specs.Borrow.{Bor}
 use Rattle.std.specs.Fmt.{decimal}
@@ -147,6 +147,22 @@ empty_ends r end o rest begins =
     first : (xs ys : List ℕ) → 0 < length xs → slice_index (xs ++ ys) 0 ≡ slice_index xs 0
     first [] ys some = absurd (omega (arith, some))
     first (x ∷ xs) ys some = refl
+
+-- where an empty line is next the offers and what stands behind it are these alone
+pub one_offered : (bytes : List ℕ) (a b : Tariff) (r s : List ℕ) → Front bytes a (10 ∷ r) → Front bytes b (10 ∷ s) → (a ≡ b) × (r ≡ s)
+one_offered bytes a b r s f g =
+    let same = alike bytes a b (10 ∷ r) (10 ∷ s) f (inl (empty_ends (10 ∷ r) (r, refl))) g (inl (empty_ends (10 ∷ s) (s, refl))) in
+    (same.0, ap (drop 1) same.1)
+
+-- and no line of them is bad
+pub none_bad : (bytes : List ℕ) (t : Tariff) (r : List ℕ) (n : ℕ) → Front bytes t (10 ∷ r) → FaultIs IsEmptyLine bytes (BadLine n) ⊎ FaultIs IsEmptyLine bytes (Twice n) → ⊥
+none_bad bytes t r n f (inl bad) = ok_bad IsEmptyLine empty_ends bytes t (10 ∷ r) n f (r, refl) bad
+none_bad bytes t r n f (inr twice) = none_twice IsEmptyLine empty_ends bytes t (10 ∷ r) n f (empty_ends (10 ∷ r) (r, refl)) twice
+
+-- what stands behind offers is shorter than the whole
+pub behind_shorter : (bytes : List ℕ) (t : Tariff) (r : List ℕ) → Front bytes t (10 ∷ r) → length r < length bytes
+behind_shorter bytes t r f =
+    omega (arith, ap length f.keeper.spelled, length-append (KEEPER ++ f.keeper.digits) (10 ∷ f.behind), ap length f.spelled, length-append (offers_bytes t.offers) (10 ∷ r))
 
 -- ---- the two laws
 

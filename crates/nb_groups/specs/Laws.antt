@@ -12,6 +12,7 @@ use Rattle.nb_groups.specs.declared.quoting.Denial.TheVariants.{NoOffer}
 use Rattle.nb_groups.specs.declared.quoting.Quoted.{Quoted}
 use Rattle.nb_groups.specs.declared.fault.OffersFault.{OffersFault}
 use Rattle.nb_groups.specs.declared.fault.OffersFault.TheVariants.{NoMemory}
+use Rattle.nb_groups.specs.Groups.{AreGroups, groups_text}
 use Rattle.nb_groups.specs.Spelling.{IsMembership, membership_bytes, credential_of}
 use Rattle.nb_groups.specs.Reading.{membership_of, membership_in}
 use Rattle.nb_groups.specs.Offers.{Tariff, AreApart, BeginsWith}
@@ -41,6 +42,10 @@ OpenedExactly = (key bytes : List ℕ) (m : Membership) → AreBytes bytes → (
 -- what a credential says is admitted exactly for its consumer, and up to its last second
 abbrev pub HoldsUntil : Type 0
 HoldsUntil = (m : Membership) (asked : PartyId) (now : ℕ) → (admitted m asked now ≡ Ok m) ↔ ((m.consumer.0 ≡ asked.0) × (now ≤ m.until))
+
+-- two lists of groups with one word are one
+abbrev pub OneNaming : Type 0
+OneNaming = (a b : List ℕ) → AreGroups a → AreGroups b → groups_text a ≡ groups_text b → a ≡ b
 
 -- what stands at the front of bytes is one offer's line and one rest
 abbrev pub OneOffer : Type 0

@@ -1,17 +1,18 @@
-//! The groups of a credential, as numbers and as bytes.
+//! The groups of a credential, as numbers, as a word and as bytes.
 
-ghost use Rattle.std.specs.Prelude.{◌≡◌, ◌≤◌, ◌*◌, length, IsTrue};
+ghost use Rattle.std.specs.Prelude.{◌≡◌, ◌≤◌, ◌*◌, ℕ, List, length, Some, IfSome, IsTrue};
 ghost use Rattle.nb_groups.specs.declared.limits.TheConstants.{GROUPS_BYTES};
 ghost use Rattle.nb_groups.specs.Groups as lists;
 
-use crate::limits::{GROUP, MAX_GROUPS};
+use crate::limits::{COMMA, GROUP, MAX_GROUPS};
 use arrayvec::ArrayVec;
-use nb_units::{Buffer, u32_of};
+use nb_price::numbered;
+use nb_units::{Buffer, decimal_of, u32_of};
 use std::marker::Model;
 
-// Numbers of groups, at most four. It is seen as their list.
+/// Numbers of groups, at most four. It is seen as their list.
 #[derive(Drop)]
-pub(crate) struct Groups {
+pub struct Groups {
     numbers: ArrayVec<u32, MAX_GROUPS>,
 }
 
@@ -37,6 +38,34 @@ pub fn are_groups(groups: &[u32]) -> bool
 }
 
 impl Groups {
+    /// The groups that a word names: numbers from 0 to 4,294,967,295 in decimal, without sign or leading zero, with commas between them. There are 1 to 4, each
+    /// greater than the one before it ([`are_groups`]). It answers `None` exactly where the word names none so.
+    pub fn named(word: &[u8]) -> Option<Groups>
+        // only of such groups, which the word names
+        ensures some { IfSome result (λ groups. (word.now ≡ lists.groups_text groups) × lists.AreGroups groups) }
+        // of each such list of groups that it names
+        ensures each { (groups : List ℕ) → lists.AreGroups groups → word.now ≡ lists.groups_text groups → result ≡ Some groups }
+    {
+        let mut numbers = ArrayVec::new();
+        let mut rest = word;
+        'naming: while let Some((group, behind)) = numbered(rest, COMMA) {
+            if numbers.len() + 1 == MAX_GROUPS {
+                return None;
+            }
+            numbers.push(group);
+            rest = behind;
+        }
+        let last = decimal_of(rest)?;
+        if last > u64::from(u32::MAX) {
+            return None;
+        }
+        numbers.push(last as u32);
+        if !are_groups(numbers.as_slice()) {
+            return None;
+        }
+        Some(Groups { numbers })
+    }
+
     // The numbers that the bytes spell, four bytes each; fewer at the end spell none.
     pub(crate) fn read(text: &[u8]) -> Groups
         requires { length text.now ≤ GROUPS_BYTES }
@@ -52,8 +81,8 @@ impl Groups {
         Groups { numbers }
     }
 
-    // The numbers.
-    pub(crate) fn as_slice(&self) -> &[u32]
+    /// The numbers.
+    pub fn as_slice(&self) -> &[u32]
         ensures value { result.now ≡ self.now }
         ensures short { length result.now ≤ 4 }
     {

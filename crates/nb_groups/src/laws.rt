@@ -35,6 +35,11 @@ pub fn holds_until()
     ensures { law.HoldsUntil }
 {}
 
+/// A law: two lists of groups with one word are one.
+pub fn one_naming()
+    ensures { law.OneNaming }
+{}
+
 /// A law: what stands at the front of bytes is one offer's line and one rest.
 pub fn one_offer()
     ensures { law.OneOffer }

@@ -27,7 +27,7 @@ mod offers;
 mod quoting;
 
 pub use fault::OffersFault;
-pub use groups::are_groups;
+pub use groups::{Groups, are_groups};
 pub use limits::{CREDENTIAL_BYTES, CREDENTIAL_LABEL, MAX_GROUPS, OFFERS_BYTES};
 pub use membership::credential;
 pub use offers::Offers;

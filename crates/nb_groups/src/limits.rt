@@ -20,6 +20,9 @@ pub const CREDENTIAL_LABEL: [u8; 4] = *b"cred";
 /// The most bytes of a list of offers that is read: 256 MiB.
 pub const OFFERS_BYTES: usize = 1 << 28;
 
+// What stands between the groups in a word.
+pub(crate) const COMMA: u8 = b',';
+
 // The word of the keeper's line, with the space behind it.
 pub(crate) const KEEPER: [u8; 7] = *b"keeper ";
 
