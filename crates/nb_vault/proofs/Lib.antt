@@ -11,3 +11,4 @@ pub mod Founding
 pub mod Paying
 pub mod Gating
 pub mod Alone
+pub mod TakingIn

@@ -9,3 +9,4 @@ pub mod Sending
 pub mod Opens
 pub mod Paying
 pub mod Gates
+pub mod Taking

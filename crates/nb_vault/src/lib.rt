@@ -4,7 +4,8 @@
 //! (`specs/Vaults.antt`) as what it was opened with, its [`Line`](nb_turns::Line)s, whether an item is in doubt, and the disk.
 //! [`Vault::open`] gives the entries that the content of the disk stands for (`specs/Holdings.antt`), or why there are none to give.
 //! [`Vault::answer`] settles what is in doubt, decides, makes the entry of the verdict durable, and then hands the reply out;
-//! [`Vault::answer_all`] does so for several requests at once, whose entries are one item.
+//! [`Vault::answer_all`] does so for several requests at once, whose entries are one item. [`Vault::take_in`] records an entry that another
+//! vault has at that place of its list (`specs/Taking.antt`).
 //! What is promised: each answer is one turn of the house (`Turn` of nb_turns), and its lines are those of such a turn; a stop at any
 //! moment of it leaves the entries before it or after it, each time with or without those in doubt; where a request is answered,
 //! every later stop leaves its entry; and of every vault what `Keeps` says: its list is Legal and is what the disk holds, its lines
@@ -27,9 +28,11 @@ mod origin;
 mod parts;
 mod records;
 mod restore;
+mod taking;
 mod telling;
 mod vault;
 
 pub use answer::{Answer, AnswerAll, AskAt};
 pub use origin::Origin;
+pub use taking::TakeIn;
 pub use vault::{Vault, VaultFault};

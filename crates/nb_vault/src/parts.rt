@@ -89,7 +89,7 @@ impl<D: Disk> Parts<D> {
     }
 
     // Settles what is in doubt.
-    fn ready(&mut self, by: u64, turn: u64) -> Result<(), Counts>
+    pub(crate) fn ready(&mut self, by: u64, turn: u64) -> Result<(), Counts>
         requires vault { IsVault D.tells self.old }
         requires few { self.old.faults < MAX_FAULTS }
         ensures rests { Rests D.tells self.new.records }
@@ -117,7 +117,7 @@ impl<D: Disk> Parts<D> {
     }
 
     // Makes what the turn records durable, as one item.
-    fn commit(&mut self, by: u64, turn: u64) -> Result<(), Counts>
+    pub(crate) fn commit(&mut self, by: u64, turn: u64) -> Result<(), Counts>
         requires gathers { Gathers D.tells self.old.records }
         requires few { self.old.faults < MAX_FAULTS }
         requires has { HasLines self.old (over_of self.old.records) }

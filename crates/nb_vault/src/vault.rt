@@ -8,12 +8,14 @@ ghost use Rattle.nb_units.specs.Room.{spare_of};
 ghost use Rattle.nb_escrow.specs.Head.{head_of};
 ghost use Rattle.nb_vault.specs.Asking.{IsWithin, request_of, requests_of};
 ghost use Rattle.nb_vault.specs.Parts.{handed_in};
+ghost use Rattle.nb_vault.specs.Taking.{TakesIn, all_in};
 ghost use Rattle.nb_vault.specs.Vaults.{Keeps, TurnAll, TurnOf, DurableWhere, SameWhere, FaultWithin, GateIsAt, StandsForState, all_of, place_in, state_of, entries_in, most_lines};
 
 mod opening;
 
 use crate::answer::{Answer, AnswerAll, AskAt};
 use crate::parts::Parts;
+use crate::taking::TakeIn;
 use nb_book::Entry;
 use nb_endorse::KeptStates;
 use nb_escrow::OpenedOrder;
@@ -185,6 +187,26 @@ impl<D: Disk> Vault<D> {
             .answer_all(by, bytes, asks, opened, &mut self.kept, drafts);
         hand_out(&answer, self.parts.records.places.as_slice(), ats);
         answer
+    }
+
+    /// Takes in, for `by`, an entry that another vault has at this place of its list, counted from 0. What was in doubt is settled; then, where
+    /// so many entries stand here and the entry may come next, it is made durable. It takes no memory.
+    pub fn take_in(&mut self, by: u64, place: u64, e: &Entry) -> TakeIn
+        // What came of it, by one turn of a house that records this entry where it is taken in, and else nothing; no key and no test has a part in it.
+        ensures turn { TakesIn D.tells self.old self.new by place e.now result }
+        ensures origin { self.new.origin ≡ self.old.origin }
+        // As of `answer`, where `Taken`, `Same`, `Other`, `Ahead` and `Illegal` are answers.
+        ensures any_moment { LeavesOnly D.tells self.old.disk self.new.disk
+            (λ image. StandsForState self.old image ⊎ StandsForState self.new image) }
+        ensures durable { DurableWhere D.tells self.new (all_in result) }
+        // As of `answer`.
+        ensures quiet { state_of self.new ≡ state_of self.old → D.tells.content self.new.disk ≡ D.tells.content self.old.disk }
+        ensures same { SameWhere self.old self.new (all_in result) }
+        ensures fault { FaultWithin D.tells self.old self.new (all_in result) }
+        ensures keeps { Keeps D.tells self.new }
+        ensures count { D.tells.faults self.old.disk ≤ D.tells.faults self.new.disk }
+    {
+        self.parts.take_in(by, place, e)
     }
 
     /// What every vault keeps, as a fact: it does nothing.
