@@ -10,6 +10,8 @@ ENDORSED, RESULT, STATUS, TOLD, TICKET, GRANT, ENROL, FUND, DONE, REFUSAL = 0x06
 CONSUMER, MERCHANT = 1, 2
 ENROLLED, FUNDED, PAID, REFUSED, CHARGED = 1, 2, 3, 4, 5
 ENTRY_BYTES = {ENROLLED: 50, FUNDED: 29, PAID: 117, REFUSED: 94, CHARGED: 125}
+# The kinds of frames between a primary and its standby, which are none of a session's.
+SHIPPED, ACKNOWLEDGED = 0x01, 0x02
 # The account of a house itself, as its four bytes.
 HOUSE_ACCOUNT = bytes(4)
 
@@ -278,6 +280,18 @@ def journal(head, cap, entries, rate=None):
     items = b"".join(OPEN + sized(entry) for entry in entries)
     magic = b"NBJRNL01" if rate is None else b"NBJRNL02"
     return magic + struct.pack(">I", cap) + head + struct.pack(">HH", rate or 0, 0) + items + CLOSED
+
+
+def shipped(house, place, entry):
+    """The record of the entry at a place of a primary's list, as it is sent to a standby."""
+    signed = struct.pack(">Q", place) + entry
+    return signed + code(house, b"ship" + signed)
+
+
+def acknowledged(house, told, count):
+    """The frame by which a standby tells a code, and how many entries stand."""
+    signed = struct.pack(">BQ", told, count)
+    return frame(ACKNOWLEDGED, signed + code(house, b"ackn" + signed))
 
 
 def number(field):

@@ -1,5 +1,5 @@
 //! A program that does with a vault and with desks what the lines of standard input say, and prints what they do: the trials of `nb_vault`, of
-//! `nb_desk` and of `nb_statement`, as data. Each line is a word and what it is about; [`House`] says what they do. A line that begins with `#` is printed as it is.
+//! `nb_desk`, of `nb_statement` and of `nb_standby`, as data. Each line is a word and what it is about; [`House`] says what they do. A line that begins with `#` is printed as it is.
 //!
 //! It claims nothing: what it prints is compared with what another program wrote.
 #![tactic(auto)]
@@ -14,6 +14,7 @@ mod house;
 mod images;
 mod names;
 mod slow;
+mod standby;
 mod statements;
 mod telling;
 
@@ -93,6 +94,8 @@ fn done_by_word<R: Threads + Wait + Clock + Sync>(
         "decide" => house.decide(told, words),
         "forget" => house.forget(),
         "stops" => house.stops(told, words),
+        "follow" => house.follow(told, words),
+        "ship" => house.ship(told, words),
         "statement" => house.statement(told, words),
         "open" | "close" => begin_or_end(house, told, word, words),
         _ => set(house, told, word, words),

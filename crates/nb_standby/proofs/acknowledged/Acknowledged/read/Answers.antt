@@ -1,0 +1,13 @@
+use Rattle.std.proofs.Common.{◌≡◌, ap, ◌∙◌, arith}
+use Rattle.nb_standby.specs.Spelling.{IsAcknowledged, acknowledged_bytes}
+use Rattle.nb_standby.specs.Reading.{acknowledged_of}
+use Rattle.nb_units.proofs.Rows.{reads_ok, if_read}
+use Rattle.nb_standby.proofs.Layouts.{acknowledged_spells_back, acknowledged_reads_back}
+use Rattle.nb_standby.proofs.acknowledged.Acknowledged.read.Goals as goal
+
+pub returns-clause-spelled : goal.returns-clause-spelled
+returns-clause-spelled c =
+    if_read c.read_fields.result (acknowledged_of c.args.bytes.now) (λ r. IsAcknowledged r × (c.args.bytes.now ≡ acknowledged_bytes r)) c.read_fields.ensures (λ r e. acknowledged_spells_back c.args.bytes.now r (λ i. omega (arith, c.type_inv.bytes i)) e)
+
+pub returns-clause-found : goal.returns-clause-found
+returns-clause-found c = λ r is e. reads_ok c.read_fields.result (acknowledged_of c.args.bytes.now) r c.read_fields.ensures (ap acknowledged_of e ∙ acknowledged_reads_back r is)

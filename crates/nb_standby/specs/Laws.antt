@@ -1,0 +1,80 @@
+-- What holds of every record and acknowledgement, of every list of events, and of what `follow` does.
+use Rattle.std.specs.Prelude.{◌≡◌, ℕ, ◌<◌, ◌≤◌, ◌^◌, List, [], ◌∷◌, length, codes, Ok}
+use Rattle.std.specs.List.{AllByRecursion}
+use Rattle.nb_units.specs.Frames.{AreBytes}
+use Rattle.nb_units.specs.declared.charter.Charter.{Charter}
+use Rattle.nb_port.specs.Tells.{DiskTells}
+use Rattle.nb_book.specs.declared.entry.Entry.{Entry}
+use Rattle.nb_book.specs.Spelling.{IsEntry}
+use Rattle.nb_turns.specs.Turns.{State}
+use Rattle.nb_vault.specs.declared.taking.TakeIn.{TakeIn}
+use Rattle.nb_vault.specs.declared.taking.TakeIn.TheVariants as takes
+use Rattle.nb_vault.specs.Vaults.{Chronicled, state_of}
+use Rattle.nb_standby.specs.declared.acknowledged.Acknowledged.{Acknowledged}
+use Rattle.nb_standby.specs.declared.acknowledged.TheConstants.{ACKNOWLEDGE_LABEL}
+use Rattle.nb_standby.specs.declared.code.TheConstants.{TAKEN, SAME, OTHER, AHEAD, BAD_TAG, BAD_RECORD, ILLEGAL, DISK_FAULT, WORN}
+use Rattle.nb_standby.specs.declared.limits.TheConstants.{SHIPPED_FRAME, ACKNOWLEDGED_FRAME, SHIPPED_ROOM, ACKNOWLEDGED_ROOM}
+use Rattle.nb_standby.specs.declared.shipped.Shipped.{Shipped}
+use Rattle.nb_standby.specs.declared.shipped.TheConstants.{SHIP_LABEL}
+use Rattle.nb_standby.specs.Following.{FollowsAs, code_of, house_key}
+use Rattle.nb_standby.specs.Reading.{shipped_of, acknowledged_of}
+use Rattle.nb_standby.specs.Spelling.{IsShipped, shipped_bytes, signed, IsAcknowledged, acknowledged_bytes}
+use Rattle.nb_standby.specs.World.{BeginsWith, Delivers, Event, Happens, IsFront, Starts, Steps, TakesTo, World}
+
+-- ---- layouts
+
+-- what was spelled of a record is read as that record
+abbrev pub ShippedReadsBack : Type 0
+ShippedReadsBack = (r : Shipped) → IsShipped r → shipped_of (shipped_bytes r) ≡ Ok r
+
+-- what was read as a record is spelled as those bytes, and is within its limits
+abbrev pub ShippedSpellsBack : Type 0
+ShippedSpellsBack = (bytes : List ℕ) (r : Shipped) → AreBytes bytes → shipped_of bytes ≡ Ok r → IsShipped r × (bytes ≡ shipped_bytes r)
+
+-- what was spelled of an acknowledgement is read as that one
+abbrev pub AcknowledgedReadsBack : Type 0
+AcknowledgedReadsBack = (a : Acknowledged) → IsAcknowledged a → acknowledged_of (acknowledged_bytes a) ≡ Ok a
+
+-- what was read as an acknowledgement is spelled as those bytes, and is within its limits
+abbrev pub AcknowledgedSpellsBack : Type 0
+AcknowledgedSpellsBack = (bytes : List ℕ) (a : Acknowledged) → AreBytes bytes → acknowledged_of bytes ≡ Ok a → IsAcknowledged a × (bytes ≡ acknowledged_bytes a)
+
+-- the kinds of frames, the most bytes of a record's frame and those of an acknowledgement's, the codes, and the labels in texts
+abbrev pub StandbyLimitsAre : Type 0
+StandbyLimitsAre =
+    (SHIPPED_FRAME ≡ 1) × (ACKNOWLEDGED_FRAME ≡ 2) × (SHIPPED_ROOM ≡ 173) × (ACKNOWLEDGED_ROOM ≡ 49)
+    × (TAKEN ∷ SAME ∷ OTHER ∷ AHEAD ∷ BAD_TAG ∷ BAD_RECORD ∷ ILLEGAL ∷ DISK_FAULT ∷ WORN ∷ [] ≡ 0 ∷ 1 ∷ 2 ∷ 3 ∷ 4 ∷ 5 ∷ 6 ∷ 7 ∷ 8 ∷ [])
+    × (SHIP_LABEL ≡ codes "ship") × (ACKNOWLEDGE_LABEL ≡ codes "ackn")
+
+-- ---- every list of events
+
+-- in each world that comes of any events the standby's list is a front of the primary's, and so it is with what is in doubt: also behind a stop,
+-- which is one of the events
+abbrev pub StaysFront : Type 0
+StaysFront = (charter : Charter) (cap : ℕ) (first : World) (events : List Event) (worlds : List World)
+    → Starts first → Happens charter cap first events worlds → AllByRecursion IsFront (first ∷ worlds)
+
+-- each world that comes of any events begins with the entries that its standby had: a stop takes none of them away
+abbrev pub EntriesStay : Type 0
+EntriesStay = (charter : Charter) (cap : ℕ) (first : World) (events : List Event) (worlds : List World)
+    → Happens charter cap first events worlds → AllByRecursion (λ (world : World). BeginsWith world.standby.entries first.standby.entries) worlds
+
+-- a record that is taken in at a number of entries: behind each later event, a stop too, so many stand
+abbrev pub TakenStays : Type 0
+TakenStays = (charter : Charter) (cap : ℕ) (before first : World) (k n : ℕ) (events : List Event) (worlds : List World)
+    → Steps charter cap before (Delivers k takes.Taken) first → n ≡ length first.standby.entries → Happens charter cap first events worlds
+    → (first.standby.doubt ≡ []) × AllByRecursion (λ (world : World). n ≤ length world.standby.entries) worlds
+
+-- ---- follow
+
+-- what came of a record at a standby, and its code
+pub record IsStep (charter : Charter) (cap : ℕ) (old : State) (place : ℕ) (e : Entry) (code : ℕ) (new : State) : Type 0 where
+  pub how : TakeIn
+  pub code_is : code ≡ code_of how
+  pub taken : TakesTo charter cap old place e how new
+
+-- for the record of an entry that a primary of the same house shipped, `follow` is such a step
+abbrev pub FollowIsStep : {D : Type 0} → DiskTells D → Type 0
+FollowIsStep {D} tells = (old new : Chronicled D) (place : ℕ) (e : Entry) (code : ℕ) → place < 2 ^ 64 → IsEntry e
+    → FollowsAs tells old new (shipped_of (shipped_bytes (signed (house_key old) place e))) code
+    → IsStep old.origin.charter old.origin.cap (state_of old) place e code (state_of new)

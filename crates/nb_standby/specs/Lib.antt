@@ -1,0 +1,5 @@
+pub mod Spelling
+pub mod Reading
+pub mod Following
+pub mod World
+pub mod Laws

@@ -1,0 +1,51 @@
+//! What holds of every record and acknowledgement, of a standby in every list of events, and of [`follow`](crate::follow). Each function here does
+//! nothing: its contract is the law.
+
+ghost use Rattle.nb_standby.specs.Laws as law;
+
+use nb_port::Disk;
+
+/// What was spelled of a record is read as that record.
+pub fn shipped_reads_back()
+    ensures { law.ShippedReadsBack }
+{}
+
+/// What was read as a record is spelled as those bytes, and is within its limits.
+pub fn shipped_spells_back()
+    ensures { law.ShippedSpellsBack }
+{}
+
+/// What was spelled of an acknowledgement is read as that one.
+pub fn acknowledged_reads_back()
+    ensures { law.AcknowledgedReadsBack }
+{}
+
+/// What was read as an acknowledgement is spelled as those bytes, and is within its limits.
+pub fn acknowledged_spells_back()
+    ensures { law.AcknowledgedSpellsBack }
+{}
+
+/// Over every list of events the standby's list is a front of the primary's, and so it is with what is in doubt, also behind a stop.
+pub fn stays_front()
+    ensures { law.StaysFront }
+{}
+
+/// No event takes away an entry that stands, and no stop does.
+pub fn entries_stay()
+    ensures { law.EntriesStay }
+{}
+
+/// Where a record is taken in at a number of entries each later stop leaves at least so many.
+pub fn taken_stays()
+    ensures { law.TakenStays }
+{}
+
+/// What `follow` does with a record that a primary of the same house shipped is a step of such a world.
+pub fn follow_is_step<D: Disk>()
+    ensures { law.FollowIsStep D.tells }
+{}
+
+/// The kinds of frames, the limits and the codes in numbers, and the labels in texts.
+pub fn limits()
+    ensures { law.StandbyLimitsAre }
+{}
