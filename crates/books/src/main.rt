@@ -1,5 +1,5 @@
-//! A program that does with books and journals what the lines of standard input say, and prints what they do: the trials of `nb_book` and
-//! `nb_journal`, of the indexes of `nb_index` and of the disk in memory of `nb_port`, as data. Each line is a word and what it is about; [`Trial`] says what they do. A line that begins with `#` is printed as it
+//! A program that does with books and journals what the lines of standard input say, and prints what they do: the trials of `nb_book`,
+//! `nb_journal` and `nb_script`, of the indexes of `nb_index` and of the disk in memory of `nb_port`, as data. Each line is a word and what it is about; [`Trial`] says what they do. A line that begins with `#` is printed as it
 //! is.
 //!
 //! It claims nothing: what it prints is compared with what another program wrote.
@@ -11,6 +11,7 @@ mod entries;
 mod indexes;
 mod journals;
 mod quiet;
+mod scripts;
 mod steps;
 mod trial;
 mod words;
@@ -72,6 +73,7 @@ fn done_by_word(
         "read" | "write" => trial.of_entries(told, word, words),
         "index" | "put" | "try" | "find" => trial.of_index(told, word, words),
         "disk" | "images" => trial.of_disk(told, word, words),
+        "script" => trial.of_script(told, words),
         _ => trial.of_journal(told, word, words),
     }
 }

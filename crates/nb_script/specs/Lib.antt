@@ -1,0 +1,5 @@
+pub mod Words
+pub mod Lines
+pub mod Settings
+pub mod Reads
+pub mod Laws
