@@ -315,6 +315,8 @@ def definitions_in(crate):
             item, stripped = ITEM.match(line), line.strip()
             if stripped.startswith("-- ----"):
                 own, last = [], None
+            elif last is not None and line.startswith("  --"):
+                last.text += "\n" + line
             elif re.match(r"(?:  )?--", line):
                 own, last = (own if own is not head else []) + [stripped[2:].removeprefix(" ")], None
             elif item:

@@ -59,7 +59,7 @@ abbrev pub puts_from : (Entry → Option (List ℕ)) → ℕ → List Entry → 
 puts_from key at [] = []
 puts_from key at (e ∷ es) = puts_at (key e) at ++ puts_from key (at + 1) es
 
--- the place of the first entry that passes a test
+-- the place of an entry, if it passes a test
 abbrev pub place_if : (Entry → Bool) → ℕ → Entry → Option ℕ
 place_if test at e = if test e then Some at else None
 

@@ -55,7 +55,7 @@ TotalFits = (H : List Entry) → Legal H → total H ≤ MAX_TOTAL
 abbrev pub UnheldIsEmpty : Type 0
 UnheldIsEmpty = (H : List Entry) → Legal H → (a : AcctId) → a.0 ≢ 0 → IsNone (holder_in H a) → balance H a ≡ 0
 
--- in the house's account are the fees
+-- of every list, Legal or not: in the house's account are the fees
 abbrev pub HouseHasFees : Type 0
 HouseHasFees = (H : List Entry) → balance H house_account ≡ fees H
 

@@ -40,7 +40,7 @@ AccountsAre H consumer merchant cacct macct = (account_of H consumer ≡ Some ca
 abbrev pub PriceIsLegal : Price → Type 0
 PriceIsLegal price = (1 ≤ price.0) × (price.0 ≤ MAX_PRICE)
 
--- the moment is at most 900 seconds after the identifier's, and the identifier's at most 300 seconds after the moment
+-- the moment is at most 900 seconds after the identifier's, and the identifier's at most 300 seconds after the moment. The sums are exact
 abbrev pub IsInTime : Epoid → ℕ → Type 0
 IsInTime epoid moment = (moment ≤ epoid.moment + MAX_AGE) × (epoid.moment ≤ moment + MAX_AHEAD)
 
@@ -55,7 +55,7 @@ PaidIsLegal H epoid consumer merchant price cacct macct moment =
     × (price.0 ≤ balance H cacct)
     × IsInTime epoid moment
 
--- the fee is that of the price at some rate
+-- the fee is that of the price at some rate of at most 1,000 thousandths
 abbrev pub IsSomeFee : Price → ℕ → Type 0
 IsSomeFee price fee = (rate : ℕ) × (rate ≤ MAX_RATE) × (fee ≡ fee_at rate price)
 
@@ -94,7 +94,8 @@ ReasonIsTrue H epoid consumer merchant price code a b moment =
     ⊎ ((code ≡ BALANCE_LOW) × BalanceIsLow H consumer price a b)
     ⊎ ((code ≡ CONSUMER_NONCE) × NonceDiffers H consumer a b)
 
--- the order is new, the two parties are enrolled in their roles, and the reason is true
+-- the order is new, the two parties are enrolled in their roles, and the reason is true. Nothing else is asked: the tests that came before the code are
+-- not run again
 abbrev pub RefusedIsLegal : List Entry → Epoid → PartyId → PartyId → Price → ℕ → ℕ → ℕ → ℕ → Type 0
 RefusedIsLegal H epoid consumer merchant price code a b moment =
     OrderIsNew H epoid merchant × RolesAre H consumer merchant × ReasonIsTrue H epoid consumer merchant price code a b moment

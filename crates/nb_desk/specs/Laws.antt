@@ -47,7 +47,7 @@ abbrev pub Later : View Origin Line → View Origin Line → View Origin Line �
 Later v w u = (u.origin ≡ v.origin) × StartsWith u.seen w.seen
 
 -- A key that one pass was told of is told to every pass whose seen list begins with that one's: where an authentic status query of the
--- first gave a key, one of the second, for the same order and the same party, gives it
+-- first gave a key, one of the second, for the same order and the same party and for at most as many entries as are held, gives it
 abbrev pub KeysStay : {D : Type 0} → DiskTells D → Type 0
 KeysStay {D} tells = (by by' : ℕ) (v w u z : View Origin Line) (body body' : List ℕ) (moment moment' : ℕ) (found found' out out' more more' : List ℕ)
     → (a : Gives tells by v w (request_of STATUS_REQUEST body moment ∷ []) found out out' Served)
@@ -60,8 +60,8 @@ KeysStay {D} tells = (by by' : ℕ) (v w u z : View Origin Line) (body body' : L
     → GivesKey (verdict_in a.1.old a.0 STATUS_REQUEST body moment).reply key
     → GivesKey (verdict_in b.1.old b.0 STATUS_REQUEST body' moment').reply key
 
--- and the result of an order that one was told is told to each of them that presents the order, with the same key, under the same keys; and
--- nothing more is recorded
+-- and the result of an order that one was told is told to each of them that presents the order, with the same receipts, under the same keys;
+-- and nothing more is recorded
 abbrev pub ResultsStay : {D : Type 0} → DiskTells D → Type 0
 ResultsStay {D} tells = (by by' : ℕ) (v w u z : View Origin Line) (body : List ℕ) (moment moment' : ℕ) (found found' out out' more more' : List ℕ)
     → (a : Gives tells by v w (request_of ORDER_REQUEST body moment ∷ []) found out out' Served)

@@ -31,7 +31,8 @@ use std::sync::Wait;
 /// [`View`](nb_turn::View).
 pub type Pass<D> = nb_turn::Pass<DeskVault<D>>;
 
-/// A vault that the holders of passes ask, one after another. It waits for nobody, and no lock is in it.
+/// A vault that the holders of passes ask, one after another. No lock is in it. Only `ask`, `ask_all`, `decide_all` and
+/// [`close`](Desk::close) may wait: they alone are given the handle for it.
 #[derive(Drop)]
 pub struct Desk<D: Disk> {
     turn: Turn<DeskVault<D>>,

@@ -15,12 +15,13 @@ pub fn place_is_count<D: Disk>()
 {}
 
 /// A key that one pass was told by an authentic status query is told to every pass whose seen list begins with what that one has
-/// seen, where it asks for the same order and the same party.
+/// seen, where its own status query is authentic, asks for the same order and the same party, and for at most as many entries as are held.
 pub fn keys_stay<D: Disk>()
     ensures { KeysStay D.tells }
 {}
 
-/// The result of an order that one pass was told is told to every such pass that presents the order, under the same keys.
+/// The result of an order that one pass was told is told to every such pass that presents the order, with the same receipts, under the same keys; and
+/// nothing more is recorded.
 pub fn results_stay<D: Disk>()
     ensures { ResultsStay D.tells }
 {}

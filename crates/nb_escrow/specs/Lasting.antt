@@ -20,7 +20,7 @@ use Rattle.nb_escrow.specs.Settlements.{settlement_in, receipt_in_role}
 abbrev pub PartyStays : Type 0
 PartyStays = (H more : List Entry) (id : PartyId) (party : Party) → party_in H id ≡ Some party → party_in (H ++ more) id ≡ Some party
 
--- so is who holds an account, a fund, and the entry that settles an order
+-- so is who holds an account
 abbrev pub HolderStays : Type 0
 HolderStays = (H more : List Entry) (acct : AcctId) (holder : PartyId) → holder_in H acct ≡ Some holder → holder_in (H ++ more) acct ≡ Some holder
 

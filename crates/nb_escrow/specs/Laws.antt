@@ -1,4 +1,4 @@
--- What holds of every verdict.
+-- What holds of every verdict. Where a law names no Legal list it holds over any list of entries.
 use Rattle.std.specs.Prelude.{◌≡◌, ◌↔◌, ◌⊎◌, ℕ, ◌<◌, ◌≤◌, ◌∷◌, ◌++◌, List, length, codes, Option, Some, None, Ok}
 use Rattle.std.specs.List.{Any}
 use Rattle.std.specs.Option.{option_to_list}
@@ -40,7 +40,7 @@ use Rattle.nb_escrow.specs.Claims.{IsTrueRefusal}
 use Rattle.nb_escrow.specs.Verdict.{verdict}
 
 -- What a verdict records may come after the entries that it was taken over in a journal of the head's version and rate, and there is room for
--- it.
+-- it, where a house may decide under the head: version 1 or 2, a rate of at most 1,000. The entries may be any list
 abbrev pub RecordsLegal : Type 0
 RecordsLegal = (H : List Entry) (head : Head) (cap kind : ℕ) (body : List ℕ) (moment : ℕ) (entry : Entry) → IsRuling head
     → (verdict H head cap kind body moment).entry ≡ Some entry → NextUnder head.version head.rate H entry × (length H < cap)
@@ -103,7 +103,7 @@ StatusTellsKey = (H : List Entry) → Legal H → (head : Head) (cap : ℕ) (bod
 
 -- ---- exactly where
 
--- an entry of each kind
+-- an entry is an enrolment
 abbrev pub IsEnrolment : Entry → Type 0
 IsEnrolment (Enrol id role acct nonce key) = Unit {0}
 IsEnrolment other = ⊥
@@ -124,7 +124,7 @@ abbrev pub IsRefusedOrder : Entry → Type 0
 IsRefusedOrder (Refused digest epoid consumer merchant product price code a b moment) = Unit {0}
 IsRefusedOrder other = ⊥
 
--- the reply is the receipts of an order, the reply is a status, the reply is a grant
+-- the reply is the receipts of an order
 abbrev pub AreReceipts : Reply → Type 0
 AreReceipts (Receipts merchant consumer) = Unit {0}
 AreReceipts other = ⊥

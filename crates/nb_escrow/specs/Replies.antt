@@ -1,5 +1,5 @@
 -- What holds of every reply: the keys that it is given under, and what it tells of the entries and of the request. No test of the
--- verdict is cited here.
+-- verdict is cited here. Where a law names no Legal list it holds over any list of entries.
 use Rattle.std.specs.Prelude.{◌≡◌, ◌≢◌, ◌↔◌, ◌⊎◌, ℕ, ◌∷◌, ◌++◌, List, length, codes, Option, Some, None, Ok, IsSome}
 use Rattle.std.specs.Option.{option_to_list}
 use Rattle.nb_units.specs.declared.frames.TheConstants.{ORDER_REQUEST, STATUS_REQUEST, TICKET_REQUEST, ENROL_REQUEST, FUND_REQUEST}
@@ -101,7 +101,7 @@ receipt_at shown at (entries.Refused digest epoid consumer merchant product pric
 })
 receipt_at shown at other = None
 
--- the merchant's receipt, the consumer's receipt of an entry that was found
+-- the merchant's receipt of an entry that was found
 abbrev pub merchant_receipt : Kept → Option Receipt
 merchant_receipt kept = receipt_at shown_to_merchant kept.at kept.entry
 

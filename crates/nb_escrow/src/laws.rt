@@ -27,7 +27,8 @@ pub fn status_tells_key()
     ensures { law.StatusTellsKey }
 {}
 
-/// What a verdict records may come after the entries that it was taken over in a journal of the head's version and rate, and there is room for it.
+/// What a verdict records may come after the entries that it was taken over in a journal of the head's version and rate, and there is room for it,
+/// where a house may decide under the head: version 1 or 2, a rate of at most 1,000. The entries may be any list.
 pub fn records_legal()
     ensures { law.RecordsLegal }
 {}
@@ -59,12 +60,12 @@ pub fn told_exactly_where()
     ensures { law.ToldExactlyWhere }
 {}
 
-/// An enrolment is recorded exactly where it has the operator's tag, may come next, and there is room for it.
+/// Over every Legal list an enrolment is recorded exactly where it has the operator's tag, may come next, and there is room for it.
 pub fn enrolled_exactly_where()
     ensures { law.EnrolledExactlyWhere }
 {}
 
-/// A fund is recorded exactly where it has the operator's tag, may come next, and there is room for it.
+/// Over every Legal list a fund is recorded exactly where it has the operator's tag, may come next, and there is room for it.
 pub fn funded_exactly_where()
     ensures { law.FundedExactlyWhere }
 {}
@@ -79,7 +80,7 @@ pub fn granted_exactly_where()
     ensures { law.GrantedExactlyWhere }
 {}
 
-/// What each refusal claims is true of the entries and of the request, and so are the numbers and the bytes that it shows.
+/// Over every Legal list what each refusal claims is true of the entries and of the request, and so are the numbers and the bytes that it shows.
 pub fn refusals_are_true()
     ensures { law.RefusalsAreTrue }
 {}

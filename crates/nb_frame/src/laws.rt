@@ -16,6 +16,7 @@ pub fn same_in_any_cut()
 
 /// A law: where one stream in two cuts was fed up to a fault in one, and further in the other, both give the same frames before it and
 /// tell the same fault, and what follows waits in the other.
+/// Behind a fault nothing is fed, so two cuts of such a stream may be fed different parts of it.
 pub fn fault_in_any_cut()
     ensures { law.FaultInAnyCut }
 {}

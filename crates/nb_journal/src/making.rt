@@ -39,7 +39,8 @@ pub enum MagicRead {
 }
 
 /// Makes a journal of the first version without items on a disk that has none, of either version. A journal that is there stays as
-/// it is. All but the magic is written and synced, and then the magic.
+/// it is. All but the magic is written and synced, and then the magic. It never answers
+/// `BadRate`.
 pub fn init<D: Disk>(disk: &mut D, head: &[u8; HEAD], cap: u32) -> Result<(), InitFault>
     ensures gives { InitGives D.tells disk.old disk.new cap (without_fee head.now) result }
     ensures spares { SparesJournal D.tells disk.old disk.new }

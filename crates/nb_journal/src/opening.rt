@@ -49,7 +49,7 @@ pub enum OpenFault {
 
 impl<D: Disk> Journal<D> {
     /// Opens the journal on a disk: all that was written is made to stay, and then all of it is read. From then on an item
-    /// may have `room` bytes.
+    /// may have `room` bytes. Items longer than that are opened all the same, up to 2,097,152 bytes.
     pub fn open(alloc: Global, disk: D, room: u32) -> Result<Opened<D>, (OpenFault, D)>
         requires { room ≤ MAX_ITEM }
         // After Ok the journal is at rest with this front and these items, and the content is read as exactly these. `Unborn`: the content begins with

@@ -68,7 +68,8 @@ abbrev pub Runs : Shop → List Event → Shop → Type 0
 Runs old [] new = new ≡ old
 Runs old (e ∷ events) new = (next : Shop) × Leads old e next × Runs next events new
 
--- behind every list of events, with restarts in it, what was kept may stand as it does, and a restart gives the merchant
+-- from a merchant whose items may stand as they do, each within its limits, behind every list of events, with restarts in it: so may those kept then, a
+-- restart gives the merchant, and the stall is the same
 abbrev pub RunsAreKept : Type 0
 RunsAreKept = (first : Shop) (events : List Event) (shop : Shop) → IsKept first → Runs first events shop
     → IsKept shop × (shop.stall ≡ first.stall) × (restarted (new_shop shop.stall shop.products) 0 (kept_bytes shop) ≡ Ok shop)
@@ -78,8 +79,8 @@ abbrev pub NoSerialAgain : Type 0
 NoSerialAgain = (first : Shop) (events : List Event) (shop : Shop) → IsKept first → Runs first events shop → (more : List Item) × (shop.items ≡ first.items ++ more)
     × ((i j : ℕ) (d e : Delivery) → slice_get (deliveries_in first.items) i ≡ Some d → slice_get (deliveries_in more) j ≡ Some e → d.epoid.serial < e.epoid.serial)
 
--- what is passed on, behind every list of events, is the consumer's part of a message that came from the house in it, or was kept for that purchase
--- before it
+-- what is passed on, behind every list of events, is the consumer's part of a message that came from the house in it or just then, or was kept for that
+-- purchase before it: of a merchant that began with nothing, always the first
 abbrev pub PassedIsHeard : Type 0
 PassedIsHeard = (first : Shop) (events : List Event) (shop : Shop) (w : Word) (a : Answer) (transaction : ℕ) (part : List ℕ) → IsKept first → Runs first events shop
     → done_at shop w ≡ Ok a → a.message ≡ message.Passed transaction part
@@ -135,7 +136,7 @@ ServesAll products others items = (p : Purchase) (sale : Sale) → sale_in items
 abbrev pub ShelvesMayChange : Type 0
 ShelvesMayChange = (shop : Shop) (others : List Product) → IsKept shop → ServesAll shop.products others shop.items → IsKept (record shop { products = others })
 
--- one that lost a product tells the first item that it is quoted in
+-- one that lost a product, and serves each purchase of the items before, tells the first item that it is quoted in
 abbrev pub LostProductIsBad : Type 0
 LostProductIsBad = (shop : Shop) (others : List Product) (front back : List Item) (p : Purchase) (product : ℕ) (price : Price) (request : List ℕ) → IsKept shop
     → shop.items ≡ front ++ item.Quoted p product price request ∷ back → ServesAll shop.products others front → product_in others product ≡ None
@@ -151,11 +152,11 @@ OtherGoodsAreBad = (shop : Shop) (others : List Product) (front back : List Item
 
 -- ---- whom it serves
 
--- what is done at a consumer's message is done for the consumer whose ticket it shows: what is kept is of that one, and what is sent goes to it or is for the house. Where it shows nobody's, it is ignored
+-- what is kept is of this consumer, and what is sent goes to it or is for the house
 abbrev pub IsServed : PartyId → Answer → Type 0
 IsServed consumer a = IfSome a.keep (λ x. (purchase_of x).consumer ≡ consumer) × ((a.to ≡ to.Consumer consumer) ⊎ (a.to ≡ to.Server))
 
--- law: what is done at a consumer's message is done for the one whose ticket it shows
+-- law: what is done at a consumer's message is done for the one whose ticket it shows. Where it shows nobody's, it is ignored
 abbrev pub AskerIsServed : Type 0
 AskerIsServed = (shop : Shop) (m : Message) (moment : ℕ)
     → ((a : Answer) → heard shop m moment ≡ Ok a → (consumer : PartyId) × (asker_in shop m moment ≡ Some consumer) × IsServed consumer a)

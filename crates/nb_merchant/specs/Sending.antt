@@ -89,7 +89,7 @@ OpensOrCollides key goods bytes = OpensTo key bytes goods ⊎ Collision bytes (s
 
 -- the same order, which is that of the sale, in an endorsement with the stall's account, no memo, and the key of the order's serial number, each
 -- field of which is within its limits where the account has its width: bytes with the order's checksum open under the endorsement's key to the goods
--- of the product
+-- of the product, or are a collision with the sealed goods
 pub record Endorses (shop : Shop) (whom : To) (m : Message) : Type 0 where
   pub sent : EndorsesKept shop whom m
   pub endorsement : Endorsement

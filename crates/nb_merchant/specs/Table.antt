@@ -53,12 +53,12 @@ purchase_by consumer transaction = record { consumer = consumer; transaction = t
 
 -- ---- a request for a price
 
--- of a purchase that is new: 1 the catalogue has the product. The catalogue's price is kept and told
+-- 1 the catalogue has the product: its price
 abbrev pub price_of : Option Product → Result Price Reason
 price_of None = Err (reason.Field 1)
 price_of (Some product) = Ok (record { 0 = product.price })
 
--- the row of a request for a price of a purchase that is new
+-- the row of a request for a price of a purchase that is new: the catalogue's price is kept and told
 unfoldable pub first_quote : List Product → List ℕ → PartyId → PriceRequest → Result Answer Reason
 first_quote products session consumer r = do
   price ← price_of (product_in products r.product)
@@ -151,7 +151,7 @@ order_fits stall consumer sale epoid checksum o = do
   checks ← field 6 (bytes_eq o.checksum checksum)
   field 7 (bytes_eq o.request sale.request)
 
--- an order in its grammar that fits is kept and endorsed
+-- the order that the bytes spell, or that they spell none
 abbrev pub order_read : List ℕ → Result Order Reason
 order_read order = or_seal (order_of order)
 
@@ -167,7 +167,7 @@ first_order stall p sale epoid checksum order = do
   taken ← order_taken stall p sale epoid checksum order
   Ok (record { keep = Some (item.Endorsed p order); to = to.Server; message = endorsed_message stall epoid order })
 
--- what is done again: the kept order is endorsed, the kept result passed on
+-- the kept order is endorsed again
 abbrev pub endorses_again : Stall → Epoid → List ℕ → Answer
 endorses_again stall epoid order = record { keep = None; to = to.Server; message = endorsed_message stall epoid order }
 

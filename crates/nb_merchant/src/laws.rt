@@ -7,14 +7,14 @@ pub fn restart_gives_back()
     ensures { law.RestartGivesBack }
 {}
 
-/// A law: behind every list of messages and words, in whatever order they came, with restarts between them, what was kept may stand as it does, so that
-/// a restart over it gives the merchant.
+/// A law: from a merchant whose items may stand as they do, each within its limits, behind every list of messages and quiet times, in whatever order they
+/// came, with restarts between them, what was kept may stand as it does, so that a restart over it gives the merchant, and the stall is the same.
 pub fn runs_are_kept()
     ensures { law.RunsAreKept }
 {}
 
 /// A law: where each kept item may stand where it does, whatever the widths of its fields and of what is heard, so may the item that is kept at a message
-/// or word, and what is sent then is as it was kept, as the calls of a [`Merchant`](crate::Merchant) say of it.
+/// or a quiet time, and what is sent then is as it was kept, as the calls of a [`Merchant`](crate::Merchant) say of it.
 pub fn sent_follows()
     ensures { law.SentFollows }
 {}
@@ -30,8 +30,8 @@ pub fn no_serial_again()
     ensures { law.NoSerialAgain }
 {}
 
-/// A law: a result that is passed on, behind every such list, is, unchanged, the consumer's part of a message of the house in it, or was kept for the same
-/// purchase before it.
+/// A law: a result that is passed on, behind every such list, is, unchanged, the consumer's part of a message of the house in it or just then, or was kept for
+/// the same purchase before it: of a merchant that began with nothing, always the first.
 pub fn passed_is_heard()
     ensures { law.PassedIsHeard }
 {}
@@ -57,7 +57,7 @@ pub fn shelves_may_change()
     ensures { law.ShelvesMayChange }
 {}
 
-/// A law: with a catalogue that lost a product, and had each one before, a restart tells the first item in which it was quoted.
+/// A law: with a catalogue that lost a product, and serves each purchase of the items before, a restart tells the first item in which it was quoted.
 pub fn lost_product_is_bad()
     ensures { law.LostProductIsBad }
 {}

@@ -24,7 +24,10 @@
 //! What a message means, and which key belongs to whom, is left to the layers above; so is the secrecy of
 //! keys. That these functions are hard to invert or to forge is no claim of the proofs.
 //!
-//! Not said: how long a call takes, also that [`same`] takes as long for each pair; codes under keys above 64 bytes, texts above 2^39 bytes and
+//! `sha256` is the definition of FIPS 180-4 on lists that the kit's crate `sha2` states, and `word_at` that of the words of ChaCha20 that `rand_chacha`
+//! states. What room is stands here too, as in nb_units: this crate stands on none of the repository.
+//!
+//! Not said: how long a call takes, also that [`same`] takes as long for each pair; codes under keys above 64 bytes (no key of the house is longer than 32), texts above 2^39 bytes and
 //! the keystream from byte 2^40 on, which the conditions leave out; that [`seal`] and [`unseal`] find memory, but where the room was there
 //! before; and what [`unseal_to`] leaves in its buffer after a bad seal: the text is opened there before it is known to be none.
 #![tactic(auto)]

@@ -98,7 +98,7 @@ pub fn seal(
 /// `out` keeps its capacity.
 pub fn seal_spare(key: &[u8; CODE_BYTES], label: &[u8; 4], plain: &[u8], out: &mut Vec<u8>)
     requires short { length plain.now ≤ MAX_TEXT }
-    // The room fell by no more than the seal.
+    // There is room for the seal.
     requires spare { CODE_BYTES + length plain.now ≤ spare_of out.old }
     // The seal is appended.
     ensures sealed { out.new.items ≡ out.old.items ++ seals.seal_of key.now label.now plain.now }
@@ -126,7 +126,7 @@ impl KeyState {
     #[tactic(auto, unfolding(crate::specs::Seal::seal_of))]
     pub fn seal_spare(&self, label: &[u8; 4], plain: &[u8], out: &mut Vec<u8>)
         requires short { length plain.now ≤ MAX_TEXT }
-        // The room fell by no more than the seal.
+        // There is room for the seal.
         requires spare { CODE_BYTES + length plain.now ≤ spare_of out.old }
         // The seal is appended.
         ensures sealed { out.new.items ≡ out.old.items ++ seals.seal_of self.now label.now plain.now }

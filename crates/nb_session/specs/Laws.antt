@@ -67,7 +67,7 @@ abbrev pub IsDecided : Mark → Type 0
 IsDecided (At place) = Unit {0}
 IsDecided other = ⊥
 
--- the link gives these bytes, and then ends; it does not fail, and tells to the end
+-- the link gives these bytes, and then ends; it does not fail
 pub record GivesBytes (old new : LinkSeen) (bytes : List ℕ) : Type 0 where
   pub left : old.left ≡ Some bytes
   pub reads : Rose old.read_faults new.read_faults → ⊥

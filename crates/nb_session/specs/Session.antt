@@ -193,7 +193,8 @@ pub record Session {D : Type 0} (tells : DiskTells D) (by : ℕ) (v w : View Ori
   pub answered : AnsweredTurns (house_at origin) origin.entries by v.seen turns w.seen
   -- the replies were sent
   pub wrote : Wrote (house_at origin) old.sent new.sent turns end
-  -- the turns are as long as the reading allowed, what was read was answered before more was read, and each read asked for a whole piece
+  -- the turns are as long as the reading allowed, what was read was answered before more was read; and where the link tells its
+  -- reads, each that gave bytes asked for a whole piece
   pub reads : new.reads ≡ with_readings old.reads pieces
   pub long : AreLong pieces [] turns
   pub prompt : IsPrompt pieces turns

@@ -60,6 +60,7 @@ pub record Keeps {D : Type 0} (tells : DiskTells D) (v : Chronicled D) : Type 0 
   -- its list is Legal under its version and its rate, also with the entries in doubt, and within the cap
   pub legal : LegalUnder v.origin.charter.version v.origin.charter.rate (entries_in v ++ doubt_in v)
   pub within : length (entries_in v ++ doubt_in v) ≤ v.origin.cap
+  -- each order is settled once among the entries, their money is neither made nor lost, and cap and charter are such as a journal has
   pub money : IsBalanced (entries_in v)
   pub terms : AreTerms v.origin.cap v.origin.charter
   -- it is what its content stands for, and what a stop leaves

@@ -26,7 +26,8 @@ pub fn payable_is_paid<D: Disk>()
 {}
 
 /// Of a house whose version is one of the two and whose rate is at most 1,000: what it records may come next in its list, there is room
-/// for it, and a journal of this version and this rate may have it.
+/// for it, and a journal of this version and this rate may have it. The house of each vault is one, and so the laws of nb_turns on Legal lists and
+/// lines hold of it.
 pub fn houses_are_lawful()
     ensures lawful { HousesAreLawful }
     ensures rate { HousesRecordOf }
@@ -44,7 +45,8 @@ pub fn item_room()
 {}
 
 /// One gate opens all entries of a turn, or none of them: each image that a stop leaves at any moment of it stands for the entries
-/// from before, without what was in doubt or with it, or for those that the turn was decided over with all that it records.
+/// from before, without what was in doubt or with it, or for those that the turn was decided over with all that it records. Since an image stands for
+/// one list ([`one_list`]), it stands for no part of them.
 pub fn one_gate<D: Disk>()
     ensures { OneGate D.tells }
 {}

@@ -66,7 +66,8 @@ impl<D: Disk> Vault<D> {
         // with or without what is in doubt then.
         ensures any_moment { LeavesOnly D.tells self.old.disk self.new.disk
             (λ image. StandsForState self.old image ⊎ StandsForState self.new image) }
-        // That each image stands for no other list is the law `one_list`.
+        // Where it answered nothing is in doubt, and each image that a stop may leave stands for the entries after the call. That each image stands
+        // for no other list is the law `one_list`.
         ensures durable { DurableWhere D.tells self.new (all_of result) }
         // Where the state of the house after the call is the one before (entries, doubt and number of faults), the content of the disk is as before.
         ensures quiet { state_of self.new ≡ state_of self.old → D.tells.content self.new.disk ≡ D.tells.content self.old.disk }
@@ -169,8 +170,8 @@ impl<D: Disk> Vault<D> {
         // As of `answer`.
         ensures any_moment { LeavesOnly D.tells self.old.disk self.new.disk
             (λ image. StandsForState self.old image ⊎ StandsForState self.new image) }
-        // Where it answered, each image that a later stop leaves has the entries, and no byte of a reply exists yet: a reply is made of its draft,
-        // behind the sync of the gate. So what is handed out is durable before its first byte is made.
+        // As of `answer_all`. It has no output: a reply is handed out as a draft alone, whose bytes `write_each` makes behind the call; that none is
+        // made within it no clause says.
         ensures durable { DurableWhere D.tells self.new result }
         // As of `answer`.
         ensures quiet { state_of self.new ≡ state_of self.old → D.tells.content self.new.disk ≡ D.tells.content self.old.disk }

@@ -41,6 +41,8 @@ pub record Rules (C M : Type 0) : Type 0 where
   pub merchant_waited : M → PartyId → ℕ → Going M
   pub merchant_again : M → M
 
+-- consumers, merchants, packets, calls, the turn, the entries that last and those that the house works on, where they came from, what was acknowledged, the
+-- moment
 pub record World (C M : Type 0) : Type 0 where
   pub consumers : List C
   pub merchants : List M
