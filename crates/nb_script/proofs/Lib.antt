@@ -4,5 +4,6 @@ pub mod Decoding
 pub mod Rows
 pub mod Following
 pub mod OneReading
-pub mod Shelving
 pub mod Joining
+pub mod Induction
+pub mod Shelving

@@ -118,7 +118,11 @@ AreShelvesBehind before (x ∷ shelves) = IsShelf x × (list_any (is_of x.mercha
 abbrev pub AreShelves : List Shelf → Type 0
 AreShelves shelves = AreShelvesBehind [] shelves
 
--- they are; the merchant is there and sells no product of this number yet; and all goods together stay within their limit
+-- and all goods together stay within their limit
+abbrev pub AreSold : List Shelf → Type 0
+AreSold shelves = AreShelves shelves × (all_goods shelves ≤ MAX_ALL_GOODS)
+
+-- it is within its limits; the merchant is there and sells no product of this number yet; and all goods together stay within their limit
 abbrev pub MaySell : Setting → Shelf → Type 0
 MaySell s x = IsShelf x × (has_role s.entries MERCHANT x.merchant ≡ true) × (list_any (is_of x.merchant x.product) s.shelves ≡ false) × (all_goods s.shelves + x.length ≤ MAX_ALL_GOODS)
 

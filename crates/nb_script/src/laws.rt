@@ -12,17 +12,18 @@ pub fn numbers_are_decimal()
     ensures { law.NumbersAreDecimal }
 {}
 
-/// A text is one script, or has one first bad line.
+/// No text is two scripts, or a script and a first bad line, or has two first bad lines.
 pub fn one_reading()
     ensures { law.OneReading }
 {}
 
-/// What a script sells is within its limits, and no merchant sells two products of one number.
+/// Each price and length that a script sells is within its limits, all goods together stay within theirs, and no merchant sells two products of one
+/// number.
 pub fn scripts_have_shelves()
     ensures { law.ScriptsHaveShelves }
 {}
 
-/// The limits in numbers.
+/// The limits in numbers, the marks behind a word and a line, and the last kind of a packet.
 pub fn limits()
     ensures { law.ScriptLimitsAre }
 {}

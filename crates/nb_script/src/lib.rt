@@ -3,14 +3,14 @@
 //! [`read_script`] reads a script: the house's head and its cap, who buys and who sells, funds and shelves, and then what happens, in order. Each line is
 //! words with a space between them. What a line says is a function of its words (`specs/Lines.antt`), each by its place; which line may stand behind
 //! others, and what is set up then, stands in `specs/Settings.antt`; what a script says, or its first bad line, in `specs/Reads.antt`: whether a line is bad
-//! is said by the lines before it, and by nothing that happens. That a text is one script, or has one first bad line, is proved by a function of [`laws`].
+//! is said by the lines before it, and by nothing that happens. That no text says two things is proved by a function of [`laws`].
 //!
-//! A party is enrolled, and an account funded, exactly where the entry that does so may come next in the house's list and there is room for it, as the
-//! house itself tests it (`NextUnder` of `nb_book`).
+//! A party is enrolled, and an account funded, exactly where the entry that does so may come next in the house's list (`NextUnder` of `nb_book`) and there
+//! is room for it.
 //!
 //! Left to others: what happens in the world that is set up, and how long a script is at most ([`MAX_SCRIPT`] is what its readers go by).
 //!
-//! Not said: how much memory is taken. Each look-up of a party is one of the house's book; a shelf is compared with those before it.
+//! Not said: when there is no memory, and how much is taken. Each look-up of a party is one of the house's book; a shelf is compared with those before it.
 #![tactic(auto)]
 
 mod act;
