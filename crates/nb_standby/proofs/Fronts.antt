@@ -104,7 +104,7 @@ module _ (charter : Charter) (cap : ℕ) (all : List Entry) (old new : State) (p
   takes_front takes.Illegal t = nothing_taken t.0 t.1
   takes_front (takes.DiskFault before after) (inl turn) = not_settled all old new front turn.1
   takes_front (takes.DiskFault before after) (inr t) = doubted all old new front place e there t.1.0 t.0.1
-  takes_front (takes.Worn faults) t = subst (AreFront all) (sym t.1) front
+  takes_front (takes.Worn faults) t = subst (AreFront all) (sym t.1.1) front
 
 -- ---- any event
 
@@ -171,7 +171,7 @@ takes_stays charter cap old new place e takes.Ahead t = turn_stays (house_told N
 takes_stays charter cap old new place e takes.Illegal t = turn_stays (house_told None) old new (Decides t.0) t.1
 takes_stays charter cap old new place e (takes.DiskFault before after) (inl turn) = turn_stays (house_told None) old new (Fails before after) turn
 takes_stays charter cap old new place e (takes.DiskFault before after) (inr t) = turn_stays (house_told (Some e)) old new (Fails before after) t.0
-takes_stays charter cap old new place e (takes.Worn faults) t = turn_stays (house_told None) old new Refuses t
+takes_stays charter cap old new place e (takes.Worn faults) t = turn_stays (house_told None) old new Refuses t.1
 
 restart_stays : (old : State) (kept : Bool) → BeginsWith (restarted old kept).entries old.entries
 restart_stays old true = (old.doubt, refl)

@@ -25,8 +25,8 @@ code_of takes.Illegal = ILLEGAL
 code_of (takes.DiskFault before after) = DISK_FAULT
 code_of (takes.Worn faults) = WORN
 
--- the entry was taken in so at its place, and that is the code. Where no fault is told every later stop leaves the entries that stand, and
--- nothing is in doubt. Where the disk failed its count rose in this call. A worn vault is as before
+-- the entry was taken in so at its place, and that is the code. Where it tells neither a fault nor that the vault is worn, every later stop leaves
+-- the entries that stand, and nothing is in doubt. Where the disk failed its count rose in this call. A worn vault is as before
 pub record IsTaken {D : Type 0} (tells : DiskTells D) (old new : Chronicled D) (r : Shipped) (code : ℕ) : Type 0 where
   pub how : TakeIn
   pub code_is : code ≡ code_of how

@@ -1,25 +1,25 @@
 -- What holds of every record and acknowledgement, of every list of events, and of what `follow` does.
-use Rattle.std.specs.Prelude.{◌≡◌, ℕ, ◌<◌, ◌≤◌, ◌^◌, List, [], ◌∷◌, length, codes, Ok}
+use Rattle.std.specs.Prelude.{◌≡◌, ℕ, ◌<◌, ◌≤◌, ◌^◌, Bool, List, [], ◌∷◌, length, codes, Some, Ok, slice_get}
 use Rattle.std.specs.List.{AllByRecursion}
 use Rattle.nb_units.specs.Frames.{AreBytes}
 use Rattle.nb_units.specs.declared.charter.Charter.{Charter}
 use Rattle.nb_port.specs.Tells.{DiskTells}
 use Rattle.nb_book.specs.declared.entry.Entry.{Entry}
 use Rattle.nb_book.specs.Spelling.{IsEntry}
-use Rattle.nb_turns.specs.Turns.{State}
 use Rattle.nb_vault.specs.declared.taking.TakeIn.{TakeIn}
 use Rattle.nb_vault.specs.declared.taking.TakeIn.TheVariants as takes
-use Rattle.nb_vault.specs.Vaults.{Chronicled, state_of}
+use Rattle.nb_vault.specs.Opens.{VaultOpensAs, WholeOpens}
+use Rattle.nb_vault.specs.Vaults.{Chronicled, StandsForState, state_of}
 use Rattle.nb_standby.specs.declared.acknowledged.Acknowledged.{Acknowledged}
 use Rattle.nb_standby.specs.declared.acknowledged.TheConstants.{ACKNOWLEDGE_LABEL}
 use Rattle.nb_standby.specs.declared.code.TheConstants.{TAKEN, SAME, OTHER, AHEAD, BAD_TAG, BAD_RECORD, ILLEGAL, DISK_FAULT, WORN}
-use Rattle.nb_standby.specs.declared.limits.TheConstants.{SHIPPED_FRAME, ACKNOWLEDGED_FRAME, SHIPPED_ROOM, ACKNOWLEDGED_ROOM}
+use Rattle.nb_standby.specs.declared.limits.TheConstants.{SHIPPED_FRAME, ACKNOWLEDGED_FRAME, PRIMARY, SHIPPED_ROOM, ACKNOWLEDGED_ROOM}
 use Rattle.nb_standby.specs.declared.shipped.Shipped.{Shipped}
 use Rattle.nb_standby.specs.declared.shipped.TheConstants.{SHIP_LABEL}
 use Rattle.nb_standby.specs.Following.{FollowsAs, code_of, house_key}
 use Rattle.nb_standby.specs.Reading.{shipped_of, acknowledged_of}
 use Rattle.nb_standby.specs.Spelling.{IsShipped, shipped_bytes, signed, IsAcknowledged, acknowledged_bytes}
-use Rattle.nb_standby.specs.World.{BeginsWith, Delivers, Event, Happens, IsFront, Starts, Steps, TakesTo, World}
+use Rattle.nb_standby.specs.World.{BeginsWith, Delivers, Event, Happens, IsFront, Starts, Steps, World, restarted}
 
 -- ---- layouts
 
@@ -39,12 +39,13 @@ AcknowledgedReadsBack = (a : Acknowledged) → IsAcknowledged a → acknowledged
 abbrev pub AcknowledgedSpellsBack : Type 0
 AcknowledgedSpellsBack = (bytes : List ℕ) (a : Acknowledged) → AreBytes bytes → acknowledged_of bytes ≡ Ok a → IsAcknowledged a × (bytes ≡ acknowledged_bytes a)
 
--- the kinds of frames, the most bytes of a record's frame and those of an acknowledgement's, the codes, and the labels in texts
+-- the kinds of frames, the most bytes of a record's frame and those of an acknowledgement's, the codes, who a primary is in a standby's lines, and the
+-- labels in texts
 abbrev pub StandbyLimitsAre : Type 0
 StandbyLimitsAre =
     (SHIPPED_FRAME ≡ 1) × (ACKNOWLEDGED_FRAME ≡ 2) × (SHIPPED_ROOM ≡ 173) × (ACKNOWLEDGED_ROOM ≡ 49)
     × (TAKEN ∷ SAME ∷ OTHER ∷ AHEAD ∷ BAD_TAG ∷ BAD_RECORD ∷ ILLEGAL ∷ DISK_FAULT ∷ WORN ∷ [] ≡ 0 ∷ 1 ∷ 2 ∷ 3 ∷ 4 ∷ 5 ∷ 6 ∷ 7 ∷ 8 ∷ [])
-    × (SHIP_LABEL ≡ codes "ship") × (ACKNOWLEDGE_LABEL ≡ codes "ackn")
+    × (PRIMARY ≡ 0) × (SHIP_LABEL ≡ codes "ship") × (ACKNOWLEDGE_LABEL ≡ codes "ackn")
 
 -- ---- every list of events
 
@@ -67,14 +68,17 @@ TakenStays = (charter : Charter) (cap : ℕ) (before first : World) (k n : ℕ) 
 
 -- ---- follow
 
--- what came of a record at a standby, and its code
-pub record IsStep (charter : Charter) (cap : ℕ) (old : State) (place : ℕ) (e : Entry) (code : ℕ) (new : State) : Type 0 where
-  pub how : TakeIn
-  pub code_is : code ≡ code_of how
-  pub taken : TakesTo charter cap old place e how new
-
--- for the record of an entry that a primary of the same house shipped, `follow` is such a step
+-- for the record of an entry that a primary of the same house shipped, `follow` is an event of each world that has shipped it and whose standby is in the
+-- state of that vault: it is delivered, and the code tells how it was taken in
 abbrev pub FollowIsStep : {D : Type 0} → DiskTells D → Type 0
-FollowIsStep {D} tells = (old new : Chronicled D) (place : ℕ) (e : Entry) (code : ℕ) → place < 2 ^ 64 → IsEntry e
+FollowIsStep {D} tells = (world : World) (k : ℕ) (old new : Chronicled D) (place : ℕ) (e : Entry) (code : ℕ) → place < 2 ^ 64 → IsEntry e
+    → slice_get world.sent k ≡ Some (record { place = place; entry = e }) → world.standby ≡ state_of old
     → FollowsAs tells old new (shipped_of (shipped_bytes (signed (house_key old) place e))) code
-    → IsStep old.origin.charter old.origin.cap (state_of old) place e code (state_of new)
+    → (how : TakeIn) × (code ≡ code_of how)
+    × Steps old.origin.charter old.origin.cap world (Delivers k how) (record { primary = world.primary; sent = world.sent; standby = state_of new })
+
+-- a vault that is opened over what a stop left of another one is that one behind a stop: what was in doubt is there, or it is not
+abbrev pub StopIsStep : {D : Type 0} → DiskTells D → Type 0
+StopIsStep {D} tells = (old opened : Chronicled D) (disk : D) (image : List ℕ) → StandsForState old image → tells.content disk ≡ Some image
+    → VaultOpensAs tells disk opened → WholeOpens (tells.content disk) (Ok opened)
+    → (kept : Bool) × (state_of opened ≡ restarted (state_of old) kept)

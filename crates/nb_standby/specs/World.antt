@@ -5,6 +5,7 @@ use Rattle.std.specs.List.{AllByRecursion}
 use Rattle.nb_units.specs.declared.charter.Charter.{Charter}
 use Rattle.nb_book.specs.declared.entry.Entry.{Entry}
 use Rattle.nb_book.specs.Legal.{NextUnder}
+use Rattle.nb_turns.specs.declared.limits.TheConstants.{MAX_FAULTS}
 use Rattle.nb_turns.specs.Turns.{State, Decides, Fails, Refuses, Turn}
 use Rattle.nb_vault.specs.declared.taking.TakeIn.{TakeIn}
 use Rattle.nb_vault.specs.declared.taking.TakeIn.TheVariants as takes
@@ -18,7 +19,7 @@ abbrev pub TakesTo : Charter → ℕ → State → ℕ → Entry → TakeIn → 
 TakesTo charter cap old place e (takes.DiskFault before after) new =
     Turn (house_told None) old nothing_asked (Fails before after) new
     ⊎ (Turn (house_told (Some e)) old nothing_asked (Fails before after) new × IsJudged charter cap new.entries place e takes.Taken)
-TakesTo charter cap old place e (takes.Worn faults) new = Turn (house_told None) old nothing_asked Refuses new
+TakesTo charter cap old place e (takes.Worn faults) new = (faults ≡ MAX_FAULTS) × Turn (house_told None) old nothing_asked Refuses new
 TakesTo charter cap old place e how new =
     (over : List Entry) × Turn (house_told (entry_taken e how)) old nothing_asked (Decides over) new × IsJudged charter cap over place e how
 

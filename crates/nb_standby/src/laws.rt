@@ -40,9 +40,14 @@ pub fn taken_stays()
     ensures { law.TakenStays }
 {}
 
-/// What `follow` does with a record that a primary of the same house shipped is a step of such a world.
+/// What `follow` does with a record that a primary of the same house shipped is a delivery in each such world.
 pub fn follow_is_step<D: Disk>()
     ensures { law.FollowIsStep D.tells }
+{}
+
+/// A vault that is opened over what a stop left of a standby is that standby behind the world's stop.
+pub fn stop_is_step<D: Disk>()
+    ensures { law.StopIsStep D.tells }
 {}
 
 /// The kinds of frames, the limits and the codes in numbers, and the labels in texts.

@@ -1,5 +1,5 @@
 -- An entry that another vault has, taken in: from the steps of its turn.
-use Rattle.std.proofs.Common.{◌≡◌, ℕ, ◌<◌, List, [], ◌∷◌, length, Option, refl, sym, subst, ◌∙◌}
+use Rattle.std.proofs.Common.{◌≡◌, ℕ, ◌<◌, List, [], ◌∷◌, length, Option, None, false, refl, sym, subst, ◌∙◌}
 use Rattle.std.specs.Option.{option_to_list}
 use Rattle.std.proofs.lemmas.List.{append-nil}
 use Rattle.nb_units.specs.declared.charter.Charter.{Charter}
@@ -43,14 +43,15 @@ module _ (charter : Charter) (cap : ℕ) (over : List Entry) (place : ℕ) (e : 
 
 -- a turn that decided so is what came of the entry
 pub decides_in : {D : Type 0} (tells : DiskTells D) (old new : Chronicled D) (by place : ℕ) (e : Entry) (how : TakeIn) (over : List Entry)
-    → WentBy (house_told (entry_taken e how)) tells old new by nothing_asked (Decides over) (length over ∷ []) [] [] → IsJudged old.origin.charter old.origin.cap over place e how → TakesIn tells old new by place e how
-decides_in tells old new by place e takes.Taken over went judged = record { over = over; went = went; judged = judged }
-decides_in tells old new by place e takes.Same over went judged = record { over = over; went = went; judged = judged }
-decides_in tells old new by place e takes.Other over went judged = record { over = over; went = went; judged = judged }
-decides_in tells old new by place e takes.Ahead over went judged = record { over = over; went = went; judged = judged }
-decides_in tells old new by place e takes.Illegal over went judged = record { over = over; went = went; judged = judged }
-decides_in tells old new by place e (takes.DiskFault before after) over went judged = absurd judged
-decides_in tells old new by place e (takes.Worn faults) over went judged = absurd judged
+    → WentBy (house_told (entry_taken e how)) tells old new by nothing_asked (Decides over) (length over ∷ []) [] [] → IsJudged old.origin.charter old.origin.cap over place e how
+    → (old.stale ≡ false → entry_taken e how ≡ None → tells.faults new.disk ≡ tells.faults old.disk) → TakesIn tells old new by place e how
+decides_in tells old new by place e takes.Taken over went judged still = record { over = over; went = went; judged = judged; still = still }
+decides_in tells old new by place e takes.Same over went judged still = record { over = over; went = went; judged = judged; still = still }
+decides_in tells old new by place e takes.Other over went judged still = record { over = over; went = went; judged = judged; still = still }
+decides_in tells old new by place e takes.Ahead over went judged still = record { over = over; went = went; judged = judged; still = still }
+decides_in tells old new by place e takes.Illegal over went judged still = record { over = over; went = went; judged = judged; still = still }
+decides_in tells old new by place e (takes.DiskFault before after) over went judged still = absurd judged
+decides_in tells old new by place e (takes.Worn faults) over went judged still = absurd judged
 
 -- what is said of an answer to requests is said of it
 pub where_durable : {D : Type 0} (tells : DiskTells D) (new : Chronicled D) (how : TakeIn) → all_in how ≡ all.Answered → IsDurable tells new → DurableWhere tells new (all_in how)

@@ -1,5 +1,5 @@
 -- How a vault takes in an entry that another vault has at a place of its list.
-use Rattle.std.specs.Prelude.{◌≡◌, ◌⊎◌, ℕ, ◌<◌, List, [], ◌∷◌, length, Option, None, Some, slice_get}
+use Rattle.std.specs.Prelude.{◌≡◌, ◌⊎◌, ℕ, ◌<◌, List, [], ◌∷◌, length, Option, None, Some, false, slice_get}
 use Rattle.nb_units.specs.declared.charter.Charter.{Charter}
 use Rattle.nb_port.specs.Tells.{DiskTells}
 use Rattle.nb_book.specs.declared.entry.Entry.{Entry}
@@ -38,11 +38,13 @@ house_told told = record { rules = λ (over : List Entry) (request : Request). r
 abbrev pub nothing_asked : List Request
 nothing_asked = record { kind = 0; body = []; moment = 0 } ∷ []
 
--- what was in doubt is settled, and the entry is judged by what stands then: it is recorded, or nothing is
+-- what was in doubt is settled, and the entry is judged by what stands then: it is recorded, or nothing is. Where nothing was in doubt and nothing
+-- is recorded, no call of the disk failed
 pub record DecidesIn {D : Type 0} (tells : DiskTells D) (old new : Chronicled D) (by place : ℕ) (e : Entry) (how : TakeIn) : Type 0 where
   pub over : List Entry
   pub went : WentBy (house_told (entry_taken e how)) tells old new by nothing_asked (Decides over) (length over ∷ []) [] []
   pub judged : IsJudged old.origin.charter old.origin.cap over place e how
+  pub still : old.stale ≡ false → entry_taken e how ≡ None → tells.faults new.disk ≡ tells.faults old.disk
 
 -- the entry is the next one behind what stands after settling, and could not be made durable
 pub record DoubtsIn {D : Type 0} (tells : DiskTells D) (old new : Chronicled D) (by place : ℕ) (e : Entry) (before after : ℕ) : Type 0 where

@@ -98,6 +98,7 @@ returns-in-Ok-commit-clause-turn g c =
     let over = subst (λ (es : List Entry). IsJudged old.records.charter old.records.book.cap es c.args.place e how) (sym c.admit-how.ensures.over) judged in
     decides_in tells (seen_as old) (seen_as c.commit.new.self) c.args.by c.args.place e how (over_of p.records)
     (decided_went (house_told told) tells old mid p c.args.by nothing_asked steps c.commit.new.self done vault c.in-Ok-commit.ensures.writes c.commit.ensures.idle c.ready.ensures.any_moment c.commit.ensures.any_moment (length (over_of p.records) ∷ []) [] [] refl refl) over
+    (λ fresh none. ap (λ (d : _). tells.faults d) (c.commit.ensures.idle (group ∙ ap (λ (t : Option Entry). option_to_list t) none)) ∙ ap (λ (j : Journal _). tells.faults j.disk) c.admit-how.ensures.journal ∙ c.ready.ensures.idle fresh)
 
 pub returns-in-Ok-commit-clause-any_moment : goal.returns-in-Ok-commit-clause-any_moment
 returns-in-Ok-commit-clause-any_moment g c =
