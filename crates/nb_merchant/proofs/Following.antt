@@ -18,6 +18,8 @@ use Rattle.nb_endorse.specs.declared.receipt.Receipt.{Receipt}
 use Rattle.nb_goods.specs.declared.limits.TheConstants.{MAX_GOODS, PART_BYTES}
 use Rattle.nb_goods.specs.Goods.{sealed_goods}
 use Rattle.nb_price.specs.Products.{Product, product_in}
+use Rattle.nb_groups.specs.Offers.{Tariff}
+use Rattle.nb_groups.specs.Quote.{offers_shown, quoted_of}
 use Rattle.nb_msgs.specs.declared.message.Message.{Message}
 use Rattle.nb_msgs.specs.declared.message.Message.TheVariants as message
 use Rattle.nb_msgs.specs.declared.node.Reason.{Reason}
@@ -109,12 +111,24 @@ price_given : (o : Option Product) (price : Price) → table.price_of o ≡ Ok p
 price_given None price e = absurd cc
 price_given (Some product) price e = refl
 
-first_quote_follows : (shop : Shop) (session : List ℕ) (consumer : PartyId) (r : PriceRequest) (a : Answer) → sale_in shop.items (table.purchase_by consumer r.transaction) ≡ None
-    → table.first_quote shop.products session consumer r ≡ Ok a → Follows shop a
+-- a quote is of a product that the catalogue has
+quote_given : (o : Option Product) (tariff : Tariff) (product : ℕ) (consumer : PartyId) (request : List ℕ) (moment : ℕ) (price : Price)
+    → table.price_quoted (quoted_of product o (offers_shown tariff product consumer request moment)) ≡ Ok price → is_some o ≡ true
+quote_given None tariff product consumer request moment price e = absurd cc
+quote_given (Some p) tariff product consumer request moment price e = refl
+
+first_given : (products : List Product) (offers : Option Tariff) (product : ℕ) (consumer : PartyId) (request : List ℕ) (moment : ℕ) (price : Price)
+    → table.first_price products offers product consumer request moment ≡ Ok price → is_some (product_in products product) ≡ true
+first_given products None product consumer request moment price e = price_given (product_in products product) price e
+first_given products (Some tariff) product consumer request moment price e =
+    quote_given (product_in products product) tariff product consumer request moment price e
+
+first_quote_follows : (shop : Shop) (session : List ℕ) (consumer : PartyId) (r : PriceRequest) (moment : ℕ) (a : Answer) → sale_in shop.items (table.purchase_by consumer r.transaction) ≡ None
+    → table.first_quote shop.products shop.offers session consumer r moment ≡ Ok a → Follows shop a
 unfolding table.first_quote
-first_quote_follows shop session consumer r a none e =
-    let price = inside (table.price_of (product_in shop.products r.product)) _ a e in
-    let known : is_some (product_in shop.products r.product) ≡ true = price_given (product_in shop.products r.product) price.0 price.1 in
+first_quote_follows shop session consumer r moment a none e =
+    let price = inside (table.first_price shop.products shop.offers r.product consumer r.request moment) _ a e in
+    let known : is_some (product_in shop.products r.product) ≡ true = first_given shop.products shop.offers r.product consumer r.request moment price.0 price.1 in
     let p = table.purchase_by consumer r.transaction in
     let x = item.Quoted p r.product price.0 (request_digest r) in
     subst (Follows shop) (answer_is _ a price.2)
@@ -128,17 +142,17 @@ quote_again_follows shop session consumer r sale a there e =
     let same = inside (field 1 (bytes_eq (request_digest r) sale.request)) _ a e in
     subst (Follows shop) (answer_is _ a same.2) (tt, quotes shop (shop.items ++ []) p sale session (behind_none shop p sale there))
 
-quoted_follows : (shop : Shop) (session : List ℕ) (consumer : PartyId) (r : PriceRequest) (o : Option Sale) (a : Answer) → sale_in shop.items (table.purchase_by consumer r.transaction) ≡ o
-    → table.quoted shop.products session consumer r o ≡ Ok a → Follows shop a
-quoted_follows shop session consumer r None a is e = first_quote_follows shop session consumer r a is e
-quoted_follows shop session consumer r (Some sale) a is e = quote_again_follows shop session consumer r sale a is e
+quoted_follows : (shop : Shop) (session : List ℕ) (consumer : PartyId) (r : PriceRequest) (moment : ℕ) (o : Option Sale) (a : Answer) → sale_in shop.items (table.purchase_by consumer r.transaction) ≡ o
+    → table.quoted shop.products shop.offers session consumer r moment o ≡ Ok a → Follows shop a
+quoted_follows shop session consumer r moment None a is e = first_quote_follows shop session consumer r moment a is e
+quoted_follows shop session consumer r moment (Some sale) a is e = quote_again_follows shop session consumer r sale a is e
 
 price_follows : (shop : Shop) (ticket sealed : List ℕ) (moment : ℕ) (a : Answer) → table.price_asked shop ticket sealed moment ≡ Ok a → Follows shop a
 unfolding table.price_asked
 price_follows shop ticket sealed moment a e =
     let t = inside (ticket_in shop.stall ticket moment) _ a e in
     let r = inside (opened price_request_of t.0.session (codes "m001") sealed) _ a t.2 in
-    quoted_follows shop t.0.session t.0.consumer r.0 (sale_in shop.items (table.purchase_by t.0.consumer r.0.transaction)) a refl r.2
+    quoted_follows shop t.0.session t.0.consumer r.0 moment (sale_in shop.items (table.purchase_by t.0.consumer r.0.transaction)) a refl r.2
 
 -- a request for goods
 serial_is : (next serial : ℕ) → table.left_serial next ≡ Ok serial → serial ≡ next

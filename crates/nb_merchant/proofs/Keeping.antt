@@ -24,7 +24,7 @@ use Rattle.nb_stall.specs.Sales.{is_same, progressed, moved, told, sale_from, sa
 use Rattle.nb_goods.specs.Parts.{parts_of}
 use Rattle.nb_merchant.specs.declared.answer.Planned.{Planned}
 use Rattle.nb_merchant.specs.declared.answer.Halt.{Halt}
-use Rattle.nb_merchant.specs.Shop.{Shop, goods_in, new_shop, with_item}
+use Rattle.nb_merchant.specs.Shop.{Shop, goods_in, unkept, with_item}
 use Rattle.nb_stall.specs.Messages.{key_of}
 use Rattle.nb_merchant.specs.Keeping.{delivery_follows, of_sale, follows, all_follow, IsKept}
 use Rattle.nb_stall.specs.Ledger.{noted, noted_at}
@@ -61,7 +61,7 @@ all_more [] x all is = (is, tt)
 all_more (y ∷ items) x all is = (all.0, all_more items x all.1 is)
 
 pub kept_more : (shop : Shop) (x : Item) → IsKept shop → IsItem x → follows shop x ≡ true → IsKept (with_item shop x)
-kept_more shop x kept is next = record { all = all_more shop.items x kept.all is; follow = follow_more (new_shop shop.stall shop.products) shop.items x kept.follow next }
+kept_more shop x kept is next = record { all = all_more shop.items x kept.all is; follow = follow_more (unkept shop) shop.items x kept.follow next }
 
 -- ---- what is held
 

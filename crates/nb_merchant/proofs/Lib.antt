@@ -7,4 +7,5 @@ pub mod Sent
 pub mod Restarting
 pub mod Shelves
 pub mod Serving
+pub mod Quoting
 pub mod Running

@@ -5,7 +5,7 @@ use Rattle.nb_units.specs.Frames.{AreBytes}
 use Rattle.nb_stall.specs.declared.item.Item.{Item}
 use Rattle.nb_stall.specs.Spelling.{IsItem, item_bytes}
 use Rattle.nb_stall.specs.Reading.{item_of}
-use Rattle.nb_merchant.specs.Shop.{Shop, new_shop, with_item}
+use Rattle.nb_merchant.specs.Shop.{Shop, new_shop, unkept, with_item}
 use Rattle.nb_merchant.specs.Keeping.{follows, all_follow, taken_up, or_bad, restarted, IsKept}
 use Rattle.nb_merchant.specs.Laws.{RestartGivesBack, RestartKeepsItems}
 use Rattle.nb_stall.proofs.Layouts.{item_reads_back, item_spells_back}
@@ -23,7 +23,7 @@ restarts start (x ∷ items) i all follow =
     ∙ ap (λ (xs : List Item). let r : Result Shop ℕ = Ok (record start { items = xs }) in r) (append_assoc start.items (x ∷ []) items)
 
 pub restart_gives_back : RestartGivesBack
-restart_gives_back shop kept = restarts (new_shop shop.stall shop.products) shop.items 0 kept.all kept.follow
+restart_gives_back shop kept = restarts (unkept shop) shop.items 0 kept.all kept.follow
 
 -- ---- a restart over any items
 
@@ -65,11 +65,12 @@ took start (bytes ∷ more) i shop are e = by (λ next rest. took next more (i +
     by rest (Err place) is e = absurd cc
 
 pub restart_keeps_items : RestartKeepsItems
-restart_keeps_items stall products journal shop are e =
-    let t = took (new_shop stall products) journal 0 shop are e in
+restart_keeps_items stall products offers journal shop are e =
+    let t = took (new_shop stall products offers) journal 0 shop are e in
     let spells : map item_bytes shop.items ≡ journal = ap (λ (s : Shop). map item_bytes s.items) t.is ∙ t.spelled in (
       ap (λ (s : Shop). s.stall) t.is,
       ap (λ (s : Shop). s.products) t.is,
+      ap (λ (s : Shop). s.offers) t.is,
       spells,
       subst IsKept (sym t.is) (record { all = t.all; follow = t.follow }),
     )

@@ -6,6 +6,7 @@ use Rattle.std.specs.List.{AllByRecursion}
 use Rattle.nb_endorse.specs.Reading.{signed_of}
 use Rattle.nb_endorse.specs.declared.receipt.Receipt.{Receipt}
 use Rattle.nb_price.specs.Products.{Product}
+use Rattle.nb_groups.specs.Offers.{Tariff}
 use Rattle.nb_msgs.specs.declared.message.Message.{Message}
 use Rattle.nb_msgs.specs.declared.message.Message.TheVariants as message
 use Rattle.nb_msgs.specs.declared.node.Reason.{Reason}
@@ -23,7 +24,7 @@ use Rattle.nb_stall.specs.Sales.{sale_in, deliveries_in, next_serial, sold_as}
 use Rattle.nb_msgs.specs.Tests.{field, found, opened}
 use Rattle.nb_stall.specs.Ledger.{serials_from}
 use Rattle.nb_merchant.specs.declared.answer.Answer.{Answer}
-use Rattle.nb_merchant.specs.Shop.{Shop, new_shop, with_item}
+use Rattle.nb_merchant.specs.Shop.{Shop, new_shop, unkept, with_item}
 use Rattle.nb_merchant.specs.Table as table
 use Rattle.nb_merchant.specs.Keeping.{follows, all_follow, taken_up, or_bad, restarted, AllFollow, IsKept}
 use Rattle.nb_merchant.specs.Laws.{Word, done_at, Event, Leads, Runs, RunsAreKept, NoSerialAgain, PassedIsHeard, SentFollows}
@@ -55,12 +56,12 @@ all_append [] ys first second = second
 all_append (x ∷ xs) ys first second = (first.0, all_append xs ys first.1 second)
 
 pub after_follows : (shop : Shop) (row : Result Answer Reason) → ((a : Answer) → row ≡ Ok a → Follows shop a) → AllFollow shop → AllFollow (table.after shop row)
-after_follows shop (Err why) each all = subst (λ (items : List Item). all_follow (new_shop shop.stall shop.products) items ≡ true) (sym (append-nil shop.items)) all
+after_follows shop (Err why) each all = subst (λ (items : List Item). all_follow (unkept shop) items ≡ true) (sym (append-nil shop.items)) all
 after_follows shop (Ok a) each all = by a.keep (each a refl).0
   where
-    by : (keep : Option Item) → IfSome keep (λ x. follows shop x ≡ true) → all_follow (new_shop shop.stall shop.products) (shop.items ++ table.listed keep) ≡ true
-    by None next = subst (λ (items : List Item). all_follow (new_shop shop.stall shop.products) items ≡ true) (sym (append-nil shop.items)) all
-    by (Some x) next = follow_more (new_shop shop.stall shop.products) shop.items x all next
+    by : (keep : Option Item) → IfSome keep (λ x. follows shop x ≡ true) → all_follow (unkept shop) (shop.items ++ table.listed keep) ≡ true
+    by None next = subst (λ (items : List Item). all_follow (unkept shop) items ≡ true) (sym (append-nil shop.items)) all
+    by (Some x) next = follow_more (unkept shop) shop.items x all next
 
 does_next : (old new : Shop) (row : Result Answer Reason) → ((a : Answer) → row ≡ Ok a → Follows old a) → IsKept old → (new ≡ table.after old row) × AllByRecursion IsItem (table.kept_by row) → Next old new
 does_next old new row each kept does =
@@ -87,9 +88,9 @@ restart_same start (x ∷ items) i shop all e =
         (r.0 ∙ ap (λ (xs : List Item). record start { items = xs }) (append_assoc start.items (x ∷ []) items), rw (may, r.1) refl)
     by rest false may e = absurd cc
 
-starts_next : (old new : Shop) (products : List Product) → IsKept old → restarted (new_shop old.stall products) 0 (map item_bytes old.items) ≡ Ok new → Next old new
-starts_next old new products kept e =
-    let r = restart_same (new_shop old.stall products) old.items 0 new kept.all e in
+starts_next : (old new : Shop) (products : List Product) (offers : Option Tariff) → IsKept old → restarted (new_shop old.stall products offers) 0 (map item_bytes old.items) ≡ Ok new → Next old new
+starts_next old new products offers kept e =
+    let r = restart_same (new_shop old.stall products offers) old.items 0 new kept.all e in
     record {
       kept = subst IsKept (sym r.0) (record { all = kept.all; follow = r.1 });
       stall = ap (λ (s : Shop). s.stall) r.0;
@@ -109,7 +110,7 @@ sent_follows shop w a follow is =
 
 leads_next : (old new : Shop) (e : Event) → IsKept old → Leads old e new → Next old new
 leads_next old new (Hears w) kept leads = does_next old new (done_at old w) (word_follows old w) kept leads
-leads_next old new (Starts products) kept leads = starts_next old new products kept leads
+leads_next old new (Starts products offers) kept leads = starts_next old new products offers kept leads
 
 -- ---- events
 
@@ -148,11 +149,11 @@ no_serial_again first events shop kept runs = (next.more, next.items, differ)
     next = runs_next first events shop kept runs
 
     behind : all_follow (record shop { items = first.items }) next.more ≡ true
-    behind = (front_follows (new_shop shop.stall shop.products) first.items next.more (subst (λ (xs : List Item). all_follow (new_shop shop.stall shop.products) xs ≡ true) next.items next.kept.follow)).1
+    behind = (front_follows (unkept shop) first.items next.more (subst (λ (xs : List Item). all_follow (unkept shop) xs ≡ true) next.items next.kept.follow)).1
 
     differ : (i j : ℕ) (d e : Delivery) → slice_get (deliveries_in first.items) i ≡ Some d → slice_get (deliveries_in next.more) j ≡ Some e → d.epoid.serial < e.epoid.serial
     differ i j d e before later =
-        let low = serial_at 1 (deliveries_in first.items) (serials_kept (new_shop first.stall first.products) first.items kept.follow) i d before in
+        let low = serial_at 1 (deliveries_in first.items) (serials_kept (unkept first) first.items kept.follow) i d before in
         let high = serial_at (next_serial first.items) (deliveries_in next.more) (serials_kept (record shop { items = first.items }) next.more behind) j e later in
         omega (arith, low.1, high.0)
 
@@ -257,9 +258,9 @@ row_came held shop w (Err why) e = tt
 leads_came : (held : List Item) (past : List Event) (old new : Shop) (e : Event) → IsKept old → Leads old e new → AllCame held past old.items → AllCame held (past ++ e ∷ []) new.items
 leads_came held past old new (Hears w) kept leads all =
     subst (AllCame held (past ++ Hears w ∷ [])) (sym (ap (λ (s : Shop). s.items) leads.0)) (all_came held past (Hears w ∷ []) old.items (table.kept_by (done_at old w)) all (row_came held old w (done_at old w) refl))
-leads_came held past old new (Starts products) kept leads all =
-    let same : new.items ≡ old.items = ap (λ (s : Shop). s.items) (restart_same (new_shop old.stall products) old.items 0 new kept.all leads).0 in
-    subst (AllCame held (past ++ Starts products ∷ [])) (append-nil old.items ∙ sym same) (all_came held past (Starts products ∷ []) old.items [] all tt)
+leads_came held past old new (Starts products offers) kept leads all =
+    let same : new.items ≡ old.items = ap (λ (s : Shop). s.items) (restart_same (new_shop old.stall products offers) old.items 0 new kept.all leads).0 in
+    subst (AllCame held (past ++ Starts products offers ∷ [])) (append-nil old.items ∙ sym same) (all_came held past (Starts products offers ∷ []) old.items [] all tt)
 
 runs_came : (held : List Item) (past events : List Event) (first shop : Shop) → IsKept first → Runs first events shop → AllCame held past first.items → AllCame held (past ++ events) shop.items
 runs_came held past [] first shop kept runs all =

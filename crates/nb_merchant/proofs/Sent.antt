@@ -40,7 +40,7 @@ use Rattle.nb_stall.proofs.Lengths.{quote_short, goods_short, endorsement_short}
 use Rattle.nb_stall.specs.Reading.{purchase_of}
 use Rattle.nb_units.specs.Epoid.{is_same_epoid}
 use Rattle.nb_stall.specs.Sales.{is_same, progressed, moved, told, sale_in, next_serial}
-use Rattle.nb_merchant.specs.Shop.{Shop, new_shop, with_item, goods_of, goods_in, sealed_for}
+use Rattle.nb_merchant.specs.Shop.{Shop, unkept, with_item, goods_of, goods_in, sealed_for}
 use Rattle.nb_stall.specs.Messages.{key_of, endorsement_for}
 use Rattle.nb_msgs.specs.Tests.{field, or_seal}
 use Rattle.nb_merchant.specs.Table as table
@@ -193,7 +193,7 @@ sales_kept start (x ∷ items) all are =
     subst (λ (xs : List Item). SalesAre (record start { items = xs })) (append_assoc start.items (x ∷ []) items) (sales_kept (with_item start x) items parts.1 (sales_more start x parts.0 are))
 
 pub sales_are : (shop : Shop) → AllFollow shop → SalesAre shop
-sales_are shop follow = sales_kept (new_shop shop.stall shop.products) shop.items follow (λ p. tt)
+sales_are shop follow = sales_kept (unkept shop) shop.items follow (λ p. tt)
 
 -- ---- what was sent
 

@@ -16,7 +16,7 @@ use Rattle.nb_stall.specs.declared.sale.Progress.TheVariants as progress
 use Rattle.nb_stall.specs.declared.sale.Sale.{Sale}
 use Rattle.nb_stall.specs.Sales.{sale_in, deliveries_in, next_serial}
 use Rattle.nb_merchant.specs.Laws.{SerialsFollow, IdentifiersDiffer}
-use Rattle.nb_merchant.specs.Shop.{Shop, new_shop, goods_in, with_item}
+use Rattle.nb_merchant.specs.Shop.{Shop, unkept, goods_in, with_item}
 use Rattle.nb_merchant.specs.Keeping.{delivery_follows, of_sale, follows, all_follow}
 use Rattle.nb_stall.specs.Ledger.{serials_from}
 use Rattle.nb_merchant.specs.Noting.{SealsAs, SealsNext}
@@ -107,7 +107,7 @@ at_place id n (e ∷ ds) follow of_id (suc i) d there =
 
 pub serials_follow : SerialsFollow
 serials_follow shop kept i d there =
-    at_place shop.stall.id 1 (deliveries_in shop.items) (serials_kept (new_shop shop.stall shop.products) shop.items kept.follow) (merchants_kept (new_shop shop.stall shop.products) shop.items kept.follow) i d there
+    at_place shop.stall.id 1 (deliveries_in shop.items) (serials_kept (unkept shop) shop.items kept.follow) (merchants_kept (unkept shop) shop.items kept.follow) i d there
 
 pub identifiers_differ : IdentifiersDiffer
 identifiers_differ shop kept i j d e first second same =

@@ -10,7 +10,8 @@ use Rattle.nb_body.specs.declared.goods_request.GoodsRequest.{GoodsRequest}
 use Rattle.nb_body.specs.Reading.{price_request_of, goods_request_of, payment_request_of}
 use Rattle.nb_goods.specs.declared.limits.TheConstants.{MAX_GOODS, PART_BYTES}
 use Rattle.nb_goods.specs.Goods.{sealed_goods}
-use Rattle.nb_price.specs.Products.{Product, product_in}
+use Rattle.nb_price.specs.Products.{Product}
+use Rattle.nb_groups.specs.Offers.{Tariff}
 use Rattle.nb_msgs.specs.declared.message.Message.{Message}
 use Rattle.nb_msgs.specs.declared.message.Message.TheVariants as message
 use Rattle.nb_msgs.specs.declared.node.Reason.{Reason}
@@ -54,14 +55,15 @@ hands_in p order m = ((refl, inr refl), tt)
 hands_in_again : (consumer : PartyId) (m : Message) → Given consumer (record { keep = None; to = to.Server; message = m })
 hands_in_again consumer m = ((tt, inr refl), tt)
 
-quoted_served : (products : List Product) (session : List ℕ) (consumer : PartyId) (r : PriceRequest) (o : Option Sale) (a : Answer) → table.quoted products session consumer r o ≡ Ok a → Given consumer a
+quoted_served : (products : List Product) (offers : Option Tariff) (session : List ℕ) (consumer : PartyId) (r : PriceRequest) (moment : ℕ) (o : Option Sale) (a : Answer)
+    → table.quoted products offers session consumer r moment o ≡ Ok a → Given consumer a
 unfolding table.first_quote table.quote_again
-quoted_served products session consumer r None a e =
-    let price = inside (table.price_of (product_in products r.product)) _ a e in
+quoted_served products offers session consumer r moment None a e =
+    let price = inside (table.first_price products offers r.product consumer r.request moment) _ a e in
     let p = table.purchase_by consumer r.transaction in
     subst (Given consumer) (answer_is _ a price.2)
     (keeps_for p (item.Quoted p r.product price.0 (request_digest r)) (quote_message session (record { transaction = r.transaction; product = r.product; price = price.0 })) refl tt)
-quoted_served products session consumer r (Some sale) a e =
+quoted_served products offers session consumer r moment (Some sale) a e =
     let same = inside (field 1 (bytes_eq (request_digest r) sale.request)) _ a e in
     subst (Given consumer) (answer_is _ a same.2) (sends_to consumer (quote_message session (record { transaction = r.transaction; product = sale.product; price = sale.price })))
 
@@ -105,7 +107,7 @@ unfolding table.price_asked
 price_served shop ticket sealed moment a e =
     let t = inside (ticket_in shop.stall ticket moment) _ a e in
     let r = inside (opened price_request_of t.0.session (codes "m001") sealed) _ a t.2 in
-    (t.0.consumer, ap table.asker_of t.1, quoted_served shop.products t.0.session t.0.consumer r.0 (sale_in shop.items (table.purchase_by t.0.consumer r.0.transaction)) a r.2)
+    (t.0.consumer, ap table.asker_of t.1, quoted_served shop.products shop.offers t.0.session t.0.consumer r.0 moment (sale_in shop.items (table.purchase_by t.0.consumer r.0.transaction)) a r.2)
 
 goods_served : (shop : Shop) (ticket sealed : List ℕ) (moment : ℕ) (a : Answer) → table.goods_asked shop ticket sealed moment ≡ Ok a → TicketServed shop ticket moment a
 unfolding table.goods_asked

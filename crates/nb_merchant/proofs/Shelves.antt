@@ -14,6 +14,7 @@ use Rattle.nb_goods.specs.declared.limits.TheConstants.{MAX_GOODS}
 use Rattle.nb_goods.specs.Goods.{sealed_goods}
 use Rattle.nb_goods.specs.Collision.{Collision}
 use Rattle.nb_price.specs.Products.{Product, product_in}
+use Rattle.nb_groups.specs.Offers.{Tariff}
 use Rattle.nb_stall.specs.declared.purchase.Purchase.{Purchase}
 use Rattle.nb_stall.specs.declared.item.Item.{Item}
 use Rattle.nb_stall.specs.declared.item.Item.TheVariants as item
@@ -24,7 +25,7 @@ use Rattle.nb_stall.specs.Spelling.{IsItem, item_bytes}
 use Rattle.nb_stall.specs.Reading.{item_of, purchase_of}
 use Rattle.nb_stall.specs.Sales.{is_same, progressed, moved, told, sale_from, sale_in, stage_of, epoid_in, next_serial}
 use Rattle.nb_stall.specs.Messages.{key_of}
-use Rattle.nb_merchant.specs.Shop.{Shop, new_shop, with_item, goods_in, sealed_for}
+use Rattle.nb_merchant.specs.Shop.{Shop, new_shop, unkept, with_item, goods_in, sealed_for}
 use Rattle.nb_merchant.specs.Table.{order_taken}
 use Rattle.nb_merchant.specs.Keeping.{is_sealed_next, delivery_follows, order_follows, result_follows, of_sale, follows, all_follow, taken_up, or_bad, restarted, IsKept}
 use Rattle.nb_merchant.specs.Laws.{stage_in, stage_behind, NoneOf, LastItemTells, Serves, ServesAll, ShelvesMayChange, LostProductIsBad, OtherGoodsAreBad}
@@ -46,9 +47,9 @@ front_follows start (x ∷ front) back all =
 
 -- an item in what was kept may stand behind those before it
 item_follows : (shop : Shop) (front back : List Item) (x : Item) → IsKept shop → shop.items ≡ front ++ x ∷ back
-    → (all_follow (new_shop shop.stall shop.products) front ≡ true) × (follows (record shop { items = front }) x ≡ true)
+    → (all_follow (unkept shop) front ≡ true) × (follows (record shop { items = front }) x ≡ true)
 item_follows shop front back x kept is =
-    let there = front_follows (new_shop shop.stall shop.products) front (x ∷ back) (subst (λ (xs : List Item). all_follow (new_shop shop.stall shop.products) xs ≡ true) is kept.follow) in
+    let there = front_follows (unkept shop) front (x ∷ back) (subst (λ (xs : List Item). all_follow (unkept shop) xs ≡ true) is kept.follow) in
     (there.0, (both_true (follows (record shop { items = front }) x) (all_follow (with_item (record shop { items = front }) x) back) there.1).0)
 
 sale_behind : (p : Purchase) (sale : Option Sale) (front back : List Item) → sale_from p sale (front ++ back) ≡ sale_from p (sale_from p sale front) back
@@ -201,42 +202,42 @@ delivered_over shop others p epoid checksum (Some sale) may serves =
     by (progress.Endorsed e o) may same = may
     by (progress.Settled e o r) may same = may
 
-endorsed_over : (shop : Shop) (others : List Product) (p : Purchase) (order : List ℕ) (o : Option Sale) → of_sale (λ sale. order_follows shop p order sale sale.progress) o ≡ true
+endorsed_over : (shop : Shop) (others : List Product) (offers : Option Tariff) (p : Purchase) (order : List ℕ) (o : Option Sale) → of_sale (λ sale. order_follows shop p order sale sale.progress) o ≡ true
     → ((sale : Sale) → moved o (item.Endorsed p order) ≡ Some sale → Serves shop.products others sale)
-    → of_sale (λ sale. order_follows (record shop { products = others }) p order sale sale.progress) o ≡ true
-endorsed_over shop others p order None may serves = may
-endorsed_over shop others p order (Some sale) may serves = by sale.progress may (serves (record sale { progress = progressed sale.progress (item.Endorsed p order) }) refl).same
+    → of_sale (λ sale. order_follows (record shop { products = others; offers = offers }) p order sale sale.progress) o ≡ true
+endorsed_over shop others offers p order None may serves = may
+endorsed_over shop others offers p order (Some sale) may serves = by sale.progress may (serves (record sale { progress = progressed sale.progress (item.Endorsed p order) }) refl).same
   where
     by : (before : Progress) → order_follows shop p order sale before ≡ true
         → ((e : Epoid) → epoid_in (progressed before (item.Endorsed p order)) ≡ Some e → goods_in others sale.product ≡ goods_in shop.products sale.product)
-        → order_follows (record shop { products = others }) p order sale before ≡ true
+        → order_follows (record shop { products = others; offers = offers }) p order sale before ≡ true
     by progress.Quoted may same = may
     by (progress.Delivered e) may same =
         subst (λ (goods : List ℕ). is_ok (order_taken shop.stall p sale e (sha256 (sealed_goods (key_of shop.stall e.serial) goods)) order) ≡ true) (sym (same e refl)) may
     by (progress.Endorsed e kept) may same = may
     by (progress.Settled e kept part) may same = may
 
-follows_over : (shop : Shop) (others : List Product) (x : Item) → follows shop x ≡ true
-    → ((sale : Sale) → moved (sale_in shop.items (purchase_of x)) x ≡ Some sale → Serves shop.products others sale) → follows (record shop { products = others }) x ≡ true
-follows_over shop others (item.Quoted p product price request) may serves = quoted_over shop others p product price request (sale_in shop.items p) may serves
-follows_over shop others (item.Delivered p epoid checksum) may serves = delivered_over shop others p epoid checksum (sale_in shop.items p) may serves
-follows_over shop others (item.Endorsed p order) may serves = endorsed_over shop others p order (sale_in shop.items p) may serves
-follows_over shop others (item.Settled p part) may serves = may
+follows_over : (shop : Shop) (others : List Product) (offers : Option Tariff) (x : Item) → follows shop x ≡ true
+    → ((sale : Sale) → moved (sale_in shop.items (purchase_of x)) x ≡ Some sale → Serves shop.products others sale) → follows (record shop { products = others; offers = offers }) x ≡ true
+follows_over shop others offers (item.Quoted p product price request) may serves = quoted_over shop others p product price request (sale_in shop.items p) may serves
+follows_over shop others offers (item.Delivered p epoid checksum) may serves = delivered_over shop others p epoid checksum (sale_in shop.items p) may serves
+follows_over shop others offers (item.Endorsed p order) may serves = endorsed_over shop others offers p order (sale_in shop.items p) may serves
+follows_over shop others offers (item.Settled p part) may serves = may
 
-all_over : (start : Shop) (others : List Product) (items : List Item) → all_follow start items ≡ true → ServesAll start.products others (start.items ++ items)
-    → all_follow (record start { products = others }) items ≡ true
-all_over start others [] all serves = refl
-all_over start others (x ∷ items) all serves =
+all_over : (start : Shop) (others : List Product) (offers : Option Tariff) (items : List Item) → all_follow start items ≡ true → ServesAll start.products others (start.items ++ items)
+    → all_follow (record start { products = others; offers = offers }) items ≡ true
+all_over start others offers [] all serves = refl
+all_over start others offers (x ∷ items) all serves =
     let parts = both_true (follows start x) (all_follow (with_item start x) items) all in
     let rest : ServesAll start.products others ((start.items ++ x ∷ []) ++ items) =
     subst (λ (xs : List Item). ServesAll start.products others xs) (sym (append_assoc start.items (x ∷ []) items)) serves in
     let here = front_served start.products others (start.items ++ x ∷ []) items rest in
-    let first : follows (record start { products = others }) x ≡ true =
-    follows_over start others x parts.0 (λ sale there. here (purchase_of x) sale (behind start.items x ∙ there)) in
-    rw (first, all_over (with_item start x) others items parts.1 rest) refl
+    let first : follows (record start { products = others; offers = offers }) x ≡ true =
+    follows_over start others offers x parts.0 (λ sale there. here (purchase_of x) sale (behind start.items x ∙ there)) in
+    rw (first, all_over (with_item start x) others offers items parts.1 rest) refl
 
 pub shelves_may_change : ShelvesMayChange
-shelves_may_change shop others kept serves = record { all = kept.all; follow = all_over (new_shop shop.stall shop.products) others shop.items kept.follow serves }
+shelves_may_change shop others offers kept serves = record { all = kept.all; follow = all_over (unkept shop) others offers shop.items kept.follow serves }
 
 -- ---- shelves that lost something
 
@@ -257,28 +258,28 @@ stops start (y ∷ front) back x i all may not =
     ∙ ap (λ (n : ℕ). let r : Result Shop ℕ = Err n in r) place
 
 -- so with a shelf that serves the sales before an item, and not this one
-is_bad : (shop : Shop) (others : List Product) (front back : List Item) (x : Item) → IsKept shop → shop.items ≡ front ++ x ∷ back → ServesAll shop.products others front
-    → follows (record { stall = shop.stall; products = others; items = front }) x ≡ false → restarted (new_shop shop.stall others) 0 (map item_bytes shop.items) ≡ Err (length front)
-is_bad shop others front back x kept is serves not =
-    let start = new_shop shop.stall shop.products in
-    let may : all_follow (new_shop shop.stall others) front ≡ true = all_over start others front (item_follows shop front back x kept is).0 serves in
+is_bad : (shop : Shop) (others : List Product) (offers : Option Tariff) (front back : List Item) (x : Item) → IsKept shop → shop.items ≡ front ++ x ∷ back → ServesAll shop.products others front
+    → follows (record shop { products = others; offers = offers; items = front }) x ≡ false → restarted (new_shop shop.stall others offers) 0 (map item_bytes shop.items) ≡ Err (length front)
+is_bad shop others offers front back x kept is serves not =
+    let start = unkept shop in
+    let may : all_follow (new_shop shop.stall others offers) front ≡ true = all_over start others offers front (item_follows shop front back x kept is).0 serves in
     let all : AllByRecursion IsItem (front ++ x ∷ back) = subst (AllByRecursion IsItem) is kept.all in
     let place : 0 + length front ≡ length front = omega arith in
-    ap (λ (items : List Item). restarted (new_shop shop.stall others) 0 (map item_bytes items)) is ∙ stops (new_shop shop.stall others) front back x 0 all may not
+    ap (λ (items : List Item). restarted (new_shop shop.stall others offers) 0 (map item_bytes items)) is ∙ stops (new_shop shop.stall others offers) front back x 0 all may not
     ∙ ap (λ (n : ℕ). let r : Result Shop ℕ = Err n in r) place
 
 pub lost_product_is_bad : LostProductIsBad
-lost_product_is_bad shop others front back p product price request kept is serves lost =
+lost_product_is_bad shop others offers front back p product price request kept is serves lost =
     let x = item.Quoted p product price request in
     let first = both_true (is_none (sale_in front p)) (is_some (product_in shop.products product)) (item_follows shop front back x kept is).1 in
-    is_bad shop others front back x kept is serves (rw (first.0, lost) refl)
+    is_bad shop others offers front back x kept is serves (rw (first.0, lost) refl)
 
 and_false : (a b : Bool) → b ≡ false → (a && b) ≡ false
 and_false true b is = is
 and_false false b is = refl
 
 pub other_goods_are_bad : OtherGoodsAreBad
-other_goods_are_bad shop others front back p epoid checksum sale kept is serves there apart =
+other_goods_are_bad shop others offers front back p epoid checksum sale kept is serves there apart =
     by sale.progress refl (subst (λ (o : Option Sale). of_sale (λ sale. delivery_follows shop.stall (goods_in shop.products sale.product) (next_serial front) epoid checksum sale.progress) o ≡ true) there (item_follows shop front back x kept is).1)
   where
     x : Item
@@ -291,7 +292,7 @@ other_goods_are_bad shop others front back p epoid checksum sale kept is serves 
     front_of goods = epoid.merchant.0 == shop.stall.id.0 && epoid.serial == next_serial front && nat_le (length goods) MAX_GOODS
 
     compared : sale.progress ≡ progress.Quoted → checksum ≡ sha256 (sealed_goods key (goods_in shop.products sale.product)) → (same : Bool) → bytes_eq checksum (sha256 (sealed_goods key (goods_in others sale.product))) ≡ same
-        → (restarted (new_shop shop.stall others) 0 (map item_bytes shop.items) ≡ Err (length front))
+        → (restarted (new_shop shop.stall others offers) 0 (map item_bytes shop.items) ≡ Err (length front))
         ⊎ Collision (sealed_for shop.stall others epoid.serial sale.product) (sealed_for shop.stall shop.products epoid.serial sale.product)
     compared quoted sealed true e =
         let one : checksum ≡ sha256 (sealed_goods key (goods_in others sale.product)) = (bytes_eq-Decides checksum (sha256 (sealed_goods key (goods_in others sale.product)))).0 e in
@@ -301,11 +302,11 @@ other_goods_are_bad shop others front back p epoid checksum sale kept is serves 
         })
     compared quoted sealed false e =
         let bad : is_sealed_next shop.stall (goods_in others sale.product) (next_serial front) epoid checksum ≡ false = and_false (front_of (goods_in others sale.product)) _ e in
-        let not : follows (record { stall = shop.stall; products = others; items = front }) x ≡ false = rw (there, quoted) bad in
-        inl (is_bad shop others front back x kept is serves not)
+        let not : follows (record shop { products = others; offers = offers; items = front }) x ≡ false = rw (there, quoted) bad in
+        inl (is_bad shop others offers front back x kept is serves not)
 
     by : (before : Progress) → sale.progress ≡ before → delivery_follows shop.stall (goods_in shop.products sale.product) (next_serial front) epoid checksum before ≡ true
-        → (restarted (new_shop shop.stall others) 0 (map item_bytes shop.items) ≡ Err (length front))
+        → (restarted (new_shop shop.stall others offers) 0 (map item_bytes shop.items) ≡ Err (length front))
         ⊎ Collision (sealed_for shop.stall others epoid.serial sale.product) (sealed_for shop.stall shop.products epoid.serial sale.product)
     by progress.Quoted quoted may =
         let digest = both_true (front_of (goods_in shop.products sale.product)) (bytes_eq checksum (sha256 (sealed_goods key (goods_in shop.products sale.product)))) may in

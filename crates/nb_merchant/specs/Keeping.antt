@@ -18,7 +18,7 @@ use Rattle.nb_stall.specs.declared.sale.Sale.{Sale}
 use Rattle.nb_stall.specs.Spelling.{IsItem}
 use Rattle.nb_stall.specs.Reading.{item_of}
 use Rattle.nb_stall.specs.Sales.{sale_in, next_serial}
-use Rattle.nb_merchant.specs.Shop.{Shop, new_shop, with_item, goods_in, sealed_for}
+use Rattle.nb_merchant.specs.Shop.{Shop, unkept, with_item, goods_in, sealed_for}
 use Rattle.nb_stall.specs.Messages.{key_of}
 use Rattle.nb_merchant.specs.Table.{order_taken}
 
@@ -62,7 +62,7 @@ all_follow shop (x ∷ items) = follows shop x && all_follow (with_item shop x) 
 
 -- each item of a merchant may stand where it does
 abbrev pub AllFollow : Shop → Type 0
-AllFollow shop = all_follow (new_shop shop.stall shop.products) shop.items ≡ true
+AllFollow shop = all_follow (unkept shop) shop.items ≡ true
 
 -- what a merchant kept is so, and each item within its limits
 pub record IsKept (shop : Shop) : Type 0 where

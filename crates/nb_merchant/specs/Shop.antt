@@ -1,7 +1,8 @@
--- What a merchant is seen as: who it is, what it sells, and what it kept.
+-- What a merchant is seen as: who it is, what it sells, what it offers to groups, and what it kept.
 use Rattle.std.specs.Prelude.{ℕ, List, [], ◌∷◌, ◌++◌, Option, Some, None}
 use Rattle.nb_goods.specs.Goods.{sealed_goods}
 use Rattle.nb_price.specs.Products.{Product, product_in}
+use Rattle.nb_groups.specs.Offers.{Tariff}
 use Rattle.nb_stall.specs.declared.stall.Stall.{Stall}
 use Rattle.nb_stall.specs.declared.item.Item.{Item}
 use Rattle.nb_stall.specs.Messages.{key_of}
@@ -10,11 +11,16 @@ use Rattle.nb_stall.specs.Messages.{key_of}
 pub record Shop : Type 0 where
   pub stall : Stall
   pub products : List Product
+  pub offers : Option Tariff
   pub items : List Item
 
--- before anything was kept
-abbrev pub new_shop : Stall → List Product → Shop
-new_shop stall products = record { stall = stall; products = products; items = [] }
+-- one with offers or with none, before anything was kept
+abbrev pub new_shop : Stall → List Product → Option Tariff → Shop
+new_shop stall products offers = record { stall = stall; products = products; offers = offers; items = [] }
+
+-- a merchant as it was before it kept anything
+abbrev pub unkept : Shop → Shop
+unkept shop = record shop { items = [] }
 
 -- with an item more
 abbrev pub with_item : Shop → Item → Shop

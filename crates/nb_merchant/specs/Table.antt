@@ -18,6 +18,10 @@ use Rattle.nb_ticket.specs.declared.ticket.Ticket.{Ticket}
 use Rattle.nb_goods.specs.declared.limits.TheConstants.{MAX_GOODS, PART_BYTES}
 use Rattle.nb_goods.specs.Goods.{sealed_goods}
 use Rattle.nb_price.specs.Products.{Product, product_in}
+use Rattle.nb_price.specs.declared.fault.NoProduct.{NoProduct}
+use Rattle.nb_groups.specs.declared.quoting.Quoted.{Quoted}
+use Rattle.nb_groups.specs.Offers.{Tariff}
+use Rattle.nb_groups.specs.Quote.{quote_of}
 use Rattle.nb_msgs.specs.declared.message.Message.{Message}
 use Rattle.nb_msgs.specs.declared.message.Message.TheVariants as message
 use Rattle.nb_msgs.specs.declared.node.Reason.{Reason}
@@ -58,10 +62,20 @@ abbrev pub price_of : Option Product → Result Price Reason
 price_of None = Err (reason.Field 1)
 price_of (Some product) = Ok (record { 0 = product.price })
 
--- the row of a request for a price of a purchase that is new: the catalogue's price is kept and told
-unfoldable pub first_quote : List Product → List ℕ → PartyId → PriceRequest → Result Answer Reason
-first_quote products session consumer r = do
-  price ← price_of (product_in products r.product)
+-- what it costs by a quote
+abbrev pub price_quoted : Result Quoted NoProduct → Result Price Reason
+price_quoted (Err none) = Err (reason.Field 1)
+price_quoted (Ok quoted) = Ok quoted.price
+
+-- what it costs who asks for it at first with this request at a moment: with offers what is quoted for them, with none the catalogue's price
+abbrev pub first_price : List Product → Option Tariff → ℕ → PartyId → List ℕ → ℕ → Result Price Reason
+first_price products None product consumer request moment = price_of (product_in products product)
+first_price products (Some tariff) product consumer request moment = price_quoted (quote_of products tariff product consumer request moment)
+
+-- of a purchase that is new: that price is kept and told
+unfoldable pub first_quote : List Product → Option Tariff → List ℕ → PartyId → PriceRequest → ℕ → Result Answer Reason
+first_quote products offers session consumer r moment = do
+  price ← first_price products offers r.product consumer r.request moment
   Ok (record {
     keep = Some (item.Quoted (purchase_by consumer r.transaction) r.product price (request_digest r));
     to = to.Consumer consumer;
@@ -79,16 +93,16 @@ quote_again session consumer r sale = do
   })
 
 -- the row of a request for a price, by whether the purchase is known
-abbrev pub quoted : List Product → List ℕ → PartyId → PriceRequest → Option Sale → Result Answer Reason
-quoted products session consumer r None = first_quote products session consumer r
-quoted products session consumer r (Some sale) = quote_again session consumer r sale
+abbrev pub quoted : List Product → Option Tariff → List ℕ → PartyId → PriceRequest → ℕ → Option Sale → Result Answer Reason
+quoted products offers session consumer r moment None = first_quote products offers session consumer r moment
+quoted products offers session consumer r moment (Some sale) = quote_again session consumer r sale
 
 -- the rows of a request for a price: its ticket, its sealed part, and then by the purchase
 unfoldable pub price_asked : Shop → List ℕ → List ℕ → ℕ → Result Answer Reason
 price_asked shop ticket sealed moment = do
   t ← ticket_in shop.stall ticket moment
   r ← opened price_request_of t.session (codes "m001") sealed
-  quoted shop.products t.session t.consumer r (sale_in shop.items (purchase_by t.consumer r.transaction))
+  quoted shop.products shop.offers t.session t.consumer r moment (sale_in shop.items (purchase_by t.consumer r.transaction))
 
 -- ---- a request for goods
 

@@ -35,9 +35,9 @@ TakesUp taken new number (Ok done) = taken ≡ Some new
 TakesUp taken new number (Err (fault.BadItem n)) = (n ≡ number) × (taken ≡ None)
 TakesUp taken new number (Err fault.NoMemory) = ⊤
 
--- it is who it is, and sells what it sells
+-- it is who it is, and sells and offers what it did
 abbrev pub IsSameMerchant : Shop → Shop → Type 0
-IsSameMerchant old new = (new.stall ≡ old.stall) × (new.products ≡ old.products)
+IsSameMerchant old new = (new.stall ≡ old.stall) × (new.products ≡ old.products) × (new.offers ≡ old.offers)
 
 -- the number of the first item that is bad was told. Of want of memory nothing is said
 abbrev pub TellsBad : Result Shop ℕ → RestartFault → Type 0

@@ -68,6 +68,23 @@ pub fn other_goods_are_bad()
     ensures { law.OtherGoodsAreBad }
 {}
 
+/// A law: the price that is told first is that of the catalogue; with offers it is what is quoted for them, for the ticket's consumer, what it asks and the
+/// moment.
+pub fn first_price_is_told()
+    ensures { law.FirstPriceIsTold }
+{}
+
+/// A law: the price that is told first depends on nothing else: two merchants, whoever they are and whatever they kept, that do not know the purchase, quote a
+/// product alike where what they sell, what they offer, the moment, the consumer and its request agree.
+pub fn quoted_alike()
+    ensures { law.QuotedAlike }
+{}
+
+/// A law: who is told less than the catalogue's price sent a credential of its own, sealed under the keeper's key, which holds at the moment.
+pub fn cheaper_is_carried()
+    ensures { law.CheaperIsCarried }
+{}
+
 /// A law: what is done at a consumer's message is done for the one that [`asker`](crate::Merchant::asker) names: what is kept is of that consumer, and
 /// what is sent is for it, or for the house. Where it names nobody the message is ignored.
 pub fn asker_is_served()

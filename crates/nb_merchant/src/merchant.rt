@@ -11,7 +11,7 @@ ghost use Rattle.nb_stall.specs.Tests.{ticket_in};
 ghost use Rattle.nb_merchant.specs.Noting.{held_of, HasParts, PlansParts, PlansPlain, IsNoDelivery, SealsNext};
 ghost use Rattle.nb_merchant.specs.Telling.{Performs, performed, TakesUp, IsSameMerchant, TakesAll, Restarts};
 ghost use Rattle.nb_stall.specs.Sales.{sale_in, epoid_in, stage_of, deliveries_in, next_serial, sold_as};
-ghost use Rattle.nb_merchant.specs.Shop.{new_shop, with_item};
+ghost use Rattle.nb_merchant.specs.Shop.{new_shop, unkept, with_item};
 ghost use Rattle.nb_merchant.specs.Sending.{StepIs};
 ghost use Rattle.nb_stall.specs.Spelling.{IsItem, item_bytes};
 ghost use Rattle.nb_merchant.specs.Table as table;
@@ -21,6 +21,7 @@ use crate::answer::{Answer, Halt, Planned};
 use crate::rows;
 use nb_body::GoodsRequest;
 use nb_goods::Parts;
+use nb_groups::Offers;
 use nb_msgs::{Message, Reason, RestartFault, Step, open_receipt};
 use nb_price::Catalogue;
 use nb_seal::KeyState;
@@ -34,11 +35,12 @@ use std::collections::BTreeMap;
 use std::marker::Model;
 use std::mem;
 
-/// A merchant: who it is, what it sells, and what it kept.
+/// A merchant: who it is, what it sells, what it offers to groups, and what it kept.
 #[derive(Drop)]
 pub struct Merchant {
     stall: Stall,
     catalogue: Catalogue,
+    offers: Option<Offers>,
     // What was kept, in order.
     items: Vec<Item>,
     // What is known of each purchase, and what the parts of its goods are made from.
@@ -55,19 +57,40 @@ impl Model for Merchant {
 
     ghost Value = { Shop };
 
-    ghost view = { λ m. record { stall = m.stall; products = m.catalogue; items = m.items.items } };
+    ghost view = { λ m. record { stall = m.stall; products = m.catalogue; offers = m.offers; items = m.items.items } };
 
-    ghost invariant = { λ m. Holds (record { stall = m.stall; products = m.catalogue; items = m.items.items }) (get purchase_cmp m.sales) m.deliveries.items };
+    ghost invariant = { λ m. Holds (record { stall = m.stall; products = m.catalogue; offers = m.offers; items = m.items.items }) (get purchase_cmp m.sales) m.deliveries.items };
 }
 
 impl Merchant {
-    /// A merchant that has kept nothing.
+    /// A merchant that has kept nothing, and has no offers for groups: it quotes the catalogue's prices.
     pub fn new(alloc: Global, stall: Stall, catalogue: Catalogue) -> Merchant
-        ensures { result ≡ new_shop stall catalogue }
+        ensures { result ≡ new_shop stall catalogue None }
+    {
+        Merchant::opened(alloc, stall, catalogue, None)
+    }
+
+    /// A merchant that has kept nothing. It quotes who asks for a product at first what [`nb_groups::quote`] gives for its ticket's consumer, its request and
+    /// the moment.
+    pub fn with_offers(
+        alloc: Global,
+        stall: Stall,
+        catalogue: Catalogue,
+        offers: Offers,
+    ) -> Merchant
+        ensures { result ≡ new_shop stall catalogue (Some offers) }
+    {
+        Merchant::opened(alloc, stall, catalogue, Some(offers))
+    }
+
+    // A merchant that has kept nothing.
+    fn opened(alloc: Global, stall: Stall, catalogue: Catalogue, offers: Option<Offers>) -> Merchant
+        ensures { result ≡ new_shop stall catalogue offers }
     {
         Merchant {
             stall,
             catalogue,
+            offers,
             items: Vec::new(alloc),
             sales: BTreeMap::new(alloc),
             deliveries: Vec::new(alloc),
@@ -207,7 +230,7 @@ impl Merchant {
         let _account = self.stall.acct.0;
     }
 
-    /// The merchant that kept these items, at most 2^32, with this catalogue: each must be the spelling of an item that a merchant keeps
+    /// The merchant that kept these items, at most 2^32, with this catalogue and no offers: each must be the spelling of an item that a merchant keeps
     /// behind those before it. A price may have changed since; each product that was quoted is there, and has the goods that were sealed.
     ///
     /// Answers [`RestartFault::BadItem`] with the number of the first item that is not so, from 0 on, and [`RestartFault::NoMemory`] where there is
@@ -219,20 +242,51 @@ impl Merchant {
         items: &[Blob],
     ) -> Result<Merchant, RestartFault>
         requires few { length items.now ≤ 2 ^ 32 }
-        ensures restarts { Restarts (restarted (new_shop stall catalogue) 0 items.now) result }
+        ensures restarts { Restarts (restarted (new_shop stall catalogue None) 0 items.now) result }
         // It kept exactly these.
         ensures kept { IfOk result (λ merchant. kept_bytes merchant ≡ items.now) }
     {
-        let mut merchant = Merchant::new(alloc, stall, catalogue);
+        Merchant::reopened(alloc, stall, catalogue, None, items)
+    }
+
+    /// The same with offers for groups, which may have changed since, too: prices that were told stand as they were kept.
+    pub fn restart_with(
+        alloc: Global,
+        stall: Stall,
+        catalogue: Catalogue,
+        offers: Offers,
+        items: &[Blob],
+    ) -> Result<Merchant, RestartFault>
+        requires few { length items.now ≤ 2 ^ 32 }
+        ensures restarts { Restarts (restarted (new_shop stall catalogue (Some offers)) 0 items.now) result }
+        // It kept exactly these.
+        ensures kept { IfOk result (λ merchant. kept_bytes merchant ≡ items.now) }
+    {
+        Merchant::reopened(alloc, stall, catalogue, Some(offers), items)
+    }
+
+    // The merchant that kept these items.
+    fn reopened(
+        alloc: Global,
+        stall: Stall,
+        catalogue: Catalogue,
+        offers: Option<Offers>,
+        items: &[Blob],
+    ) -> Result<Merchant, RestartFault>
+        requires few { length items.now ≤ 2 ^ 32 }
+        ensures restarts { Restarts (restarted (new_shop stall catalogue offers) 0 items.now) result }
+        ensures kept { IfOk result (λ merchant. kept_bytes merchant ≡ items.now) }
+    {
+        let mut merchant = Merchant::opened(alloc, stall, catalogue, offers);
         merchant.take_all(items)?;
         Ok(merchant)
     }
 
-    /// Starts again with these items, at most 2^32, in place of those that it kept: as [`restart`](Merchant::restart) does, with who it is and the
-    /// catalogue that it has. Where it answers a fault it is as before.
+    /// Starts again with these items, at most 2^32, in place of those that it kept: as [`restart`](Merchant::restart) does, with who it is, the
+    /// catalogue and the offers that it has. Where it answers a fault it is as before.
     pub fn start_again(&mut self, items: &[Blob]) -> Result<(), RestartFault>
         requires few { length items.now ≤ 2 ^ 32 }
-        ensures taken { TakesAll (restarted (new_shop self.old.stall self.old.products) 0 items.now) self.new result }
+        ensures taken { TakesAll (restarted (unkept self.old) 0 items.now) self.new result }
         // It kept exactly these then.
         ensures kept { OnOk result (kept_bytes self.new ≡ items.now) }
         ensures err { OnErr result (self.new ≡ self.old) }
@@ -387,7 +441,15 @@ impl Merchant {
             transaction: asked.request.transaction,
         };
         match self.find(purchase) {
-            None => rows::first_quote(alloc, &self.catalogue, &session, ticket.consumer, &asked),
+            None => rows::first_quote(
+                alloc,
+                &self.catalogue,
+                &self.offers,
+                &session,
+                ticket.consumer,
+                &asked,
+                moment,
+            ),
             Some(held) => {
                 rows::quote_again(alloc, &session, ticket.consumer, &asked, &held.sale)
             }

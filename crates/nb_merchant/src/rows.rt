@@ -2,6 +2,8 @@
 
 ghost use Rattle.std.specs.Prelude.{◌≡◌, ◌≤◌, ◌<◌, ◌+◌, ◌^◌, length, None, IfOk, IfSome};
 ghost use Rattle.nb_goods.specs.Parts.{parts_of};
+ghost use Rattle.nb_body.specs.declared.limits.TheConstants.{MAX_REQUEST};
+ghost use Rattle.nb_groups.specs.declared.limits.TheConstants.{CREDENTIAL_BYTES};
 ghost use Rattle.nb_price.specs.Products.{product_in};
 ghost use Rattle.nb_endorse.specs.declared.receipt.TheConstants.{RECEIPT_BYTES};
 ghost use Rattle.nb_merchant.specs.Noting.{PlansPlain, SealsFor, SealsAs};
@@ -17,6 +19,7 @@ use nb_body::{GoodsRequest, Quote};
 use nb_endorse::Receipt;
 use nb_epo::{Order, read_order};
 use nb_goods::{MAX_GOODS, PART_BYTES, Parts, goods_key, parts};
+use nb_groups::{Offers, quote};
 use nb_msgs::{Message, Reason, To};
 use nb_price::Catalogue;
 use nb_seal::KeyState;
@@ -38,7 +41,7 @@ fn field(number: u8, holds: bool) -> Result<(), Reason>
     }
 }
 
-// What a product costs.
+// What a product costs by the catalogue.
 fn price_of(catalogue: &Catalogue, product: u32) -> Result<Price, Reason>
     ensures { result ≡ table.price_of (product_in catalogue.now product) }
 {
@@ -74,20 +77,52 @@ fn told(consumer: PartyId, message: Message) -> Planned
 
 // ---- a request for a price
 
+// What a product costs who asks for it at first with this request at this moment: what is quoted for the offers, where there are some.
+fn first_price(
+    catalogue: &Catalogue,
+    offers: &Option<Offers>,
+    product: u32,
+    consumer: PartyId,
+    request: &[u8],
+    moment: u64,
+) -> Result<Price, Reason>
+    requires { length request.now ≤ CREDENTIAL_BYTES }
+    ensures { result ≡ table.first_price catalogue.now offers.now product consumer request.now moment }
+{
+    let Some(offers) = offers else {
+        return price_of(catalogue, product);
+    };
+    match quote(catalogue, offers, product, consumer, request, moment) {
+        Ok(quoted) => Ok(quoted.price),
+        Err(_none) => Err(Reason::Field(1)),
+    }
+}
+
 #[tactic(auto, unfolding(crate::specs::Table::first_quote))]
 pub(crate) fn first_quote(
     alloc: Global,
     catalogue: &Catalogue,
+    offers: &Option<Offers>,
     session: &KeyState,
     consumer: PartyId,
     asked: &AskedPrice,
+    moment: u64,
 ) -> Result<Planned, Halt>
-    requires { asked.now.digest ≡ request_digest asked.now.request }
-    ensures row { Plans result (table.first_quote catalogue.now session.now consumer asked.now.request) }
+    requires digest { asked.now.digest ≡ request_digest asked.now.request }
+    requires short { length asked.now.request.request ≤ MAX_REQUEST }
+    ensures row { Plans result (table.first_quote catalogue.now offers.now session.now consumer asked.now.request moment) }
     ensures parts { IfOk result PlansPlain }
 {
     let request = asked.request;
-    let price = price_of(catalogue, request.product)?;
+    let text = request.request;
+    let price = first_price(
+        catalogue,
+        offers,
+        request.product,
+        consumer,
+        text.as_slice(),
+        moment,
+    )?;
     let quote = Quote {
         transaction: request.transaction,
         product: request.product,

@@ -266,7 +266,7 @@ abbrev pub sold : Sold
 sold = record { consumer = buyer_id; transaction = 1 }
 
 abbrev pub shop : List Item → Shop
-shop items = record { stall = first_stall; products = first_product ∷ []; items = items }
+shop items = record { stall = first_stall; products = first_product ∷ []; offers = None; items = items }
 
 abbrev pub quoted : Item
 quoted = item.Quoted sold 7 price (request_digest asked_price)

@@ -69,7 +69,7 @@ first_entries =
 abbrev pub first_world : World Buyer Shop
 first_world = record {
   consumers = new_buyer first_wallet ∷ [];
-  merchants = new_shop first_stall (first_product ∷ []) ∷ [];
+  merchants = new_shop first_stall (first_product ∷ []) None ∷ [];
   packets = [];
   calls = [];
   turn = None;

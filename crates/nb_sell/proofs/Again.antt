@@ -240,8 +240,8 @@ endorsed_again shop before later a answer merchant sealed is row sends =
           λ other fresh items again.
               let items' : List Item = (behind (outset shop) (before ++ a ∷ later)).shop.items in
               let kept_then : IsKept (behind (outset shop) (before ++ a ∷ later)).shop = all_kept (outset shop) (before ++ a ∷ later) is items in
-              let with_shelf : Shop = record { stall = shop.stall; products = other.products; items = items' } in
-              subst (λ (x : Shop). ServesAgain x e.purchase e.order answer.message) (sym (fresh_is (new_shop shop.stall other.products) items' 0 fresh kept_then.all again))
+              let with_shelf : Shop = record { stall = shop.stall; products = other.products; offers = other.offers; items = items' } in
+              subst (λ (x : Shop). ServesAgain x e.purchase e.order answer.message) (sym (fresh_is (new_shop shop.stall other.products other.offers) items' 0 fresh kept_then.all again))
               (serves with_shelf e.purchase r.sale e.epoid e.order answer.message (ap (λ (x : Way). sale_in x.shop.items e.purchase) whole ∙ there) r.was first),
         ),
       ),

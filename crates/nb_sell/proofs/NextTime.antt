@@ -40,8 +40,8 @@ pub shop_items : (w : Way) (acts : List Act) → (behind w acts).shop.items ≡ 
 shop_items w [] = sym (append-nil w.shop.items)
 shop_items w (a ∷ acts) = shop_items (onward w a) acts ∙ append_assoc w.shop.items (kept_by (act_row w.shop a)) (kept (onward w a) acts)
 
-pub same_stall : (w : Way) (acts : List Act) → ((behind w acts).shop.stall ≡ w.shop.stall) × ((behind w acts).shop.products ≡ w.shop.products)
-same_stall w [] = (refl, refl)
+pub same_stall : (w : Way) (acts : List Act) → ((behind w acts).shop.stall ≡ w.shop.stall) × ((behind w acts).shop.products ≡ w.shop.products) × ((behind w acts).shop.offers ≡ w.shop.offers)
+same_stall w [] = (refl, refl, refl)
 same_stall w (a ∷ acts) = same_stall (onward w a) acts
 
 pub shop_bytes : (w : Way) (acts : List Act) → kept_bytes (behind w acts).shop ≡ kept_bytes w.shop ++ map item_bytes (kept w acts)
@@ -131,7 +131,7 @@ goes_on shop acts front image is items some =
       then = w.shop;
       is = refl;
       stands = subst (λ (xs : List (List ℕ)). Stands front xs image) (ap (λ (xs : List (List ℕ)). kept_bytes shop ++ xs) r.is ∙ sym (shop_bytes (outset shop) (take r.k acts))) some.2;
-      again = ap (λ (fresh : Shop). restarted fresh 0 (kept_bytes w.shop)) (λ i. new_shop (sym same.0 i) (sym same.1 i)) ∙ restart_gives_back w.shop kept_now;
+      again = ap (λ (fresh : Shop). restarted fresh 0 (kept_bytes w.shop)) (λ i. new_shop (sym same.0 i) (sym same.1 i) (sym same.2 i)) ∙ restart_gives_back w.shop kept_now;
     }
 
 -- with an act more, of which nothing was kept

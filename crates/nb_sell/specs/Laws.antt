@@ -17,7 +17,7 @@ use Rattle.nb_stall.specs.Spelling.{item_bytes}
 use Rattle.nb_stall.specs.Messages.{endorsed_message}
 use Rattle.nb_stall.specs.Sales.{sale_in}
 use Rattle.nb_merchant.specs.declared.answer.Answer.{Answer}
-use Rattle.nb_merchant.specs.Shop.{Shop, new_shop}
+use Rattle.nb_merchant.specs.Shop.{Shop, new_shop, unkept}
 use Rattle.nb_merchant.specs.Table.{ordered, passes_again}
 use Rattle.nb_merchant.specs.Keeping.{IsKept, restarted}
 use Rattle.nb_merchant.specs.Laws.{kept_bytes}
@@ -45,14 +45,14 @@ StopLeavesFirst {D} tells = (old new : Around D) (end : SellEnd) (s : Sold tells
     → (image : List ℕ) → tells.left new.journal.disk (tells.moment old.journal.disk) image
     → StandsAmong front items (map item_bytes (kept (outset old.shop) (acts_of tells old new end s))) image
 
--- behind the first k acts, this is what the journal holds, and a merchant that starts again with that, and sells what it sold, is as it was then
+-- behind the first k acts, this is what the journal holds, and a merchant that starts again with that, and sells and offers what it did, is as it was then
 pub record GoesOn (shop : Shop) (acts : List Act) (front : List ℕ) (image : List ℕ) : Type 0 where
   pub k : ℕ
   pub within : k ≤ length acts
   pub then : Shop
   pub is : then ≡ (behind (outset shop) (take k acts)).shop
   pub stands : Stands front (kept_bytes then) image
-  pub again : restarted (new_shop shop.stall shop.products) 0 (kept_bytes then) ≡ Ok then
+  pub again : restarted (unkept shop) 0 (kept_bytes then) ≡ Ok then
 
 -- where the journal holds what the merchant kept: whatever a stop at any moment leaves, the merchant goes on from there next time
 abbrev pub GoesOnNextTime : {D : Type 0} → DiskTells D → Type 0
@@ -90,13 +90,13 @@ pub record ServesAgain (shop : Shop) (p : Purchase) (order : List ℕ) (m : Mess
   pub answers : (ordered shop p sale order sale.progress ≡ Ok (record { keep = None; to = to.Server; message = m }))
       ⊎ ((part : List ℕ) × (ordered shop p sale order sale.progress ≡ Ok (passes_again p part)))
 
--- what this merchant endorsed is served again where it started again with what was kept behind these acts and with the shelf of any other
+-- what this merchant endorsed is served again where it started again with what was kept behind these acts and with the shelf and the offers of any other
 abbrev pub ServesAfresh : Shop → List Act → Purchase → List ℕ → Message → Type 0
 ServesAfresh shop acts p order m = (other fresh : Shop) → AreItems (outset shop) acts
-    → restarted (new_shop shop.stall other.products) 0 (kept_bytes (behind (outset shop) acts).shop) ≡ Ok fresh → ServesAgain fresh p order m
+    → restarted (new_shop shop.stall other.products other.offers) 0 (kept_bytes (behind (outset shop) acts).shop) ≡ Ok fresh → ServesAgain fresh p order m
 
 -- an endorsement that an act sent is sent again with the same bytes for the same order, behind whatever acts came before it and came later, and so by a merchant
--- that started again with what was kept then, with whatever shelf
+-- that started again with what was kept then, with whatever shelf and offers
 abbrev pub EndorsesAgain : Type 0
 EndorsesAgain = (shop : Shop) (before later : List Act) (a : Act) (answer : Answer) (merchant : PartyId) (sealed : List ℕ) → IsKept shop
     → act_row (behind (outset shop) before).shop a ≡ Ok answer → answer.message ≡ message.Endorsed merchant sealed

@@ -30,7 +30,7 @@ pub fn full_is_full<D: Disk>()
 {}
 
 /// A law: what was endorsed is endorsed again with the same bytes for the same order, or, where it was settled since, answered with the kept result, behind
-/// whatever came later, and so also by a merchant that started again with what was kept, with whatever shelf it was taken up.
+/// whatever came later, and so also by a merchant that started again with what was kept, with whatever shelf and offers it was taken up.
 pub fn endorses_again()
     ensures { law.EndorsesAgain }
 {}

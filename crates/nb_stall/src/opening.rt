@@ -1,5 +1,6 @@
 ghost use Rattle.std.specs.Prelude.{◌≡◌, ◌≤◌, length, codes, IfOk};
 ghost use Rattle.nb_ticket.specs.declared.ticket.TheConstants.{TICKET_BYTES};
+ghost use Rattle.nb_body.specs.declared.limits.TheConstants.{MAX_REQUEST};
 ghost use Rattle.nb_body.specs.Reading as body;
 ghost use Rattle.nb_msgs.specs.declared.lengths.TheConstants.{MAX_SEALED_PRICE_REQUEST, MAX_SEALED_GOODS_REQUEST, MAX_SEALED_PAYMENT};
 ghost use Rattle.nb_msgs.specs.Tests.{opened};
@@ -44,6 +45,8 @@ pub fn open_price_request(session: &KeyState, sealed: &[u8]) -> Result<AskedPric
     ensures request { opened body.price_request_of session.now (codes "m001") sealed.now ≡ tests.request_in result }
     // The digest is the SHA-256 of the request's bytes.
     ensures digest { IfOk result (λ asked. asked.digest ≡ request_digest asked.request) }
+    // What is said in it is not longer than it may be.
+    ensures short { IfOk result (λ asked. length asked.request.request ≤ MAX_REQUEST) }
 {
     let mut plain = [0u8; MAX_SEALED_PRICE_REQUEST];
     let n = unsealed(session, &PRICE_REQUEST_LABEL, sealed, &mut plain)?;

@@ -6,7 +6,7 @@ use Rattle.nb_merchant.proofs.merchant.Merchant.delivery_parts.Goals as goal
 
 pub returns : goal.returns
 returns c =
-    let shop : Shop = record { stall = c.self.inside.stall; products = c.self.inside.catalogue; items = c.self.inside.items.items } in
+    let shop : Shop = record { stall = c.self.inside.stall; products = c.self.inside.catalogue; offers = c.self.inside.offers; items = c.self.inside.items.items } in
     let sale = c.in_ok-held.held.now.sale in
     let next : c.next_serial-next.result ≡ next_serial shop.items = c.next_serial-next.ensures ∙ sym (ap (λ (s : Shop). next_serial s.items) c.self.view_is) in
     let there : sale_in shop.items c.args.purchase ≡ Some sale = ap (λ (s : Shop). sale_in s.items c.args.purchase) c.self.view_is ∙ c.in_ok-held.ensures.sale in
