@@ -29,18 +29,22 @@ use Rattle.nb_vault.specs.Holdings.{StandsForEither}
 use Rattle.nb_vault.specs.Rules.{house_of}
 use Rattle.nb_turns.specs.Turns.{House, State, Answered, last_state, IsStateOf, replies}
 use Rattle.nb_turns.specs.Laws.{TurnOfOne, RunOfOnes}
-use Rattle.nb_vault.specs.Vaults.{Chronicled, Keeps, state_of, house_in, entries_in, doubt_in, StandsForState as StandsForVault}
+use Rattle.nb_standby.specs.Answering.{Acknowledges, AcknowledgesAll}
+use Rattle.nb_vault.specs.Vaults.{Chronicled, Keeps, state_of, entries_in, doubt_in, StandsForState as StandsForVault}
 use Rattle.nb_escrow.specs.Head.{head_of}
 use Rattle.nb_batch.specs.declared.batch.TheConstants.{MOST_FRAMES}
 use Rattle.nb_batch.specs.declared.batch.BatchEnd.{BatchEnd}
 use Rattle.nb_batch.specs.declared.batch.BatchEnd.TheVariants.{Clean, Cut, BadFrame, ReadFault, WriteFault, NoMemory, FrameLimit}
 use Rattle.nb_batch.specs.declared.batch.Step.TheVariants as step
 use Rattle.nb_batch.specs.Send.{SentPart}
-use Rattle.nb_batch.specs.Batch.{failure_in_mark, failures_told, frame_of, moment_of, Outside, Gave, Stepped, Stopped, StepIs, AnswersAll, CountsAs, Wrote, Served, StandsInRun, HoldsState, GoesThrough, last_disk}
+use Rattle.nb_batch.specs.declared.answering.Answerer.{Answerer}
+use Rattle.nb_batch.specs.declared.answering.Answerer.TheVariants as answers
+use Rattle.nb_batch.specs.Answering.{Asked, AsksOnce, Gave, Goes, GoesTo, failure_in_mark}
+use Rattle.nb_batch.specs.Batch.{failures_told, frame_of, moment_of, Outside, Stepped, Stopped, StepIs, AnswersAll, CountsAs, Wrote, Served, StandsInRun, HoldsState, GoesThrough, last_disk}
 
 -- these requests were answered, and the house came to these states
-pub record Went {D : Type 0} (tells : DiskTells D) (held : Collected) (old new : Chronicled D) (before after : Outside) (answered : List Answered) (states : List State) (disks : List D) : Type 0 where
-  pub turns : RunOfOnes (house_in old) (state_of old) answered states
+pub record Went {D : Type 0} (tells : DiskTells D) (by : Answerer) (held : Collected) (old new : Chronicled D) (before after : Outside) (answered : List Answered) (states : List State) (disks : List D) : Type 0 where
+  pub turns : Goes by old.origin.charter old.origin.cap (state_of old) answered states
   pub last : state_of new ≡ last_state (state_of old) states
   pub origin : new.origin ≡ old.origin
   pub backed : Backed (tells.faults old.disk) (failures_told answered) (tells.faults new.disk)
@@ -50,14 +54,14 @@ pub record Went {D : Type 0} (tells : DiskTells D) (held : Collected) (old new :
   pub quiet : AllByRecursion (λ (state : State). state ≡ state_of old) states → tells.content new.disk ≡ tells.content old.disk
   pub lawful : AllByRecursion IsFrame (map frame_of answered)
   pub read : Reads before.left after.left unfed held (map frame_of answered)
-  pub asked : Gave before.moments after.moments (map moment_of answered)
+  pub asked : Asked by before.moments after.moments (map moment_of answered)
 
 -- the replies so far were sent, and there are so many
-pub record Ran {D : Type 0} (tells : DiskTells D) (held : Collected) (old new : Chronicled D) (before after : Outside) (count : ℕ) : Type 0 where
+pub record Ran {D : Type 0} (tells : DiskTells D) (by : Answerer) (held : Collected) (old new : Chronicled D) (before after : Outside) (count : ℕ) : Type 0 where
   pub answered : List Answered
   pub states : List State
   pub disks : List D
-  pub went : Went tells held old new before after answered states disks
+  pub went : Went tells by held old new before after answered states disks
   pub wrote : Appends before.sent after.sent (replies answered)
   pub counted : length answered ≡ count
   pub ahead : length (waiting held) < MAX_PIECE
@@ -68,12 +72,28 @@ nothing_whole is = is
 
 -- ---- one more
 
-run_more : (house : House) (first next : State) (done : List Answered) (states : List State) (a : Answered) → RunOfOnes house first done states → TurnOfOne house (last_state first states) a.request a.mark a.reply next
+turn_more : (house : House) (first next : State) (done : List Answered) (states : List State) (a : Answered) → RunOfOnes house first done states → TurnOfOne house (last_state first states) a.request a.mark a.reply next
     → RunOfOnes house first (done ++ a ∷ []) (states ++ next ∷ [])
-run_more house first next [] [] a run turn = (turn, tt)
-run_more house first next (x ∷ done) (s ∷ states) a run turn = (run.0, run_more house s next done states a run.1 turn)
-run_more house first next [] (s ∷ states) a run turn = absurd run
-run_more house first next (x ∷ done) [] a run turn = absurd run
+turn_more house first next [] [] a run turn = (turn, tt)
+turn_more house first next (x ∷ done) (s ∷ states) a run turn = (run.0, turn_more house s next done states a run.1 turn)
+turn_more house first next [] (s ∷ states) a run turn = absurd run
+turn_more house first next (x ∷ done) [] a run turn = absurd run
+
+acknowledges_more : (charter : Charter) (cap : ℕ) (first next : State) (done : List Answered) (states : List State) (a : Answered) → AcknowledgesAll charter cap first done states
+    → Acknowledges charter cap (last_state first states) a.request a.mark a.reply next → AcknowledgesAll charter cap first (done ++ a ∷ []) (states ++ next ∷ [])
+acknowledges_more charter cap first next [] [] a run turn = (turn, tt)
+acknowledges_more charter cap first next (x ∷ done) (s ∷ states) a run turn = (run.0, acknowledges_more charter cap s next done states a run.1 turn)
+acknowledges_more charter cap first next [] (s ∷ states) a run turn = absurd run
+acknowledges_more charter cap first next (x ∷ done) [] a run turn = absurd run
+
+run_more : (by : Answerer) (charter : Charter) (cap : ℕ) (first next : State) (done : List Answered) (states : List State) (a : Answered) → Goes by charter cap first done states
+    → GoesTo by charter cap (last_state first states) a.request a.mark a.reply next → Goes by charter cap first (done ++ a ∷ []) (states ++ next ∷ [])
+run_more answers.House charter cap first next done states a run turn = turn_more (house_of (head_of charter) cap) first next done states a run turn
+run_more answers.Standby charter cap first next done states a run turn = acknowledges_more charter cap first next done states a run turn
+
+run_none : (by : Answerer) (charter : Charter) (cap : ℕ) (first : State) → Goes by charter cap first [] []
+run_none answers.House charter cap first = tt
+run_none answers.Standby charter cap first = tt
 
 last_more : (first next : State) (states : List State) → next ≡ last_state first (states ++ next ∷ [])
 last_more first next [] = refl
@@ -112,6 +132,14 @@ gave_more a None (Some c) moments moment before now = absurd now
 gave_more None (Some b) (Some c) moments moment before now = absurd before
 gave_more (Some a) (Some b) (Some c) moments moment before now =
     now ∙ ap (λ (xs : List ℕ). xs ++ moment ∷ []) before ∙ append_assoc a moments (moment ∷ [])
+
+asked_none : (by : Answerer) (given : Option (List ℕ)) → Asked by given given []
+asked_none answers.House given = gave_none given
+asked_none answers.Standby given = refl
+
+asked_more : (by : Answerer) (a b c : Option (List ℕ)) (moments : List ℕ) (moment : ℕ) → Asked by a b moments → AsksOnce by b c moment → Asked by a c (moments ++ moment ∷ [])
+asked_more answers.House a b c moments moment before now = gave_more a b c moments moment before now
+asked_more answers.Standby a b c moments moment before now = now ∙ before
 
 -- ---- what was read
 
@@ -191,10 +219,10 @@ last_of_more first next (d ∷ disks) = last_of_more d next disks
 
 -- ---- a batch, so far
 
-module _ {D : Type 0} (tells : DiskTells D) where
-  went_none : (house : Chronicled D) (start : Outside) → LeavesOnly tells house.disk house.disk (StandsForVault house) → Keeps tells house → Went tells unfed house house start start [] [] []
+module _ {D : Type 0} (tells : DiskTells D) (by : Answerer) where
+  went_none : (house : Chronicled D) (start : Outside) → LeavesOnly tells house.disk house.disk (StandsForVault house) → Keeps tells house → Went tells by unfed house house start start [] [] []
   went_none house start images keeps = record {
-    turns = tt;
+    turns = run_none by house.origin.charter house.origin.cap (state_of house);
     last = refl;
     origin = refl;
     backed = omega arith;
@@ -205,22 +233,21 @@ module _ {D : Type 0} (tells : DiskTells D) where
     quiet = λ all. refl;
     lawful = tt;
     read = reads_none start.left unfed;
-    asked = gave_none start.moments;
+    asked = asked_none by start.moments;
   }
 
-  went_more : (held held' : Collected) (old mid new : Chronicled D) (before between after : Outside) (answered : List Answered) (states : List State) (disks : List D) → Went tells held old mid before between answered states disks
-      → (more : Stepped tells held held' mid new between after) → new.origin ≡ mid.origin → LeavesOnly tells mid.disk new.disk (λ (image : List ℕ). StandsForVault mid image ⊎ StandsForVault new image) → (state_of new ≡ state_of mid → tells.content new.disk ≡ tells.content mid.disk)
-      → Keeps tells new → Went tells held' old new before after (answered ++ more.one ∷ []) (states ++ state_of new ∷ []) (disks ++ new.disk ∷ [])
+  went_more : (held held' : Collected) (old mid new : Chronicled D) (before between after : Outside) (answered : List Answered) (states : List State) (disks : List D) → Went tells by held old mid before between answered states disks
+      → (more : Stepped tells by held held' mid new between after) → new.origin ≡ mid.origin → LeavesOnly tells mid.disk new.disk (λ (image : List ℕ). StandsForVault mid image ⊎ StandsForVault new image) → (state_of new ≡ state_of mid → tells.content new.disk ≡ tells.content mid.disk)
+      → Keeps tells new → Went tells by held' old new before after (answered ++ more.one ∷ []) (states ++ state_of new ∷ []) (disks ++ new.disk ∷ [])
   went_more held held' old mid new before between after answered states disks went more origin leaves quiet keeps =
-      let Q : List ℕ → Type 0 = λ moments. Gave before.moments after.moments moments in
+      let Q : List ℕ → Type 0 = λ moments. Asked by before.moments after.moments moments in
       let L : List Frame → Type 0 = λ fs. AllByRecursion IsFrame fs in
-      let T : House → Type 0 = λ house. TurnOfOne house (state_of mid) more.one.request more.one.mark more.one.reply (state_of new) in
-      let S : State → Type 0 = λ state. TurnOfOne (house_in old) state more.one.request more.one.mark more.one.reply (state_of new) in
+      let T : Origin → Type 0 = λ o. GoesTo by o.charter o.cap (state_of mid) more.one.request more.one.mark more.one.reply (state_of new) in
+      let S : State → Type 0 = λ state. GoesTo by old.origin.charter old.origin.cap state more.one.request more.one.mark more.one.reply (state_of new) in
       let same : new.origin ≡ old.origin = origin ∙ went.origin in
       let Either : State → List ℕ → Type 0 = λ state image. StandsForEither old.origin.charter old.origin.cap state.entries state.doubt image ⊎ StandsForEither old.origin.charter old.origin.cap (entries_in new) (doubt_in new) image in
-      let same_house : house_in mid ≡ house_in old = ap (λ (o : Origin). house_of (head_of o.charter) o.cap) went.origin in
       record {
-        turns = run_more (house_in old) (state_of old) (state_of new) answered states more.one went.turns (subst S went.last (subst T same_house more.turn));
+        turns = run_more by old.origin.charter old.origin.cap (state_of old) (state_of new) answered states more.one went.turns (subst S went.last (subst T went.origin more.turn));
         last = last_more (state_of old) (state_of new) states;
         origin = same;
         backed = backed_more answered more.one (tells.faults old.disk) (tells.faults mid.disk) (tells.faults new.disk) went.backed more.backed;
@@ -241,15 +268,15 @@ module _ {D : Type 0} (tells : DiskTells D) where
             quiet (each.1 ∙ sym here) ∙ went.quiet each.0;
         lawful = subst L (sym (map-append frame_of answered (more.one ∷ []))) (all_more IsFrame (map frame_of answered) (frame_of more.one) went.lawful more.lawful);
         read = reads_one before.left between.left after.left held held' answered more.one went.read more.read;
-        asked = subst Q (sym (map-append moment_of answered (more.one ∷ []))) (gave_more before.moments between.moments after.moments (map moment_of answered) more.one.request.moment went.asked more.asked);
+        asked = subst Q (sym (map-append moment_of answered (more.one ∷ []))) (asked_more by before.moments between.moments after.moments (map moment_of answered) more.one.request.moment went.asked more.asked);
       }
 
-  pub ran_none : (house : Chronicled D) (start : Outside) → LeavesOnly tells house.disk house.disk (StandsForVault house) → Keeps tells house → Ran tells unfed house house start start 0
+  pub ran_none : (house : Chronicled D) (start : Outside) → LeavesOnly tells house.disk house.disk (StandsForVault house) → Keeps tells house → Ran tells by unfed house house start start 0
   ran_none house start images keeps = record { answered = []; states = []; disks = []; went = went_none house start images keeps; wrote = Appends-nil start.sent; counted = refl; ahead = omega arith }
 
-  pub ran_more : (held held' : Collected) (old mid new : Chronicled D) (before between after : Outside) (n : ℕ) → Ran tells held old mid before between n → (more : Stepped tells held held' mid new between after)
+  pub ran_more : (held held' : Collected) (old mid new : Chronicled D) (before between after : Outside) (n : ℕ) → Ran tells by held old mid before between n → (more : Stepped tells by held held' mid new between after)
       → new.origin ≡ mid.origin → LeavesOnly tells mid.disk new.disk (λ (image : List ℕ). StandsForVault mid image ⊎ StandsForVault new image) → (state_of new ≡ state_of mid → tells.content new.disk ≡ tells.content mid.disk)
-      → Keeps tells new → Appends between.sent after.sent more.one.reply → Ran tells held' old new before after (n + 1)
+      → Keeps tells new → Appends between.sent after.sent more.one.reply → Ran tells by held' old new before after (n + 1)
   ran_more held held' old mid new before between after n ran more origin leaves quiet keeps sent =
       let P : List ℕ → Type 0 = λ bytes. Appends before.sent after.sent bytes in
       record {
@@ -263,7 +290,7 @@ module _ {D : Type 0} (tells : DiskTells D) where
       }
 
   -- as many bytes were given out as the frames have
-  pub ran_taken : (held : Collected) (old new : Chronicled D) (before after : Outside) (n : ℕ) → Ran tells held old new before after n → held.taken ≤ 1048584 * n
+  pub ran_taken : (held : Collected) (old new : Chronicled D) (before after : Outside) (n : ℕ) → Ran tells by held old new before after n → held.taken ≤ 1048584 * n
   ran_taken held old new before after n ran =
       omega (arith, few_bytes (map frame_of ran.answered) ran.went.lawful, ran.went.read.taken, length-map ran.answered frame_of, ran.counted)
 
@@ -271,10 +298,10 @@ module _ {D : Type 0} (tells : DiskTells D) where
 
   -- the batch ended, and so what waits reads
   served : (end : BatchEnd) (held held' : Collected) (old new : Chronicled D) (before between after : Outside) (answered : List Answered) (states : List State) (disks : List D) (unanswered : List Frame) (rest : List ℕ)
-      → Went tells held old new before between answered states disks → Reads between.left after.left held held' [] → after.moments ≡ between.moments → Splits (waiting held') unanswered rest → AheadAs end (length (waiting held')) → (AnswersAll end → unanswered ≡ [])
-      → EndsAs end held'.taken rest after.left → CountsAs end (length answered) → Wrote end before after answered → Served tells old new before after end
+      → Went tells by held old new before between answered states disks → Reads between.left after.left held held' [] → after.moments ≡ between.moments → Splits (waiting held') unanswered rest → AheadAs end (length (waiting held')) → (AnswersAll end → unanswered ≡ [])
+      → EndsAs end held'.taken rest after.left → CountsAs end (length answered) → Wrote end before after answered → Served tells by old new before after end
   served end held held' old new before between after answered states disks unanswered rest went more unasked splits ahead all ends counted wrote =
-      let P : Option (List ℕ) → Type 0 = λ given. Gave before.moments given (map moment_of answered) in
+      let P : Option (List ℕ) → Type 0 = λ given. Asked by before.moments given (map moment_of answered) in
       let fs : List Frame = map frame_of answered in
       let whole = reads_then before.left between.left after.left unfed held held' fs [] went.read more in
       let same : fs ++ [] ≡ fs = append-nil fs in
@@ -311,13 +338,13 @@ module _ {D : Type 0} (tells : DiskTells D) where
       }
 
   -- as many were answered as one batch answers
-  pub spent : (held : Collected) (old new : Chronicled D) (before after : Outside) (n : ℕ) → n ≡ MOST_FRAMES → AreBytes held.held → Ran tells held old new before after n → Served tells old new before after FrameLimit
+  pub spent : (held : Collected) (old new : Chronicled D) (before after : Outside) (n : ℕ) → n ≡ MOST_FRAMES → AreBytes held.held → Ran tells by held old new before after n → Served tells by old new before after FrameLimit
   spent held old new before after n all fits ran =
       let reading = has_reading (waiting held) (AreBytes-drop held.at held.held fits) in
       served FrameLimit held held old new before after after ran.answered ran.states ran.disks reading.0 reading.1 ran.went (reads_none after.left held) refl reading.2 ran.ahead (λ none. absurd none) tt (ran.counted ∙ all) ran.wrote
 
   -- without memory nothing was begun
-  pub unbegun : (house : Chronicled D) (start : Outside) → LeavesOnly tells house.disk house.disk (StandsForVault house) → Keeps tells house → Served tells house house start start NoMemory
+  pub unbegun : (house : Chronicled D) (start : Outside) → LeavesOnly tells house.disk house.disk (StandsForVault house) → Keeps tells house → Served tells by house house start start NoMemory
   unbegun house start images keeps =
       served NoMemory unfed unfed house house start start start [] [] [] [] [] (went_none house start images keeps) (reads_none start.left unfed) refl (record { bytes = refl; lawful = tt; ends = nothing_whole }) (omega arith) (λ is. refl) refl refl (Appends-nil start.sent)
 
@@ -340,19 +367,19 @@ module _ {D : Type 0} (tells : DiskTells D) where
   counts_end WriteFault count is few = absurd is
 
   -- reading ended
-  stop_with : (end : BatchEnd) (held held' : Collected) (old mid new : Chronicled D) (before between after : Outside) (n : ℕ) → Ran tells held old mid before between n → n < MOST_FRAMES → Stopped held held' mid new between after
-      → AheadAs end (length (waiting held')) → IsReadEnd end → EndsAs end held'.taken (waiting held') after.left → Served tells old new before after end
+  stop_with : (end : BatchEnd) (held held' : Collected) (old mid new : Chronicled D) (before between after : Outside) (n : ℕ) → Ran tells by held old mid before between n → n < MOST_FRAMES → Stopped held held' mid new between after
+      → AheadAs end (length (waiting held')) → IsReadEnd end → EndsAs end held'.taken (waiting held') after.left → Served tells by old new before after end
   stop_with end held held' old mid new before between after n ran few stop ahead is ends =
       let P : Option (List ℕ) → Type 0 = λ sent. Appends before.sent sent (replies ran.answered) in
-      let W : Chronicled D → Type 0 = λ house. Went tells held old house before between ran.answered ran.states ran.disks in
+      let W : Chronicled D → Type 0 = λ house. Went tells by held old house before between ran.answered ran.states ran.disks in
       served end held held' old new before between after ran.answered ran.states ran.disks [] (waiting held') (subst W (sym stop.same) ran.went) stop.read stop.unasked
       (record { bytes = refl; lawful = tt; ends = end_not_whole end held'.taken (waiting held') after.left is ends }) ahead (λ all. refl) ends (counts_end end (length ran.answered) is (omega (arith, ran.counted, few)))
       (wrote_end end before after ran.answered is (subst P (sym stop.unsent) ran.wrote))
 
   -- the sink failed within the reply to the next frame
-  stop_short : (held held' : Collected) (old mid new : Chronicled D) (before between after : Outside) (n : ℕ) → Ran tells held old mid before between n → n < MOST_FRAMES → (more : Stepped tells held held' mid new between after)
+  stop_short : (held held' : Collected) (old mid new : Chronicled D) (before between after : Outside) (n : ℕ) → Ran tells by held old mid before between n → n < MOST_FRAMES → (more : Stepped tells by held held' mid new between after)
       → AreBytes held'.held → new.origin ≡ mid.origin → LeavesOnly tells mid.disk new.disk (λ (image : List ℕ). StandsForVault mid image ⊎ StandsForVault new image) → (state_of new ≡ state_of mid → tells.content new.disk ≡ tells.content mid.disk)
-      → Keeps tells new → SentPart between.sent after.sent more.one.reply → Served tells old new before after WriteFault
+      → Keeps tells new → SentPart between.sent after.sent more.one.reply → Served tells by old new before after WriteFault
   stop_short held held' old mid new before between after n ran few more fits origin leaves quiet keeps part =
       let reading = has_reading (waiting held') (AreBytes-drop held'.at held'.held fits) in
       served WriteFault held' held' old new before after after (ran.answered ++ more.one ∷ []) (ran.states ++ state_of new ∷ []) (ran.disks ++ new.disk ∷ []) reading.0 reading.1
@@ -369,9 +396,9 @@ module _ {D : Type 0} (tells : DiskTells D) where
       })
 
   -- the batch ends as its last step does
-  pub ended : (end : BatchEnd) (held held' : Collected) (old mid new : Chronicled D) (before between after : Outside) (n : ℕ) → Ran tells held old mid before between n → n < MOST_FRAMES
+  pub ended : (end : BatchEnd) (held held' : Collected) (old mid new : Chronicled D) (before between after : Outside) (n : ℕ) → Ran tells by held old mid before between n → n < MOST_FRAMES
       → AreBytes held'.held → new.origin ≡ mid.origin → LeavesOnly tells mid.disk new.disk (λ (image : List ℕ). StandsForVault mid image ⊎ StandsForVault new image) → (state_of new ≡ state_of mid → tells.content new.disk ≡ tells.content mid.disk)
-      → Keeps tells new → StepIs tells held held' mid new between after (step.Ended end) → Served tells old new before after end
+      → Keeps tells new → StepIs tells by held held' mid new between after (step.Ended end) → Served tells by old new before after end
   ended WriteFault held held' old mid new before between after n ran few fits origin leaves quiet keeps is = stop_short held held' old mid new before between after n ran few is.0 fits origin leaves quiet keeps is.1
   ended Clean held held' old mid new before between after n ran few fits origin leaves quiet keeps is = stop_with Clean held held' old mid new before between after n ran few is.0 (is.3 ran.ahead) is.1 is.2
   ended (Cut place) held held' old mid new before between after n ran few fits origin leaves quiet keeps is = stop_with (Cut place) held held' old mid new before between after n ran few is.0 (is.3 ran.ahead) is.1 is.2

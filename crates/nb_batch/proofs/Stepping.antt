@@ -3,7 +3,6 @@ use Rattle.std.proofs.Common.{◌≡◌, ◌⊎◌, ℕ, ◌<◌, ◌≤◌, Lis
 use Rattle.std.specs.Option.{option_to_list}
 use Rattle.nb_port.specs.Tells.{DiskTells}
 use Rattle.nb_port.specs.Faults.{Rose, Backed}
-use Rattle.nb_port.specs.Clock.{Gives}
 use Rattle.nb_units.specs.Frames.{Frame, IsFrame}
 use Rattle.nb_endorse.specs.declared.refusal.TheConstants.{DISK_FAULT, WORN}
 use Rattle.nb_frame.specs.State.{Collected, waiting}
@@ -31,7 +30,10 @@ use Rattle.nb_batch.specs.declared.batch.BatchEnd.{BatchEnd}
 use Rattle.nb_batch.specs.declared.batch.BatchEnd.TheVariants.{Clean, Cut, BadFrame, ReadFault, WriteFault, NoMemory as Starved, FrameLimit}
 use Rattle.nb_batch.specs.declared.batch.Step.TheVariants as step
 use Rattle.nb_batch.specs.Fetch.{Reads, AheadAs, EndsAs, IsReadEnd}
-use Rattle.nb_batch.specs.Batch.{AnswersWith, failure_in_mark, Outside, Stepped, StepIs, FaultOf}
+use Rattle.nb_batch.specs.declared.answering.Answerer.{Answerer}
+use Rattle.nb_batch.specs.declared.answering.Answerer.TheVariants as who
+use Rattle.nb_batch.specs.Answering.{AnswersWith, AsksOnce, failure_in_mark}
+use Rattle.nb_batch.specs.Batch.{Outside, Stepped, StepIs, FaultOf}
 
 -- ---- where nothing is done
 
@@ -54,7 +56,7 @@ module _ {D : Type 0} (tells : DiskTells D) (old new : Chronicled D) (by : ℕ) 
 
   -- the mark's reply is what is sent
   answers_with : (mark : Mark) (told sent : List ℕ) → TurnOfOne (house_in old) (state_of old) request mark told (state_of new) → Backed (tells.faults old.disk) (option_to_list (failure_in_mark mark)) (tells.faults new.disk) → sent ≡ told
-      → AnswersWith tells old new request sent
+      → AnswersWith tells who.House old new request sent
   answers_with mark told sent turn backed is =
       record { mark = mark; turn = subst (λ (bytes : List ℕ). TurnOfOne (house_in old) (state_of old) request mark bytes (state_of new)) (sym is) turn; backed = backed }
 
@@ -72,17 +74,17 @@ module _ {D : Type 0} (tells : DiskTells D) (old new : Chronicled D) (by : ℕ) 
   sent_is over out sent found none went =
       went.out_is ∙ ap (λ (xs : List ℕ). xs ++ (((house_in old).rules over request).reply ++ [])) none ∙ append-nil ((house_in old).rules over request).reply
 
-  pub answered : (out sent : List ℕ) (place : ℕ) → out ≡ [] → TurnOf tells old new by (request ∷ []) (place ∷ []) out sent answers.Answered → tells.faults old.disk ≤ tells.faults new.disk → AnswersWith tells old new request sent
+  pub answered : (out sent : List ℕ) (place : ℕ) → out ≡ [] → TurnOf tells old new by (request ∷ []) (place ∷ []) out sent answers.Answered → tells.faults old.disk ≤ tells.faults new.disk → AnswersWith tells who.House old new request sent
   answered out sent place none is count =
       answers_with (At place) ((house_in old).rules is.0 request).reply sent (decided_at is.0 out sent place is.1) count (sent_is is.0 out sent (place ∷ []) none is.1)
 
   pub failed : (out out' sent : List ℕ) (before after : ℕ) → out ≡ [] → TurnOf tells old new by (request ∷ []) [] out out' (answers.DiskFault before after) → FaultWithin tells old new (answers.DiskFault before after)
-      → sent ≡ out' ++ refused DISK_FAULT before after → AnswersWith tells old new request sent
+      → sent ≡ out' ++ refused DISK_FAULT before after → AnswersWith tells who.House old new request sent
   failed out out' sent before after none is within put =
       answers_with (Fault before after) (refused DISK_FAULT before after) sent (one_turn (Fails before after) [] out out' (Fault before after) (refused DISK_FAULT before after) is refl) (within.0, within.2, omega (arith, within.3))
       (put ∙ ap (λ (xs : List ℕ). xs ++ refused DISK_FAULT before after) (is.out_is ∙ append-nil out ∙ none))
 
-  pub worn : (out out' sent : List ℕ) (count : ℕ) → out ≡ [] → TurnOf tells old new by (request ∷ []) [] out out' (answers.Worn count) → tells.faults old.disk ≤ tells.faults new.disk → sent ≡ out' ++ refused WORN count 0 → AnswersWith tells old new request sent
+  pub worn : (out out' sent : List ℕ) (count : ℕ) → out ≡ [] → TurnOf tells old new by (request ∷ []) [] out out' (answers.Worn count) → tells.faults old.disk ≤ tells.faults new.disk → sent ≡ out' ++ refused WORN count 0 → AnswersWith tells who.House old new request sent
   worn out out' sent count none is rises put =
       answers_with Worn (refused WORN MAX_FAULTS 0) sent (one_turn Refuses [] out out' Worn (refused WORN MAX_FAULTS 0) is.1 refl) rises
       (put ∙ ap (λ (xs : List ℕ). xs ++ refused WORN count 0) (is.1.out_is ∙ append-nil out ∙ none) ∙ ap (λ (n : ℕ). refused WORN n 0) is.0)
@@ -111,10 +113,10 @@ module _ {D : Type 0} (tells : DiskTells D) (old new : Chronicled D) (by : ℕ) 
 
 -- ---- one step
 
-pub stepped_with : {D : Type 0} (tells : DiskTells D) (held held' : Collected) (old new : Chronicled D) (f : FrameAt) (moment : ℕ) (body reply : List ℕ) (before after : Outside)
-    → Reads before.left after.left held held' (frame_at held'.held f ∷ []) → IsFrame (frame_at held'.held f) → (length (waiting held) < MAX_PIECE → length (waiting held') < MAX_PIECE) → body ≡ take f.len (drop f.start held'.held) → Gives before.moments after.moments moment
-    → AnswersWith tells old new (request_of f.kind body moment) reply → (done : List ℕ → Type 0) → done reply → (s : Stepped tells held held' old new before after) × done s.one.reply
-stepped_with tells held held' old new f moment body reply before after read lawful ahead is now answer done sent =
+pub stepped_with : {D : Type 0} (tells : DiskTells D) (by : Answerer) (held held' : Collected) (old new : Chronicled D) (f : FrameAt) (moment : ℕ) (body reply : List ℕ) (before after : Outside)
+    → Reads before.left after.left held held' (frame_at held'.held f ∷ []) → IsFrame (frame_at held'.held f) → (length (waiting held) < MAX_PIECE → length (waiting held') < MAX_PIECE) → body ≡ take f.len (drop f.start held'.held) → AsksOnce by before.moments after.moments moment
+    → AnswersWith tells by old new (request_of f.kind body moment) reply → (done : List ℕ → Type 0) → done reply → (s : Stepped tells by held held' old new before after) × done s.one.reply
+stepped_with tells by held held' old new f moment body reply before after read lawful ahead is now answer done sent =
     let one : List ℕ → Frame = λ bytes. record { kind = f.kind; body = bytes } in (
       record {
         one = record { request = request_of f.kind body moment; mark = answer.mark; reply = reply };
@@ -129,15 +131,15 @@ stepped_with tells held held' old new f moment body reply before after read lawf
     )
 
 -- reading ended, and nothing else was done
-pub stopped_with : {D : Type 0} (tells : DiskTells D) (end : BatchEnd) (held held' : Collected) (house : Chronicled D) (before : Outside) (left : Option (List ℕ))
-    → Reads before.left left held held' [] → IsReadEnd end → EndsAs end held'.taken (waiting held') left → (length (waiting held) < MAX_PIECE → AheadAs end (length (waiting held'))) → StepIs tells held held' house house before (record before { left = left }) (step.Ended end)
-stopped_with tells Clean held held' house before left read is ends ahead = (record { read = read; same = refl; unsent = refl; unasked = refl }, is, ends, ahead)
-stopped_with tells (Cut place) held held' house before left read is ends ahead = (record { read = read; same = refl; unsent = refl; unasked = refl }, is, ends, ahead)
-stopped_with tells (BadFrame fault) held held' house before left read is ends ahead = (record { read = read; same = refl; unsent = refl; unasked = refl }, is, ends, ahead)
-stopped_with tells ReadFault held held' house before left read is ends ahead = (record { read = read; same = refl; unsent = refl; unasked = refl }, is, ends, ahead)
-stopped_with tells WriteFault held held' house before left read is ends ahead = absurd is
-stopped_with tells Starved held held' house before left read is ends ahead = absurd is
-stopped_with tells FrameLimit held held' house before left read is ends ahead = absurd is
+pub stopped_with : {D : Type 0} (tells : DiskTells D) (by : Answerer) (end : BatchEnd) (held held' : Collected) (house : Chronicled D) (before : Outside) (left : Option (List ℕ))
+    → Reads before.left left held held' [] → IsReadEnd end → EndsAs end held'.taken (waiting held') left → (length (waiting held) < MAX_PIECE → AheadAs end (length (waiting held'))) → StepIs tells by held held' house house before (record before { left = left }) (step.Ended end)
+stopped_with tells by Clean held held' house before left read is ends ahead = (record { read = read; same = refl; unsent = refl; unasked = refl }, is, ends, ahead)
+stopped_with tells by (Cut place) held held' house before left read is ends ahead = (record { read = read; same = refl; unsent = refl; unasked = refl }, is, ends, ahead)
+stopped_with tells by (BadFrame fault) held held' house before left read is ends ahead = (record { read = read; same = refl; unsent = refl; unasked = refl }, is, ends, ahead)
+stopped_with tells by ReadFault held held' house before left read is ends ahead = (record { read = read; same = refl; unsent = refl; unasked = refl }, is, ends, ahead)
+stopped_with tells by WriteFault held held' house before left read is ends ahead = absurd is
+stopped_with tells by Starved held held' house before left read is ends ahead = absurd is
+stopped_with tells by FrameLimit held held' house before left read is ends ahead = absurd is
 
 -- the source failed where that is why reading ended
 pub read_fault : (end : BatchEnd) (source source' sink sink' : ℕ) → IsReadEnd end → (end ≡ ReadFault → Rose source source') → FaultOf source source' sink sink' end

@@ -1,28 +1,28 @@
 -- What a batch does: the frames of the input are answered in order, one turn after another.
-use Rattle.std.specs.Prelude.{◌≡◌, ℕ, ◌<◌, ◌≤◌, ◌⊎◌, List, [], ◌∷◌, ◌++◌, Option, None, Some, ⊤, length, map, take}
+use Rattle.std.specs.Prelude.{◌≡◌, ℕ, ◌<◌, ◌≤◌, ◌⊎◌, List, [], ◌∷◌, ◌++◌, Option, ⊤, length, map, take}
 use Rattle.std.specs.List.{flat_map, AllByRecursion}
 use Rattle.std.specs.Option.{option_to_list}
 use Rattle.std.specs.Io.KnownBytes.{Consumes, Appends}
 use Rattle.nb_units.specs.declared.charter.Charter.{Charter}
 use Rattle.nb_port.specs.Tells.{DiskTells}
 use Rattle.nb_port.specs.Faults.{Rose, Failure, Backed}
-use Rattle.nb_port.specs.Clock.{Gives}
 use Rattle.nb_units.specs.Frames.{Frame, frame, IsFrame, Splits}
 use Rattle.nb_frame.specs.State.{Collected, waiting}
 use Rattle.nb_frame.specs.declared.stream.TheConstants.{MAX_PIECE}
 use Rattle.nb_journal.specs.Time.{LeavesOnly}
 use Rattle.nb_book.specs.declared.entry.Entry.{Entry}
 use Rattle.nb_turns.specs.declared.mark.Mark.{Mark}
-use Rattle.nb_turns.specs.declared.mark.Mark.TheVariants.{At, Fault}
-use Rattle.nb_turns.specs.Turns.{Request, State, Answered, last_state, IsStateOf, replies}
-use Rattle.nb_turns.specs.Laws.{TurnOfOne, RunOfOnes}
+use Rattle.nb_turns.specs.declared.mark.Mark.TheVariants.{At}
+use Rattle.nb_turns.specs.Turns.{State, Answered, last_state, IsStateOf, replies}
 use Rattle.nb_vault.specs.Holdings.{StandsForEither}
-use Rattle.nb_vault.specs.Vaults.{Chronicled, state_of, house_in}
+use Rattle.nb_vault.specs.Vaults.{Chronicled, state_of}
+use Rattle.nb_batch.specs.declared.answering.Answerer.{Answerer}
 use Rattle.nb_batch.specs.declared.batch.TheConstants.{MOST_FRAMES}
 use Rattle.nb_batch.specs.declared.batch.BatchEnd.{BatchEnd}
 use Rattle.nb_batch.specs.declared.batch.BatchEnd.TheVariants.{ReadFault, WriteFault, NoMemory, FrameLimit}
 use Rattle.nb_batch.specs.declared.batch.Step.{Step}
 use Rattle.nb_batch.specs.declared.batch.Step.TheVariants as step
+use Rattle.nb_batch.specs.Answering.{Asked, AsksOnce, Goes, GoesTo, failure_in_mark}
 use Rattle.nb_batch.specs.Fetch.{Reads, AheadAs, EndsAs, IsReadEnd}
 use Rattle.nb_batch.specs.Send.{SentPart}
 
@@ -37,11 +37,6 @@ frame_of a = record { kind = a.request.kind; body = a.request.body }
 -- the moment at which it was answered
 abbrev pub moment_of : Answered → ℕ
 moment_of a = a.request.moment
-
--- the counts of the disk's faults between which its turn failed
-abbrev pub failure_in_mark : Mark → Option Failure
-failure_in_mark (Fault before after) = Some (record { before = before; after = after })
-failure_in_mark other = None
 
 -- the failures of these turns, in their order
 abbrev pub failures_told : List Answered → List Failure
@@ -61,12 +56,6 @@ pub record Outside : Type 0 where
   pub left : Option (List ℕ)
   pub sent : Option (List ℕ)
   pub moments : Option (List ℕ)
-
--- a clock gave these moments
-abbrev pub Gave : Option (List ℕ) → Option (List ℕ) → List ℕ → Type 0
-Gave old None moments = ⊤
-Gave None (Some given) moments = ⊥
-Gave (Some before) (Some given) moments = given ≡ before ++ moments
 
 -- the image stands for the entries of one of the states of a run, without those in doubt in it or with them
 pub record StandsInRun (charter : Charter) (cap : ℕ) (first : State) (states : List State) (image : List ℕ) : Type 0 where
@@ -96,21 +85,15 @@ last_disk first (next ∷ disks) = last_disk next disks
 
 -- ---- one step
 
--- a request was answered so: by a turn, whose fault lies between the disk's counts before it and after
-pub record AnswersWith {D : Type 0} (tells : DiskTells D) (old new : Chronicled D) (request : Request) (reply : List ℕ) : Type 0 where
-  pub mark : Mark
-  pub turn : TurnOfOne (house_in old) (state_of old) request mark reply (state_of new)
-  pub backed : Backed (tells.faults old.disk) (option_to_list (failure_in_mark mark)) (tells.faults new.disk)
-
--- a frame was given out, the clock was asked, and a turn answered it
-pub record Stepped {D : Type 0} (tells : DiskTells D) (held held' : Collected) (old new : Chronicled D) (before after : Outside) : Type 0 where
+-- a frame was given out, a house asked the clock, and the frame was answered
+pub record Stepped {D : Type 0} (tells : DiskTells D) (by : Answerer) (held held' : Collected) (old new : Chronicled D) (before after : Outside) : Type 0 where
   pub one : Answered
-  pub turn : TurnOfOne (house_in old) (state_of old) one.request one.mark one.reply (state_of new)
+  pub turn : GoesTo by old.origin.charter old.origin.cap (state_of old) one.request one.mark one.reply (state_of new)
   pub backed : Backed (tells.faults old.disk) (option_to_list (failure_in_mark one.mark)) (tells.faults new.disk)
   pub lawful : IsFrame (frame_of one)
   pub read : Reads before.left after.left held held' (frame_of one ∷ [])
   pub ahead : length (waiting held) < MAX_PIECE → length (waiting held') < MAX_PIECE
-  pub asked : Gives before.moments after.moments one.request.moment
+  pub asked : AsksOnce by before.moments after.moments one.request.moment
 
 -- bytes were read, of which no frame was given out, and nothing else was done
 pub record Stopped {D : Type 0} (held held' : Collected) (old new : Chronicled D) (before after : Outside) : Type 0 where
@@ -120,12 +103,12 @@ pub record Stopped {D : Type 0} (held held' : Collected) (old new : Chronicled D
   pub unasked : after.moments ≡ before.moments
 
 -- what one step of a batch did, by how it went
-abbrev pub StepIs : {D : Type 0} → DiskTells D → Collected → Collected → Chronicled D → Chronicled D → Outside → Outside → Step → Type 0
-StepIs tells held held' old new before after step.Answered =
-    (s : Stepped tells held held' old new before after) × Appends before.sent after.sent s.one.reply
-StepIs tells held held' old new before after (step.Ended WriteFault) =
-    (s : Stepped tells held held' old new before after) × SentPart before.sent after.sent s.one.reply
-StepIs tells held held' old new before after (step.Ended end) =
+abbrev pub StepIs : {D : Type 0} → DiskTells D → Answerer → Collected → Collected → Chronicled D → Chronicled D → Outside → Outside → Step → Type 0
+StepIs tells by held held' old new before after step.Answered =
+    (s : Stepped tells by held held' old new before after) × Appends before.sent after.sent s.one.reply
+StepIs tells by held held' old new before after (step.Ended WriteFault) =
+    (s : Stepped tells by held held' old new before after) × SentPart before.sent after.sent s.one.reply
+StepIs tells by held held' old new before after (step.Ended end) =
     Stopped held held' old new before after × IsReadEnd end × EndsAs end held'.taken (waiting held') after.left
     × (length (waiting held) < MAX_PIECE → AheadAs end (length (waiting held')))
 
@@ -159,7 +142,7 @@ CountsAs NoMemory count = count ≡ 0
 CountsAs other count = count < MOST_FRAMES
 
 -- What a batch did over a house, by how it ended
-pub record Served {D : Type 0} (tells : DiskTells D) (old new : Chronicled D) (before after : Outside) (end : BatchEnd) : Type 0 where
+pub record Served {D : Type 0} (tells : DiskTells D) (by : Answerer) (old new : Chronicled D) (before after : Outside) (end : BatchEnd) : Type 0 where
   -- the requests that were answered, the states that the house came to and the disks then; frames that were read and not answered,
   -- and what follows them; all bytes that were read
   pub answered : List Answered
@@ -174,8 +157,8 @@ pub record Served {D : Type 0} (tells : DiskTells D) (old new : Chronicled D) (b
   pub ahead : AheadAs end (length (flat_map frame unanswered ++ rest))
   pub ends : EndsAs end (length (flat_map frame (map frame_of answered))) rest after.left
   pub counted : CountsAs end (length answered)
-  pub asked : Gave before.moments after.moments (map moment_of answered)
-  pub turns : RunOfOnes (house_in old) (state_of old) answered states
+  pub asked : Asked by before.moments after.moments (map moment_of answered)
+  pub turns : Goes by old.origin.charter old.origin.cap (state_of old) answered states
   pub last : state_of new ≡ last_state (state_of old) states
   pub backed : Backed (tells.faults old.disk) (failures_told answered) (tells.faults new.disk)
   pub stops : LeavesOnly tells old.disk new.disk (StandsInRun old.origin.charter old.origin.cap (state_of old) states)

@@ -1,31 +1,23 @@
-ghost use Rattle.std.specs.Prelude.{◌≡◌, ◌≤◌, ◌<◌, ◌^◌, ◌⊎◌, ◌++◌, [], length, vec_capacity};
+ghost use Rattle.std.specs.Prelude.{◌≡◌, ◌≤◌, ◌<◌, ◌^◌, ◌⊎◌, length, vec_capacity};
 ghost use Rattle.nb_frame.specs.declared.stream.TheConstants.{MAX_PIECE};
 ghost use Rattle.nb_journal.specs.Time.{LeavesOnly};
 ghost use Rattle.nb_msgs.specs.declared.reply.TheConstants.{REPLY_ROOM};
-ghost use Rattle.nb_units.specs.Room.{spare_of};
-ghost use Rattle.nb_vault.specs.Asking.{request_of};
-ghost use Rattle.nb_vault.specs.Rules.{refused};
-ghost use Rattle.nb_vault.specs.Sending.{MaySend};
 ghost use Rattle.nb_vault.specs.Vaults.{Keeps, StandsForState, state_of};
 ghost use Rattle.nb_batch.specs.declared.batch.BatchEnd.TheVariants.{NoMemory};
 ghost use Rattle.nb_batch.specs.Batch as batch;
 ghost use Rattle.nb_batch.specs.Numbers.{LimitIs};
 
+use crate::answering::{Answerer, answer_by, moment_for};
 use crate::fetch::{Fetched, next_frame};
 use crate::send::{Sent, send_reply};
-use nb_endorse::refusal::{DISK_FAULT, WORN};
-use nb_endorse::{Refusal, Reply, ReplyKeys};
 use nb_frame::{FrameFault, Frames, MAX_PIECE};
-use nb_msgs::{REPLY_ROOM, write_reply};
+use nb_msgs::REPLY_ROOM;
 use nb_port::{Clock, Disk, Sink, Source};
-use nb_vault::{Answer, Vault};
+use nb_vault::Vault;
 use std::alloc::Global;
 
 /// The most frames that one batch answers.
 pub const MOST_FRAMES: u32 = 10_000_000;
-
-// The number of the one who asks in a batch.
-const ASKER: u64 = 0;
 
 /// How a batch ended.
 #[derive(Clone, Copy)]
@@ -53,9 +45,11 @@ enum Step {
     Ended(BatchEnd),
 }
 
-/// Answers the frames of the source in order, each by one reply to the sink, at one moment of the clock.
+/// Answers the frames of the source in order, each by one reply to the sink: a house at one moment of the clock each, and a standby, which asks no clock, by
+/// an acknowledgement.
 pub fn answer_frames<D: Disk, S: Source, K: Sink, C: Clock>(
     alloc: Global,
+    by: Answerer,
     house: &mut Vault<D>,
     source: &mut S,
     sink: &mut K,
@@ -65,7 +59,7 @@ pub fn answer_frames<D: Disk, S: Source, K: Sink, C: Clock>(
     // moment of the call leaves an image that stands for one of the states; where each is the first the content stays; the faults lie between the disk's
     // counts. The disk holds the entries of the first state before the call and those of each turn's state behind it, and a stop since one of these and
     // up to the next leaves those of the one or of the other.
-    ensures served { batch.Served D.tells house.old house.new
+    ensures served { batch.Served D.tells by house.old house.new
         (record { left = S.left source.old; sent = K.sent sink.old; moments = C.moments clock.old })
         (record { left = S.left source.new; sent = K.sent sink.new; moments = C.moments clock.new }) result }
     ensures origin { house.new.origin ≡ house.old.origin }
@@ -88,6 +82,7 @@ pub fn answer_frames<D: Disk, S: Source, K: Sink, C: Clock>(
     let mut piece = [0u8; MAX_PIECE];
     'frames: for _ in 0..MOST_FRAMES {
         match answer_next(
+            by,
             house,
             &mut frames,
             &mut piece,
@@ -110,6 +105,7 @@ pub fn answer_frames<D: Disk, S: Source, K: Sink, C: Clock>(
 
 // Answers the next frame of the source, which is read as far as that needs, and sends the reply.
 fn answer_next<D: Disk, S: Source, K: Sink, C: Clock>(
+    by: Answerer,
     house: &mut Vault<D>,
     frames: &mut Frames,
     piece: &mut [u8],
@@ -121,7 +117,7 @@ fn answer_next<D: Disk, S: Source, K: Sink, C: Clock>(
     requires room { REPLY_ROOM ≤ vec_capacity reply.old }
     requires piece { length piece.old ≡ MAX_PIECE }
     requires near { frames.old.taken < 2 ^ 62 }
-    ensures step { batch.StepIs D.tells frames.old frames.new house.old house.new
+    ensures step { batch.StepIs D.tells by frames.old frames.new house.old house.new
         (record { left = S.left source.old; sent = K.sent sink.old; moments = C.moments clock.old })
         (record { left = S.left source.new; sent = K.sent sink.new; moments = C.moments clock.new }) result }
     ensures origin { house.new.origin ≡ house.old.origin }
@@ -141,50 +137,13 @@ fn answer_next<D: Disk, S: Source, K: Sink, C: Clock>(
         Fetched::Frame(f) => f,
         Fetched::Ended(end) => return Step::Ended(end),
     };
-    let moment = clock.now();
+    let moment = moment_for(by, clock);
     reply.clear();
-    answer_with(house, f.kind, frames.body(&f), moment, reply);
-    match send_reply(house, sink, reply.as_slice()) {
+    answer_by(by, house, f.kind, frames.body(&f), moment, reply);
+    match send_reply(by, house, sink, reply.as_slice()) {
         Sent::All => Step::Answered,
         Sent::Failed => Step::Ended(BatchEnd::WriteFault),
     }
-}
-
-// Answers one request by the house's reply, or by the refusal that says why there is none.
-fn answer_with<D: Disk>(
-    house: &mut Vault<D>,
-    kind: u8,
-    body: &[u8],
-    moment: u64,
-    reply: &mut Vec<u8>,
-)
-    requires empty { reply.old.items ≡ [] }
-    requires room { REPLY_ROOM ≤ spare_of reply.old }
-    ensures answers { batch.AnswersWith D.tells house.old house.new (request_of kind body.now moment) reply.new.items }
-    ensures origin { house.new.origin ≡ house.old.origin }
-    ensures any_moment { LeavesOnly D.tells house.old.disk house.new.disk
-        (λ image. StandsForState house.old image ⊎ StandsForState house.new image) }
-    ensures durable { MaySend D.tells house.new reply.new.items }
-    ensures keeps { Keeps D.tells house.new }
-    ensures quiet { state_of house.new ≡ state_of house.old → D.tells.content house.new.disk ≡ D.tells.content house.old.disk }
-    ensures room { vec_capacity reply.new ≡ vec_capacity reply.old }
-    ensures disk { D.tells.faults house.old.disk ≤ D.tells.faults house.new.disk }
-{
-    match house.answer(ASKER, kind, body, moment, reply) {
-        Answer::Answered { .. } => {}
-        Answer::DiskFault { before, after } => refuse(DISK_FAULT, before, after, reply),
-        Answer::Worn { faults } => refuse(WORN, u64::from(faults), 0, reply),
-    }
-}
-
-// Appends a refusal that shows two numbers.
-fn refuse(code: u8, a: u64, b: u64, out: &mut Vec<u8>)
-    requires { REPLY_ROOM ≤ spare_of out.old }
-    ensures bytes { out.new.items ≡ out.old.items ++ refused code a b }
-    ensures room { vec_capacity out.new ≡ vec_capacity out.old }
-{
-    let refusal = Refusal::of(code, a, b);
-    write_reply(&Reply::Refused(refusal), &ReplyKeys::none(), out);
 }
 
 /// A law: the limit of a batch in numbers.

@@ -1,7 +1,8 @@
 ghost use Rattle.std.specs.Prelude.{◌≤◌, length};
-ghost use Rattle.nb_vault.specs.Sending.{MaySend};
+ghost use Rattle.nb_batch.specs.Answering.{MayBeSent};
 ghost use Rattle.nb_batch.specs.Send.{SentIs};
 
+use crate::answering::Answerer;
 use nb_port::{Disk, Sink, WriteOut};
 use nb_vault::Vault;
 
@@ -14,10 +15,15 @@ pub enum Sent {
     Failed,
 }
 
-/// Sends the reply of `house` to a request. A decided one is not sent before what it tells of is recorded in the house, and each
-/// image that a stop may leave stands for the entries of the house.
-pub fn send_reply<D: Disk, K: Sink>(_house: &Vault<D>, sink: &mut K, reply: &[u8]) -> Sent
-    requires durable { MaySend D.tells _house.now reply.now }
+/// Sends the reply of a house to a request, or the acknowledgement of a standby. A decided one is not sent before what it tells of is recorded, and each
+/// image that a stop may leave stands for the entries.
+pub fn send_reply<D: Disk, K: Sink>(
+    _by: Answerer,
+    _house: &Vault<D>,
+    sink: &mut K,
+    reply: &[u8],
+) -> Sent
+    requires durable { MayBeSent D.tells _by _house.now reply.now }
     ensures sent { SentIs (K.faults sink.old) (K.faults sink.new) (K.sent sink.old) (K.sent sink.new) reply.now result }
     ensures count { K.faults sink.old ≤ K.faults sink.new }
 {

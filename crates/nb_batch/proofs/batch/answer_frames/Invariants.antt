@@ -6,7 +6,7 @@ use Rattle.nb_batch.proofs.batch.answer_frames.Given as goal
 -- so many frames were answered, and each reply was sent
 abbrev pub invariant-frames : goal.invariant-frames
 invariant-frames g l = record {
-  ran : Ran g.D.Disk.tells l.frames l.fn.house l.house
+  ran : Ran g.D.Disk.tells l.by l.frames l.fn.house l.house
       (record { left = g.S.Source.left l.fn.source; sent = g.K.Sink.sent l.fn.sink; moments = g.C.Clock.moments l.fn.clock })
       (record { left = g.S.Source.left l.source; sent = g.K.Sink.sent l.sink; moments = g.C.Clock.moments l.clock }) l.counter;
   room : REPLY_ROOM ≤ vec_capacity l.reply;
