@@ -41,9 +41,9 @@ wallets_may H before [] = true
 wallets_may H before (w ∷ ws) = is_enrolled (party_in H w.id) CONSUMER w.acct (Some w.nonce) w.key && is_none (position (λ (b : Buyer). b.wallet.id.0 == w.id.0) before)
     && wallets_may H (before ++ new_buyer w ∷ []) ws
 
--- the merchant of a stall and its catalogue
+-- the merchant of a stall and its catalogue, without offers for groups
 abbrev pub shop_of : Stall × List Product → Shop
-shop_of seller = new_shop seller.0 seller.1
+shop_of seller = new_shop seller.0 seller.1 None
 
 -- so is each merchant
 abbrev pub stalls_may : List Entry → List Shop → List (Stall × List Product) → Bool

@@ -1,4 +1,4 @@
-ghost use Rattle.std.specs.Prelude.{◌≡◌, ◌<◌, ◌==◌, ◌++◌, ◌∷◌, [], length, map, set, slice_get, is_some, Some, None, OnOk, OnErr, IfOk, IfSome};
+ghost use Rattle.std.specs.Prelude.{◌≡◌, ◌<◌, ◌==◌, ◌++◌, ◌∷◌, [], length, map, set, slice_get, is_some, option_map, Some, None, OnOk, OnErr, IfOk, IfSome};
 ghost use Rattle.std.specs.List.{position};
 ghost use Rattle.nb_msgs.specs.Reading.{message_of};
 ghost use Rattle.nb_wallet.specs.Spelling.{StartKeepsRules};
@@ -8,7 +8,7 @@ ghost use Rattle.nb_consumer.specs.State.{new_buyer, purchase_of};
 ghost use Rattle.nb_consumer.specs.Table.{started, silent};
 ghost use Rattle.nb_parties.specs.Rules.{buyer_goes, buyer_hears};
 ghost use Rattle.nb_simulator.specs.Doing.{WentAt, BecameAt, TestsAt, DidSo};
-ghost use Rattle.nb_simulator.specs.Worlds.{buyer_number, phase_of_first};
+ghost use Rattle.nb_simulator.specs.Worlds.{buyer_number, phase_of_first, told_of, knows_of};
 
 use crate::buying::Buying;
 use crate::did::Did;
@@ -139,6 +139,21 @@ impl Buyers {
         ensures { TestsAt (λ b. is_some (purchase_of b transaction)) self.now i result }
     {
         self.each[i].knows(transaction)
+    }
+
+    // How many there are.
+    pub(crate) fn len(&self) -> usize
+        ensures { result ≡ length self.now }
+    {
+        self.each.len()
+    }
+
+    // The number of the one at a place, and those of its purchases.
+    pub(crate) fn purchases(&self, i: usize) -> Option<(PartyId, &[u64])>
+        ensures { told_of result ≡ option_map knows_of (slice_get self.now i) }
+    {
+        let buying = self.each.get(i)?;
+        Some(buying.purchases())
     }
 
     // How far a purchase of the one with this number has come.

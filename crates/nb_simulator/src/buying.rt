@@ -1,9 +1,9 @@
-ghost use Rattle.std.specs.Prelude.{◌≡◌, OnOk, OnErr, IfOk};
+ghost use Rattle.std.specs.Prelude.{◌≡◌, OnOk, OnErr, IfOk, map};
 ghost use Rattle.nb_msgs.specs.Bodies.{MessageKeepsRules};
 ghost use Rattle.nb_wallet.specs.Spelling.{StartKeepsRules};
 ghost use Rattle.nb_consumer.specs.Goods.{phase_in};
 ghost use Rattle.nb_consumer.specs.Restart.{untold};
-ghost use Rattle.nb_consumer.specs.State.{new_buyer, purchase_of};
+ghost use Rattle.nb_consumer.specs.State.{new_buyer, number_of, purchase_of};
 ghost use Rattle.nb_consumer.specs.Table.{started, heard, silent};
 ghost use Rattle.nb_parties.specs.Rules.{buyer_goes};
 ghost use Rattle.nb_simulator.specs.Doing.{Follows, DidSo};
@@ -12,7 +12,7 @@ ghost use Rattle.std.specs.Option.{is_some};
 use crate::did::{Did, carry_out, make_room};
 use nb_consumer::{Consumer, Phase};
 use nb_msgs::{Message, RestartFault};
-use nb_units::{Blob, NoMemory};
+use nb_units::{Blob, NoMemory, PartyId};
 use nb_wallet::{Start, Wallet};
 use std::alloc::Global;
 use std::marker::Model;
@@ -58,6 +58,14 @@ impl Buying {
         ensures { result ≡ is_some (purchase_of self.now transaction) }
     {
         self.core.state(transaction).is_some()
+    }
+
+    // Its number, and those of its purchases.
+    pub(crate) fn purchases(&self) -> (PartyId, &[u64])
+        ensures id { result.0 ≡ self.now.wallet.id }
+        ensures numbers { result.1.now ≡ map number_of self.now.purchases }
+    {
+        (self.wallet.id, self.core.numbers())
     }
 
     // How far a purchase has come.

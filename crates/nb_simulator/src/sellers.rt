@@ -118,7 +118,7 @@ impl Sellers {
         catalogue: Catalogue,
     ) -> Result<(), NoMemory>
         requires new { position (λ s. s.stall.id.0 == stall.id.0) self.old ≡ None }
-        ensures added { OnOk result (self.new ≡ self.old ++ new_shop stall catalogue ∷ []) }
+        ensures added { OnOk result (self.new ≡ self.old ++ new_shop stall catalogue None ∷ []) }
         ensures err { OnErr result (self.new ≡ self.old) }
     {
         self.each.reserve(1)?;

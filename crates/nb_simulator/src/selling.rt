@@ -56,7 +56,7 @@ fn step_at(core: &mut Merchant, message: &Message, moment: u64) -> Result<Step, 
 impl Selling {
     // A merchant that has kept nothing.
     pub(crate) fn new(alloc: Global, stall: Stall, catalogue: Catalogue) -> Selling
-        ensures { result ≡ new_shop stall catalogue }
+        ensures { result ≡ new_shop stall catalogue None }
     {
         Selling {
             core: Merchant::new(alloc, stall, catalogue),

@@ -3,7 +3,7 @@ ghost use Rattle.nb_msgs.specs.declared.node.To.TheVariants as to;
 ghost use Rattle.nb_world.specs.Steps as steps;
 ghost use Rattle.nb_simulator.specs.Laws.{IsBehind};
 ghost use Rattle.nb_simulator.specs.Setups.{IsLawful, SellersFit, Sets, world_of};
-ghost use Rattle.nb_simulator.specs.Worlds.{Tells, SameHouse, rules_of, phase_of_first};
+ghost use Rattle.nb_simulator.specs.Worlds.{Tells, SameHouse, rules_of, phase_of_first, told_of, knows_of};
 
 use crate::buyers::Buyers;
 use crate::did::send;
@@ -550,6 +550,21 @@ impl World {
         ensures cap { result.now.cap ≡ self.now.cap }
     {
         &self.book
+    }
+
+    /// How many consumers there are.
+    pub fn consumers(&self) -> usize
+        ensures { result ≡ length self.now.world.consumers }
+    {
+        self.consumers.len()
+    }
+
+    /// The number of the consumer at a place, counted from 0 in the order of the set-up, and those of its purchases, in the order in which they were
+    /// started; or `None` where there are not so many consumers.
+    pub fn consumer(&self, i: usize) -> Option<(PartyId, &[u64])>
+        ensures { told_of result ≡ option_map knows_of (slice_get self.now.world.consumers i) }
+    {
+        self.consumers.purchases(i)
     }
 
     /// How far a purchase of a consumer has come, or `None` where the consumer is not known, or knows no such purchase.

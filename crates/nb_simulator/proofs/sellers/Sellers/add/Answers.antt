@@ -7,7 +7,7 @@ use Rattle.nb_simulator.proofs.sellers.Sellers.add.Goals as goal
 
 pub invariant_of-self-2 : goal.invariant_of-self-2
 invariant_of-self-2 c =
-    let x : Shop = new_shop c.args.stall c.args.catalogue in
+    let x : Shop = new_shop c.args.stall c.args.catalogue None in
     let none = subst (λ bs. position (λ (s : Shop). nat_eq s.stall.id.0 c.args.stall.id.0) bs ≡ None) (sym c.self.view_is) c.requires.new in
     let pushed = c.push_reserved.ensures.items ∙ ap (λ (xs : List Shop). xs ++ c.new.result ∷ []) c.reserve.ensures.items ∙ ap (λ (y : Shop). c.self.inside.each.items ++ y ∷ []) c.new.ensures in
     numbers_more shop_number c.self.inside.numbers.keys c.insert.new.self.keys c.self.inside.each.items c.push_reserved.new.self.items x c.self.invariant none c.in_ok-_new.ensures.keys pushed

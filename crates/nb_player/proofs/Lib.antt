@@ -1,0 +1,6 @@
+pub mod Listing
+pub mod Lawful
+pub mod OneReport
+pub mod Adding
+pub mod Stocking
+pub mod Events

@@ -1,0 +1,4 @@
+pub mod Stock
+pub mod Report
+pub mod Playing
+pub mod Laws
