@@ -16,6 +16,7 @@ use Rattle.nb_vault.specs.declared.vault.opening.VaultFault.{VaultFault}
 use Rattle.nb_vault.specs.declared.vault.opening.VaultFault.TheVariants.{Unborn, Damaged, BadEntry, DiskFault, NoMemory as Starved}
 use Rattle.nb_vault.specs.Opens.{WholeOpens, VaultOpenFails}
 use Rattle.nb_vault.specs.Vaults.{Chronicled}
+use Rattle.nb_batch.specs.declared.answering.Answerer.{Answerer}
 use Rattle.nb_batch.specs.Batch.{frame_of, Outside, Served, FaultOf}
 use Rattle.nb_run.specs.Ending.{EndsEarly, ended}
 use Rattle.nb_run.specs.Run.{EndsWhole, IsWholeInput, IsJournal, unopened}
@@ -86,23 +87,23 @@ lawful_rest [] more all = all
 lawful_rest (g ∷ gs) more all = lawful_rest gs more all.1
 
 -- whole frames alone end a batch well, unless the source failed or memory was wanting
-pub whole_end : {D : Type 0} (tells : DiskTells D) (old new : Chronicled D) (end : BatchEnd) (before after : Outside) (source source' sink sink' : ℕ)
-    → Served tells old new before after end → FaultOf source source' sink sink' end → IsWholeInput before.left → (Rose sink sink' → ⊥) → EndsWhole (ended end)
-whole_end tells old new Clean before after source source' sink sink' s fault input no_sink = inl refl
-whole_end tells old new NoMemory before after source source' sink sink' s fault input no_sink = inr (inl refl)
-whole_end tells old new ReadFault before after source source' sink sink' s fault input no_sink = inr (inr (inl refl))
-whole_end tells old new WriteFault before after source source' sink sink' s fault input no_sink = absurd (no_sink fault)
-whole_end tells old new (Cut place) before after source source' sink sink' s fault input no_sink =
+pub whole_end : {D : Type 0} (tells : DiskTells D) (by : Answerer) (old new : Chronicled D) (end : BatchEnd) (before after : Outside) (source source' sink sink' : ℕ)
+    → Served tells by old new before after end → FaultOf source source' sink sink' end → IsWholeInput before.left → (Rose sink sink' → ⊥) → EndsWhole (ended end)
+whole_end tells by old new Clean before after source source' sink sink' s fault input no_sink = inl refl
+whole_end tells by old new NoMemory before after source source' sink sink' s fault input no_sink = inr (inl refl)
+whole_end tells by old new ReadFault before after source source' sink sink' s fault input no_sink = inr (inr (inl refl))
+whole_end tells by old new WriteFault before after source source' sink sink' s fault input no_sink = absurd (no_sink fault)
+whole_end tells by old new (Cut place) before after source source' sink sink' s fault input no_sink =
     let gs : List Frame = map frame_of s.answered ++ s.unanswered in
     let p = parts input.frames gs s.rest s.read before.left after.left input.is input.lawful s.took s.frames in
     let P : List Frame → Type 0 = λ fs. AllByRecursion IsFrame fs in
     absurd (no_cut_rest s.rest p.left p.more (lawful_rest gs p.more (subst P p.all input.lawful)) p.after s.ends.0 (subst IsAtEnd p.known s.ends.1))
-whole_end tells old new (BadFrame bad) before after source source' sink sink' s fault input no_sink =
+whole_end tells by old new (BadFrame bad) before after source source' sink sink' s fault input no_sink =
     let gs : List Frame = map frame_of s.answered ++ s.unanswered in
     let p = parts input.frames gs s.rest s.read before.left after.left input.is input.lawful s.took s.frames in
     let P : List Frame → Type 0 = λ fs. AllByRecursion IsFrame fs in
     absurd (no_bad_rest s.rest p.left p.more s.ends.0 (lawful_rest gs p.more (subst P p.all input.lawful)) p.after s.ends.1)
-whole_end tells old new FrameLimit before after source source' sink sink' s fault input no_sink =
+whole_end tells by old new FrameLimit before after source source' sink sink' s fault input no_sink =
     let gs : List Frame = map frame_of s.answered ++ s.unanswered in
     let p = parts input.frames gs s.rest s.read before.left after.left input.is input.lawful s.took s.frames in
     absurd (omega (arith, input.few, s.counted, ap length p.all, length-append gs p.more, length-append (map frame_of s.answered) s.unanswered, length-map s.answered frame_of))

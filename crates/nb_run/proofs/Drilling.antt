@@ -17,6 +17,7 @@ use Rattle.nb_vault.specs.declared.vault.opening.VaultFault.TheVariants.{Unborn,
 use Rattle.nb_journal.specs.Making.{without_fee}
 use Rattle.nb_vault.specs.Holdings.{StandsFor}
 use Rattle.nb_vault.proofs.HoldingLaws.{one_list}
+use Rattle.nb_batch.specs.declared.answering.Answerer.TheVariants.{House}
 use Rattle.nb_batch.specs.Batch.{Outside, frame_of, moment_of}
 use Rattle.nb_batch.specs.Send.{SentPart}
 use Rattle.nb_play.specs.declared.frames.TheConstants.{MOMENT}
@@ -73,7 +74,7 @@ none_more (f ∷ more) is = absurd cc
 -- ---- what of a batch is a drill's
 
 module _ {D : Type 0} (tells : DiskTells D) (made new : D) (seed orders : ℕ) (few : orders ≤ 100000) (after : Outside) (end : Ending) where
-  all_frames : (b : Batch tells made new (fed seed orders) after end) → end.status ≡ CLEAN → map frame_of b.answered ≡ frames_of seed orders
+  all_frames : (b : Batch tells House made new (fed seed orders) after end) → end.status ≡ CLEAN → map frame_of b.answered ≡ frames_of seed orders
   all_frames b clean =
       let gs : List Frame = map frame_of b.answered ++ b.unanswered in
       let p = parts (frames_of seed orders) gs b.rest b.read (Some (bytes_from seed 0 (count_of orders))) after.left refl (lawful seed 0 (count_of orders)) b.took b.frames in
@@ -82,19 +83,19 @@ module _ {D : Type 0} (tells : DiskTells D) (made new : D) (seed orders : ℕ) (
       sym (append-nil (map frame_of b.answered)) ∙ ap (λ (fs : List Frame). map frame_of b.answered ++ fs) (sym (b.all (inl clean)))
       ∙ sym (append-nil gs) ∙ ap (λ (fs : List Frame). gs ++ fs) (sym (none_more p.more behind)) ∙ sym p.all
 
-  all_requests : (b : Batch tells made new (fed seed orders) after end) (n : ℕ) → end.status ≡ CLEAN → after.moments ≡ Some (replicate n MOMENT) → map (λ (a : Answered). a.request) b.answered ≡ requests_of seed orders
+  all_requests : (b : Batch tells House made new (fed seed orders) after end) (n : ℕ) → end.status ≡ CLEAN → after.moments ≡ Some (replicate n MOMENT) → map (λ (a : Answered). a.request) b.answered ≡ requests_of seed orders
   all_requests b n clean told =
-      let given : replicate n 1000000 ≡ map moment_of b.answered = subst (λ (moments : Option (List ℕ)). Rattle.nb_batch.specs.Batch.Gave (Some []) moments (map moment_of b.answered)) told b.asked in
+      let given : replicate n 1000000 ≡ map moment_of b.answered = subst (λ (moments : Option (List ℕ)). Rattle.nb_batch.specs.Answering.Gave (Some []) moments (map moment_of b.answered)) told b.asked in
       requests_are b.answered (at_moment b.answered n given) ∙ ap (map asked) (all_frames b clean)
 
-  begins_so : (b : Batch tells made new (fed seed orders) after end) → IsFresh (tells.content made) seed orders → (b.charter ≡ without_fee (head_of seed)) × (b.cap ≡ cap_of orders) × (b.opening ≡ [])
+  begins_so : (b : Batch tells House made new (fed seed orders) after end) → IsFresh (tells.content made) seed orders → (b.charter ≡ without_fee (head_of seed)) × (b.cap ≡ cap_of orders) × (b.opening ≡ [])
   begins_so b fresh =
       let stands : StandsFor b.charter b.cap b.opening fresh.0 = subst (λ (content : Option (List ℕ)). IfSome content (StandsFor b.charter b.cap b.opening)) fresh.1 b.stands in
       let one = one_list fresh.0 b.charter (without_fee (head_of seed)) b.cap (cap_of orders) b.opening [] stands fresh.2 in
       (one.1, one.0, one.2)
 
   -- the line of the entries that the lines record is that of the last list
-  told_of : (b : Batch tells made new (fed seed orders) after end) (lines : List Line) → b.last.entries ≡ entries_of b.opening lines → IsFresh (tells.content made) seed orders
+  told_of : (b : Batch tells House made new (fed seed orders) after end) (lines : List Line) → b.last.entries ≡ entries_of b.opening lines → IsFresh (tells.content made) seed orders
       → line_with orders (tally (recorded lines)) ≡ line_of orders b.last.entries
   told_of b lines is fresh =
       let all : b.last.entries ≡ recorded lines = is ∙ ap (λ (es : List Entry). es ++ recorded lines) (begins_so b fresh).2 in
@@ -114,7 +115,7 @@ module _ {D : Type 0} (tells : DiskTells D) (made new : D) (seed orders : ℕ) (
   opened_not NoMemory n (inl is) e = omega (arith, is, e)
   opened_not NoMemory n (inr is) e = omega (arith, is, e)
 
-  module _ (lines : List Line) (batch : BatchLines tells made new (fed seed orders) after lines end) (sent sent' : Option (List ℕ)) where
+  module _ (lines : List Line) (batch : BatchLines tells House made new (fed seed orders) after lines end) (sent sent' : Option (List ℕ)) where
     -- the frames were answered, and the line was told
     pub told : (ending : Ending) (n : ℕ) → end.status ≡ CLEAN → after.moments ≡ Some (replicate n MOMENT) → TellsLine sent sent' (line_with orders (tally (recorded lines))) ending
         → Answers tells made new sent sent' seed orders ending
@@ -149,7 +150,7 @@ module _ {D : Type 0} (tells : DiskTells D) (made new : D) (seed orders : ℕ) (
         none (inr (inr l)) is = l.1
 
     -- memory was wanting in it
-    starved : (ending : Ending) → ending ≡ at_no_place OUT_OF_MEMORY → Batch tells made new (fed seed orders) after end → sent' ≡ sent → Drilled tells made new sent sent' seed orders ending
+    starved : (ending : Ending) → ending ≡ at_no_place OUT_OF_MEMORY → Batch tells House made new (fed seed orders) after end → sent' ≡ sent → Drilled tells made new sent sent' seed orders ending
     starved ending is b same = record {
       after = after;
       end = end;
@@ -177,7 +178,7 @@ module _ {D : Type 0} (tells : DiskTells D) (made new : D) (seed orders : ℕ) (
         ending_is : (e : Ending) (s p : ℕ) → e.status ≡ s → e.place ≡ p → e ≡ record { status = s; place = p }
         ending_is e s p is at = rw (sym is, sym at) refl
 
-        by : (b : Batch tells made new (fed seed orders) after end) → EndsWhole end → end ≡ at_no_place OUT_OF_MEMORY
+        by : (b : Batch tells House made new (fed seed orders) after end) → EndsWhole end → end ≡ at_no_place OUT_OF_MEMORY
         by b (inl is) = absurd (not_clean is)
         by b (inr (inl is)) = ending_is end OUT_OF_MEMORY 0 is (b.nowhere (λ e. omega (arith, is, e)))
         by b (inr (inr (inl is))) = absurd (not_failed is)

@@ -9,3 +9,9 @@ pub mod Moving
 pub mod Stating
 pub mod Rulings
 pub mod Stocking
+pub mod Requests
+pub mod Wares
+pub mod Grants
+pub mod Plays
+pub mod Ships
+pub mod Promotions

@@ -1,6 +1,6 @@
 -- What a batch served, told as a run of the program.
 use Rattle.std.proofs.lemmas.List.{nil_from_length, length-append}
-use Rattle.std.proofs.Common.{◌≡◌, ◌≢◌, ℕ, ◌+◌, ◌<◌, ◌≤◌, ◌⊎◌, Bool, false, List, [], ◌∷◌, ◌++◌, length, Option, IfSome, refl, sym, ap, subst, ◌∙◌, append-nil, arith, inl, inr, ⊎_elim}
+use Rattle.std.proofs.Common.{◌≡◌, ◌≢◌, ℕ, ◌+◌, ◌<◌, ◌≤◌, ◌⊎◌, Bool, false, List, [], ◌∷◌, ◌++◌, length, Option, IfSome, Result, Ok, Err, refl, sym, ap, subst, ◌∙◌, append-nil, arith, inl, inr, ⊎_elim}
 use Rattle.std.specs.Prelude.{map}
 use Rattle.std.specs.List.{flat_map, AllByRecursion}
 use Rattle.std.specs.Option.{option_to_list}
@@ -8,6 +8,7 @@ use Rattle.std.specs.Io.KnownBytes.{Appends, IsAtEnd}
 use Rattle.nb_port.specs.Tells.{DiskTells}
 use Rattle.nb_port.proofs.Backing.{backed_earlier, backed_grows}
 use Rattle.nb_port.specs.Faults.{Rose, Backed}
+use Rattle.nb_units.specs.declared.charter.Charter.{Charter}
 use Rattle.nb_units.specs.Frames.{Frame, frame, front_of, IsBad, Splits}
 use Rattle.nb_book.specs.declared.entry.Entry.{Entry}
 use Rattle.nb_escrow.specs.Head.{head_of}
@@ -31,9 +32,17 @@ use Rattle.nb_book.specs.Legal.{LegalUnder}
 use Rattle.nb_vault.specs.Vaults.{Chronicled, state_of, entries_in, doubt_in, Keeps}
 use Rattle.nb_run.specs.declared.ending.TheConstants.{CLEAN, SOURCE_FAILED, SINK_FAILED, BAD_INPUT, OUT_OF_MEMORY, FRAME_LIMIT}
 use Rattle.nb_batch.specs.declared.batch.TheConstants.{MOST_FRAMES}
+use Rattle.nb_vault.specs.declared.taking.TakeIn.{TakeIn}
+use Rattle.nb_vault.specs.declared.taking.TakeIn.TheVariants as takes
 use Rattle.nb_batch.specs.declared.batch.BatchEnd.{BatchEnd}
 use Rattle.nb_batch.specs.declared.batch.BatchEnd.TheVariants.{Clean, Cut, BadFrame, ReadFault, WriteFault, NoMemory, FrameLimit}
-use Rattle.nb_batch.specs.Batch.{at_rest, AllDecided, IsDecided, failure_in_mark, failures_told, Outside, frame_of, CountsAs, AnswersAll, Wrote, WroteShort, Served, StandsInRun, GoesThrough}
+use Rattle.nb_standby.specs.declared.shipped.Shipped.{Shipped}
+use Rattle.nb_standby.specs.Answering.{Acknowledges, AcknowledgesAll, CameOf, mark_of, record_in}
+use Rattle.nb_standby.specs.World.{TakesTo}
+use Rattle.nb_batch.specs.declared.answering.Answerer.{Answerer}
+use Rattle.nb_batch.specs.declared.answering.Answerer.TheVariants as answers
+use Rattle.nb_batch.specs.Answering.{Goes, failure_in_mark}
+use Rattle.nb_batch.specs.Batch.{at_rest, AllDecided, IsDecided, failures_told, Outside, frame_of, CountsAs, AnswersAll, Wrote, WroteShort, Served, StandsInRun, GoesThrough}
 use Rattle.nb_batch.specs.Fetch.{AheadAs, EndsAs}
 use Rattle.nb_run.specs.Ending.{ended, status_of}
 use Rattle.nb_run.specs.Run.{EndsBadly, Batch, BatchLines}
@@ -79,6 +88,64 @@ all_decided house first (a ∷ more) (s ∷ states) from to none run backed calm
     by_mark (At place) again turn is = (tt, again (ap (λ (state : State). state.faults) turn.1.left ∙ none) is)
     by_mark Worn again turn is = absurd (omega (arith, none, turn.0))
     by_mark (Fault before after) again turn is = absurd (calm (omega (arith, is.0, is.1, backed_grows (failures_told more) after to is.2)))
+
+-- ---- a standby, where its disk does not fail
+
+-- a frame that was not looked at rose the count; and no turn failed by then
+looked_at : (charter : Charter) (cap : ℕ) (first : State) (request : Request) (mark : Mark) (reply : List ℕ) (next : State) → first.faults ≡ 0 → Acknowledges charter cap first request mark reply next
+    → (IsDecided mark × (next.faults ≡ 0)) ⊎ ((before after : ℕ) × (mark ≡ Fault before after))
+looked_at charter cap first request mark reply next none is = by (record_in request) is.came
+  where
+    as_before : (place : ℕ) → mark ≡ At place → next ≡ first → (IsDecided mark × (next.faults ≡ 0)) ⊎ ((before after : ℕ) × (mark ≡ Fault before after))
+    as_before place at same = inl (subst IsDecided (sym at) tt, ap (λ (state : State). state.faults) same ∙ none)
+
+    goes_on : (place : ℕ) → mark ≡ At place → next.faults ≡ first.faults → (IsDecided mark × (next.faults ≡ 0)) ⊎ ((before after : ℕ) × (mark ≡ Fault before after))
+    goes_on place at same = inl (subst IsDecided (sym at) tt, same ∙ none)
+
+    by_how : (place : ℕ) (e : Entry) (how : TakeIn) → mark ≡ mark_of place how → TakesTo charter cap first place e how next → (IsDecided mark × (next.faults ≡ 0)) ⊎ ((before after : ℕ) × (mark ≡ Fault before after))
+    by_how place e takes.Taken at turn = goes_on place at (ap (λ (state : State). state.faults) turn.1.2)
+    by_how place e takes.Same at turn = goes_on place at (ap (λ (state : State). state.faults) turn.1.2)
+    by_how place e takes.Other at turn = goes_on place at (ap (λ (state : State). state.faults) turn.1.2)
+    by_how place e takes.Ahead at turn = goes_on place at (ap (λ (state : State). state.faults) turn.1.2)
+    by_how place e takes.Illegal at turn = goes_on place at (ap (λ (state : State). state.faults) turn.1.2)
+    by_how place e (takes.DiskFault before after) at turn = inr (before, after, at)
+    by_how place e (takes.Worn faults) at turn = absurd (omega (arith, none, turn.1.0))
+
+    by : (read : Result Shipped ℕ) → CameOf (head_of charter).house charter cap first read mark is.code next → (IsDecided mark × (next.faults ≡ 0)) ⊎ ((before after : ℕ) × (mark ≡ Fault before after))
+    by (Err place) came = as_before 0 came.0 came.2
+    by (Ok r) (inl came) = as_before r.place came.1 came.3
+    by (Ok r) (inr came) = by_how r.place r.entry came.1.0 came.1.1 came.1.3
+
+all_looked_at : (charter : Charter) (cap : ℕ) (first : State) (answered : List Answered) (states : List State) (from to : ℕ) → first.faults ≡ 0 → AcknowledgesAll charter cap first answered states → Backed from (failures_told answered) to → (Rose from to → ⊥)
+    → AllDecided answered
+all_looked_at charter cap first [] states from to none run backed calm = tt
+all_looked_at charter cap first (a ∷ more) [] from to none run backed calm = absurd run
+all_looked_at charter cap first (a ∷ more) (s ∷ states) from to none run backed calm = elim (looked_at charter cap first a.request a.mark a.reply s none run.0) [
+  | inl is ↦ (is.0, all_looked_at charter cap s more states from to is.1 run.1 (still a.mark is.0 backed) calm)
+  | inr is ↦ absurd (calm (risen a.mark is.0 is.1 is.2 backed))
+]
+  where
+    still : (mark : Mark) → IsDecided mark → Backed from (option_to_list (failure_in_mark mark) ++ failures_told more) to → Backed from (failures_told more) to
+    still (At place) is backed = backed
+    still (Fault before after) is backed = absurd is
+    still Worn is backed = absurd is
+
+    risen : (mark : Mark) (before after : ℕ) → mark ≡ Fault before after → Backed from (option_to_list (failure_in_mark mark) ++ failures_told more) to → Rose from to
+    risen mark before after is backed =
+        let told = subst (λ (m : Mark). Backed from (option_to_list (failure_in_mark m) ++ failures_told more) to) is backed in
+        omega (arith, told.0, told.1, backed_grows (failures_told more) after to told.2)
+
+-- ---- by who answers
+
+decided_by : (by : Answerer) (charter : Charter) (cap : ℕ) (first : State) (answered : List Answered) (states : List State) (from to : ℕ) → first.faults ≡ 0 → Goes by charter cap first answered states → Backed from (failures_told answered) to → (Rose from to → ⊥)
+    → AllDecided answered
+decided_by answers.House charter cap first answered states from to none run backed calm = all_decided (house_of (head_of charter) cap) first answered states from to none run backed calm
+decided_by answers.Standby charter cap first answered states from to none run backed calm = all_looked_at charter cap first answered states from to none run backed calm
+
+alone_by : (by : Answerer) (charter : Charter) (cap : ℕ) (entries : List Entry) (answered : List Answered) (states : List State) → Goes by charter cap (at_rest entries) answered states → by ≡ answers.House → AllDecided answered
+    → replies answered ≡ replies (decided (house_of (head_of charter) cap) entries (map (λ (a : Answered). a.request) answered))
+alone_by answers.House charter cap entries answered states run is all = replies-decided (house_of (head_of charter) cap) entries answered states run all
+alone_by answers.Standby charter cap entries answered states run is all = absurd cc
 
 -- ---- by how the batch ended
 
@@ -258,14 +325,14 @@ opened_rests {D} v lines fresh =
     let P : List Line → Bool → Type 0 = λ ls stale. (let house : Chronicled D = record { origin = v.origin; lines = ls; stale = stale; disk = v.disk } in state_of house) ≡ at_rest v.origin.entries in
     subst (λ (ls : List Line). P ls v.stale) (sym lines) (subst (P []) (sym fresh) (ap (λ (entries : List Entry). at_rest entries) (append-nil v.origin.entries)))
 
-module _ {D : Type 0} (tells : DiskTells D) where
+module _ {D : Type 0} (tells : DiskTells D) (by : Answerer) where
   pub batch_of : ((d : D) (c : List ℕ) → tells.left d (tells.moment d) c → tells.allowed d c) → (end : BatchEnd) (disk : D) (opened house : Chronicled D) (before after : Outside)
       → VaultOpensAs tells disk opened → Unwritten tells disk opened.disk → tells.faults disk ≤ tells.faults opened.disk
-      → Served tells opened house before after end → Keeps tells house → house.origin ≡ opened.origin
-      → Batch tells disk house.disk before after (ended end)
+      → Served tells by opened house before after end → Keeps tells house → house.origin ≡ opened.origin
+      → Batch tells by disk house.disk before after (ended end)
   batch_of only_now end disk opened house before after opens unwritten count s keeps same =
       let rest : state_of opened ≡ at_rest opened.origin.entries = opened_rests opened opens.lines opens.durable.fresh in
-      let R : State → Type 0 = λ state. RunOfOnes (house_of (head_of opened.origin.charter) opened.origin.cap) state s.answered s.states in
+      let R : State → Type 0 = λ state. Goes by opened.origin.charter opened.origin.cap state s.answered s.states in
       let turns = subst R rest s.turns in
       let backed = backed_earlier (failures_told s.answered) (tells.faults disk) (tells.faults opened.disk) (tells.faults house.disk) count s.backed in
       record {
@@ -292,8 +359,8 @@ module _ {D : Type 0} (tells : DiskTells D) where
         wrote = wrote_all end before after s.answered s.wrote;
         wrote_short = wrote_part end before after s.answered s.wrote;
         backed = backed;
-        steady = all_decided (house_of (head_of opened.origin.charter) opened.origin.cap) (at_rest opened.origin.entries) s.answered s.states (tells.faults disk) (tells.faults house.disk) refl turns backed;
-        alone = replies-decided (house_of (head_of opened.origin.charter) opened.origin.cap) opened.origin.entries s.answered s.states turns;
+        steady = decided_by by opened.origin.charter opened.origin.cap (at_rest opened.origin.entries) s.answered s.states (tells.faults disk) (tells.faults house.disk) refl turns backed;
+        alone = alone_by by opened.origin.charter opened.origin.cap opened.origin.entries s.answered s.states turns;
         content_rests = subst (λ (o : Origin). IfSome (tells.content house.disk) (λ (image : List ℕ). StandsForEither o.charter o.cap (entries_in house) (doubt_in house) image)) same keeps.bytes;
         images_rest = λ image is. subst (λ (o : Origin). StandsForEither o.charter o.cap (entries_in house) (doubt_in house) image) same (keeps.images image is);
         opened_so = unwritten;
@@ -324,8 +391,8 @@ module _ {D : Type 0} (tells : DiskTells D) where
   -- and its last entries are those at opening and then those that the lines record
   pub batch_lines : ((d : D) (c : List ℕ) → tells.left d (tells.moment d) c → tells.allowed d c) → (end : BatchEnd) (disk : D) (opened house : Chronicled D) (before after : Outside)
       → VaultOpensAs tells disk opened → Unwritten tells disk opened.disk → tells.faults disk ≤ tells.faults opened.disk
-      → Served tells opened house before after end → Keeps tells house → house.origin ≡ opened.origin
-      → BatchLines tells disk house.disk before after house.lines (ended end)
+      → Served tells by opened house before after end → Keeps tells house → house.origin ≡ opened.origin
+      → BatchLines tells by disk house.disk before after house.lines (ended end)
   unfolding batch_of
   batch_lines only_now end disk opened house before after opens unwritten count s keeps same =
       inr (batch_of only_now end disk opened house before after opens unwritten count s keeps same, ap (λ (o : Origin). entries_of o.entries house.lines) same)

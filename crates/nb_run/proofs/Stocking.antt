@@ -1,5 +1,5 @@
 -- Reading the shelf of one who sells: bytes are the shelf of one list of products, and then have no bad item.
-use Rattle.std.proofs.Common.{◌≡◌, ◌⊎◌, inl, inr, ℕ, zero, suc, ◌<◌, true, false, List, [], ◌∷◌, ◌++◌, length, map, Option, Some, Ok, Err, refl, sym, ap, subst, ◌∙◌, append_assoc, append-nil, true≢false, arith}
+use Rattle.std.proofs.Common.{◌≡◌, ◌⊎◌, inl, inr, ℕ, zero, suc, ◌<◌, true, false, List, [], ◌∷◌, ◌++◌, length, map, Option, Some, None, Ok, Err, refl, sym, ap, subst, ◌∙◌, append_assoc, append-nil, true≢false, arith}
 use Rattle.std.specs.Prelude.{nat_eq, slice_index_or, Contains, Result}
 use Rattle.std.specs.List.{AllByRecursion, IsDistinct}
 use Rattle.std.proofs.lemmas.Bool.{eq-eqb}
@@ -10,7 +10,9 @@ use Rattle.nb_price.specs.Shelf.{Item, IsItem, item_bytes, shelf_bytes, ids, Beg
 use Rattle.nb_price.specs.Products.{Product, products_of}
 use Rattle.nb_price.specs.Reads.{FailsAt, RepeatsAt, IsCatalogue}
 use Rattle.nb_price.proofs.Once.{one_item}
+use Rattle.nb_groups.specs.Offers.{Tariff}
 use Rattle.nb_price.proofs.Reading.{smaller}
+use Rattle.nb_words.specs.Words.{IsSell}
 use Rattle.nb_run.specs.declared.ending.Outcome.{Outcome}
 use Rattle.nb_run.specs.declared.ending.Outcome.TheVariants.{Work}
 use Rattle.nb_run.specs.declared.ending.Job.{Job}
@@ -20,6 +22,7 @@ use Rattle.nb_run.specs.declared.selling.ShelfEnd.{ShelfEnd}
 use Rattle.nb_run.specs.declared.selling.ShelfEnd.TheVariants as ends
 use Rattle.nb_run.specs.Ending.{EndsWith}
 use Rattle.nb_run.specs.Input.{TookAll}
+use Rattle.nb_run.specs.Offering.{IsSoldBy}
 use Rattle.nb_run.specs.Selling.{IsShelfInput, IsUnread, ReadsAs, StocksAs, StocksOnly, stocked}
 use Rattle.nb_run.proofs.Moving.{same_input, not_longer}
 
@@ -115,15 +118,15 @@ module _ (bytes : List ℕ) (products : List Product) (is : IsCatalogue bytes pr
 
 -- a shelf alone is sold, or there was no memory
 pub stocks_clean : (left left' : Option (List ℕ)) (source source' links : ℕ) (products : List Product) (outcome : Outcome) → StocksAs left left' source source' links outcome → IsShelfInput left products
-    → (Rose source source' → ⊥) → (outcome ≡ Work (Sell links products)) ⊎ EndsWith outcome OUT_OF_MEMORY
+    → (Rose source source' → ⊥) → (outcome ≡ Work (Sell links products None)) ⊎ EndsWith outcome OUT_OF_MEMORY
 stocks_clean left left' source source' links products outcome stocks input no_source = by stocks.0 stocks.1 stocks.2
   where
     same_bytes : (bytes : List ℕ) → TookAll left left' MAX_SHELF bytes → bytes ≡ input.input
     same_bytes bytes took = same_input left left' input.input bytes MAX_SHELF input.is took
 
-    by : (read : Result (List Product) ShelfEnd) → outcome ≡ stocked links read → ReadsAs left left' source source' read → (outcome ≡ Work (Sell links products)) ⊎ EndsWith outcome OUT_OF_MEMORY
+    by : (read : Result (List Product) ShelfEnd) → outcome ≡ stocked links read → ReadsAs left left' source source' read → (outcome ≡ Work (Sell links products None)) ⊎ EndsWith outcome OUT_OF_MEMORY
     by (Ok found) is reads =
-        inl (is ∙ ap (λ (ps : List Product). Work (Sell links ps)) (same_products input.input products input.shelf found (subst (λ (bs : List ℕ). IsCatalogue bs found) (same_bytes reads.input reads.all) reads.is)))
+        inl (is ∙ ap (λ (ps : List Product). Work (Sell links ps None)) (same_products input.input products input.shelf found (subst (λ (bs : List ℕ). IsCatalogue bs found) (same_bytes reads.input reads.all) reads.is)))
     by (Err ends.ReadFault) is reads = absurd (no_source reads.0)
     by (Err ends.TooLong) is reads = absurd (not_longer left left' input.input MAX_SHELF input.is input.few reads)
     by (Err (ends.BadItem item)) is reads = absurd (elim (subst (λ (bs : List ℕ). FailsAt bs item ⊎ ((id : ℕ) × RepeatsAt bs item id)) (same_bytes reads.input reads.all) reads.bad) [
@@ -132,11 +135,19 @@ stocks_clean left left' source source' links products outcome stocks input no_so
     ])
     by (Err ends.NoMemory) is reads = inr (subst (λ (o : Outcome). EndsWith o OUT_OF_MEMORY) (sym is) refl)
 
--- a job that is left took something of the input
-pub not_unread : (left left' : Option (List ℕ)) (source source' links : ℕ) (outcome : Outcome) (job : Job) → outcome ≡ Work job → StocksOnly left left' source source' links outcome → IsUnread job → ⊥
-not_unread left left' source source' links outcome job is only unread = by job (subst (StocksOnly left left' source source' links) is only) unread
-  where
-    by : (other : Job) → StocksOnly left left' source source' links (Work other) → IsUnread other → ⊥
-    by (Serve workers sessions) so never = so
-    by (Buy merchant product limit transaction) so never = so
-    by (Sell many products) so never = never
+-- a job that is left is that of these words, and took something of the input
+module _ (words : List (List ℕ)) (left left' : Option (List ℕ)) (source source' links : ℕ) (outcome : Outcome) (only : StocksOnly left left' source source' links outcome) where
+  pub sold_by : IsSell words links → (many : ℕ) (products : List Product) (offers : Option Tariff) → outcome ≡ Work (Sell many products offers) → IsSoldBy words left left' many products offers
+  sold_by are many products offers is = by offers (subst (StocksOnly left left' source source' links) is only)
+    where
+      by : (o : Option Tariff) → StocksOnly left left' source source' links (Work (Sell many products o)) → IsSoldBy words left left' many products o
+      by None so = (subst (IsSell words) (sym so.0) are, so.1)
+      by (Some tariff) so = absurd so
+
+  pub not_unread : (job : Job) → outcome ≡ Work job → IsUnread words job → ⊥
+  not_unread job is unread = by job (subst (StocksOnly left left' source source' links) is only) unread
+    where
+      by : (other : Job) → StocksOnly left left' source source' links (Work other) → IsUnread words other → ⊥
+      by (Serve workers sessions) so never = so
+      by (Buy merchant product limit transaction request) so never = so
+      by (Sell many products offers) so never = never

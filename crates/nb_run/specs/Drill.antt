@@ -15,6 +15,7 @@ use Rattle.nb_turns.specs.declared.line.Line.{Line}
 use Rattle.nb_turns.specs.Lines.{entry_of}
 use Rattle.nb_turns.specs.Turns.{Request, Answered}
 use Rattle.nb_vault.specs.Holdings.{StandsFor}
+use Rattle.nb_batch.specs.declared.answering.Answerer.TheVariants.{House}
 use Rattle.nb_batch.specs.Batch.{Outside}
 use Rattle.nb_batch.specs.Send.{SentPart}
 use Rattle.nb_play.specs.declared.frames.TheConstants.{MOMENT}
@@ -83,7 +84,7 @@ pub record Drilled {D : Type 0} (tells : DiskTells D) (made new : D) (sent sent'
   -- what came of the batch of the frames, and how it ended
   pub after : Outside
   pub end : Ending
-  pub batch : Batch tells made new (fed seed orders) after end
+  pub batch : Batch tells House made new (fed seed orders) after end
   -- where the disk tells that this is the drill's journal, the batch begins with its head, its cap and no entry
   pub begins : IsFresh (tells.content made) seed orders → (batch.charter ≡ without_fee (head_of seed)) × (batch.cap ≡ cap_of orders) × (batch.opening ≡ [])
   -- all frames were answered, each at the one moment; or else the status is that of want of memory

@@ -7,4 +7,10 @@ pub mod Input
 pub mod Migrate
 pub mod Statement
 pub mod Judge
+pub mod Play
 pub mod Selling
+pub mod Asking
+pub mod Offering
+pub mod Granting
+pub mod Ship
+pub mod Promote

@@ -21,22 +21,27 @@ use Rattle.nb_vault.specs.Opens.{VaultOpenFails}
 use Rattle.nb_turns.specs.declared.line.Line.{Line}
 use Rattle.nb_turns.specs.Lines.{entries_of}
 use Rattle.nb_turns.specs.Turns.{State, Answered, decided, last_state, replies}
-use Rattle.nb_turns.specs.Laws.{IsBalanced, RunOfOnes}
+use Rattle.nb_turns.specs.Laws.{IsBalanced}
 use Rattle.nb_vault.specs.Rules.{house_of}
 use Rattle.nb_batch.specs.declared.batch.TheConstants.{MOST_FRAMES}
+use Rattle.nb_units.specs.declared.ids.AcctId.{AcctId}
+use Rattle.nb_words.specs.Words.{IsBatch, IsFollow, IsPromote, IsShip, IsStatement}
 use Rattle.nb_run.specs.declared.ending.Ending.{Ending}
 use Rattle.nb_run.specs.declared.ending.Outcome.{Outcome}
 use Rattle.nb_run.specs.declared.ending.Outcome.TheVariants.{Done}
-use Rattle.nb_run.specs.declared.ending.TheConstants.{CLEAN, BAD_WORDS, SOURCE_FAILED, SINK_FAILED, BAD_INPUT, OUT_OF_MEMORY, DISK_FAILED, NO_JOURNAL, NOT_MADE, FRAME_LIMIT, NO_ACCOUNT}
+use Rattle.nb_run.specs.declared.ending.TheConstants.{CLEAN, BAD_WORDS, SOURCE_FAILED, SINK_FAILED, BAD_INPUT, OUT_OF_MEMORY, DISK_FAILED, NO_JOURNAL, NOT_MADE, FRAME_LIMIT, NO_ACCOUNT, NO_PLACE}
 use Rattle.nb_run.specs.declared.init.InitEnd.{InitEnd}
 use Rattle.nb_run.specs.Ending.{at_no_place}
 use Rattle.nb_run.specs.Init.{MakesAs, ending_of}
-use Rattle.nb_batch.specs.Batch.{at_rest, frame_of, moment_of, AllDecided, failures_told, Outside, Gave, WroteShort, StandsInRun, GoesThrough, last_disk}
+use Rattle.nb_batch.specs.declared.answering.Answerer.{Answerer}
+use Rattle.nb_batch.specs.declared.answering.Answerer.TheVariants as answers
+use Rattle.nb_batch.specs.Answering.{Asked, Goes}
+use Rattle.nb_batch.specs.Batch.{at_rest, frame_of, moment_of, AllDecided, failures_told, Outside, WroteShort, StandsInRun, GoesThrough, last_disk}
 
 -- the statuses that a run can end with
 abbrev pub IsStatus : ℕ → Type 0
 IsStatus n =
-    (n ≡ CLEAN) ⊎ (n ≡ BAD_WORDS) ⊎ (n ≡ SOURCE_FAILED) ⊎ (n ≡ SINK_FAILED) ⊎ (n ≡ BAD_INPUT) ⊎ (n ≡ OUT_OF_MEMORY) ⊎ (n ≡ DISK_FAILED) ⊎ (n ≡ NO_JOURNAL) ⊎ (n ≡ NOT_MADE) ⊎ (n ≡ FRAME_LIMIT) ⊎ (n ≡ NO_ACCOUNT)
+    (n ≡ CLEAN) ⊎ (n ≡ BAD_WORDS) ⊎ (n ≡ SOURCE_FAILED) ⊎ (n ≡ SINK_FAILED) ⊎ (n ≡ BAD_INPUT) ⊎ (n ≡ OUT_OF_MEMORY) ⊎ (n ≡ DISK_FAILED) ⊎ (n ≡ NO_JOURNAL) ⊎ (n ≡ NOT_MADE) ⊎ (n ≡ FRAME_LIMIT) ⊎ (n ≡ NO_ACCOUNT) ⊎ (n ≡ NO_PLACE)
 
 -- there was no memory to read the words: the run ends with 6 at place 0, and nothing was touched
 abbrev pub Unbegun : {S K D C : Type 0} → Outcome → S → S → K → K → D → D → C → C → Type 0
@@ -67,6 +72,17 @@ pub record NotOpened {D : Type 0} (tells : DiskTells D) (old new : D) (before af
   pub nothing : after ≡ before
   pub unwritten : Unwritten tells old new
 
+-- ---- words
+
+-- the words of frames that are answered, by a house or by a standby
+abbrev pub IsAnswered : List (List ℕ) → Answerer → Type 0
+IsAnswered words answers.House = IsBatch words
+IsAnswered words answers.Standby = IsFollow words
+
+-- those of a command that opens a journal and reads it alone
+abbrev pub IsReader : List (List ℕ) → Type 0
+IsReader words = ((acct : AcctId) × IsStatement words acct.0) ⊎ ((from : ℕ) × IsShip words from) ⊎ IsPromote words
+
 -- ---- batch, over a journal that was opened
 
 -- how the input ended badly, by the bytes that were read, the frames that were answered, the rest of these bytes, what is left of the
@@ -77,8 +93,8 @@ EndsBadly read frames rest left place =
     ((front_of rest ≡ Partial) × IsAtEnd left × (place ≡ length read))
     ⊎ ((h : HeaderFault) × (front_of rest ≡ Bad h) × (place ≡ place_of (placed (length (flat_map frame frames)) h)))
 
--- What a batch did, by the status that it ended with.
-pub record Batch {D : Type 0} (tells : DiskTells D) (old new : D) (before after : Outside) (ending : Ending) : Type 0 where
+-- What a batch did, by the status that it ended with, where a house answered it or a standby.
+pub record Batch {D : Type 0} (tells : DiskTells D) (by : Answerer) (old new : D) (before after : Outside) (ending : Ending) : Type 0 where
   -- what the journal was made with, its cap and its entries; the requests that were answered, and the states that the house came to; the disk
   -- behind opening, and behind each turn; the bytes read from the source are the frames of these requests, further frames, and a rest
   -- that begins with none
@@ -104,10 +120,10 @@ pub record Batch {D : Type 0} (tells : DiskTells D) (old new : D) (before after 
   -- held what is no frame at most a header more. Elsewhere the rest is less than a frame, as is said below
   pub ahead : (ending.status ≡ SINK_FAILED) ⊎ (ending.status ≡ FRAME_LIMIT) → length (flat_map frame unanswered ++ rest) < MAX_PIECE
   pub ahead_bad : ending.status ≡ BAD_INPUT → IsBad (front_of rest) → length rest < MAX_PIECE + HEADER
-  -- one answer of the clock for each
-  pub asked : Gave before.moments after.moments (map moment_of answered)
-  -- there is a run of turns over them, from the entries with nothing in doubt
-  pub turns : RunOfOnes (house_of (head_of charter) cap) (at_rest opening) answered states
+  -- one answer of the clock for each; a standby asks none
+  pub asked : Asked by before.moments after.moments (map moment_of answered)
+  -- there is a run of turns over them, or of what a standby makes of records, from the entries with nothing in doubt
+  pub turns : Goes by charter cap (at_rest opening) answered states
   pub last_is : last ≡ last_state (at_rest opening) states
   -- their replies are what was written
   pub wrote : ending.status ≢ SINK_FAILED → Appends before.sent after.sent (replies answered)
@@ -116,8 +132,8 @@ pub record Batch {D : Type 0} (tells : DiskTells D) (old new : D) (before after 
   -- the faults of turns lie one after another between the disk's counts; where these did not rise, each turn decided
   pub backed : Backed (tells.faults old) (failures_told answered) (tells.faults new)
   pub steady : (Rose (tells.faults old) (tells.faults new) → ⊥) → AllDecided answered
-  -- where each turn decides, the replies are a function of the entries, the head, the cap and the requests alone
-  pub alone : AllDecided answered → replies answered ≡ replies (decided (house_of (head_of charter) cap) opening (map (λ (a : Answered). a.request) answered))
+  -- where each turn of a house decides, the replies are a function of the entries, the head, the cap and the requests alone
+  pub alone : by ≡ answers.House → AllDecided answered → replies answered ≡ replies (decided (house_of (head_of charter) cap) opening (map (λ (a : Answered). a.request) answered))
   -- the disk is at rest in the last state: its content, and all that a stop now leaves, stands for its entries, without what is in
   -- doubt or with it
   pub content_rests : IfSome (tells.content new) (StandsForEither charter cap last.entries last.doubt)
@@ -158,16 +174,16 @@ pub record Batch {D : Type 0} (tells : DiskTells D) (old new : D) (before after 
   pub ends : (ending.status ≡ CLEAN) ⊎ (ending.status ≡ SOURCE_FAILED) ⊎ (ending.status ≡ SINK_FAILED) ⊎ (ending.status ≡ BAD_INPUT) ⊎ (ending.status ≡ OUT_OF_MEMORY) ⊎ (ending.status ≡ FRAME_LIMIT)
 
 -- the journal was not opened, or the frames were answered
-abbrev pub BatchIs : {D : Type 0} → DiskTells D → D → D → Outside → Outside → Ending → Type 0
-BatchIs tells old new before after ending =
-    NotOpened tells old new before after ending ⊎ Batch tells old new before after ending
+abbrev pub BatchIs : {D : Type 0} → DiskTells D → Answerer → D → D → Outside → Outside → Ending → Type 0
+BatchIs tells by old new before after ending =
+    NotOpened tells old new before after ending ⊎ Batch tells by old new before after ending
 
 -- and these are the lines of what was done: the last entries are those at opening and then those that the lines record. Without a journal
 -- that was opened there are none
-abbrev pub BatchLines : {D : Type 0} → DiskTells D → D → D → Outside → Outside → List Line → Ending → Type 0
-BatchLines tells old new before after lines ending =
+abbrev pub BatchLines : {D : Type 0} → DiskTells D → Answerer → D → D → Outside → Outside → List Line → Ending → Type 0
+BatchLines tells by old new before after lines ending =
     (NotOpened tells old new before after ending × (lines ≡ []))
-    ⊎ ((batch : Batch tells old new before after ending) × (batch.last.entries ≡ entries_of batch.opening lines))
+    ⊎ ((batch : Batch tells by old new before after ending) × (batch.last.entries ≡ entries_of batch.opening lines))
 
 -- how a batch ends over whole frames alone, where the sink did not fail
 abbrev pub EndsWhole : Ending → Type 0

@@ -1,9 +1,10 @@
 -- What reading the shelf of one who sells comes to.
-use Rattle.std.specs.Prelude.{◌≡◌, ◌⊎◌, ℕ, ◌≤◌, List, length, Option, Some, Result, Ok, Err}
+use Rattle.std.specs.Prelude.{◌≡◌, ◌⊎◌, ℕ, ◌≤◌, List, length, Option, Some, None, Result, Ok, Err}
 use Rattle.nb_port.specs.Faults.{Rose}
 use Rattle.nb_price.specs.declared.limits.TheConstants.{MAX_SHELF}
 use Rattle.nb_price.specs.Products.{Product}
 use Rattle.nb_price.specs.Reads.{FailsAt, RepeatsAt, IsCatalogue}
+use Rattle.nb_words.specs.Words.{IsBuy}
 use Rattle.nb_run.specs.declared.ending.Ending.{Ending}
 use Rattle.nb_run.specs.declared.ending.Job.{Job}
 use Rattle.nb_run.specs.declared.ending.Job.TheVariants.{Serve, Buy, Sell}
@@ -44,7 +45,7 @@ ReadsAs left left' source source' (Err ends.NoMemory) = TookUpTo left left' MAX_
 
 -- what is left to do, or how the run ends
 abbrev pub stocked : ℕ → Result (List Product) ShelfEnd → Outcome
-stocked links (Ok products) = Work (Sell links products)
+stocked links (Ok products) = Work (Sell links products None)
 stocked links (Err end) = Done (shelf_ending end)
 
 -- the shelf was read, or it was not, and the run comes to that
@@ -58,11 +59,11 @@ pub record IsShelfInput (left : Option (List ℕ)) (products : List Product) : T
   pub few : length input ≤ MAX_SHELF
   pub shelf : IsCatalogue input products
 
--- a job takes nothing of the input
-abbrev pub IsUnread : Job → Type 0
-IsUnread (Serve workers sessions) = Unit {0}
-IsUnread (Buy merchant product limit transaction) = Unit {0}
-IsUnread (Sell links shelf) = ⊥
+-- a job takes nothing of the input: a server's, and a purchase's whose words are without a request
+abbrev pub IsUnread : List (List ℕ) → Job → Type 0
+IsUnread words (Serve workers sessions) = Unit {0}
+IsUnread words (Buy merchant product limit transaction request) = IsBuy words merchant.0 product limit.0 transaction
+IsUnread words (Sell links shelf offers) = ⊥
 
 -- ---- for the contracts of private functions alone
 
@@ -71,5 +72,6 @@ abbrev pub StocksOnly : Option (List ℕ) → Option (List ℕ) → ℕ → ℕ 
 StocksOnly left left' source source' links (Done ending) =
     ((ending.status ≡ SOURCE_FAILED) × Rose source source') ⊎ (ending.status ≡ BAD_INPUT) ⊎ (ending.status ≡ OUT_OF_MEMORY)
 StocksOnly left left' source source' links (Work (Serve workers sessions)) = ⊥
-StocksOnly left left' source source' links (Work (Buy merchant product limit transaction)) = ⊥
-StocksOnly left left' source source' links (Work (Sell many products)) = (many ≡ links) × IsStock left left' products
+StocksOnly left left' source source' links (Work (Buy merchant product limit transaction request)) = ⊥
+StocksOnly left left' source source' links (Work (Sell many products None)) = (many ≡ links) × IsStock left left' products
+StocksOnly left left' source source' links (Work (Sell many products (Some tariff))) = ⊥

@@ -13,7 +13,7 @@ use crate::ending::{
 };
 use crate::program::{Batched, answer_batch};
 use crate::tally::tally_of;
-use nb_batch::{Sent, send_all};
+use nb_batch::{Answerer, Sent, send_all};
 use nb_journal::{HEAD, InitFault, init};
 use nb_play::{DrillClock, DrillSource, NullSink, drill_head, entry_count};
 use nb_port::{Disk, Sink};
@@ -96,7 +96,14 @@ fn answer<K: Sink, D: Disk>(
         ending,
         disk,
         lines,
-    } = answer_batch(alloc, &mut source, &mut NullSink, disk, &mut clock);
+    } = answer_batch(
+        alloc,
+        Answerer::House,
+        &mut source,
+        &mut NullSink,
+        disk,
+        &mut clock,
+    );
     if ending.status == CLEAN && clock.tells() {
         return (tell(alloc, orders, lines.as_slice(), sink), disk);
     }

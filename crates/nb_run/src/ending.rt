@@ -5,8 +5,9 @@ ghost use Rattle.nb_run.specs.Ending.{at_no_place};
 ghost use Rattle.nb_run.specs.Run.{unopened};
 ghost use Rattle.nb_run.specs.Numbers.{StatusesAre};
 
+use nb_groups::Offers;
 use nb_price::Catalogue;
-use nb_units::{PartyId, Price};
+use nb_units::{PartyId, Price, Small};
 use nb_vault::VaultFault;
 
 /// All was done.
@@ -21,7 +22,8 @@ pub const SOURCE_FAILED: u8 = 3;
 /// The sink failed.
 pub const SINK_FAILED: u8 = 4;
 
-/// The input ended within a frame, or holds what is no frame, or is no head of 80 bytes, no journal that can be moved, or no shelf.
+/// The input ended within a frame, or holds what is no frame, or is no head of 80 bytes, no journal that can be moved, no shelf, no offers, no key of 32 bytes,
+/// or longer than a request.
 pub const BAD_INPUT: u8 = 5;
 
 /// There was no memory.
@@ -53,6 +55,9 @@ pub const JOURNAL_FULL: u8 = 14;
 
 /// Nobody holds the account whose statement was asked for, and it is not the house's.
 pub const NO_ACCOUNT: u8 = 15;
+
+/// The place from which records were asked for is above the number of entries.
+pub const NO_PLACE: u8 = 16;
 
 /// A status, and the place that it speaks of: 0 where there is none.
 #[derive(Clone, Copy)]
@@ -96,7 +101,7 @@ pub enum Job {
         /// The links of each worker, at least 1: over all workers at most [`MAX_LINKS`](nb_words::MAX_LINKS).
         sessions: u32,
     },
-    /// `buy WALLET SERVER SELLER MERCHANT PRODUCT LIMIT TID`: make a purchase over a link to the house and one to the seller.
+    /// `buy WALLET SERVER SELLER MERCHANT PRODUCT LIMIT TID`, or `buywith` with these words: make a purchase over a link to the house and one to the seller.
     Buy {
         /// Who is to sell.
         merchant: PartyId,
@@ -106,13 +111,17 @@ pub enum Job {
         limit: Price,
         /// The consumer's own number of the purchase. One that the wallet knows is gone on with.
         transaction: u64,
+        /// What is said to the merchant as the price is asked for, at most [`MAX_REQUEST`](nb_body::MAX_REQUEST) bytes. For `buy` it is empty.
+        request: Small,
     },
-    /// `sell STALL ADDRESS SERVER LINKS`: sell over links of consumers, one after the other, and one to the house.
+    /// `sell STALL ADDRESS SERVER LINKS`, or `selloffers` with these words: sell over links of consumers, one after the other, and one to the house.
     Sell {
         /// How many consumers' links.
         links: u32,
         /// What is sold, and at which price.
         shelf: Catalogue,
+        /// What is offered to the members of groups. For `sell` it is nothing.
+        offers: Option<Offers>,
     },
 }
 
@@ -121,7 +130,7 @@ pub enum Job {
 pub enum Outcome {
     /// It is over.
     Done(Ending),
-    /// A job is left to do, and nothing was touched but the input of one who sells, which was read to its end.
+    /// A job is left to do, and nothing was touched but the input of one who sells or buys with a request, which was read to its end.
     Work(Job),
 }
 

@@ -1,40 +1,54 @@
-ghost use Rattle.std.specs.Prelude.{◌≡◌, ◌≢◌, ◌≤◌, ◌⊎◌, ℕ, List, Option, map, string_bytes};
+ghost use Rattle.std.specs.Prelude.{◌≡◌, ◌≢◌, ◌≤◌, ◌⊎◌, ℕ, List, [], Option, Some, None, map, string_bytes};
 ghost use Rattle.nb_port.specs.Faults.{Rose};
 ghost use Rattle.nb_journal.specs.Making.{SparesJournal, IsCap};
-ghost use Rattle.nb_run.specs.declared.ending.TheConstants.{CLEAN, BAD_WORDS, SOURCE_FAILED, SINK_FAILED, OUT_OF_MEMORY, DISK_FAILED, NO_JOURNAL, NO_ACCOUNT};
+ghost use Rattle.nb_run.specs.declared.ending.TheConstants.{CLEAN, BAD_WORDS, SOURCE_FAILED, SINK_FAILED, OUT_OF_MEMORY, DISK_FAILED, NO_JOURNAL, NO_ACCOUNT, NO_PLACE};
 ghost use Rattle.nb_journal.specs.Time.{Unwritten};
 ghost use Rattle.nb_run.specs.Ending.{Ends, EndsEarly, EndsWith};
 ghost use Rattle.nb_run.specs.declared.ending.Outcome.TheVariants as outcomes;
 ghost use Rattle.nb_run.specs.declared.ending.Job.{Job};
 ghost use Rattle.nb_run.specs.declared.ending.Job.TheVariants as jobs;
+ghost use Rattle.nb_batch.specs.declared.answering.Answerer.{Answerer};
 ghost use Rattle.nb_run.specs.Ending as endings;
 ghost use Rattle.nb_units.specs.declared.ids.AcctId.{AcctId};
 ghost use Rattle.nb_units.specs.declared.ids.PartyId.{PartyId};
 ghost use Rattle.nb_units.specs.declared.ids.Price.{Price};
-ghost use Rattle.nb_words.specs.Words.{IsBatch, IsBuy, IsDrill, IsInit, IsMigrate, IsServe, IsStatement, IsJudge, IsSell, IsCommand, MayBeRead};
+ghost use Rattle.nb_words.specs.Words.{IsBuy, IsBuyWith, IsCredential, IsDrill, IsInit, IsMigrate, IsServe, IsStatement, IsJudge, IsPlay, IsPromote, IsSell, IsSellOffers, IsShip, IsCommand, MayBeRead};
 ghost use Rattle.nb_run.specs.Init.{IsHeadInput, HasNoJournal};
 ghost use Rattle.nb_run.specs.Drill as drills;
 ghost use Rattle.nb_run.specs.Judge as judges;
 ghost use Rattle.nb_run.specs.Migrate as moves;
 ghost use Rattle.nb_price.specs.Products.{Product};
+ghost use Rattle.nb_groups.specs.Offers.{Tariff};
+ghost use Rattle.nb_run.specs.Asking as asks;
+ghost use Rattle.nb_run.specs.Granting as grants;
+ghost use Rattle.nb_run.specs.Offering as wares;
+ghost use Rattle.nb_run.specs.Play as plays;
+ghost use Rattle.nb_run.specs.Promote as promotes;
 ghost use Rattle.nb_run.specs.Run as runs;
 ghost use Rattle.nb_run.specs.Selling as sales;
+ghost use Rattle.nb_run.specs.Ship as ships;
 ghost use Rattle.nb_run.specs.Statement as states;
 
+use crate::asking::ask_with;
 use crate::drill::drill;
 use crate::ending::{
     BAD_INPUT, BAD_WORDS, CLEAN, Ending, FRAME_LIMIT, Job, OUT_OF_MEMORY, Outcome, SINK_FAILED,
     SOURCE_FAILED,
 };
+use crate::granting::grant;
 use crate::init::make_journal;
 use crate::judging::rule_on;
 use crate::migrate::move_journal;
+use crate::offering::take_offers;
+use crate::playing::play_input;
+use crate::promoting::promote;
 use crate::selling::take_stock;
+use crate::shipping::ship_records;
 use crate::statement::write_statement;
-use nb_batch::{BatchEnd, answer_frames};
+use nb_batch::{Answerer, BatchEnd, answer_frames};
 use nb_port::{Clock, Disk, Sink, Source};
 use nb_turns::Line;
-use nb_units::NoMemory;
+use nb_units::{NoMemory, Small};
 use nb_vault::Vault;
 use nb_words::{Command, command_of};
 use std::alloc::Global;
@@ -44,9 +58,12 @@ use std::alloc::Global;
 /// of that rate; `batch JOURNAL` answers the frames of the
 /// input in order; `serve JOURNAL ADDRESS WORKERS SESSIONS` is work over links, which is left to do; `migrate JOURNAL PERMILLE` makes a journal
 /// whose house keeps a fee of that rate, with the cap, the head and the entries of the input, which is a journal without fees;
-/// `statement JOURNAL ACCT` writes the statement of the account, 0 being the house's own, to the output; `judge` writes what is ruled of the case that is
-/// the input; `buy WALLET SERVER SELLER MERCHANT PRODUCT LIMIT TID` is work over links, too, and so is
-/// `sell STALL ADDRESS SERVER LINKS`, with the shelf that is the input.
+/// `statement JOURNAL ACCT` writes the statement of the account, 0 being the house's own, to the output; `ship JOURNAL FROM` writes the records of the entries
+/// from a place on, `follow JOURNAL` takes records of the input in and writes acknowledgements, and `promote JOURNAL` tells how many entries stand; `judge` writes what is ruled of the case that is
+/// the input; `play` writes the report of the script that is the input; `buy WALLET SERVER SELLER MERCHANT PRODUCT LIMIT TID` is work over links, too, and so is
+/// `sell STALL ADDRESS SERVER LINKS`, with the shelf that is the input; `credential CONSUMER UNTIL GROUPS` writes a credential, sealed under the key that is
+/// the input; `buywith` is `buy` with the request that is the input, and `selloffers` is `sell` with the offers that stand before the shelf, and an empty line between
+/// them.
 pub fn run<S: Source, K: Sink, D: Disk, C: Clock>(
     alloc: Global,
     words: &[String],
@@ -56,22 +73,23 @@ pub fn run<S: Source, K: Sink, D: Disk, C: Clock>(
     clock: &mut C,
 ) -> (Outcome, D)
     // Where it ends, with one of these statuses; else the work of a server, of a purchase or of one who sells is left to do, at such words alone, and there
-    // always, unless there was no memory to read them, and for one who sells where its shelf is good, its source did not fail and there was memory.
+    // always, unless there was no memory to read them, and where the input is read where it is good, its source did not fail and there was memory.
     ensures status { (status : ℕ) → EndsWith result.0 status → runs.IsStatus status }
     // The job of a server with so many workers, of so many links each, only at the words of one with these numbers.
     ensures work { (workers sessions : ℕ) → result.0 ≡ outcomes.Work (jobs.Serve workers sessions) → IsServe (map string_bytes words.now) workers sessions }
     // And there always, or the run did not begin.
     ensures serve { (workers sessions : ℕ) → IsServe (map string_bytes words.now) workers sessions
         → (result.0 ≡ outcomes.Work (jobs.Serve workers sessions)) ⊎ runs.Unbegun result.0 source.old source.new sink.old sink.new disk result.1 clock.old clock.new }
-    // The job of a purchase only at the words of one with these numbers.
-    ensures buys { (merchant : PartyId) (product : ℕ) (limit : Price) (transaction : ℕ) → result.0 ≡ outcomes.Work (jobs.Buy merchant product limit transaction)
-        → IsBuy (map string_bytes words.now) merchant.0 product limit.0 transaction }
+    // The job of a purchase only at the words of one with these numbers, and with no request, or with the one that was read.
+    ensures buys { (merchant : PartyId) (product : ℕ) (limit : Price) (transaction : ℕ) (request : List ℕ) → result.0 ≡ outcomes.Work (jobs.Buy merchant product limit transaction request)
+        → asks.IsAskedBy (map string_bytes words.now) (S.left source.old) (S.left source.new) merchant product limit transaction request }
     // And there always, or the run did not begin.
     ensures buy { (merchant : PartyId) (product : ℕ) (limit : Price) (transaction : ℕ) → IsBuy (map string_bytes words.now) merchant.0 product limit.0 transaction
-        → (result.0 ≡ outcomes.Work (jobs.Buy merchant product limit transaction)) ⊎ runs.Unbegun result.0 source.old source.new sink.old sink.new disk result.1 clock.old clock.new }
-    // The job of who sells only at the words of one with this number, where the input was read to its end and is the shelf of these products.
-    ensures sells { (links : ℕ) (products : List Product) → result.0 ≡ outcomes.Work (jobs.Sell links products)
-        → IsSell (map string_bytes words.now) links × sales.IsStock (S.left source.old) (S.left source.new) products }
+        → (result.0 ≡ outcomes.Work (jobs.Buy merchant product limit transaction [])) ⊎ runs.Unbegun result.0 source.old source.new sink.old sink.new disk result.1 clock.old clock.new }
+    // The job of who sells only at the words of one with this number, where the input was read to its end and is the shelf of these products, behind
+    // offers or with none.
+    ensures sells { (links : ℕ) (products : List Product) (offers : Option Tariff) → result.0 ≡ outcomes.Work (jobs.Sell links products offers)
+        → wares.IsSoldBy (map string_bytes words.now) (S.left source.old) (S.left source.new) links products offers }
     // And there with the shelf of the whole input; or its first bad item is told, that it is too long, that its source failed, or that memory was
     // wanting.
     ensures sell { (links : ℕ) → IsSell (map string_bytes words.now) links
@@ -84,7 +102,41 @@ pub fn run<S: Source, K: Sink, D: Disk, C: Clock>(
     // A shelf alone, and a source that does not fail: it is sold, unless memory is wanting.
     ensures stocks { (links : ℕ) (products : List Product) → IsSell (map string_bytes words.now) links → sales.IsShelfInput (S.left source.old) products
         → (Rose (S.faults source.old) (S.faults source.new) → ⊥)
-        → (result.0 ≡ outcomes.Work (jobs.Sell links products)) ⊎ EndsWith result.0 OUT_OF_MEMORY }
+        → (result.0 ≡ outcomes.Work (jobs.Sell links products None)) ⊎ EndsWith result.0 OUT_OF_MEMORY }
+
+    // Who buys with a request, and who sells with offers, touches nothing but the input either.
+    ensures buy_with { (merchant : PartyId) (product : ℕ) (limit : Price) (transaction : ℕ) → IsBuyWith (map string_bytes words.now) merchant.0 product limit.0 transaction
+        → (asks.AsksAs (S.left source.old) (S.left source.new) (S.faults source.old) (S.faults source.new) merchant product limit transaction result.0
+        ⊎ runs.Unbegun result.0 source.old source.new sink.old sink.new disk result.1 clock.old clock.new)
+        × (result.1 ≡ disk) × (sink.new ≡ sink.old) × (clock.new ≡ clock.old) }
+    // With offers: the same, of offers, an empty line and a shelf; the first bad line of the offers is told before the first bad item of the shelf.
+    ensures sell_offers { (links : ℕ) → IsSellOffers (map string_bytes words.now) links
+        → (wares.OffersAs (S.left source.old) (S.left source.new) (S.faults source.old) (S.faults source.new) links result.0
+        ⊎ runs.Unbegun result.0 source.old source.new sink.old sink.new disk result.1 clock.old clock.new)
+        × (result.1 ≡ disk) × (sink.new ≡ sink.old) × (clock.new ≡ clock.old) }
+
+    // A request alone of at most 64 bytes, offers and a shelf alone, and a source that does not fail: it is bought with it, and sold with them, unless memory
+    // is wanting.
+    ensures asks { (merchant : PartyId) (product : ℕ) (limit : Price) (transaction : ℕ) (request : List ℕ) → IsBuyWith (map string_bytes words.now) merchant.0 product limit.0 transaction
+        → asks.IsRequestInput (S.left source.old) request → (Rose (S.faults source.old) (S.faults source.new) → ⊥)
+        → (result.0 ≡ outcomes.Work (jobs.Buy merchant product limit transaction request)) ⊎ EndsWith result.0 OUT_OF_MEMORY }
+    // Good offers and a good shelf alone, and a source that does not fail: they are sold, unless memory is wanting.
+    ensures offers { (links : ℕ) (tariff : Tariff) (products : List Product) → IsSellOffers (map string_bytes words.now) links → wares.IsWaresInput (S.left source.old) tariff products
+        → (Rose (S.faults source.old) (S.faults source.new) → ⊥)
+        → (result.0 ≡ outcomes.Work (jobs.Sell links products (Some tariff))) ⊎ EndsWith result.0 OUT_OF_MEMORY }
+
+    // What writing a credential comes to, unless there was no memory to read the words. Neither the disk nor the clock is touched, and the sink is as before but
+    // after 0 and 4.
+    ensures credential { (consumer : PartyId) (until : ℕ) (groups : List ℕ) → IsCredential (map string_bytes words.now) consumer.0 until groups
+        → (Ends result.0 (grants.GrantIs (S.left source.old) (S.left source.new) (S.faults source.old) (S.faults source.new) (K.sent sink.old) (K.sent sink.new) (K.faults sink.old) (K.faults sink.new)
+        (grants.credential_for consumer until groups))
+        ⊎ runs.Unbegun result.0 source.old source.new sink.old sink.new disk result.1 clock.old clock.new)
+        × (result.1 ≡ disk) × (clock.new ≡ clock.old) × ((EndsWith result.0 CLEAN → ⊥) → (EndsWith result.0 SINK_FAILED → ⊥) → sink.new ≡ sink.old) }
+
+    // A key alone, and nothing that fails: the credential is written, unless memory is wanting.
+    ensures grants { (consumer : PartyId) (until : ℕ) (groups : List ℕ) → IsCredential (map string_bytes words.now) consumer.0 until groups → grants.IsKeyInput (S.left source.old)
+        → (Rose (S.faults source.old) (S.faults source.new) → ⊥) → (Rose (K.faults sink.old) (K.faults sink.new) → ⊥)
+        → EndsWith result.0 CLEAN ⊎ EndsWith result.0 OUT_OF_MEMORY }
 
     // Status 2: the words, and nothing else; and there always, unless there was no memory to read them, which is not told of no words, a word
     // that is no name and a call for help. The disk is not touched at words that are no command, and where work is left to do.
@@ -141,8 +193,8 @@ pub fn run<S: Source, K: Sink, D: Disk, C: Clock>(
     ensures statement { (acct : AcctId) → IsStatement (map string_bytes words.now) acct.0
         → Ends result.0 (states.StatementIs D.tells disk result.1 (K.sent sink.old) (K.sent sink.new) acct)
         ⊎ runs.Unbegun result.0 source.old source.new sink.old sink.new disk result.1 clock.old clock.new }
-    // Source and clock are as before, nothing was written to the disk, and but after 0 and 4 the sink is as before.
-    ensures quiet { (acct : AcctId) → IsStatement (map string_bytes words.now) acct.0
+    // Of a command that reads a journal alone source and clock are as before, nothing was written to the disk, and but after 0 and 4 the sink is as before.
+    ensures quiet { runs.IsReader (map string_bytes words.now)
         → (source.new ≡ source.old) × (clock.new ≡ clock.old) × Unwritten D.tells disk result.1
         × ((EndsWith result.0 CLEAN → ⊥) → (EndsWith result.0 SINK_FAILED → ⊥) → sink.new ≡ sink.old) }
 
@@ -150,6 +202,26 @@ pub fn run<S: Source, K: Sink, D: Disk, C: Clock>(
     ensures states { (acct : AcctId) → IsStatement (map string_bytes words.now) acct.0 → runs.IsJournal (D.tells.content disk)
         → (Rose (K.faults sink.old) (K.faults sink.new) → ⊥) → (Rose (D.tells.faults disk) (D.tells.faults result.1) → ⊥)
         → EndsWith result.0 CLEAN ⊎ EndsWith result.0 NO_ACCOUNT ⊎ EndsWith result.0 OUT_OF_MEMORY }
+
+    // What shipping the records from a place on comes to, unless there was no memory to read the words.
+    ensures ship { (from : ℕ) → IsShip (map string_bytes words.now) from
+        → Ends result.0 (ships.ShipIs D.tells disk result.1 (K.sent sink.old) (K.sent sink.new) from)
+        ⊎ runs.Unbegun result.0 source.old source.new sink.old sink.new disk result.1 clock.old clock.new }
+
+    // A journal, and nothing that fails: its records are shipped, or the place is above them, unless memory is wanting.
+    ensures ships { (from : ℕ) → IsShip (map string_bytes words.now) from → runs.IsJournal (D.tells.content disk)
+        → (Rose (K.faults sink.old) (K.faults sink.new) → ⊥) → (Rose (D.tells.faults disk) (D.tells.faults result.1) → ⊥)
+        → EndsWith result.0 CLEAN ⊎ EndsWith result.0 NO_PLACE ⊎ EndsWith result.0 OUT_OF_MEMORY }
+
+    // What promoting a standby comes to, unless there was no memory to read the words.
+    ensures promote { IsPromote (map string_bytes words.now)
+        → Ends result.0 (promotes.PromoteIs D.tells disk result.1 (K.sent sink.old) (K.sent sink.new))
+        ⊎ runs.Unbegun result.0 source.old source.new sink.old sink.new disk result.1 clock.old clock.new }
+
+    // A journal, and nothing that fails: it is told how many entries stand, unless memory is wanting.
+    ensures promotes { IsPromote (map string_bytes words.now) → runs.IsJournal (D.tells.content disk)
+        → (Rose (K.faults sink.old) (K.faults sink.new) → ⊥) → (Rose (D.tells.faults disk) (D.tells.faults result.1) → ⊥)
+        → EndsWith result.0 CLEAN ⊎ EndsWith result.0 OUT_OF_MEMORY }
 
     // What ruling on a case comes to, unless there was no memory to read the words. Neither the disk nor the clock is touched, and the sink is as
     // before but after 0 and 4.
@@ -165,9 +237,22 @@ pub fn run<S: Source, K: Sink, D: Disk, C: Clock>(
         → (Rose (S.faults source.old) (S.faults source.new) → ⊥) → (Rose (K.faults sink.old) (K.faults sink.new) → ⊥)
         → EndsWith result.0 CLEAN ⊎ EndsWith result.0 OUT_OF_MEMORY }
 
-    // What a batch comes to, unless there was no memory to read the words.
-    ensures batch { IsBatch (map string_bytes words.now)
-        → Ends result.0 (runs.BatchIs D.tells disk result.1
+    // What playing a script comes to, unless there was no memory to read the words.
+    ensures play { IsPlay (map string_bytes words.now)
+        → Ends result.0 (plays.PlayIs (S.left source.old) (S.left source.new) (S.faults source.old) (S.faults source.new) (K.sent sink.old) (K.sent sink.new) (K.faults sink.old) (K.faults sink.new))
+        ⊎ runs.Unbegun result.0 source.old source.new sink.old sink.new disk result.1 clock.old clock.new }
+    // Playing leaves disk and clock as before, and but after 0 and 4 the sink.
+    ensures secluded { IsPlay (map string_bytes words.now)
+        → (result.1 ≡ disk) × (clock.new ≡ clock.old) × ((EndsWith result.0 CLEAN → ⊥) → (EndsWith result.0 SINK_FAILED → ⊥) → sink.new ≡ sink.old) }
+
+    // A script alone, and nothing that fails: it is played, unless memory is wanting.
+    ensures plays { IsPlay (map string_bytes words.now) → plays.IsScriptInput (S.left source.old)
+        → (Rose (S.faults source.old) (S.faults source.new) → ⊥) → (Rose (K.faults sink.old) (K.faults sink.new) → ⊥)
+        → EndsWith result.0 CLEAN ⊎ EndsWith result.0 OUT_OF_MEMORY }
+
+    // What a batch comes to, answered by a house, or by a standby that follows, unless there was no memory to read the words.
+    ensures batch { (by : Answerer) → runs.IsAnswered (map string_bytes words.now) by
+        → Ends result.0 (runs.BatchIs D.tells by disk result.1
         (record { left = S.left source.old; sent = K.sent sink.old; moments = C.moments clock.old })
         (record { left = S.left source.new; sent = K.sent sink.new; moments = C.moments clock.new }))
         ⊎ runs.Unbegun result.0 source.old source.new sink.old sink.new disk result.1 clock.old clock.new }
@@ -190,14 +275,14 @@ pub fn run<S: Source, K: Sink, D: Disk, C: Clock>(
 
     // Nothing is taken, sent or asked for where the words are no command, work is left to do that takes no input, or a batch ends with 6, 7 or 8; and
     // such a batch wrote nothing.
-    ensures closed { (IsCommand (map string_bytes words.now) → ⊥) ⊎ (Ends result.0 EndsEarly × IsBatch (map string_bytes words.now)) ⊎ ((job : Job) × (result.0 ≡ outcomes.Work job) × sales.IsUnread job)
+    ensures closed { (IsCommand (map string_bytes words.now) → ⊥) ⊎ (Ends result.0 EndsEarly × ((by : Answerer) × runs.IsAnswered (map string_bytes words.now) by)) ⊎ ((job : Job) × (result.0 ≡ outcomes.Work job) × sales.IsUnread (map string_bytes words.now) job)
         → (source.new ≡ source.old) × (sink.new ≡ sink.old) × (clock.new ≡ clock.old) }
 
     // And nothing was written there.
-    ensures unwritten { IsBatch (map string_bytes words.now) → Ends result.0 EndsEarly → Unwritten D.tells disk result.1 }
+    ensures unwritten { (by : Answerer) → runs.IsAnswered (map string_bytes words.now) by → Ends result.0 EndsEarly → Unwritten D.tells disk result.1 }
 
     // Whole frames alone over a journal, and nothing that fails: all is done, unless memory is wanting.
-    ensures complete { IsBatch (map string_bytes words.now) → runs.IsJournal (D.tells.content disk) → runs.IsWholeInput (S.left source.old)
+    ensures complete { (by : Answerer) → runs.IsAnswered (map string_bytes words.now) by → runs.IsJournal (D.tells.content disk) → runs.IsWholeInput (S.left source.old)
         → (Rose (S.faults source.old) (S.faults source.new) → ⊥) → (Rose (K.faults sink.old) (K.faults sink.new) → ⊥) → (Rose (D.tells.faults disk) (D.tells.faults result.1) → ⊥)
         → EndsWith result.0 CLEAN ⊎ EndsWith result.0 OUT_OF_MEMORY }
 {
@@ -208,7 +293,8 @@ pub fn run<S: Source, K: Sink, D: Disk, C: Clock>(
             (Outcome::Done(end.ending()), disk)
         }
         Ok(Some(Command::Batch)) => {
-            let (ending, disk) = answer_batch(alloc, source, sink, disk, clock).without_lines();
+            let by = Answerer::House;
+            let (ending, disk) = answer_batch(alloc, by, source, sink, disk, clock).without_lines();
             (Outcome::Done(ending), disk)
         }
         Ok(Some(Command::Drill { seed, orders })) => {
@@ -231,6 +317,23 @@ pub fn run<S: Source, K: Sink, D: Disk, C: Clock>(
             let end = rule_on(alloc, source, sink);
             (Outcome::Done(end.ending()), disk)
         }
+        Ok(Some(Command::Play)) => {
+            let end = play_input(alloc, source, sink);
+            (Outcome::Done(end.ending()), disk)
+        }
+        Ok(Some(Command::Ship { from })) => {
+            let (ending, disk) = ship_records(alloc, from, sink, disk);
+            (Outcome::Done(ending), disk)
+        }
+        Ok(Some(Command::Follow)) => {
+            let by = Answerer::Standby;
+            let (ending, disk) = answer_batch(alloc, by, source, sink, disk, clock).without_lines();
+            (Outcome::Done(ending), disk)
+        }
+        Ok(Some(Command::Promote)) => {
+            let (ending, disk) = promote(alloc, sink, disk);
+            (Outcome::Done(ending), disk)
+        }
         Ok(
             Some(
                 Command::Buy {
@@ -246,10 +349,37 @@ pub fn run<S: Source, K: Sink, D: Disk, C: Clock>(
                 product,
                 limit,
                 transaction,
+                request: Small::of(&[]).unwrap(),
             };
             (Outcome::Work(job), disk)
         }
         Ok(Some(Command::Sell { links })) => (take_stock(alloc, links, source), disk),
+        Ok(
+            Some(
+                Command::Credential {
+                    consumer,
+                    until,
+                    groups,
+                },
+            ),
+        ) => {
+            let end = grant(alloc, consumer, until, &groups, source, sink);
+            (Outcome::Done(end.ending()), disk)
+        }
+        Ok(
+            Some(
+                Command::BuyWith {
+                    merchant,
+                    product,
+                    limit,
+                    transaction,
+                },
+            ),
+        ) => {
+            let outcome = ask_with(alloc, merchant, product, limit, transaction, source);
+            (outcome, disk)
+        }
+        Ok(Some(Command::SellOffers { links })) => (take_offers(alloc, links, source), disk),
         Ok(None) => (Outcome::Done(Ending::at_no_place(BAD_WORDS)), disk),
         Err(NoMemory) => (Outcome::Done(Ending::at_no_place(OUT_OF_MEMORY)), disk),
     }
@@ -276,15 +406,16 @@ impl<D> Batched<D> {
     }
 }
 
-// Opens the house on the disk, and answers the frames of the source.
+// Opens the house on the disk, or the standby, which answers the frames of the source.
 pub(crate) fn answer_batch<S: Source, K: Sink, D: Disk, C: Clock>(
     alloc: Global,
+    by: Answerer,
     source: &mut S,
     sink: &mut K,
     disk: D,
     clock: &mut C,
 ) -> Batched<D>
-    ensures batch { runs.BatchLines D.tells disk result.disk
+    ensures batch { runs.BatchLines D.tells by disk result.disk
         (record { left = S.left source.old; sent = K.sent sink.old; moments = C.moments clock.old })
         (record { left = S.left source.new; sent = K.sent sink.new; moments = C.moments clock.new }) result.lines.items result.ending }
     ensures counts { (S.faults source.old ≤ S.faults source.new) × (K.faults sink.old ≤ K.faults sink.new) × (D.tells.faults disk ≤ D.tells.faults result.disk) }
@@ -307,7 +438,7 @@ pub(crate) fn answer_batch<S: Source, K: Sink, D: Disk, C: Clock>(
             };
         }
     };
-    let end = answer_frames(alloc, &mut house, source, sink, clock);
+    let end = answer_frames(alloc, by, &mut house, source, sink, clock);
     // What the disk is at rest in is what every vault keeps.
     house.witness();
     let (disk, lines) = house.into_parts();

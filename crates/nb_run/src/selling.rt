@@ -44,7 +44,11 @@ pub fn take_stock<S: Source>(alloc: Global, links: u32, source: &mut S) -> Outco
     ensures count { S.faults source.old ≤ S.faults source.new }
 {
     match read_shelf(alloc, source) {
-        Ok(shelf) => Outcome::Work(Job::Sell { links, shelf }),
+        Ok(shelf) => Outcome::Work(Job::Sell {
+            links,
+            shelf,
+            offers: None,
+        }),
         Err(end) => Outcome::Done(end.ending()),
     }
 }

@@ -143,54 +143,63 @@ init_all_read (x ∷ xs) (y ∷ ys) (z ∷ zs) p q r = (
   ),
 )
 
--- ---- batch JOURNAL
+-- ---- batch JOURNAL, and the other commands of a journal alone
 
 pub batch_named : IsNamed (codes "batch") (codes "JOURNAL" ∷ []) []
 unfolding clap_on_literals
 batch_named = record { met = refl; silent = refl; found = refl }
 
-abbrev batch : Shape
-batch = leaf (codes "batch") (codes "JOURNAL" ∷ []) []
-
-batch_none : level_fault batch [] nothing_held [] false [] ≡ MissingRequiredArgument ∷ []
+pub follow_named : IsNamed (codes "follow") (codes "JOURNAL" ∷ []) []
 unfolding clap_on_literals
-batch_none = refl
+follow_named = record { met = refl; silent = refl; found = refl }
 
-batch_taken : (x : ℕ) (xs : Text) → IsBegin x → level_fault batch [] nothing_held ((x ∷ xs) ∷ []) false [] ≡ []
+pub promote_named : IsNamed (codes "promote") (codes "JOURNAL" ∷ []) []
 unfolding clap_on_literals
-batch_taken x xs p =
-    ap (λ (k : Kinds). level batch k (fold (walked batch.rules []) (at 1 nothing_held) ((x ∷ xs) ∷ [])))
-    (next_faults batch 1 nothing_held x xs p [])
-    ∙ ap (λ (w : Walk). level batch [] w) (next_walk batch 1 nothing_held x xs p [])
+promote_named = record { met = refl; silent = refl; found = refl }
 
-batch_more : (x : ℕ) (xs : Text) (y : ℕ) (ys : Text) (rest : List Text) → IsBegin x → IsBegin y → level_fault batch [] nothing_held ((x ∷ xs) ∷ (y ∷ ys) ∷ rest) false [] ≡ UnknownArgument ∷ []
-unfolding clap_on_literals
-batch_more x xs y ys rest p q =
-    ap (λ (k : Kinds). level batch k (fold (walked batch.rules []) (at 1 nothing_held) ((x ∷ xs) ∷ (y ∷ ys) ∷ rest)))
-    (next_faults batch 1 nothing_held x xs p ((y ∷ ys) ∷ rest) ∙ next_faults batch 2 _ y ys q rest)
+module _ (name : Text) (named : IsNamed name (codes "JOURNAL" ∷ []) []) where
+  abbrev alone : Shape
+  alone = leaf name (codes "JOURNAL" ∷ []) []
 
--- clap takes no other number of words
-pub batch_fits : (words : List Text) → AllByRecursion IsName words → fault_of program (codes "batch" ∷ words) ≡ [] → (journal : Text) × (words ≡ journal ∷ []) × IsName journal
-batch_fits words all none = go words all (sym (called (codes "batch") (codes "JOURNAL" ∷ []) [] batch_named words) ∙ none)
-  where
-    go : (words : List Text) → AllByRecursion IsName words → level_fault batch [] nothing_held words false [] ≡ [] → (journal : Text) × (words ≡ journal ∷ []) × IsName journal
-    go [] all none = absurd (faulty _ _ _ batch_none none)
-    go ([] ∷ words) all none = absurd (not_nothing all.0)
-    go ((x ∷ xs) ∷ []) all none = (x ∷ xs, refl, all.0)
-    go ((x ∷ xs) ∷ [] ∷ words) all none = absurd (not_nothing all.1.0)
-    go ((x ∷ xs) ∷ (y ∷ ys) ∷ words) all none = absurd (faulty _ _ _ (batch_more x xs y ys words (begins x xs all.0) (begins y ys all.1.0)) none)
+  journal_none : level_fault alone [] nothing_held [] false [] ≡ MissingRequiredArgument ∷ []
+  unfolding clap_on_literals
+  journal_none = refl
 
--- as many words as it has positions are taken, and read as they stand
-pub batch_read : (journal : Text) → IsName journal
-    → (fault_of program (codes "batch" ∷ journal ∷ []) ≡ []) × ((rows : List Row) × (subcommand_of program (codes "batch" ∷ journal ∷ []) ≡ Some (codes "batch", rows)))
-batch_read [] p = absurd (not_nothing p)
-batch_read (x ∷ xs) p = (
-  called (codes "batch") (codes "JOURNAL" ∷ []) [] batch_named ((x ∷ xs) ∷ []) ∙ batch_taken x xs (begins x xs p),
-  (
-    rows_after batch.rules [] ((x ∷ xs) ∷ []),
-    entered_as (codes "batch") (codes "JOURNAL" ∷ []) [] batch_named ((x ∷ xs) ∷ []),
-  ),
-)
+  journal_taken : (x : ℕ) (xs : Text) → IsBegin x → level_fault alone [] nothing_held ((x ∷ xs) ∷ []) false [] ≡ []
+  unfolding clap_on_literals
+  journal_taken x xs p =
+      ap (λ (k : Kinds). level alone k (fold (walked alone.rules []) (at 1 nothing_held) ((x ∷ xs) ∷ [])))
+      (next_faults alone 1 nothing_held x xs p [])
+      ∙ ap (λ (w : Walk). level alone [] w) (next_walk alone 1 nothing_held x xs p [])
+
+  journal_more : (x : ℕ) (xs : Text) (y : ℕ) (ys : Text) (rest : List Text) → IsBegin x → IsBegin y → level_fault alone [] nothing_held ((x ∷ xs) ∷ (y ∷ ys) ∷ rest) false [] ≡ UnknownArgument ∷ []
+  unfolding clap_on_literals
+  journal_more x xs y ys rest p q =
+      ap (λ (k : Kinds). level alone k (fold (walked alone.rules []) (at 1 nothing_held) ((x ∷ xs) ∷ (y ∷ ys) ∷ rest)))
+      (next_faults alone 1 nothing_held x xs p ((y ∷ ys) ∷ rest) ∙ next_faults alone 2 _ y ys q rest)
+
+  -- clap takes no other number of words
+  pub journal_fits : (words : List Text) → AllByRecursion IsName words → fault_of program (name ∷ words) ≡ [] → (journal : Text) × (words ≡ journal ∷ []) × IsName journal
+  journal_fits words all none = go words all (sym (called name (codes "JOURNAL" ∷ []) [] named words) ∙ none)
+    where
+      go : (words : List Text) → AllByRecursion IsName words → level_fault alone [] nothing_held words false [] ≡ [] → (journal : Text) × (words ≡ journal ∷ []) × IsName journal
+      go [] all none = absurd (faulty _ _ _ journal_none none)
+      go ([] ∷ words) all none = absurd (not_nothing all.0)
+      go ((x ∷ xs) ∷ []) all none = (x ∷ xs, refl, all.0)
+      go ((x ∷ xs) ∷ [] ∷ words) all none = absurd (not_nothing all.1.0)
+      go ((x ∷ xs) ∷ (y ∷ ys) ∷ words) all none = absurd (faulty _ _ _ (journal_more x xs y ys words (begins x xs all.0) (begins y ys all.1.0)) none)
+
+  -- as many words as it has positions are taken, and read as they stand
+  pub journal_read : (journal : Text) → IsName journal
+      → (fault_of program (name ∷ journal ∷ []) ≡ []) × ((rows : List Row) × (subcommand_of program (name ∷ journal ∷ []) ≡ Some (name, rows)))
+  journal_read [] p = absurd (not_nothing p)
+  journal_read (x ∷ xs) p = (
+    called name (codes "JOURNAL" ∷ []) [] named ((x ∷ xs) ∷ []) ∙ journal_taken x xs (begins x xs p),
+    (
+      rows_after alone.rules [] ((x ∷ xs) ∷ []),
+      entered_as name (codes "JOURNAL" ∷ []) [] named ((x ∷ xs) ∷ []),
+    ),
+  )
 
 -- ---- drill SEED ORDERS
 
@@ -511,4 +520,103 @@ pub judge_read : (fault_of program (codes "judge" ∷ []) ≡ []) × ((rows : Li
 judge_read = (
   called (codes "judge") [] [] judge_named [] ∙ judge_none,
   (rows_after judge.rules [] [], entered_as (codes "judge") [] [] judge_named []),
+)
+
+-- ---- play
+
+pub play_named : IsNamed (codes "play") [] []
+unfolding clap_on_literals
+play_named = record { met = refl; silent = refl; found = refl }
+
+abbrev play : Shape
+play = leaf (codes "play") [] []
+
+play_none : level_fault play [] nothing_held [] false [] ≡ []
+unfolding clap_on_literals
+play_none = refl
+
+play_more : (x : ℕ) (xs : Text) (rest : List Text) → IsBegin x → level_fault play [] nothing_held ((x ∷ xs) ∷ rest) false [] ≡ UnknownArgument ∷ []
+unfolding clap_on_literals
+play_more x xs rest p =
+    ap (λ (k : Kinds). level play k (fold (walked play.rules []) (at 1 nothing_held) ((x ∷ xs) ∷ rest)))
+    (next_faults play 1 nothing_held x xs p rest)
+
+-- clap takes no word behind it
+pub play_fits : (words : List Text) → AllByRecursion IsName words → fault_of program (codes "play" ∷ words) ≡ [] → words ≡ []
+play_fits words all none = go words all (sym (called (codes "play") [] [] play_named words) ∙ none)
+  where
+    go : (words : List Text) → AllByRecursion IsName words → level_fault play [] nothing_held words false [] ≡ [] → words ≡ []
+    go [] all none = refl
+    go ([] ∷ words) all none = absurd (not_nothing all.0)
+    go ((x ∷ xs) ∷ words) all none = absurd (faulty _ _ _ (play_more x xs words (begins x xs all.0)) none)
+
+-- the word alone is taken
+pub play_read : (fault_of program (codes "play" ∷ []) ≡ []) × ((rows : List Row) × (subcommand_of program (codes "play" ∷ []) ≡ Some (codes "play", rows)))
+play_read = (
+  called (codes "play") [] [] play_named [] ∙ play_none,
+  (rows_after play.rules [] [], entered_as (codes "play") [] [] play_named []),
+)
+
+-- ---- ship JOURNAL FROM
+
+pub ship_named : IsNamed (codes "ship") (codes "JOURNAL" ∷ codes "FROM" ∷ []) []
+unfolding clap_on_literals
+ship_named = record { met = refl; silent = refl; found = refl }
+
+abbrev ship : Shape
+ship = leaf (codes "ship") (codes "JOURNAL" ∷ codes "FROM" ∷ []) []
+
+ship_none : level_fault ship [] nothing_held [] false [] ≡ MissingRequiredArgument ∷ []
+unfolding clap_on_literals
+ship_none = refl
+
+ship_one : (x : ℕ) (xs : Text) → IsBegin x → level_fault ship [] nothing_held ((x ∷ xs) ∷ []) false [] ≡ MissingRequiredArgument ∷ []
+unfolding clap_on_literals
+ship_one x xs p =
+    ap (λ (k : Kinds). level ship k (fold (walked ship.rules []) (at 1 nothing_held) ((x ∷ xs) ∷ [])))
+    (next_faults ship 1 nothing_held x xs p [])
+    ∙ ap (λ (w : Walk). level ship [] w) (next_walk ship 1 nothing_held x xs p [])
+
+ship_taken : (x : ℕ) (xs : Text) (y : ℕ) (ys : Text) → IsBegin x → IsBegin y → level_fault ship [] nothing_held ((x ∷ xs) ∷ (y ∷ ys) ∷ []) false [] ≡ []
+unfolding clap_on_literals
+ship_taken x xs y ys p q =
+    ap (λ (k : Kinds). level ship k (fold (walked ship.rules []) (at 1 nothing_held) ((x ∷ xs) ∷ (y ∷ ys) ∷ [])))
+    (next_faults ship 1 nothing_held x xs p ((y ∷ ys) ∷ []) ∙ next_faults ship 2 _ y ys q [])
+    ∙ ap (λ (w : Walk). level ship [] w) (next_walk ship 1 nothing_held x xs p ((y ∷ ys) ∷ []) ∙ next_walk ship 2 _ y ys q [])
+
+ship_more : (x : ℕ) (xs : Text) (y : ℕ) (ys : Text) (z : ℕ) (zs : Text) (rest : List Text) → IsBegin x → IsBegin y → IsBegin z → level_fault ship [] nothing_held ((x ∷ xs) ∷ (y ∷ ys) ∷ (z ∷ zs) ∷ rest) false [] ≡ UnknownArgument ∷ []
+unfolding clap_on_literals
+ship_more x xs y ys z zs rest p q r =
+    ap (λ (k : Kinds). level ship k (fold (walked ship.rules []) (at 1 nothing_held) ((x ∷ xs) ∷ (y ∷ ys) ∷ (z ∷ zs) ∷ rest)))
+    (next_faults ship 1 nothing_held x xs p ((y ∷ ys) ∷ (z ∷ zs) ∷ rest) ∙ next_faults ship 2 _ y ys q ((z ∷ zs) ∷ rest) ∙ next_faults ship 3 _ z zs r rest)
+
+ship_from : (x : ℕ) (xs : Text) (y : ℕ) (ys : Text) → IsBegin x → IsBegin y → first_of (codes "FROM") (rows_after ship.rules [] ((x ∷ xs) ∷ (y ∷ ys) ∷ [])) ≡ Some (y ∷ ys)
+unfolding clap_on_literals
+ship_from x xs y ys p q = ap (λ (w : Walk). first_of (codes "FROM") (finished ship.rules w.held)) (next_walk ship 1 nothing_held x xs p ((y ∷ ys) ∷ []) ∙ next_walk ship 2 _ y ys q [])
+
+-- clap takes no other number of words
+pub ship_fits : (words : List Text) → AllByRecursion IsName words → fault_of program (codes "ship" ∷ words) ≡ [] → (journal : Text) × (number : Text) × (words ≡ journal ∷ number ∷ []) × IsName journal
+ship_fits words all none = go words all (sym (called (codes "ship") (codes "JOURNAL" ∷ codes "FROM" ∷ []) [] ship_named words) ∙ none)
+  where
+    go : (words : List Text) → AllByRecursion IsName words → level_fault ship [] nothing_held words false [] ≡ [] → (journal : Text) × (number : Text) × (words ≡ journal ∷ number ∷ []) × IsName journal
+    go [] all none = absurd (faulty _ _ _ ship_none none)
+    go ([] ∷ words) all none = absurd (not_nothing all.0)
+    go ((x ∷ xs) ∷ []) all none = absurd (faulty _ _ _ (ship_one x xs (begins x xs all.0)) none)
+    go ((x ∷ xs) ∷ [] ∷ words) all none = absurd (not_nothing all.1.0)
+    go ((x ∷ xs) ∷ (y ∷ ys) ∷ []) all none = (x ∷ xs, y ∷ ys, refl, all.0)
+    go ((x ∷ xs) ∷ (y ∷ ys) ∷ [] ∷ words) all none = absurd (not_nothing all.1.1.0)
+    go ((x ∷ xs) ∷ (y ∷ ys) ∷ (z ∷ zs) ∷ words) all none = absurd (faulty _ _ _ (ship_more x xs y ys z zs words (begins x xs all.0) (begins y ys all.1.0) (begins z zs all.1.1.0)) none)
+
+-- as many words as it has positions are taken, and read as they stand
+pub ship_read : (journal number : Text) → IsName journal → IsName number
+    → (fault_of program (codes "ship" ∷ journal ∷ number ∷ []) ≡ []) × ((rows : List Row) × (subcommand_of program (codes "ship" ∷ journal ∷ number ∷ []) ≡ Some (codes "ship", rows)) × (first_of (codes "FROM") rows ≡ Some number))
+ship_read [] number p q = absurd (not_nothing p)
+ship_read (x ∷ xs) [] p q = absurd (not_nothing q)
+ship_read (x ∷ xs) (y ∷ ys) p q = (
+  called (codes "ship") (codes "JOURNAL" ∷ codes "FROM" ∷ []) [] ship_named ((x ∷ xs) ∷ (y ∷ ys) ∷ []) ∙ ship_taken x xs y ys (begins x xs p) (begins y ys q),
+  (
+    rows_after ship.rules [] ((x ∷ xs) ∷ (y ∷ ys) ∷ []),
+    entered_as (codes "ship") (codes "JOURNAL" ∷ codes "FROM" ∷ []) [] ship_named ((x ∷ xs) ∷ (y ∷ ys) ∷ []),
+    ship_from x xs y ys (begins x xs p) (begins y ys q),
+  ),
 )

@@ -3,4 +3,5 @@ pub mod Listing
 pub mod Commands
 pub mod Buying
 pub mod Selling
+pub mod Granting
 pub mod Whole

@@ -1,12 +1,13 @@
 -- The words of the program, all of them: what clap takes and reads is a command, and each command is taken.
-use Rattle.std.proofs.Common.{◌≡◌, ℕ, ◌<◌, ◌≤◌, ◌*◌, ◌^◌, ◌⊎◌, Bool, List, [], ◌∷◌, true, false, true≢false, refl, ap, sym, ◌∙◌, subst, codes, length, Option, Some, None, is_some, arith, inl, inr}
-use Rattle.std.specs.Prelude.{Result, Ok, Err, IfOk, IsErr}
+use Rattle.std.proofs.Common.{◌≡◌, ℕ, ◌<◌, ◌≤◌, ◌*◌, ◌^◌, ◌⊎◌, Bool, List, [], ◌∷◌, ◌++◌, true, false, true≢false, refl, ap, sym, ◌∙◌, subst, codes, length, map, Option, Some, None, is_some, arith, inl, inr}
+use Rattle.std.specs.Prelude.{Result, Ok, Err, IfOk, IsErr, find, option_map}
 use Rattle.std.specs.List.{AllByRecursion}
 use Rattle.std.specs.Str.{bytes_eq}
 use Rattle.std.specs.Fmt.{decimal}
+use Rattle.std.proofs.lemmas.Bool.{false≢true}
 use Rattle.std.proofs.lemmas.Option.{same_Some}
 use Rattle.std.proofs.lemmas.Slice.Eq.{bytes_eq-Decides}
-use Rattle.clap.specs.Walk.{Row, Text, idle, walk, walked, walk_from, nothing_held, first_of, subcommand_met, settled, finished}
+use Rattle.clap.specs.Walk.{Names, Row, Text, answers_to, idle, walk, walked, walk_from, nothing_held, first_of, subcommand_met, settled, finished}
 use Rattle.clap.specs.Simple.{built, entered}
 use Rattle.clap.specs.Kinds.{Kinds, HasKind, or_else}
 use Rattle.clap.specs.declared.error.Error.{Error}
@@ -15,19 +16,40 @@ use Rattle.clap.specs.Words.{subcommand_of, kind_of}
 use Rattle.clap.specs.declared.error.kind.ErrorKind.TheVariants.{UnknownArgument, InvalidSubcommand, OutOfMemory}
 use Rattle.clap.proofs.OnLiterals.{clap_on_literals}
 use Rattle.nb_words.specs.declared.words.Command.{Command}
-use Rattle.nb_words.specs.declared.words.Command.TheVariants.{Init, Batch, Drill, Serve, Migrate, Statement, Judge, Buy, Sell}
-use Rattle.nb_words.specs.Words.{IsName, IsInit, IsBuy, IsCommand, CommandIs}
-use Rattle.nb_words.specs.Table.{program, InitIn, RateIn, BuyIn, CommandIn}
-use Rattle.nb_words.proofs.Reading.{names, turned, entered_as}
-use Rattle.nb_words.proofs.Commands.{begins, not_nothing, faulty, number_named, init_named, AreInit, init_fits, init_read, init_all_read, batch_named, batch_fits, batch_read, drill_named, drill_fits, drill_read, serve_named, serve_fits, serve_read, migrate_named, migrate_fits, migrate_read, statement_named, statement_fits, statement_read, judge_named, judge_fits, judge_read}
-use Rattle.nb_words.proofs.Buying.{buy_named, buy_fits, buy_read}
-use Rattle.nb_words.proofs.Selling.{sell_named, sell_fits, sell_read}
+use Rattle.nb_words.specs.declared.words.Command.TheVariants.{Init, Batch, Drill, Serve, Migrate, Statement, Judge, Buy, BuyWith, Sell, SellOffers, Credential, Play, Ship, Follow, Promote}
+use Rattle.nb_groups.specs.Groups.{AreGroups, groups_text}
+use Rattle.nb_words.specs.Words.{IsName, IsInit, IsPurchase, IsSale, IsCredential, Are, IsCommand, CommandIs}
+use Rattle.nb_words.specs.Table.{program, buy_positions, sell_positions, InitIn, RateIn, BuyIn, SellIn, CredentialIn, CommandIn}
+use Rattle.nb_words.proofs.Reading.{IsNamed, names, turned, entered_as}
+use Rattle.nb_words.proofs.Commands.{begins, not_nothing, faulty, number_named, init_named, AreInit, init_fits, init_read, init_all_read, batch_named, follow_named, promote_named, journal_fits, journal_read, drill_named, drill_fits, drill_read, serve_named, serve_fits, serve_read, migrate_named, migrate_fits, migrate_read, statement_named, statement_fits, statement_read, judge_named, judge_fits, judge_read, play_named, play_fits, play_read, ship_named, ship_fits, ship_read}
+use Rattle.nb_words.proofs.Buying.{buy_named, buywith_named, buy_fits, buy_read}
+use Rattle.nb_words.proofs.Selling.{sell_named, selloffers_named, sell_fits, sell_read}
+use Rattle.nb_words.proofs.Granting.{credential_named, credential_fits, credential_read}
 
 -- ---- a first word that is no command's
 
-stranger : (w : Text) → bytes_eq (codes "init") w ≡ false → bytes_eq (codes "batch") w ≡ false → bytes_eq (codes "drill") w ≡ false → bytes_eq (codes "serve") w ≡ false → bytes_eq (codes "migrate") w ≡ false → bytes_eq (codes "statement") w ≡ false → bytes_eq (codes "judge") w ≡ false → bytes_eq (codes "buy") w ≡ false → bytes_eq (codes "sell") w ≡ false → subcommand_met names idle w ≡ None
+-- the names of the commands, in the order of the table
+abbrev commands : List Text
+commands =
+    codes "init" ∷ codes "batch" ∷ codes "drill" ∷ codes "serve" ∷ codes "migrate" ∷ codes "statement" ∷ codes "judge" ∷ codes "buy" ∷ codes "sell" ∷ codes "credential" ∷ codes "buywith" ∷ codes "selloffers" ∷ codes "play" ∷ codes "ship" ∷ codes "follow" ∷ codes "promote" ∷ []
+
+-- a command has no other names
+abbrev labels : List Text → Names
+labels cs = map (λ (c : Text). let label : Text × List Text = (c, []) in label) cs
+
+names_are : names ≡ labels commands
 unfolding clap_on_literals
-stranger w i b d s m t j y l = rw (i, b, d, s, m, t, j, y, l) refl
+names_are = refl
+
+-- a word is one of these, of each of which this holds, or it is none of their names
+one_of : (P : Text → Type 0) (cs : List Text) (w : Text) → AllByRecursion P cs → P w ⊎ (find (answers_to w) (labels cs) ≡ None)
+one_of P [] w all = inr refl
+one_of P (c ∷ cs) w all = by (bytes_eq c w) refl (one_of P cs w all.1)
+  where
+    by : (same : Bool) → bytes_eq c w ≡ same → P w ⊎ (find (answers_to w) (labels cs) ≡ None) → P w ⊎ (find (answers_to w) (labels (c ∷ cs)) ≡ None)
+    by true e rest = inl (subst P ((bytes_eq-Decides c w).0 e) all.0)
+    by false e (inl is) = inl is
+    by false e (inr none) = inr (rw e none)
 
 refused : (x : ℕ) (xs : Text) (words : List Text) → IsName (x ∷ xs) → subcommand_met names idle (x ∷ xs) ≡ None → fault_of program ((x ∷ xs) ∷ words) ≡ [] → ⊥
 unfolding walk_fault
@@ -40,70 +62,27 @@ refused x xs words is met none =
     (or_else (defaults_fault (settled s.rules end.held).rows s.rules) (check_fault s (finished s.rules end.held) (is_some (entered (built program) end.stopped)))))))
     (turned names x xs (begins x xs is) met s 1 nothing_held)) none
 
--- the first word is the name of one
-abbrev IsKnown : Text → Type 0
-IsKnown w = (w ≡ codes "init") ⊎ (w ≡ codes "batch") ⊎ (w ≡ codes "drill") ⊎ (w ≡ codes "serve") ⊎ (w ≡ codes "migrate") ⊎ (w ≡ codes "statement") ⊎ (w ≡ codes "judge") ⊎ (w ≡ codes "buy") ⊎ (w ≡ codes "sell")
+-- a command of this name was met behind which these words stand
+abbrev IsEntered : List Text → Text → Type 0
+IsEntered words name = (rows : List Row) × (subcommand_of program (name ∷ words) ≡ Some (name, rows))
 
-known : (x : ℕ) (xs : Text) (words : List Text) → IsName (x ∷ xs) → fault_of program ((x ∷ xs) ∷ words) ≡ [] → IsKnown (x ∷ xs)
-known x xs words is none = first (bytes_eq (codes "init") (x ∷ xs)) refl
-  where
-    ninth : (v : Bool) → bytes_eq (codes "init") (x ∷ xs) ≡ false → bytes_eq (codes "batch") (x ∷ xs) ≡ false → bytes_eq (codes "drill") (x ∷ xs) ≡ false → bytes_eq (codes "serve") (x ∷ xs) ≡ false → bytes_eq (codes "migrate") (x ∷ xs) ≡ false → bytes_eq (codes "statement") (x ∷ xs) ≡ false → bytes_eq (codes "judge") (x ∷ xs) ≡ false → bytes_eq (codes "buy") (x ∷ xs) ≡ false → bytes_eq (codes "sell") (x ∷ xs) ≡ v → IsKnown (x ∷ xs)
-    ninth true e f g h i j k l m = inr (inr (inr (inr (inr (inr (inr (inr (sym ((bytes_eq-Decides _ _).0 m)))))))))
-    ninth false e f g h i j k l m = absurd (refused x xs words is (stranger (x ∷ xs) e f g h i j k l m) none)
-
-    eighth : (v : Bool) → bytes_eq (codes "init") (x ∷ xs) ≡ false → bytes_eq (codes "batch") (x ∷ xs) ≡ false → bytes_eq (codes "drill") (x ∷ xs) ≡ false → bytes_eq (codes "serve") (x ∷ xs) ≡ false → bytes_eq (codes "migrate") (x ∷ xs) ≡ false → bytes_eq (codes "statement") (x ∷ xs) ≡ false → bytes_eq (codes "judge") (x ∷ xs) ≡ false → bytes_eq (codes "buy") (x ∷ xs) ≡ v → IsKnown (x ∷ xs)
-    eighth true e f g h i j k l = inr (inr (inr (inr (inr (inr (inr (inl (sym ((bytes_eq-Decides _ _).0 l)))))))))
-    eighth false e f g h i j k l = ninth (bytes_eq (codes "sell") (x ∷ xs)) e f g h i j k l refl
-
-    seventh : (v : Bool) → bytes_eq (codes "init") (x ∷ xs) ≡ false → bytes_eq (codes "batch") (x ∷ xs) ≡ false → bytes_eq (codes "drill") (x ∷ xs) ≡ false → bytes_eq (codes "serve") (x ∷ xs) ≡ false → bytes_eq (codes "migrate") (x ∷ xs) ≡ false → bytes_eq (codes "statement") (x ∷ xs) ≡ false → bytes_eq (codes "judge") (x ∷ xs) ≡ v → IsKnown (x ∷ xs)
-    seventh true e f g h i j k = inr (inr (inr (inr (inr (inr (inl (sym ((bytes_eq-Decides _ _).0 k))))))))
-    seventh false e f g h i j k = eighth (bytes_eq (codes "buy") (x ∷ xs)) e f g h i j k refl
-
-    sixth : (t : Bool) → bytes_eq (codes "init") (x ∷ xs) ≡ false → bytes_eq (codes "batch") (x ∷ xs) ≡ false → bytes_eq (codes "drill") (x ∷ xs) ≡ false → bytes_eq (codes "serve") (x ∷ xs) ≡ false → bytes_eq (codes "migrate") (x ∷ xs) ≡ false → bytes_eq (codes "statement") (x ∷ xs) ≡ t → IsKnown (x ∷ xs)
-    sixth true e f g h i j = inr (inr (inr (inr (inr (inl (sym ((bytes_eq-Decides _ _).0 j)))))))
-    sixth false e f g h i j = seventh (bytes_eq (codes "judge") (x ∷ xs)) e f g h i j refl
-
-    fifth : (m : Bool) → bytes_eq (codes "init") (x ∷ xs) ≡ false → bytes_eq (codes "batch") (x ∷ xs) ≡ false → bytes_eq (codes "drill") (x ∷ xs) ≡ false → bytes_eq (codes "serve") (x ∷ xs) ≡ false → bytes_eq (codes "migrate") (x ∷ xs) ≡ m → IsKnown (x ∷ xs)
-    fifth true e f g h i = inr (inr (inr (inr (inl (sym ((bytes_eq-Decides _ _).0 i))))))
-    fifth false e f g h i = sixth (bytes_eq (codes "statement") (x ∷ xs)) e f g h i refl
-
-    fourth : (s : Bool) → bytes_eq (codes "init") (x ∷ xs) ≡ false → bytes_eq (codes "batch") (x ∷ xs) ≡ false → bytes_eq (codes "drill") (x ∷ xs) ≡ false → bytes_eq (codes "serve") (x ∷ xs) ≡ s → IsKnown (x ∷ xs)
-    fourth true e f g h = inr (inr (inr (inl (sym ((bytes_eq-Decides _ _).0 h)))))
-    fourth false e f g h = fifth (bytes_eq (codes "migrate") (x ∷ xs)) e f g h refl
-
-    third : (d : Bool) → bytes_eq (codes "init") (x ∷ xs) ≡ false → bytes_eq (codes "batch") (x ∷ xs) ≡ false → bytes_eq (codes "drill") (x ∷ xs) ≡ d → IsKnown (x ∷ xs)
-    third true e f g = inr (inr (inl (sym ((bytes_eq-Decides _ _).0 g))))
-    third false e f g = fourth (bytes_eq (codes "serve") (x ∷ xs)) e f g refl
-
-    second : (b : Bool) → bytes_eq (codes "init") (x ∷ xs) ≡ false → bytes_eq (codes "batch") (x ∷ xs) ≡ b → IsKnown (x ∷ xs)
-    second true e f = inr (inl (sym ((bytes_eq-Decides _ _).0 f)))
-    second false e f = third (bytes_eq (codes "drill") (x ∷ xs)) e f refl
-
-    first : (i : Bool) → bytes_eq (codes "init") (x ∷ xs) ≡ i → IsKnown (x ∷ xs)
-    first true e = inl (sym ((bytes_eq-Decides _ _).0 e))
-    first false e = second (bytes_eq (codes "batch") (x ∷ xs)) e refl
+entered_each : (words : List Text) → AllByRecursion (IsEntered words) commands
+entered_each words =
+    ((_, entered_as (codes "init") _ _ init_named words), ((_, entered_as (codes "batch") _ _ batch_named words), ((_, entered_as (codes "drill") _ _ drill_named words), ((_, entered_as (codes "serve") _ _ serve_named words), ((_, entered_as (codes "migrate") _ _ migrate_named words), ((_, entered_as (codes "statement") _ _ statement_named words), ((_, entered_as (codes "judge") _ _ judge_named words), ((_, entered_as (codes "buy") _ _ buy_named words), ((_, entered_as (codes "sell") _ _ sell_named words), ((_, entered_as (codes "credential") _ _ credential_named words), ((_, entered_as (codes "buywith") _ _ buywith_named words), ((_, entered_as (codes "selloffers") _ _ selloffers_named words), ((_, entered_as (codes "play") _ _ play_named words), ((_, entered_as (codes "ship") _ _ ship_named words), ((_, entered_as (codes "follow") _ _ follow_named words), ((_, entered_as (codes "promote") _ _ promote_named words), tt))))))))))))))))
 
 -- what was told names the first word
 named_by : (words : List Text) → AllByRecursion IsName words → 0 < length words → fault_of program words ≡ [] → (name : Text) (rows : List Row) → subcommand_of program words ≡ Some (name, rows)
     → (behind : List Text) × (words ≡ name ∷ behind) × AllByRecursion IsName behind
 named_by [] all some none name rows told = absurd (omega (arith, some))
 named_by ([] ∷ words) all some none name rows told = absurd (not_nothing all.0)
-named_by ((x ∷ xs) ∷ words) all some none name rows told = elim (known x xs words all.0 none) [
-  | inl is ↦ by (codes "init") is (entered_as (codes "init") _ _ init_named words)
-  | inr (inl is) ↦ by (codes "batch") is (entered_as (codes "batch") _ _ batch_named words)
-  | inr (inr (inl is)) ↦ by (codes "drill") is (entered_as (codes "drill") _ _ drill_named words)
-  | inr (inr (inr (inl is))) ↦ by (codes "serve") is (entered_as (codes "serve") _ _ serve_named words)
-  | inr (inr (inr (inr (inl is)))) ↦ by (codes "migrate") is (entered_as (codes "migrate") _ _ migrate_named words)
-  | inr (inr (inr (inr (inr (inl is))))) ↦ by (codes "statement") is (entered_as (codes "statement") _ _ statement_named words)
-  | inr (inr (inr (inr (inr (inr (inl is)))))) ↦ by (codes "judge") is (entered_as (codes "judge") _ _ judge_named words)
-  | inr (inr (inr (inr (inr (inr (inr (inl is))))))) ↦ by (codes "buy") is (entered_as (codes "buy") _ _ buy_named words)
-  | inr (inr (inr (inr (inr (inr (inr (inr is))))))) ↦ by (codes "sell") is (entered_as (codes "sell") _ _ sell_named words)
-]
+named_by ((x ∷ xs) ∷ words) all some none name rows told = by (one_of (IsEntered words) commands (x ∷ xs) (entered_each words))
   where
-    by : (first : Text) → (x ∷ xs) ≡ first → {other : List Row} → subcommand_of program (first ∷ words) ≡ Some (first, other) → (behind : List Text) × ((x ∷ xs) ∷ words ≡ name ∷ behind) × AllByRecursion IsName behind
-    by first is {other} entered =
-        let same : (first, other) ≡ (name, rows) = same_Some _ _ (sym entered ∙ ap (λ (w : Text). subcommand_of program (w ∷ words)) (sym is) ∙ told) in
-        (words, ap (λ (w : Text). w ∷ words) (is ∙ ap (λ (p : Text × List Row). p.0) same), all.1)
+    by : IsEntered words (x ∷ xs) ⊎ (find (answers_to (x ∷ xs)) (labels commands) ≡ None) → (behind : List Text) × ((x ∷ xs) ∷ words ≡ name ∷ behind) × AllByRecursion IsName behind
+    by (inl entered) = (words, ap (λ (p : Text × List Row). p.0 ∷ words) (same_Some _ _ (sym entered.1 ∙ told)), all.1)
+    by (inr stranger) =
+        absurd
+        (refused x xs words all.0
+        (ap (λ (ns : Names). option_map (λ (s : Text × List Text). s.0) (find (answers_to (x ∷ xs)) ns)) names_are ∙ ap (option_map (λ (s : Text × List Text). s.0)) stranger) none)
 
 -- ---- each command is taken
 
@@ -138,11 +117,41 @@ statement_name = (omega arith, λ e. omega (arith, e))
 judge_name : IsName (codes "judge")
 judge_name = (omega arith, λ e. omega (arith, e))
 
+play_name : IsName (codes "play")
+play_name = (omega arith, λ e. omega (arith, e))
+
+ship_name : IsName (codes "ship")
+ship_name = (omega arith, λ e. omega (arith, e))
+
+follow_name : IsName (codes "follow")
+follow_name = (omega arith, λ e. omega (arith, e))
+
+promote_name : IsName (codes "promote")
+promote_name = (omega arith, λ e. omega (arith, e))
+
 buy_name : IsName (codes "buy")
 buy_name = (omega arith, λ e. omega (arith, e))
 
 sell_name : IsName (codes "sell")
 sell_name = (omega arith, λ e. omega (arith, e))
+
+credential_name : IsName (codes "credential")
+credential_name = (omega arith, λ e. omega (arith, e))
+
+buywith_name : IsName (codes "buywith")
+buywith_name = (omega arith, λ e. omega (arith, e))
+
+selloffers_name : IsName (codes "selloffers")
+selloffers_name = (omega arith, λ e. omega (arith, e))
+
+-- and so are the groups of a credential
+groups_named : (groups : List ℕ) → AreGroups groups → IsName (groups_text groups)
+groups_named [] are = absurd (false≢true are.0)
+groups_named (g ∷ groups) are = longer (decimal g) _ (number_named g (omega (arith, are.1.0)))
+  where
+    longer : (front back : List ℕ) → IsName front → IsName (front ++ back)
+    longer [] back is = absurd (not_nothing is)
+    longer (x ∷ front) back is = (omega arith, is.1)
 
 init_taken : (words : List Text) (cap : ℕ) (rate : Option ℕ) → IsInit words cap rate → IsTaken words
 init_taken words cap None is =
@@ -153,44 +162,59 @@ init_taken words cap (Some rate) is =
     let permille = number_named rate (omega (arith, is.4)) in
     subst IsTaken (sym is.1) ((init_name, (is.2, (number, (permille, tt)))), (init_all_read is.0 (decimal cap) (decimal rate) is.2 number permille).0, omega arith)
 
-buy_taken : (words : List Text) (merchant product limit transaction : ℕ) → IsBuy words merchant product limit transaction → IsTaken words
-buy_taken words merchant product limit transaction is =
+buy_taken : (name : Text) → IsNamed name buy_positions [] → IsName name → (words : List Text) (merchant product limit transaction : ℕ) → IsPurchase name words merchant product limit transaction → IsTaken words
+buy_taken name named is_name words merchant product limit transaction is =
     let m = number_named merchant (omega (arith, is.7)) in
     let p = number_named product (omega (arith, is.8)) in
     let l = number_named limit is.9 in
     let t = number_named transaction is.10 in
     subst IsTaken (sym is.3) (
-      (buy_name, (is.4, (is.5, (is.6, (m, (p, (l, (t, tt)))))))),
-      (buy_read is.0 is.1 is.2 (decimal merchant) (decimal product) (decimal limit) (decimal transaction) is.4 is.5 is.6 m p l t).0,
+      (is_name, (is.4, (is.5, (is.6, (m, (p, (l, (t, tt)))))))),
+      (buy_read name named is.0 is.1 is.2 (decimal merchant) (decimal product) (decimal limit) (decimal transaction) is.4 is.5 is.6 m p l t).0,
       omega arith,
     )
 
+sell_taken : (name : Text) → IsNamed name sell_positions [] → IsName name → (words : List Text) (links : ℕ) → IsSale name words links → IsTaken words
+sell_taken name named is_name words links is =
+    let number = number_named links (omega (arith, is.7)) in
+    subst IsTaken (sym is.3) ((is_name, (is.4, (is.5, (is.6, (number, tt))))), (sell_read name named is.0 is.1 is.2 (decimal links) is.4 is.5 is.6 number).0, omega arith)
+
+command_taken : (words : List Text) (command : Command) → Are words command → IsTaken words
+command_taken words Batch b = subst IsTaken (sym b.1) ((batch_name, (b.2, tt)), (journal_read (codes "batch") batch_named b.0 b.2).0, omega arith)
+command_taken words (Init cap rate) is = init_taken words cap rate is
+command_taken words (Drill seed orders) is =
+    let s = number_named seed is.1 in
+    let o = number_named orders (omega (arith, is.2)) in
+    subst IsTaken (sym is.0) ((drill_name, (s, (o, tt))), (drill_read (decimal seed) (decimal orders) s o).0, omega arith)
+command_taken words (Serve workers sessions) is =
+    let w = number_named workers (omega (arith, is.5.1)) in
+    let s = number_named sessions (sessions_small workers sessions is.5.0 is.5.3) in
+    subst IsTaken (sym is.2) ((serve_name, (is.3, (is.4, (w, (s, tt))))), (serve_read is.0 is.1 (decimal workers) (decimal sessions) is.3 is.4 w s).0, omega arith)
+command_taken words (Migrate rate) is =
+    let permille = number_named rate (omega (arith, is.3)) in
+    subst IsTaken (sym is.1) ((migrate_name, (is.2, (permille, tt))), (migrate_read is.0 (decimal rate) is.2 permille).0, omega arith)
+command_taken words (Statement acct) is =
+    let number = number_named acct.0 (omega (arith, is.3)) in
+    subst IsTaken (sym is.1) ((statement_name, (is.2, (number, tt))), (statement_read is.0 (decimal acct.0) is.2 number).0, omega arith)
+command_taken words Judge is = subst IsTaken (sym is) ((judge_name, tt), judge_read.0, omega arith)
+command_taken words Play is = subst IsTaken (sym is) ((play_name, tt), play_read.0, omega arith)
+command_taken words (Ship from) is =
+    let number = number_named from is.3 in
+    subst IsTaken (sym is.1) ((ship_name, (is.2, (number, tt))), (ship_read is.0 (decimal from) is.2 number).0, omega arith)
+command_taken words Follow is = subst IsTaken (sym is.1) ((follow_name, (is.2, tt)), (journal_read (codes "follow") follow_named is.0 is.2).0, omega arith)
+command_taken words Promote is = subst IsTaken (sym is.1) ((promote_name, (is.2, tt)), (journal_read (codes "promote") promote_named is.0 is.2).0, omega arith)
+command_taken words (Buy merchant product limit transaction) is = buy_taken (codes "buy") buy_named buy_name words merchant.0 product limit.0 transaction is
+command_taken words (BuyWith merchant product limit transaction) is = buy_taken (codes "buywith") buywith_named buywith_name words merchant.0 product limit.0 transaction is
+command_taken words (Sell links) is = sell_taken (codes "sell") sell_named sell_name words links is
+command_taken words (SellOffers links) is = sell_taken (codes "selloffers") selloffers_named selloffers_name words links is
+command_taken words (Credential consumer until groups) is =
+    let c = number_named consumer.0 (omega (arith, is.1)) in
+    let u = number_named until is.2 in
+    let g = groups_named groups is.3 in
+    subst IsTaken (sym is.0) ((credential_name, (c, (u, (g, tt)))), (credential_read (decimal consumer.0) (decimal until) (groups_text groups) c u g).0, omega arith)
+
 pub taken : (words : List Text) → IsCommand words → IsTaken words
-taken words (inl b) = subst IsTaken (sym b.1) ((batch_name, (b.2, tt)), (batch_read b.0 b.2).0, omega arith)
-taken words (inr (inl i)) = init_taken words i.0 i.1 i.2
-taken words (inr (inr (inl d))) =
-    let seed = number_named d.0 d.2.1 in
-    let orders = number_named d.1 (omega (arith, d.2.2)) in
-    subst IsTaken (sym d.2.0) ((drill_name, (seed, (orders, tt))), (drill_read (decimal d.0) (decimal d.1) seed orders).0, omega arith)
-taken words (inr (inr (inr (inl s)))) =
-    let is = s.2 in
-    let workers = number_named s.0 (omega (arith, is.5.1)) in
-    let sessions = number_named s.1 (sessions_small s.0 s.1 is.5.0 is.5.3) in
-    subst IsTaken (sym is.2) ((serve_name, (is.3, (is.4, (workers, (sessions, tt))))), (serve_read is.0 is.1 (decimal s.0) (decimal s.1) is.3 is.4 workers sessions).0, omega arith)
-taken words (inr (inr (inr (inr (inl m))))) =
-    let is = m.1 in
-    let permille = number_named m.0 (omega (arith, is.3)) in
-    subst IsTaken (sym is.1) ((migrate_name, (is.2, (permille, tt))), (migrate_read is.0 (decimal m.0) is.2 permille).0, omega arith)
-taken words (inr (inr (inr (inr (inr (inl t)))))) =
-    let is = t.1 in
-    let number = number_named t.0 (omega (arith, is.3)) in
-    subst IsTaken (sym is.1) ((statement_name, (is.2, (number, tt))), (statement_read is.0 (decimal t.0) is.2 number).0, omega arith)
-taken words (inr (inr (inr (inr (inr (inr (inl is))))))) = subst IsTaken (sym is) ((judge_name, tt), judge_read.0, omega arith)
-taken words (inr (inr (inr (inr (inr (inr (inr (inl b)))))))) = buy_taken words b.0 b.1 b.2 b.3 b.4
-taken words (inr (inr (inr (inr (inr (inr (inr (inr l)))))))) =
-    let is = l.1 in
-    let number = number_named l.0 (omega (arith, is.7)) in
-    subst IsTaken (sym is.3) ((sell_name, (is.4, (is.5, (is.6, (number, tt))))), (sell_read is.0 is.1 is.2 (decimal l.0) is.4 is.5 is.6 number).0, omega arith)
+taken words is = command_taken words is.0 is.1
 
 -- ---- what was told is the command
 
@@ -292,15 +316,25 @@ told_statement words all none rows told =
     let same = same_rows (subcommand_of program (codes "statement" ∷ words)) (codes "statement") read.0 rows (ap (λ (ws : List Text). subcommand_of program (codes "statement" ∷ ws)) fits.2 ∙ read.1) told in
     (fits.0, fits.1, fits.2, fits.3, subst (λ (rs : List Row). first_of (codes "ACCT") rs ≡ Some fits.1) same read.2)
 
-told_buy : (words : List Text) → AllByRecursion IsName words → fault_of program (codes "buy" ∷ words) ≡ [] → (rows : List Row) → subcommand_of program (codes "buy" ∷ words) ≡ Some (codes "buy", rows)
+told_ship : (words : List Text) → AllByRecursion IsName words → fault_of program (codes "ship" ∷ words) ≡ [] → (rows : List Row) → subcommand_of program (codes "ship" ∷ words) ≡ Some (codes "ship", rows)
+    → (journal number : Text) × (words ≡ journal ∷ number ∷ []) × IsName journal × (first_of (codes "FROM") rows ≡ Some number)
+told_ship words all none rows told =
+    let fits = ship_fits words all none in
+    let P : List Text → Type 0 = λ ws. AllByRecursion IsName ws in
+    let each = subst P fits.2 all in
+    let read = (ship_read fits.0 fits.1 each.0 each.1.0).1 in
+    let same = same_rows (subcommand_of program (codes "ship" ∷ words)) (codes "ship") read.0 rows (ap (λ (ws : List Text). subcommand_of program (codes "ship" ∷ ws)) fits.2 ∙ read.1) told in
+    (fits.0, fits.1, fits.2, fits.3, subst (λ (rs : List Row). first_of (codes "FROM") rs ≡ Some fits.1) same read.2)
+
+told_buy : (name : Text) → IsNamed name buy_positions [] → (words : List Text) → AllByRecursion IsName words → fault_of program (name ∷ words) ≡ [] → (rows : List Row) → subcommand_of program (name ∷ words) ≡ Some (name, rows)
     → (wallet server seller merchant product limit transaction : Text) × (words ≡ wallet ∷ server ∷ seller ∷ merchant ∷ product ∷ limit ∷ transaction ∷ []) × IsName wallet × IsName server × IsName seller
     × (first_of (codes "MERCHANT") rows ≡ Some merchant) × (first_of (codes "PRODUCT") rows ≡ Some product) × (first_of (codes "LIMIT") rows ≡ Some limit) × (first_of (codes "TID") rows ≡ Some transaction)
-told_buy words all none rows told =
-    let fits = buy_fits words all none in
+told_buy name named words all none rows told =
+    let fits = buy_fits name named words all none in
     let P : List Text → Type 0 = λ ws. AllByRecursion IsName ws in
     let each = subst P fits.7 all in
-    let read = (buy_read fits.0 fits.1 fits.2 fits.3 fits.4 fits.5 fits.6 each.0 each.1.0 each.1.1.0 each.1.1.1.0 each.1.1.1.1.0 each.1.1.1.1.1.0 each.1.1.1.1.1.1.0).1 in
-    let same = same_rows (subcommand_of program (codes "buy" ∷ words)) (codes "buy") read.0 rows (ap (λ (ws : List Text). subcommand_of program (codes "buy" ∷ ws)) fits.7 ∙ read.1) told in (
+    let read = (buy_read name named fits.0 fits.1 fits.2 fits.3 fits.4 fits.5 fits.6 each.0 each.1.0 each.1.1.0 each.1.1.1.0 each.1.1.1.1.0 each.1.1.1.1.1.0 each.1.1.1.1.1.1.0).1 in
+    let same = same_rows (subcommand_of program (name ∷ words)) name read.0 rows (ap (λ (ws : List Text). subcommand_of program (name ∷ ws)) fits.7 ∙ read.1) told in (
       fits.0,
       fits.1,
       fits.2,
@@ -318,15 +352,15 @@ told_buy words all none rows told =
       subst (λ (rs : List Row). first_of (codes "TID") rs ≡ Some fits.6) same read.5,
     )
 
-told_sell : (words : List Text) → AllByRecursion IsName words → fault_of program (codes "sell" ∷ words) ≡ [] → (rows : List Row) → subcommand_of program (codes "sell" ∷ words) ≡ Some (codes "sell", rows)
+told_sell : (name : Text) → IsNamed name sell_positions [] → (words : List Text) → AllByRecursion IsName words → fault_of program (name ∷ words) ≡ [] → (rows : List Row) → subcommand_of program (name ∷ words) ≡ Some (name, rows)
     → (stall address server links : Text) × (words ≡ stall ∷ address ∷ server ∷ links ∷ []) × IsName stall × IsName address × IsName server
     × (first_of (codes "LINKS") rows ≡ Some links)
-told_sell words all none rows told =
-    let fits = sell_fits words all none in
+told_sell name named words all none rows told =
+    let fits = sell_fits name named words all none in
     let P : List Text → Type 0 = λ ws. AllByRecursion IsName ws in
     let each = subst P fits.4 all in
-    let read = (sell_read fits.0 fits.1 fits.2 fits.3 each.0 each.1.0 each.1.1.0 each.1.1.1.0).1 in
-    let same = same_rows (subcommand_of program (codes "sell" ∷ words)) (codes "sell") read.0 rows (ap (λ (ws : List Text). subcommand_of program (codes "sell" ∷ ws)) fits.4 ∙ read.1) told in (
+    let read = (sell_read name named fits.0 fits.1 fits.2 fits.3 each.0 each.1.0 each.1.1.0 each.1.1.1.0).1 in
+    let same = same_rows (subcommand_of program (name ∷ words)) name read.0 rows (ap (λ (ws : List Text). subcommand_of program (name ∷ ws)) fits.4 ∙ read.1) told in (
       fits.0,
       fits.1,
       fits.2,
@@ -336,6 +370,24 @@ told_sell words all none rows told =
       fits.6,
       fits.7,
       subst (λ (rs : List Row). first_of (codes "LINKS") rs ≡ Some fits.3) same read.2,
+    )
+
+told_credential : (words : List Text) → AllByRecursion IsName words → fault_of program (codes "credential" ∷ words) ≡ [] → (rows : List Row) → subcommand_of program (codes "credential" ∷ words) ≡ Some (codes "credential", rows)
+    → (consumer until groups : Text) × (words ≡ consumer ∷ until ∷ groups ∷ [])
+    × (first_of (codes "CONSUMER") rows ≡ Some consumer) × (first_of (codes "UNTIL") rows ≡ Some until) × (first_of (codes "GROUPS") rows ≡ Some groups)
+told_credential words all none rows told =
+    let fits = credential_fits words all none in
+    let P : List Text → Type 0 = λ ws. AllByRecursion IsName ws in
+    let each = subst P fits.3 all in
+    let read = (credential_read fits.0 fits.1 fits.2 each.0 each.1.0 each.1.1.0).1 in
+    let same = same_rows (subcommand_of program (codes "credential" ∷ words)) (codes "credential") read.0 rows (ap (λ (ws : List Text). subcommand_of program (codes "credential" ∷ ws)) fits.3 ∙ read.1) told in (
+      fits.0,
+      fits.1,
+      fits.2,
+      fits.3,
+      subst (λ (rs : List Row). first_of (codes "CONSUMER") rs ≡ Some fits.0) same read.2,
+      subst (λ (rs : List Row). first_of (codes "UNTIL") rs ≡ Some fits.1) same read.3,
+      subst (λ (rs : List Row). first_of (codes "GROUPS") rs ≡ Some fits.2) same read.4,
     )
 
 -- what is read of the words of init
@@ -348,41 +400,63 @@ init_rows words cap (Some rate) is =
     (read.0, ap (subcommand_of program) is.1 ∙ read.1, (read.2, is.3), (read.3, is.4))
 
 -- what is read of the words of a purchase
-buy_rows : (words : List Text) (merchant product limit transaction : ℕ) → IsBuy words merchant product limit transaction → (rows : List Row) × (subcommand_of program words ≡ Some (codes "buy", rows)) × BuyIn rows merchant product limit transaction
-buy_rows words merchant product limit transaction is =
-    let read = (buy_read is.0 is.1 is.2 (decimal merchant) (decimal product) (decimal limit) (decimal transaction) is.4 is.5 is.6
+buy_rows : (name : Text) → IsNamed name buy_positions [] → (words : List Text) (merchant product limit transaction : ℕ) → IsPurchase name words merchant product limit transaction
+    → (rows : List Row) × (subcommand_of program words ≡ Some (name, rows)) × BuyIn rows merchant product limit transaction
+buy_rows name named words merchant product limit transaction is =
+    let read = (buy_read name named is.0 is.1 is.2 (decimal merchant) (decimal product) (decimal limit) (decimal transaction) is.4 is.5 is.6
     (number_named merchant (omega (arith, is.7))) (number_named product (omega (arith, is.8))) (number_named limit is.9) (number_named transaction is.10)).1 in
     (read.0, ap (subcommand_of program) is.3 ∙ read.1, (read.2, read.3, read.4, read.5, is.7, is.8, is.9, is.10))
 
+-- and of a sale
+sell_rows : (name : Text) → IsNamed name sell_positions [] → (words : List Text) (links : ℕ) → IsSale name words links → (rows : List Row) × (subcommand_of program words ≡ Some (name, rows)) × SellIn rows links
+sell_rows name named words links is =
+    let read = (sell_read name named is.0 is.1 is.2 (decimal links) is.4 is.5 is.6 (number_named links (omega (arith, is.7)))).1 in
+    (read.0, ap (subcommand_of program) is.3 ∙ read.1, (read.2, is.7))
+
+-- and of a credential
+credential_rows : (words : List Text) (consumer until : ℕ) (groups : List ℕ) → IsCredential words consumer until groups → (rows : List Row) × (subcommand_of program words ≡ Some (codes "credential", rows)) × CredentialIn rows consumer until groups
+credential_rows words consumer until groups is =
+    let read = (credential_read (decimal consumer) (decimal until) (groups_text groups) (number_named consumer (omega (arith, is.1))) (number_named until is.2) (groups_named groups is.3)).1 in
+    (read.0, ap (subcommand_of program) is.0 ∙ read.1, (read.2, read.3, read.4, is.1, is.2, is.3))
+
 -- none was told, so that the words are none
-untold : (words : List Text) → CommandIn (subcommand_of program words) None → IsCommand words → ⊥
-untold words none (inl b) =
-    let read = (batch_read b.0 b.2).1 in
-    none.1 read.0 (ap (subcommand_of program) b.1 ∙ read.1)
-untold words none (inr (inl i)) = none.0 (init_rows words i.0 i.1 i.2).0 i.0 i.1 (init_rows words i.0 i.1 i.2).1 (init_rows words i.0 i.1 i.2).2 (init_rows words i.0 i.1 i.2).3
-untold words none (inr (inr (inl d))) =
-    let read = (drill_read (decimal d.0) (decimal d.1) (number_named d.0 d.2.1) (number_named d.1 (omega (arith, d.2.2)))).1 in
-    none.2 read.0 d.0 d.1 (ap (subcommand_of program) d.2.0 ∙ read.1) (read.2, read.3, d.2.1, d.2.2)
-untold words none (inr (inr (inr (inl s)))) =
-    let is = s.2 in
-    let read = (serve_read is.0 is.1 (decimal s.0) (decimal s.1) is.3 is.4 (number_named s.0 (omega (arith, is.5.1))) (number_named s.1 (sessions_small s.0 s.1 is.5.0 is.5.3))).1 in
-    none.3 read.0 s.0 s.1 (ap (subcommand_of program) is.2 ∙ read.1) (read.2, read.3, is.5)
-untold words none (inr (inr (inr (inr (inl m))))) =
-    let is = m.1 in
-    let read = (migrate_read is.0 (decimal m.0) is.2 (number_named m.0 (omega (arith, is.3)))).1 in
-    none.4 read.0 m.0 (ap (subcommand_of program) is.1 ∙ read.1) (read.2, is.3)
-untold words none (inr (inr (inr (inr (inr (inl t)))))) =
-    let is = t.1 in
-    let read = (statement_read is.0 (decimal t.0) is.2 (number_named t.0 (omega (arith, is.3)))).1 in
-    none.5 read.0 t.0 (ap (subcommand_of program) is.1 ∙ read.1) (read.2, is.3)
-untold words none (inr (inr (inr (inr (inr (inr (inl is))))))) = none.6 judge_read.1.0 (ap (subcommand_of program) is ∙ judge_read.1.1)
-untold words none (inr (inr (inr (inr (inr (inr (inr (inr l)))))))) =
-    let is = l.1 in
-    let read = (sell_read is.0 is.1 is.2 (decimal l.0) is.4 is.5 is.6 (number_named l.0 (omega (arith, is.7)))).1 in
-    none.8 read.0 l.0 (ap (subcommand_of program) is.3 ∙ read.1) (read.2, is.7)
-untold words none (inr (inr (inr (inr (inr (inr (inr (inl b)))))))) =
-    let rows = buy_rows words b.0 b.1 b.2 b.3 b.4 in
-    none.7 rows.0 b.0 b.1 b.2 b.3 rows.1 rows.2
+untold : (words : List Text) → CommandIn (subcommand_of program words) None → (command : Command) → Are words command → ⊥
+untold words none (Init cap rate) is = let rows = init_rows words cap rate is in none.0 rows.0 cap rate rows.1 rows.2 rows.3
+untold words none Batch is =
+    let read = (journal_read (codes "batch") batch_named is.0 is.2).1 in
+    none.1 read.0 (ap (subcommand_of program) is.1 ∙ read.1)
+untold words none (Drill seed orders) is =
+    let read = (drill_read (decimal seed) (decimal orders) (number_named seed is.1) (number_named orders (omega (arith, is.2)))).1 in
+    none.2 read.0 seed orders (ap (subcommand_of program) is.0 ∙ read.1) (read.2, read.3, is.1, is.2)
+untold words none (Serve workers sessions) is =
+    let read = (serve_read is.0 is.1 (decimal workers) (decimal sessions) is.3 is.4 (number_named workers (omega (arith, is.5.1))) (number_named sessions (sessions_small workers sessions is.5.0 is.5.3))).1 in
+    none.3 read.0 workers sessions (ap (subcommand_of program) is.2 ∙ read.1) (read.2, read.3, is.5)
+untold words none (Migrate rate) is =
+    let read = (migrate_read is.0 (decimal rate) is.2 (number_named rate (omega (arith, is.3)))).1 in
+    none.4 read.0 rate (ap (subcommand_of program) is.1 ∙ read.1) (read.2, is.3)
+untold words none (Statement acct) is =
+    let read = (statement_read is.0 (decimal acct.0) is.2 (number_named acct.0 (omega (arith, is.3)))).1 in
+    none.5 read.0 acct.0 (ap (subcommand_of program) is.1 ∙ read.1) (read.2, is.3)
+untold words none Judge is = none.6 judge_read.1.0 (ap (subcommand_of program) is ∙ judge_read.1.1)
+untold words none (Buy merchant product limit transaction) is =
+    let rows = buy_rows (codes "buy") buy_named words merchant.0 product limit.0 transaction is in
+    none.7 rows.0 merchant.0 product limit.0 transaction rows.1 rows.2
+untold words none (Sell links) is = let rows = sell_rows (codes "sell") sell_named words links is in none.8 rows.0 links rows.1 rows.2
+untold words none (Credential consumer until groups) is = let rows = credential_rows words consumer.0 until groups is in none.9 rows.0 consumer.0 until groups rows.1 rows.2
+untold words none (BuyWith merchant product limit transaction) is =
+    let rows = buy_rows (codes "buywith") buywith_named words merchant.0 product limit.0 transaction is in
+    none.10 rows.0 merchant.0 product limit.0 transaction rows.1 rows.2
+untold words none (SellOffers links) is = let rows = sell_rows (codes "selloffers") selloffers_named words links is in none.11 rows.0 links rows.1 rows.2
+untold words none Play is = none.12 play_read.1.0 (ap (subcommand_of program) is ∙ play_read.1.1)
+untold words none (Ship from) is =
+    let read = (ship_read is.0 (decimal from) is.2 (number_named from is.3)).1 in
+    none.13 read.0 from (ap (subcommand_of program) is.1 ∙ read.1) (read.2, is.3)
+untold words none Follow is =
+    let read = (journal_read (codes "follow") follow_named is.0 is.2).1 in
+    none.14 read.0 (ap (subcommand_of program) is.1 ∙ read.1)
+untold words none Promote is =
+    let read = (journal_read (codes "promote") promote_named is.0 is.2).1 in
+    none.15 read.0 (ap (subcommand_of program) is.1 ∙ read.1)
 
 init_is : (words behind : List Text) (cap : ℕ) (rate : Option ℕ) (rows : List Row) → words ≡ codes "init" ∷ behind → InitTold behind rows → InitIn rows cap → RateIn rows rate → IsInit words cap rate
 init_is words behind cap None rows is (inl told) number missing =
@@ -401,11 +475,52 @@ init_is words behind cap (Some rate) rows is (inr told) number permille =
       permille.1,
     )
 
+-- the words behind the name of a purchase are those that were read
+buy_is : (name : Text) → IsNamed name buy_positions [] → (words behind : List Text) → words ≡ name ∷ behind → AllByRecursion IsName behind → fault_of program (name ∷ behind) ≡ []
+    → (rows : List Row) → subcommand_of program (name ∷ behind) ≡ Some (name, rows) → (merchant product limit transaction : ℕ) → BuyIn rows merchant product limit transaction → IsPurchase name words merchant product limit transaction
+buy_is name named words behind is all none rows entered merchant product limit transaction numbers =
+    let told = told_buy name named behind all none rows entered in
+    let first = same_Some _ _ (sym told.11 ∙ numbers.0) in
+    let second = same_Some _ _ (sym told.12 ∙ numbers.1) in
+    let third = same_Some _ _ (sym told.13 ∙ numbers.2) in
+    let fourth = same_Some _ _ (sym told.14 ∙ numbers.3) in (
+      told.0,
+      told.1,
+      told.2,
+      is ∙ ap (λ (ws : List Text). name ∷ ws) told.7 ∙ ap (λ (w : Text). name ∷ told.0 ∷ told.1 ∷ told.2 ∷ w ∷ told.4 ∷ told.5 ∷ told.6 ∷ []) first
+          ∙ ap (λ (w : Text). name ∷ told.0 ∷ told.1 ∷ told.2 ∷ decimal merchant ∷ w ∷ told.5 ∷ told.6 ∷ []) second
+          ∙ ap (λ (w : Text). name ∷ told.0 ∷ told.1 ∷ told.2 ∷ decimal merchant ∷ decimal product ∷ w ∷ told.6 ∷ []) third
+          ∙ ap (λ (w : Text). name ∷ told.0 ∷ told.1 ∷ told.2 ∷ decimal merchant ∷ decimal product ∷ decimal limit ∷ w ∷ []) fourth,
+      told.8,
+      told.9,
+      told.10,
+      numbers.4,
+      numbers.5,
+      numbers.6,
+      numbers.7,
+    )
+
+-- and those behind the name of a sale
+sell_is : (name : Text) → IsNamed name sell_positions [] → (words behind : List Text) → words ≡ name ∷ behind → AllByRecursion IsName behind → fault_of program (name ∷ behind) ≡ []
+    → (rows : List Row) → subcommand_of program (name ∷ behind) ≡ Some (name, rows) → (links : ℕ) → SellIn rows links → IsSale name words links
+sell_is name named words behind is all none rows entered links number =
+    let told = told_sell name named behind all none rows entered in
+    let same = same_Some _ _ (sym told.8 ∙ number.0) in (
+      told.0,
+      told.1,
+      told.2,
+      is ∙ ap (λ (ws : List Text). name ∷ ws) told.4 ∙ ap (λ (w : Text). name ∷ told.0 ∷ told.1 ∷ told.2 ∷ w ∷ []) same,
+      told.5,
+      told.6,
+      told.7,
+      number.1,
+    )
+
 pub command_is : (words : List Text) → AllByRecursion IsName words → 0 < length words → fault_of program words ≡ [] → (c : Option Command) → CommandIn (subcommand_of program words) c → CommandIs words c
-command_is words all some none None is = untold words is
+command_is words all some none None is = λ command. untold words is command.0 command.1
 command_is words all some none (Some Batch) is =
     let n = named_by words all some none (codes "batch") is.0 is.1 in
-    let fits = batch_fits n.0 n.2 (ap (fault_of program) (sym n.1) ∙ none) in
+    let fits = journal_fits (codes "batch") batch_named n.0 n.2 (ap (fault_of program) (sym n.1) ∙ none) in
     (fits.0, n.1 ∙ ap (λ (ws : List Text). codes "batch" ∷ ws) fits.1, fits.2)
 command_is words all some none (Some (Init cap rate)) is =
     let n = named_by words all some none (codes "init") is.0 is.1 in
@@ -446,40 +561,46 @@ command_is words all some none (Some (Statement acct)) is =
 command_is words all some none (Some Judge) is =
     let n = named_by words all some none (codes "judge") is.0 is.1 in
     n.1 ∙ ap (λ (ws : List Text). codes "judge" ∷ ws) (judge_fits n.0 n.2 (ap (fault_of program) (sym n.1) ∙ none))
+command_is words all some none (Some Play) is =
+    let n = named_by words all some none (codes "play") is.0 is.1 in
+    n.1 ∙ ap (λ (ws : List Text). codes "play" ∷ ws) (play_fits n.0 n.2 (ap (fault_of program) (sym n.1) ∙ none))
+command_is words all some none (Some (Ship from)) is =
+    let n = named_by words all some none (codes "ship") is.0 is.1 in
+    let told = told_ship n.0 n.2 (ap (fault_of program) (sym n.1) ∙ none) is.0 (ap (subcommand_of program) (sym n.1) ∙ is.1) in
+    let same = same_Some _ _ (sym told.4 ∙ is.2.0) in
+    (told.0, n.1 ∙ ap (λ (ws : List Text). codes "ship" ∷ ws) told.2 ∙ ap (λ (w : Text). codes "ship" ∷ told.0 ∷ w ∷ []) same, told.3, is.2.1)
+command_is words all some none (Some Follow) is =
+    let n = named_by words all some none (codes "follow") is.0 is.1 in
+    let fits = journal_fits (codes "follow") follow_named n.0 n.2 (ap (fault_of program) (sym n.1) ∙ none) in
+    (fits.0, n.1 ∙ ap (λ (ws : List Text). codes "follow" ∷ ws) fits.1, fits.2)
+command_is words all some none (Some Promote) is =
+    let n = named_by words all some none (codes "promote") is.0 is.1 in
+    let fits = journal_fits (codes "promote") promote_named n.0 n.2 (ap (fault_of program) (sym n.1) ∙ none) in
+    (fits.0, n.1 ∙ ap (λ (ws : List Text). codes "promote" ∷ ws) fits.1, fits.2)
 command_is words all some none (Some (Buy merchant product limit transaction)) is =
     let n = named_by words all some none (codes "buy") is.0 is.1 in
-    let told = told_buy n.0 n.2 (ap (fault_of program) (sym n.1) ∙ none) is.0 (ap (subcommand_of program) (sym n.1) ∙ is.1) in
-    let first = same_Some _ _ (sym told.11 ∙ is.2.0) in
-    let second = same_Some _ _ (sym told.12 ∙ is.2.1) in
-    let third = same_Some _ _ (sym told.13 ∙ is.2.2) in
-    let fourth = same_Some _ _ (sym told.14 ∙ is.2.3) in (
-      told.0,
-      told.1,
-      told.2,
-      n.1 ∙ ap (λ (ws : List Text). codes "buy" ∷ ws) told.7 ∙ ap (λ (w : Text). codes "buy" ∷ told.0 ∷ told.1 ∷ told.2 ∷ w ∷ told.4 ∷ told.5 ∷ told.6 ∷ []) first
-          ∙ ap (λ (w : Text). codes "buy" ∷ told.0 ∷ told.1 ∷ told.2 ∷ decimal merchant.0 ∷ w ∷ told.5 ∷ told.6 ∷ []) second
-          ∙ ap (λ (w : Text). codes "buy" ∷ told.0 ∷ told.1 ∷ told.2 ∷ decimal merchant.0 ∷ decimal product ∷ w ∷ told.6 ∷ []) third
-          ∙ ap (λ (w : Text). codes "buy" ∷ told.0 ∷ told.1 ∷ told.2 ∷ decimal merchant.0 ∷ decimal product ∷ decimal limit.0 ∷ w ∷ []) fourth,
-      told.8,
-      told.9,
-      told.10,
-      is.2.4,
-      is.2.5,
-      is.2.6,
-      is.2.7,
-    )
+    buy_is (codes "buy") buy_named words n.0 n.1 n.2 (ap (fault_of program) (sym n.1) ∙ none) is.0 (ap (subcommand_of program) (sym n.1) ∙ is.1) merchant.0 product limit.0 transaction is.2
+command_is words all some none (Some (BuyWith merchant product limit transaction)) is =
+    let n = named_by words all some none (codes "buywith") is.0 is.1 in
+    buy_is (codes "buywith") buywith_named words n.0 n.1 n.2 (ap (fault_of program) (sym n.1) ∙ none) is.0 (ap (subcommand_of program) (sym n.1) ∙ is.1) merchant.0 product limit.0 transaction is.2
 command_is words all some none (Some (Sell links)) is =
     let n = named_by words all some none (codes "sell") is.0 is.1 in
-    let told = told_sell n.0 n.2 (ap (fault_of program) (sym n.1) ∙ none) is.0 (ap (subcommand_of program) (sym n.1) ∙ is.1) in
-    let same = same_Some _ _ (sym told.8 ∙ is.2.0) in (
-      told.0,
-      told.1,
-      told.2,
-      n.1 ∙ ap (λ (ws : List Text). codes "sell" ∷ ws) told.4 ∙ ap (λ (w : Text). codes "sell" ∷ told.0 ∷ told.1 ∷ told.2 ∷ w ∷ []) same,
-      told.5,
-      told.6,
-      told.7,
-      is.2.1,
+    sell_is (codes "sell") sell_named words n.0 n.1 n.2 (ap (fault_of program) (sym n.1) ∙ none) is.0 (ap (subcommand_of program) (sym n.1) ∙ is.1) links is.2
+command_is words all some none (Some (SellOffers links)) is =
+    let n = named_by words all some none (codes "selloffers") is.0 is.1 in
+    sell_is (codes "selloffers") selloffers_named words n.0 n.1 n.2 (ap (fault_of program) (sym n.1) ∙ none) is.0 (ap (subcommand_of program) (sym n.1) ∙ is.1) links is.2
+command_is words all some none (Some (Credential consumer until groups)) is =
+    let n = named_by words all some none (codes "credential") is.0 is.1 in
+    let told = told_credential n.0 n.2 (ap (fault_of program) (sym n.1) ∙ none) is.0 (ap (subcommand_of program) (sym n.1) ∙ is.1) in
+    let first = same_Some _ _ (sym told.4 ∙ is.2.0) in
+    let second = same_Some _ _ (sym told.5 ∙ is.2.1) in
+    let third = same_Some _ _ (sym told.6 ∙ is.2.2) in (
+      n.1 ∙ ap (λ (ws : List Text). codes "credential" ∷ ws) told.3 ∙ ap (λ (w : Text). codes "credential" ∷ w ∷ told.1 ∷ told.2 ∷ []) first
+          ∙ ap (λ (w : Text). codes "credential" ∷ decimal consumer.0 ∷ w ∷ told.2 ∷ []) second
+          ∙ ap (λ (w : Text). codes "credential" ∷ decimal consumer.0 ∷ decimal until ∷ w ∷ []) third,
+      is.2.3,
+      is.2.4,
+      is.2.5,
     )
 
 -- clap refused the words, and so they are no command, unless there was no memory

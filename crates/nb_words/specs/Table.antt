@@ -4,9 +4,10 @@ use Rattle.std.specs.Fmt.{decimal}
 use Rattle.clap.specs.Walk.{Row, Rule, Text, first_of}
 use Rattle.clap.specs.Simple.{App, Shape, new_rule, new_shape, on_top, with_subcommand}
 use Rattle.nb_units.specs.declared.limits.TheConstants.{MAX_RATE}
+use Rattle.nb_groups.specs.Groups.{AreGroups, groups_text}
 use Rattle.nb_play.specs.declared.frames.TheConstants.{MAX_ORDERS}
 use Rattle.nb_words.specs.declared.words.Command.{Command}
-use Rattle.nb_words.specs.declared.words.Command.TheVariants.{Init, Batch, Drill, Serve, Migrate, Statement, Judge, Buy, Sell}
+use Rattle.nb_words.specs.declared.words.Command.TheVariants.{Init, Batch, Drill, Serve, Migrate, Statement, Judge, Buy, BuyWith, Sell, SellOffers, Credential, Play, Ship, Follow, Promote}
 use Rattle.nb_words.specs.Words.{AreServed}
 
 -- ---- for the contracts of private functions alone
@@ -40,21 +41,57 @@ first_commands =
     (shape (codes "batch") (codes "JOURNAL" ∷ []) []))
     (shape (codes "drill") (codes "SEED" ∷ codes "ORDERS" ∷ []) [])
 
--- with all of them
-abbrev pub program : App
-program =
+-- with four more behind these
+abbrev pub with_house_commands : App → App
+with_house_commands commands =
+    with_subcommand
+    (with_subcommand
+    (with_subcommand
+    (with_subcommand commands
+    (shape (codes "serve") (codes "JOURNAL" ∷ codes "ADDRESS" ∷ codes "WORKERS" ∷ codes "SESSIONS" ∷ []) []))
+    (shape (codes "migrate") (codes "JOURNAL" ∷ codes "PERMILLE" ∷ []) []))
+    (shape (codes "statement") (codes "JOURNAL" ∷ codes "ACCT" ∷ []) []))
+    (shape (codes "judge") [] [])
+
+-- the positions of the commands of a purchase
+abbrev pub buy_positions : List Text
+buy_positions = codes "WALLET" ∷ codes "SERVER" ∷ codes "SELLER" ∷ codes "MERCHANT" ∷ codes "PRODUCT" ∷ codes "LIMIT" ∷ codes "TID" ∷ []
+
+-- the positions of the commands of a sale
+abbrev pub sell_positions : List Text
+sell_positions = codes "STALL" ∷ codes "ADDRESS" ∷ codes "SERVER" ∷ codes "LINKS" ∷ []
+
+-- with these
+abbrev pub with_party_commands : App → App
+with_party_commands commands =
     with_subcommand
     (with_subcommand
     (with_subcommand
     (with_subcommand
+    (with_subcommand commands
+    (shape (codes "buy") buy_positions []))
+    (shape (codes "sell") sell_positions []))
+    (shape (codes "credential") (codes "CONSUMER" ∷ codes "UNTIL" ∷ codes "GROUPS" ∷ []) []))
+    (shape (codes "buywith") buy_positions []))
+    (shape (codes "selloffers") sell_positions [])
+
+-- the position of a command of a journal alone
+abbrev pub journal_position : List Text
+journal_position = codes "JOURNAL" ∷ []
+
+-- with these
+abbrev pub with_standby_commands : App → App
+with_standby_commands commands =
+    with_subcommand
     (with_subcommand
-    (with_subcommand first_commands
-    (shape (codes "serve") (codes "JOURNAL" ∷ codes "ADDRESS" ∷ codes "WORKERS" ∷ codes "SESSIONS" ∷ []) []))
-    (shape (codes "migrate") (codes "JOURNAL" ∷ codes "PERMILLE" ∷ []) []))
-    (shape (codes "statement") (codes "JOURNAL" ∷ codes "ACCT" ∷ []) []))
-    (shape (codes "judge") [] []))
-    (shape (codes "buy") (codes "WALLET" ∷ codes "SERVER" ∷ codes "SELLER" ∷ codes "MERCHANT" ∷ codes "PRODUCT" ∷ codes "LIMIT" ∷ codes "TID" ∷ []) []))
-    (shape (codes "sell") (codes "STALL" ∷ codes "ADDRESS" ∷ codes "SERVER" ∷ codes "LINKS" ∷ []) [])
+    (with_subcommand commands
+    (shape (codes "ship") (codes "JOURNAL" ∷ codes "FROM" ∷ []) []))
+    (shape (codes "follow") journal_position []))
+    (shape (codes "promote") journal_position [])
+
+-- with all of them
+abbrev pub program : App
+program = with_standby_commands (with_subcommand (with_party_commands (with_house_commands first_commands)) (shape (codes "play") [] []))
 
 -- a number that is at most this was read at a position
 abbrev pub IsSmallAt : Text → List Row → ℕ → ℕ → Type 0
@@ -78,6 +115,10 @@ ServeIn rows workers sessions =
 abbrev pub StatementIn : List Row → ℕ → Type 0
 StatementIn rows acct = (first_of (codes "ACCT") rows ≡ Some (decimal acct)) × (acct < 2 ^ 32)
 
+-- a place was read
+abbrev pub ShipIn : List Row → ℕ → Type 0
+ShipIn rows from = (first_of (codes "FROM") rows ≡ Some (decimal from)) × (from < 2 ^ 64)
+
 -- numbers for a purchase were read
 abbrev pub BuyIn : List Row → ℕ → ℕ → ℕ → ℕ → Type 0
 BuyIn rows merchant product limit transaction =
@@ -89,6 +130,12 @@ BuyIn rows merchant product limit transaction =
 abbrev pub SellIn : List Row → ℕ → Type 0
 SellIn rows links = (first_of (codes "LINKS") rows ≡ Some (decimal links)) × (links < 2 ^ 32)
 
+-- a consumer, a last second and groups were read
+abbrev pub CredentialIn : List Row → ℕ → ℕ → List ℕ → Type 0
+CredentialIn rows consumer until groups =
+    (first_of (codes "CONSUMER") rows ≡ Some (decimal consumer)) × (first_of (codes "UNTIL") rows ≡ Some (decimal until)) × (first_of (codes "GROUPS") rows ≡ Some (groups_text groups))
+    × (consumer < 2 ^ 32) × (until < 2 ^ 64) × AreGroups groups
+
 -- no rate was read, or one of at most 1,000
 abbrev pub RateIn : List Row → Option ℕ → Type 0
 RateIn rows None = first_of (codes "PERMILLE") rows ≡ None
@@ -99,10 +146,10 @@ abbrev pub IsServerIn : List Row → Command → Type 0
 IsServerIn rows (Serve workers sessions) = ServeIn rows workers sessions
 IsServerIn rows other = ⊥
 
--- the command is a purchase whose numbers were read
-abbrev pub IsPurchaseIn : List Row → Command → Type 0
-IsPurchaseIn rows (Buy merchant product limit transaction) = BuyIn rows merchant.0 product limit.0 transaction
-IsPurchaseIn rows other = ⊥
+-- the command is a credential whose numbers were read
+abbrev pub IsCredentialIn : List Row → Command → Type 0
+IsCredentialIn rows (Credential consumer until groups) = CredentialIn rows consumer.0 until groups
+IsCredentialIn rows other = ⊥
 
 -- the command in what was read: its name, and what stands at its positions
 abbrev pub CommandIn : Option (Text × List Row) → Option Command → Type 0
@@ -115,6 +162,13 @@ CommandIn told (Some (Statement acct)) = (rows : List Row) × (told ≡ Some (co
 CommandIn told (Some Judge) = (rows : List Row) × (told ≡ Some (codes "judge", rows))
 CommandIn told (Some (Buy merchant product limit transaction)) = (rows : List Row) × (told ≡ Some (codes "buy", rows)) × BuyIn rows merchant.0 product limit.0 transaction
 CommandIn told (Some (Sell links)) = (rows : List Row) × (told ≡ Some (codes "sell", rows)) × SellIn rows links
+CommandIn told (Some (Credential consumer until groups)) = (rows : List Row) × (told ≡ Some (codes "credential", rows)) × CredentialIn rows consumer.0 until groups
+CommandIn told (Some (BuyWith merchant product limit transaction)) = (rows : List Row) × (told ≡ Some (codes "buywith", rows)) × BuyIn rows merchant.0 product limit.0 transaction
+CommandIn told (Some (SellOffers links)) = (rows : List Row) × (told ≡ Some (codes "selloffers", rows)) × SellIn rows links
+CommandIn told (Some Play) = (rows : List Row) × (told ≡ Some (codes "play", rows))
+CommandIn told (Some (Ship from)) = (rows : List Row) × (told ≡ Some (codes "ship", rows)) × ShipIn rows from
+CommandIn told (Some Follow) = (rows : List Row) × (told ≡ Some (codes "follow", rows))
+CommandIn told (Some Promote) = (rows : List Row) × (told ≡ Some (codes "promote", rows))
 CommandIn told None =
     ((rows : List Row) (cap : ℕ) (rate : Option ℕ) → told ≡ Some (codes "init", rows) → InitIn rows cap → RateIn rows rate → ⊥)
     × ((rows : List Row) → told ≡ Some (codes "batch", rows) → ⊥)
@@ -125,3 +179,10 @@ CommandIn told None =
     × ((rows : List Row) → told ≡ Some (codes "judge", rows) → ⊥)
     × ((rows : List Row) (merchant product limit transaction : ℕ) → told ≡ Some (codes "buy", rows) → BuyIn rows merchant product limit transaction → ⊥)
     × ((rows : List Row) (links : ℕ) → told ≡ Some (codes "sell", rows) → SellIn rows links → ⊥)
+    × ((rows : List Row) (consumer until : ℕ) (groups : List ℕ) → told ≡ Some (codes "credential", rows) → CredentialIn rows consumer until groups → ⊥)
+    × ((rows : List Row) (merchant product limit transaction : ℕ) → told ≡ Some (codes "buywith", rows) → BuyIn rows merchant product limit transaction → ⊥)
+    × ((rows : List Row) (links : ℕ) → told ≡ Some (codes "selloffers", rows) → SellIn rows links → ⊥)
+    × ((rows : List Row) → told ≡ Some (codes "play", rows) → ⊥)
+    × ((rows : List Row) (from : ℕ) → told ≡ Some (codes "ship", rows) → ShipIn rows from → ⊥)
+    × ((rows : List Row) → told ≡ Some (codes "follow", rows) → ⊥)
+    × ((rows : List Row) → told ≡ Some (codes "promote", rows) → ⊥)

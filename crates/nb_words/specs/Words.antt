@@ -1,12 +1,13 @@
 -- The words that the program takes.
-use Rattle.std.specs.Prelude.{◌≡◌, ◌≢◌, ℕ, ◌*◌, ◌≤◌, ◌<◌, ◌^◌, ◌⊎◌, List, [], ◌∷◌, length, codes, slice_index, slice_index_or, Option, Some, None}
+use Rattle.std.specs.Prelude.{◌≡◌, ◌≢◌, ℕ, ◌*◌, ◌≤◌, ◌<◌, ◌^◌, List, [], ◌∷◌, length, codes, slice_index, slice_index_or, Option, Some, None}
 use Rattle.std.specs.List.{AllByRecursion}
 use Rattle.std.specs.Fmt.{decimal}
 use Rattle.nb_units.specs.declared.limits.TheConstants.{MAX_RATE}
+use Rattle.nb_groups.specs.Groups.{AreGroups, groups_text}
 use Rattle.nb_play.specs.declared.frames.TheConstants.{MAX_ORDERS}
 use Rattle.nb_words.specs.declared.words.TheConstants.{MAX_WORKERS, MAX_LINKS}
 use Rattle.nb_words.specs.declared.words.Command.{Command}
-use Rattle.nb_words.specs.declared.words.Command.TheVariants.{Init, Batch, Drill, Serve, Migrate, Statement, Judge, Buy, Sell}
+use Rattle.nb_words.specs.declared.words.Command.TheVariants.{Init, Batch, Drill, Serve, Migrate, Statement, Judge, Buy, BuyWith, Sell, SellOffers, Credential, Play, Ship, Follow, Promote}
 
 -- the byte of a minus
 abbrev pub minus : ℕ
@@ -52,37 +53,83 @@ IsStatement words acct = (journal : List ℕ) × (words ≡ codes "statement" �
 abbrev pub IsJudge : List (List ℕ) → Type 0
 IsJudge words = words ≡ codes "judge" ∷ []
 
--- buy WALLET SERVER SELLER MERCHANT PRODUCT LIMIT TID: the merchant's number and the product's are below 2^32, the most that it may cost and the number
+-- NAME WALLET SERVER SELLER MERCHANT PRODUCT LIMIT TID: the merchant's number and the product's are below 2^32, the most that it may cost and the number
 -- of the purchase below 2^64, all in decimal
-abbrev pub IsBuy : List (List ℕ) → ℕ → ℕ → ℕ → ℕ → Type 0
-IsBuy words merchant product limit transaction =
-    (wallet server seller : List ℕ) × (words ≡ codes "buy" ∷ wallet ∷ server ∷ seller ∷ decimal merchant ∷ decimal product ∷ decimal limit ∷ decimal transaction ∷ [])
+abbrev pub IsPurchase : List ℕ → List (List ℕ) → ℕ → ℕ → ℕ → ℕ → Type 0
+IsPurchase name words merchant product limit transaction =
+    (wallet server seller : List ℕ) × (words ≡ name ∷ wallet ∷ server ∷ seller ∷ decimal merchant ∷ decimal product ∷ decimal limit ∷ decimal transaction ∷ [])
     × IsName wallet × IsName server × IsName seller × (merchant < 2 ^ 32) × (product < 2 ^ 32) × (limit < 2 ^ 64) × (transaction < 2 ^ 64)
 
--- sell STALL ADDRESS SERVER LINKS: the number of the links is below 2^32, in decimal
-abbrev pub IsSell : List (List ℕ) → ℕ → Type 0
-IsSell words links =
-    (stall address server : List ℕ) × (words ≡ codes "sell" ∷ stall ∷ address ∷ server ∷ decimal links ∷ [])
+-- a purchase of which nothing is said to the seller
+abbrev pub IsBuy : List (List ℕ) → ℕ → ℕ → ℕ → ℕ → Type 0
+IsBuy = IsPurchase (codes "buy")
+
+-- a purchase with a request to the seller, which is the input
+abbrev pub IsBuyWith : List (List ℕ) → ℕ → ℕ → ℕ → ℕ → Type 0
+IsBuyWith = IsPurchase (codes "buywith")
+
+-- NAME STALL ADDRESS SERVER LINKS: the number of the links is below 2^32, in decimal
+abbrev pub IsSale : List ℕ → List (List ℕ) → ℕ → Type 0
+IsSale name words links =
+    (stall address server : List ℕ) × (words ≡ name ∷ stall ∷ address ∷ server ∷ decimal links ∷ [])
     × IsName stall × IsName address × IsName server × (links < 2 ^ 32)
 
--- one of these
-abbrev pub IsCommand : List (List ℕ) → Type 0
-IsCommand words =
-    IsBatch words ⊎ ((cap : ℕ) × (rate : Option ℕ) × IsInit words cap rate) ⊎ ((seed orders : ℕ) × IsDrill words seed orders) ⊎ ((workers : ℕ) × (sessions : ℕ) × IsServe words workers sessions)
-    ⊎ ((rate : ℕ) × IsMigrate words rate) ⊎ ((acct : ℕ) × IsStatement words acct) ⊎ IsJudge words
-    ⊎ ((merchant product limit transaction : ℕ) × IsBuy words merchant product limit transaction) ⊎ ((links : ℕ) × IsSell words links)
+-- a sale of what a shelf has, which is the input
+abbrev pub IsSell : List (List ℕ) → ℕ → Type 0
+IsSell = IsSale (codes "sell")
 
--- the words are this command, or none
+-- a sale with offers: the input is offers and a shelf
+abbrev pub IsSellOffers : List (List ℕ) → ℕ → Type 0
+IsSellOffers = IsSale (codes "selloffers")
+
+-- credential CONSUMER UNTIL GROUPS: the consumer's number is below 2^32 and the last second below 2^64, in decimal; the groups are 1 to 4, each below 2^32 and
+-- greater than the one before it, in decimal with commas between them
+abbrev pub IsCredential : List (List ℕ) → ℕ → ℕ → List ℕ → Type 0
+IsCredential words consumer until groups =
+    (words ≡ codes "credential" ∷ decimal consumer ∷ decimal until ∷ groups_text groups ∷ []) × (consumer < 2 ^ 32) × (until < 2 ^ 64) × AreGroups groups
+
+-- play
+abbrev pub IsPlay : List (List ℕ) → Type 0
+IsPlay words = words ≡ codes "play" ∷ []
+
+-- ship JOURNAL FROM: the place is below 2^64, in decimal
+abbrev pub IsShip : List (List ℕ) → ℕ → Type 0
+IsShip words from = (journal : List ℕ) × (words ≡ codes "ship" ∷ journal ∷ decimal from ∷ []) × IsName journal × (from < 2 ^ 64)
+
+-- follow JOURNAL
+abbrev pub IsFollow : List (List ℕ) → Type 0
+IsFollow words = (journal : List ℕ) × (words ≡ codes "follow" ∷ journal ∷ []) × IsName journal
+
+-- promote JOURNAL
+abbrev pub IsPromote : List (List ℕ) → Type 0
+IsPromote words = (journal : List ℕ) × (words ≡ codes "promote" ∷ journal ∷ []) × IsName journal
+
+-- the words are this command
+abbrev pub Are : List (List ℕ) → Command → Type 0
+Are words (Init cap rate) = IsInit words cap rate
+Are words Batch = IsBatch words
+Are words (Drill seed orders) = IsDrill words seed orders
+Are words (Serve workers sessions) = IsServe words workers sessions
+Are words (Migrate rate) = IsMigrate words rate
+Are words (Statement acct) = IsStatement words acct.0
+Are words Judge = IsJudge words
+Are words (Buy merchant product limit transaction) = IsBuy words merchant.0 product limit.0 transaction
+Are words (BuyWith merchant product limit transaction) = IsBuyWith words merchant.0 product limit.0 transaction
+Are words (Sell links) = IsSell words links
+Are words (SellOffers links) = IsSellOffers words links
+Are words (Credential consumer until groups) = IsCredential words consumer.0 until groups
+Are words Play = IsPlay words
+Are words (Ship from) = IsShip words from
+Are words Follow = IsFollow words
+Are words Promote = IsPromote words
+
+-- they are some command
+abbrev pub IsCommand : List (List ℕ) → Type 0
+IsCommand words = (command : Command) × Are words command
+
+-- they are this command, or none
 abbrev pub CommandIs : List (List ℕ) → Option Command → Type 0
-CommandIs words (Some (Init cap rate)) = IsInit words cap rate
-CommandIs words (Some Batch) = IsBatch words
-CommandIs words (Some (Drill seed orders)) = IsDrill words seed orders
-CommandIs words (Some (Serve workers sessions)) = IsServe words workers sessions
-CommandIs words (Some (Migrate rate)) = IsMigrate words rate
-CommandIs words (Some (Statement acct)) = IsStatement words acct.0
-CommandIs words (Some Judge) = IsJudge words
-CommandIs words (Some (Buy merchant product limit transaction)) = IsBuy words merchant.0 product limit.0 transaction
-CommandIs words (Some (Sell links)) = IsSell words links
+CommandIs words (Some command) = Are words command
 CommandIs words None = IsCommand words → ⊥
 
 -- words at which want of memory may be told: there are some, each is a name, and the first does not ask for help

@@ -1,13 +1,15 @@
-ghost use Rattle.std.specs.Prelude.{◌≡◌, ◌↔◌, ◌≤◌, ◌<◌, ◌^◌, ℕ, codes, map, IsTrue, IfOk, IfSome, IsSome, Option, Some, None};
+ghost use Rattle.std.specs.Prelude.{◌≡◌, ◌↔◌, ◌≤◌, ◌<◌, ◌^◌, ℕ, List, [], codes, map, IsTrue, IfOk, IfSome, IsSome, Option, Some, None};
 ghost use Rattle.std.specs.Fmt.{decimal};
 ghost use Rattle.clap.specs.Walk.{first_of};
 ghost use Rattle.clap.specs.Words.{app_of, found_of, rows_of, subcommand_rows_of, with_subcommand};
+ghost use Rattle.nb_groups.specs.Groups.{AreGroups, groups_text};
 ghost use Rattle.nb_words.specs.Table as table;
 ghost use Rattle.nb_words.specs.Words.{AreServed};
 ghost use Rattle.nb_units.specs.declared.limits.TheConstants.{MAX_RATE};
 
 use crate::words::{Command, MAX_LINKS, MAX_WORKERS};
 use clap::{Arg, ArgMatches, Command as Shape};
+use nb_groups::Groups;
 use nb_play::MAX_ORDERS;
 use nb_units::{AcctId, MAX_RATE, PartyId, Price, decimal_of};
 use std::alloc::{AllocError, Global};
@@ -18,32 +20,10 @@ pub(crate) fn program<'a>(alloc: Global) -> Result<Shape<'a>, AllocError>
     ensures { IfOk result (λ program. app_of program ≡ table.program) }
 {
     let program = first_commands(alloc)?;
-    let program = with(
-        alloc,
-        program,
-        "serve",
-        &["JOURNAL", "ADDRESS", "WORKERS", "SESSIONS"],
-        &[],
-    )?;
-    let program = with(alloc, program, "migrate", &["JOURNAL", "PERMILLE"], &[])?;
-    let program = with(alloc, program, "statement", &["JOURNAL", "ACCT"], &[])?;
-    let program = with(alloc, program, "judge", &[], &[])?;
-    let program = with(
-        alloc,
-        program,
-        "buy",
-        &[
-            "WALLET", "SERVER", "SELLER", "MERCHANT", "PRODUCT", "LIMIT", "TID",
-        ],
-        &[],
-    )?;
-    with(
-        alloc,
-        program,
-        "sell",
-        &["STALL", "ADDRESS", "SERVER", "LINKS"],
-        &[],
-    )
+    let program = with_house_commands(alloc, program)?;
+    let program = with_party_commands(alloc, program)?;
+    let program = with(alloc, program, "play", &[], &[])?;
+    with_standby_commands(alloc, program)
 }
 
 // The program with its first rows.
@@ -58,6 +38,95 @@ fn first_commands<'a>(alloc: Global) -> Result<Shape<'a>, AllocError>
     let program = with(alloc, program, "init", &["JOURNAL", "CAP"], &["PERMILLE"])?;
     let program = with(alloc, program, "batch", &["JOURNAL"], &[])?;
     with(alloc, program, "drill", &["SEED", "ORDERS"], &[])
+}
+
+// The program with the further commands of a house.
+fn with_house_commands<'a>(alloc: Global, program: Shape<'a>) -> Result<Shape<'a>, AllocError>
+    ensures { IfOk result (λ more. app_of more ≡ table.with_house_commands (app_of program.entry)) }
+{
+    let program = with(
+        alloc,
+        program,
+        "serve",
+        &["JOURNAL", "ADDRESS", "WORKERS", "SESSIONS"],
+        &[],
+    )?;
+    let program = with(alloc, program, "migrate", &["JOURNAL", "PERMILLE"], &[])?;
+    let program = with(alloc, program, "statement", &["JOURNAL", "ACCT"], &[])?;
+    with(alloc, program, "judge", &[], &[])
+}
+
+// The program with the commands of a consumer, a merchant and a keeper of groups.
+fn with_party_commands<'a>(alloc: Global, program: Shape<'a>) -> Result<Shape<'a>, AllocError>
+    ensures { IfOk result (λ more. app_of more ≡ table.with_party_commands (app_of program.entry)) }
+{
+    let program = with_purchase(alloc, program, "buy")?;
+    let program = with_sale(alloc, program, "sell")?;
+    let program = with(
+        alloc,
+        program,
+        "credential",
+        &["CONSUMER", "UNTIL", "GROUPS"],
+        &[],
+    )?;
+    let program = with_purchase(alloc, program, "buywith")?;
+    with_sale(alloc, program, "selloffers")
+}
+
+// The program with the commands of a standby and its primary.
+fn with_standby_commands<'a>(alloc: Global, program: Shape<'a>) -> Result<Shape<'a>, AllocError>
+    ensures { IfOk result (λ more. app_of more ≡ table.with_standby_commands (app_of program.entry)) }
+{
+    let program = with(alloc, program, "ship", &["JOURNAL", "FROM"], &[])?;
+    let program = with_journal(alloc, program, "follow")?;
+    with_journal(alloc, program, "promote")
+}
+
+// The program with a command of a journal alone more.
+fn with_journal<'a>(
+    alloc: Global,
+    program: Shape<'a>,
+    name: &'static str,
+) -> Result<Shape<'a>, AllocError>
+    ensures { IfOk result (λ more. app_of more ≡ with_subcommand (app_of program.entry) (table.shape name.now table.journal_position [])) }
+{
+    with(alloc, program, name, &["JOURNAL"], &[])
+}
+
+// The program with a command of a purchase more.
+fn with_purchase<'a>(
+    alloc: Global,
+    program: Shape<'a>,
+    name: &'static str,
+) -> Result<Shape<'a>, AllocError>
+    ensures { IfOk result (λ more. app_of more ≡ with_subcommand (app_of program.entry) (table.shape name.now table.buy_positions [])) }
+{
+    with(
+        alloc,
+        program,
+        name,
+        &[
+            "WALLET", "SERVER", "SELLER", "MERCHANT", "PRODUCT", "LIMIT", "TID",
+        ],
+        &[],
+    )
+}
+
+// The program with a command of a sale more.
+fn with_sale<'a>(
+    alloc: Global,
+    program: Shape<'a>,
+    name: &'static str,
+) -> Result<Shape<'a>, AllocError>
+    ensures { IfOk result (λ more. app_of more ≡ with_subcommand (app_of program.entry) (table.shape name.now table.sell_positions [])) }
+{
+    with(
+        alloc,
+        program,
+        name,
+        &["STALL", "ADDRESS", "SERVER", "LINKS"],
+        &[],
+    )
 }
 
 /// The command that was read: each row is a command, with the ranges of its numbers.
@@ -93,11 +162,56 @@ pub(crate) fn command_in(matches: &ArgMatches<'_>) -> Option<Command>
         return Some(Command::Judge);
     }
     if is_buy(name) {
-        return purchase_in(given);
+        let Purchase {
+            merchant,
+            product,
+            limit,
+            transaction,
+        } = purchase_in(given)?;
+        return Some(Command::Buy {
+            merchant,
+            product,
+            limit,
+            transaction,
+        });
     }
     if is_sell(name) {
-        let links = small_in(given, "LINKS", u32::MAX)?;
+        let links = links_in(given)?;
         return Some(Command::Sell { links });
+    }
+    if is_credential(name) {
+        return credential_in(given);
+    }
+    if is_buywith(name) {
+        let Purchase {
+            merchant,
+            product,
+            limit,
+            transaction,
+        } = purchase_in(given)?;
+        return Some(Command::BuyWith {
+            merchant,
+            product,
+            limit,
+            transaction,
+        });
+    }
+    if is_selloffers(name) {
+        let links = links_in(given)?;
+        return Some(Command::SellOffers { links });
+    }
+    if is_play(name) {
+        return Some(Command::Play);
+    }
+    if is_ship(name) {
+        let from = number_in(given, "FROM")?;
+        return Some(Command::Ship { from });
+    }
+    if is_follow(name) {
+        return Some(Command::Follow);
+    }
+    if is_promote(name) {
+        return Some(Command::Promote);
     }
     None
 }
@@ -115,20 +229,52 @@ fn server_in(given: &ArgMatches<'_>) -> Option<Command>
     Some(Command::Serve { workers, sessions })
 }
 
+// The number of the links of who sells.
+fn links_in(given: &ArgMatches<'_>) -> Option<u32>
+    ensures some { IfSome result (table.SellIn (rows_of (found_of given.now))) }
+    ensures each { (links : ℕ) → table.SellIn (rows_of (found_of given.now)) links → result ≡ Some links }
+{
+    small_in(given, "LINKS", u32::MAX)
+}
+
+// What the numbers of a purchase are.
+#[derive(Clone, Copy)]
+struct Purchase {
+    merchant: PartyId,
+    product: u32,
+    limit: Price,
+    transaction: u64,
+}
+
 // The purchase whose numbers were read.
-fn purchase_in(given: &ArgMatches<'_>) -> Option<Command>
-    ensures some { IfSome result (table.IsPurchaseIn (rows_of (found_of given.now))) }
+fn purchase_in(given: &ArgMatches<'_>) -> Option<Purchase>
+    ensures some { IfSome result (λ p. table.BuyIn (rows_of (found_of given.now)) p.merchant.0 p.product p.limit.0 p.transaction) }
     ensures each { (merchant product limit transaction : ℕ) → table.BuyIn (rows_of (found_of given.now)) merchant product limit transaction → IsSome result }
 {
     let merchant = PartyId(small_in(given, "MERCHANT", u32::MAX)?);
     let product = small_in(given, "PRODUCT", u32::MAX)?;
     let limit = Price(number_in(given, "LIMIT")?);
     let transaction = number_in(given, "TID")?;
-    Some(Command::Buy {
+    Some(Purchase {
         merchant,
         product,
         limit,
         transaction,
+    })
+}
+
+// The credential whose numbers were read.
+fn credential_in(given: &ArgMatches<'_>) -> Option<Command>
+    ensures some { IfSome result (table.IsCredentialIn (rows_of (found_of given.now))) }
+    ensures each { (consumer until : ℕ) (groups : List ℕ) → table.CredentialIn (rows_of (found_of given.now)) consumer until groups → IsSome result }
+{
+    let consumer = PartyId(small_in(given, "CONSUMER", u32::MAX)?);
+    let until = number_in(given, "UNTIL")?;
+    let groups = groups_in(given, "GROUPS")?;
+    Some(Command::Credential {
+        consumer,
+        until,
+        groups,
     })
 }
 
@@ -212,6 +358,14 @@ fn small_in(given: &ArgMatches<'_>, position: &str, most: u32) -> Option<u32>
     Some(n as u32)
 }
 
+// The groups at a position.
+fn groups_in(given: &ArgMatches<'_>, position: &str) -> Option<Groups>
+    ensures some { IfSome result (λ groups. (first_of position.now (rows_of (found_of given.now)) ≡ Some (groups_text groups)) × AreGroups groups) }
+    ensures each { (groups : List ℕ) → AreGroups groups → first_of position.now (rows_of (found_of given.now)) ≡ Some (groups_text groups) → result ≡ Some groups }
+{
+    Groups::named(given.get_str(position)?.as_bytes())
+}
+
 fn is_init(word: &str) -> bool
     ensures { IsTrue result ↔ (word.now ≡ codes "init") }
 {
@@ -254,6 +408,30 @@ fn is_judge(word: &str) -> bool
     word == "judge"
 }
 
+fn is_play(word: &str) -> bool
+    ensures { IsTrue result ↔ (word.now ≡ codes "play") }
+{
+    word == "play"
+}
+
+fn is_ship(word: &str) -> bool
+    ensures { IsTrue result ↔ (word.now ≡ codes "ship") }
+{
+    word == "ship"
+}
+
+fn is_follow(word: &str) -> bool
+    ensures { IsTrue result ↔ (word.now ≡ codes "follow") }
+{
+    word == "follow"
+}
+
+fn is_promote(word: &str) -> bool
+    ensures { IsTrue result ↔ (word.now ≡ codes "promote") }
+{
+    word == "promote"
+}
+
 fn is_buy(word: &str) -> bool
     ensures { IsTrue result ↔ (word.now ≡ codes "buy") }
 {
@@ -264,6 +442,24 @@ fn is_sell(word: &str) -> bool
     ensures { IsTrue result ↔ (word.now ≡ codes "sell") }
 {
     word == "sell"
+}
+
+fn is_credential(word: &str) -> bool
+    ensures { IsTrue result ↔ (word.now ≡ codes "credential") }
+{
+    word == "credential"
+}
+
+fn is_buywith(word: &str) -> bool
+    ensures { IsTrue result ↔ (word.now ≡ codes "buywith") }
+{
+    word == "buywith"
+}
+
+fn is_selloffers(word: &str) -> bool
+    ensures { IsTrue result ↔ (word.now ≡ codes "selloffers") }
+{
+    word == "selloffers"
 }
 
 // Whether a server may have so many workers of so many links.

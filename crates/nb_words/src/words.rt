@@ -10,11 +10,12 @@ ghost use Rattle.clap.specs.declared.error.kind.ErrorKind.TheVariants as errors;
 
 use crate::table::{command_in, program};
 use clap::error::ErrorKind;
+use nb_groups::Groups;
 use nb_units::{AcctId, NoMemory, PartyId, Price};
 use std::alloc::Global;
 
 /// What the words tell the program to do.
-#[derive(Clone, Copy)]
+#[derive(Drop)]
 pub enum Command {
     /// `init JOURNAL CAP`, or `init JOURNAL CAP PERMILLE`: make a journal that holds at most so many entries, without fees, or with fees of so many
     /// thousandths of a price.
@@ -55,6 +56,33 @@ pub enum Command {
     Sell {
         links: u32,
     },
+    /// `credential CONSUMER UNTIL GROUPS`: write the credential of this consumer for these groups, up to this second, under the key that is the input.
+    Credential {
+        consumer: PartyId,
+        until: u64,
+        groups: Groups,
+    },
+    /// `buywith` with the words of `buy`: make this purchase with the request that is the input, or go on with it.
+    BuyWith {
+        merchant: PartyId,
+        product: u32,
+        limit: Price,
+        transaction: u64,
+    },
+    /// `selloffers` with the words of `sell`: sell what the shelf of the input has to so many consumers, with the offers that stand before it.
+    SellOffers {
+        links: u32,
+    },
+    /// `play`: play the script that is the input, and write what it comes to.
+    Play,
+    /// `ship JOURNAL FROM`: write the records of the entries from this place on.
+    Ship {
+        from: u64,
+    },
+    /// `follow JOURNAL`: take the records of the input in, in order.
+    Follow,
+    /// `promote JOURNAL`: tell how many entries a standby holds.
+    Promote,
 }
 
 /// The most workers of a server.
@@ -69,9 +97,10 @@ pub fn limits()
 {}
 
 /// The command that the words are, where they are one. A name is not empty and does not begin with `-`, and so is an address; a number is
-/// decimal, and has no sign and no leading zero: a cap, an account, a merchant, a product and how many links a seller takes are below 2^32, the limit and the number of a purchase below 2^64, a rate at most [`MAX_RATE`](nb_units::MAX_RATE) and a seed below 2^64, a
+/// decimal, and has no sign and no leading zero: a cap, an account, a consumer, a merchant, a product, a group and how many links a seller takes are below 2^32, the limit and the number of a
+/// purchase and the last second of a credential below 2^64, a rate at most [`MAX_RATE`](nb_units::MAX_RATE) and a seed below 2^64, a
 /// drill has at most [`nb_play::MAX_ORDERS`] orders, and a server from 1 to [`MAX_WORKERS`] workers, of at least one link each and at most
-/// [`MAX_LINKS`] over all.
+/// [`MAX_LINKS`] over all. The groups of a credential are as [`Groups::named`](nb_groups::Groups::named) has them.
 pub fn command_of(alloc: Global, words: &[String]) -> Result<Option<Command>, NoMemory>
     ensures command { IfOk result (CommandIs (map string_bytes words.now)) }
 

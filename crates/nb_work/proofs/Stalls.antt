@@ -14,6 +14,7 @@ use Rattle.nb_journal.specs.States.{AtRest}
 use Rattle.nb_journal.proofs.ReadingLaws.{one_journal, whole_not_damaged, unborn_is_neither}
 use Rattle.nb_vault.proofs.Founding.{told_of}
 use Rattle.nb_price.specs.Products.{Product}
+use Rattle.nb_groups.specs.Offers.{Tariff}
 use Rattle.nb_stall.specs.Head.{stall_of}
 use Rattle.nb_stall.specs.Spelling.{item_bytes}
 use Rattle.nb_merchant.specs.Shop.{Shop, new_shop}
@@ -79,7 +80,7 @@ module _ {D : Type 0} (tells : DiskTells D) where
       behind ends.NoMemory ended onward = inl (last_one stops.NoMemory (ap stop_for ended))
 
   pub sales_go_on : ((d : D) (c : List ℕ) → tells.left d (tells.moment d) c → tells.allowed d c) → SalesGoOn tells
-  sales_go_on only_now shelf old new stop s image left =
+  sales_go_on only_now shelf offers old new stop s image left =
       let rest = subst (λ (xs : List (List ℕ)). AtRest tells (front_bytes s.cap s.charter) xs s.opened) (sym s.kept) s.rest in
       ⊎_elim
       (λ past. inl (⊎_elim (only_now old.disk image) (λ now. now) (s.unwritten.time.each (tells.moment old.disk) image (omega arith) past)))
@@ -158,7 +159,7 @@ record ToldBy {D : Type 0} (tells : DiskTells D) (old new : Outside D) (status :
   disk : status ≡ DISK_FAILED → Rose (tells.faults old.disk) (tells.faults new.disk)
   clean : status ≡ CLEAN → new.worker.port.left ≡ 0
 
-module _ {D : Type 0} (tells : DiskTells D) (shelf : List Product) (old new : Outside D) where
+module _ {D : Type 0} (tells : DiskTells D) (shelf : List Product) (offers : Option Tariff) (old new : Outside D) where
   by_fault : (fault : OpenFault) → OpenFails tells old.disk new.disk fault → ToldBy tells old new (not_opened fault).status
   by_fault (opens.Unborn found) fails = record { port = λ is. absurd (omega (arith, is)); disk = λ is. absurd (omega (arith, is)); clean = λ is. absurd (omega (arith, is)) }
   by_fault (opens.Damaged item place) fails = record { port = λ is. absurd (omega (arith, is)); disk = λ is. absurd (omega (arith, is)); clean = λ is. absurd (omega (arith, is)) }
@@ -169,7 +170,7 @@ module _ {D : Type 0} (tells : DiskTells D) (shelf : List Product) (old new : Ou
   }
   by_fault opens.NoMemory fails = record { port = λ is. absurd (omega (arith, is)); disk = λ is. absurd (omega (arith, is)); clean = λ is. absurd (omega (arith, is)) }
 
-  by_stop : (stop : Stop) (s : SoldWith tells shelf old new stop) → LeavesAs old.worker.port new.worker.port stop → RoseFor tells stop (standing s.opened s.shop old.house old.worker.clock) s.last → ToldBy tells old new (status_of stop)
+  by_stop : (stop : Stop) (s : SoldWith tells shelf offers old new stop) → LeavesAs old.worker.port new.worker.port stop → RoseFor tells stop (standing s.opened s.shop old.house old.worker.clock) s.last → ToldBy tells old new (status_of stop)
   by_stop stops.Closed s leaves rose = record { port = λ is. absurd (omega (arith, is)); disk = λ is. absurd (omega (arith, is)); clean = λ is. leaves }
   by_stop stops.PortFault s leaves rose = record { port = λ is. inl leaves.1; disk = λ is. absurd (omega (arith, is)); clean = λ is. absurd (omega (arith, is)) }
   by_stop stops.ServerFault s leaves rose = record {
@@ -185,7 +186,7 @@ module _ {D : Type 0} (tells : DiskTells D) (shelf : List Product) (old new : Ou
   by_stop stops.Full s leaves rose = record { port = λ is. absurd (omega (arith, is)); disk = λ is. absurd (omega (arith, is)); clean = λ is. absurd (omega (arith, is)) }
   by_stop stops.NoMemory s leaves rose = record { port = λ is. absurd (omega (arith, is)); disk = λ is. absurd (omega (arith, is)); clean = λ is. absurd (omega (arith, is)) }
 
-  by_sold : (stop : Stop) → SoldWith tells shelf old new stop → ToldBy tells old new (status_of stop)
+  by_sold : (stop : Stop) → SoldWith tells shelf offers old new stop → ToldBy tells old new (status_of stop)
   by_sold stop s =
       by_stop stop s s.serves.leaves (rose_in tells (standing s.opened s.shop old.house old.worker.clock) s.last s.serves.sales stop s.serves.are s.serves.why)
 
@@ -193,14 +194,14 @@ module _ {D : Type 0} (tells : DiskTells D) (shelf : List Product) (old new : Ou
   same_ending ending other is told = subst (λ (e : Ending). ToldBy tells old new e.status) (sym is) told
 
 pub sales_are_told : {D : Type 0} (tells : DiskTells D) → SalesAreTold tells
-sales_are_told {D} tells shelf old new ending sells = (told.port, told.disk, told.clean)
+sales_are_told {D} tells shelf offers old new ending sells = (told.port, told.disk, told.clean)
   where
     told : ToldBy tells old new ending.status
     told = elim sells [
-      | inl failed ↦ same_ending tells shelf old new ending (not_opened failed.0) failed.1 (by_fault tells shelf old new failed.0 failed.2)
-      | inr (inl bad) ↦ same_ending tells shelf old new ending (at_no_place NO_JOURNAL) bad.1 (record { port = λ is. absurd (omega (arith, is)); disk = λ is. absurd (omega (arith, is)); clean = λ is. absurd (omega (arith, is)) })
-      | inr (inr (inl starved)) ↦ same_ending tells shelf old new ending (at_no_place OUT_OF_MEMORY) starved.0 (record { port = λ is. absurd (omega (arith, is)); disk = λ is. absurd (omega (arith, is)); clean = λ is. absurd (omega (arith, is)) })
-      | inr (inr (inr sold)) ↦ same_ending tells shelf old new ending (at_no_place (status_of sold.0)) sold.1 (by_sold tells shelf old new sold.0 sold.2)
+      | inl failed ↦ same_ending tells shelf offers old new ending (not_opened failed.0) failed.1 (by_fault tells shelf offers old new failed.0 failed.2)
+      | inr (inl bad) ↦ same_ending tells shelf offers old new ending (at_no_place NO_JOURNAL) bad.1 (record { port = λ is. absurd (omega (arith, is)); disk = λ is. absurd (omega (arith, is)); clean = λ is. absurd (omega (arith, is)) })
+      | inr (inr (inl starved)) ↦ same_ending tells shelf offers old new ending (at_no_place OUT_OF_MEMORY) starved.0 (record { port = λ is. absurd (omega (arith, is)); disk = λ is. absurd (omega (arith, is)); clean = λ is. absurd (omega (arith, is)) })
+      | inr (inr (inr sold)) ↦ same_ending tells shelf offers old new ending (at_no_place (status_of sold.0)) sold.1 (by_sold tells shelf offers old new sold.0 sold.2)
     ]
 
 -- ---- a stall that is full
@@ -264,7 +265,7 @@ some_so : {A : Type 0} (o : Option A) (P Q : A → Type 0) → ((x : A) → P x 
 some_so None P Q each is = tt
 some_so (Some x) P Q each is = each x is
 
-module _ {D : Type 0} (tells : DiskTells D) (shelf : List Product) (old new : Outside D) (image : List ℕ) (cap : ℕ) (items : List (List ℕ)) (shop : Shop) (content : tells.content old.disk ≡ Some image) (is : IsStall shelf image cap items shop)
+module _ {D : Type 0} (tells : DiskTells D) (shelf : List Product) (offers : Option Tariff) (old new : Outside D) (image : List ℕ) (cap : ℕ) (items : List (List ℕ)) (shop : Shop) (content : tells.content old.disk ≡ Some image) (is : IsStall shelf offers image cap items shop)
     (none : NoneFails tells old new) where
   told : (P : List ℕ → Type 0) → IfSome (tells.content old.disk) P → P image
   told P some = told_of (tells.content old.disk) P image content some
@@ -277,16 +278,16 @@ module _ {D : Type 0} (tells : DiskTells D) (shelf : List Product) (old new : Ou
   opens_so opens.NoMemory fails = refl
 
   -- each of its items is one
-  all_items : (item : ℕ) → IsNoStall shelf image item → ⊥
+  all_items : (item : ℕ) → IsNoStall shelf offers image item → ⊥
   all_items item bad =
       let same = one_journal image is.charter bad.charter cap bad.cap items bad.items is.holds bad.holds in
-      apart (sym is.starts ∙ ap (λ (x : Charter × List (List ℕ)). restarted (new_shop (stall_of x.0.head) shelf) 0 x.1) (λ i. (same.1 i, same.2 i)) ∙ bad.first)
+      apart (sym is.starts ∙ ap (λ (x : Charter × List (List ℕ)). restarted (new_shop (stall_of x.0.head) shelf offers) 0 x.1) (λ i. (same.1 i, same.2 i)) ∙ bad.first)
     where
       apart : ◌≡◌ {A = Result Shop ℕ} (Ok shop) (Err item) → ⊥
       apart e = cc
 
   -- where it is full it holds as many items as it may
-  filled : SoldWith tells shelf old new stops.Full → IfSome (tells.content new.disk) (IsFilled cap items)
+  filled : SoldWith tells shelf offers old new stops.Full → IfSome (tells.content new.disk) (IsFilled cap items)
   filled s =
       let same = one_journal image is.charter s.charter cap s.cap items s.items is.holds (told (λ (x : List ℕ). Holds x s.cap s.charter s.items) s.holds) in
       let f = full_in tells (standing s.opened s.shop old.house old.worker.clock) s.last s.serves.sales stops.Full s.serves.are s.serves.why refl (front_bytes s.cap s.charter) s.items s.rest in
@@ -301,7 +302,7 @@ module _ {D : Type 0} (tells : DiskTells D) (shelf : List Product) (old new : Ou
       f.rest.bytes)
 
   -- nothing stops it but the stall's limit and want of memory
-  stops_so : (stop : Stop) → SoldWith tells shelf old new stop → LeavesAs old.worker.port new.worker.port stop → ToldBy tells old new (status_of stop)
+  stops_so : (stop : Stop) → SoldWith tells shelf offers old new stop → LeavesAs old.worker.port new.worker.port stop → ToldBy tells old new (status_of stop)
       → (at_no_place (status_of stop) ≡ at_no_place OUT_OF_MEMORY)
       ⊎ ((at_no_place (status_of stop) ≡ at_no_place JOURNAL_FULL) × IfSome (tells.content new.disk) (IsFilled cap items))
       ⊎ ((at_no_place (status_of stop) ≡ at_no_place CLEAN) × (new.worker.port.left ≡ 0))
@@ -313,11 +314,11 @@ module _ {D : Type 0} (tells : DiskTells D) (shelf : List Product) (old new : Ou
   stops_so stops.NoMemory s leaves by = inl refl
 
 pub sales_complete : {D : Type 0} (tells : DiskTells D) → SalesComplete tells
-sales_complete {D} tells shelf old new ending sells image cap items shop content is none = elim sells [
-  | inl failed ↦ inl (failed.1 ∙ opens_so tells shelf old new image cap items shop content is none failed.0 failed.2)
-  | inr (inl bad) ↦ absurd (all_items tells shelf old new image cap items shop content is none bad.0 (told tells shelf old new image cap items shop content is none (λ (x : List ℕ). IsNoStall shelf x bad.0) bad.2))
+sales_complete {D} tells shelf offers old new ending sells image cap items shop content is none = elim sells [
+  | inl failed ↦ inl (failed.1 ∙ opens_so tells shelf offers old new image cap items shop content is none failed.0 failed.2)
+  | inr (inl bad) ↦ absurd (all_items tells shelf offers old new image cap items shop content is none bad.0 (told tells shelf offers old new image cap items shop content is none (λ (x : List ℕ). IsNoStall shelf offers x bad.0) bad.2))
   | inr (inr (inl starved)) ↦ inl starved.0
   | inr (inr (inr sold)) ↦
       subst (λ (e : Ending). (e ≡ at_no_place OUT_OF_MEMORY) ⊎ ((e ≡ at_no_place JOURNAL_FULL) × IfSome (tells.content new.disk) (IsFilled cap items)) ⊎ ((e ≡ at_no_place CLEAN) × (new.worker.port.left ≡ 0))) (sym sold.1)
-      (stops_so tells shelf old new image cap items shop content is none sold.0 sold.2 sold.2.serves.leaves (by_sold tells shelf old new sold.0 sold.2))
+      (stops_so tells shelf offers old new image cap items shop content is none sold.0 sold.2 sold.2.serves.leaves (by_sold tells shelf offers old new sold.0 sold.2))
 ]

@@ -26,9 +26,9 @@ use Rattle.nb_run.specs.declared.ending.TheConstants.{CLEAN, SINK_FAILED, OUT_OF
 use Rattle.nb_run.specs.Ending.{at_no_place}
 use Rattle.nb_work.specs.declared.working.Dials.{Dials}
 
--- the purchase that a job asks for: nothing is said to the merchant, and no note is made
-abbrev pub start_of : PartyId → ℕ → Price → ℕ → Start
-start_of merchant product limit transaction = record { transaction = transaction; merchant = merchant; product = product; limit = limit; request = []; memo = [] }
+-- the purchase that a job asks for, with what is said to the merchant: no note is made
+abbrev pub start_of : PartyId → ℕ → Price → ℕ → List ℕ → Start
+start_of merchant product limit transaction request = record { transaction = transaction; merchant = merchant; product = product; limit = limit; request = request; memo = [] }
 
 -- ---- how it ends
 

@@ -29,6 +29,7 @@ use Rattle.nb_buy.specs.Run.{Act, buyer_behind, kept_by, phase_for}
 use Rattle.nb_buy.specs.Bought.{around}
 use Rattle.nb_buy.specs.Laws.{acts_of, GoesOn, IsBrought}
 use Rattle.nb_price.specs.Products.{Product}
+use Rattle.nb_groups.specs.Offers.{Tariff}
 use Rattle.nb_stall.specs.Head.{stall_of}
 use Rattle.nb_merchant.specs.Shop.{Shop, new_shop}
 use Rattle.nb_merchant.specs.Keeping as keeping
@@ -102,24 +103,24 @@ GoesOnIn tells front image first (s ∷ all) last are =
 -- what a stop leaves since before the job: what might have been left before it, or a stall that goes on from there: the items with
 -- the first so many of those that the merchant kept, which starts again to the merchant that it was then
 abbrev pub SalesGoOn : {D : Type 0} → DiskTells D → Type 0
-SalesGoOn {D} tells = (shelf : List Product) (old new : sales.Outside D) (stop : Stop) (s : SoldWith tells shelf old new stop)
+SalesGoOn {D} tells = (shelf : List Product) (offers : Option Tariff) (old new : sales.Outside D) (stop : Stop) (s : SoldWith tells shelf offers old new stop)
     → (image : List ℕ) → tells.left new.disk (tells.moment old.disk) image
     → tells.allowed old.disk image
     ⊎ GoesOnIn tells (front_bytes s.cap s.charter) image (standing s.opened s.shop old.house old.worker.clock) s.serves.sales s.last s.serves.are
 
 -- where it ends with 13 a count of the port or of the link to the house rose, and with 7 that of the disk; where it ends with 0 the port has no link left
 abbrev pub SalesAreTold : {D : Type 0} → DiskTells D → Type 0
-SalesAreTold {D} tells = (shelf : List Product) (old new : sales.Outside D) (ending : Ending) → SellsAs tells shelf old new ending
+SalesAreTold {D} tells = (shelf : List Product) (offers : Option Tariff) (old new : sales.Outside D) (ending : Ending) → SellsAs tells shelf offers old new ending
     → (ending.status ≡ PORT_FAILED
     → Rose old.worker.port.faults new.worker.port.faults ⊎ Rose old.house.read_faults new.house.read_faults ⊎ Rose old.house.write_faults new.house.write_faults)
     × (ending.status ≡ DISK_FAILED → Rose (tells.faults old.disk) (tells.faults new.disk))
     × (ending.status ≡ CLEAN → new.worker.port.left ≡ 0)
 
 -- the content holds a stall with these items, whose merchant starts again with them and the shelf as this, and which may hold so many
-pub record IsStall (shelf : List Product) (image : List ℕ) (cap : ℕ) (items : List (List ℕ)) (shop : Shop) : Type 0 where
+pub record IsStall (shelf : List Product) (offers : Option Tariff) (image : List ℕ) (cap : ℕ) (items : List (List ℕ)) (shop : Shop) : Type 0 where
   pub charter : Charter
   pub holds : Holds image cap charter items
-  pub starts : keeping.restarted (new_shop (stall_of charter.head) shelf) 0 items ≡ Ok shop
+  pub starts : keeping.restarted (new_shop (stall_of charter.head) shelf offers) 0 items ≡ Ok shop
 
 -- no count of the disk, the port and the link to the house rose
 pub record NoneFails {D : Type 0} (tells : DiskTells D) (old new : sales.Outside D) : Type 0 where
@@ -138,8 +139,8 @@ pub record IsFilled (cap : ℕ) (items : List (List ℕ)) (image : List ℕ) : T
 -- Over a content that is a stall with the shelf, where no such count rises, whatever consumers do: each link of the port is sold on and the job ends with 0; or the
 -- stall is full, and holds as many items as it may; or there was no memory
 abbrev pub SalesComplete : {D : Type 0} → DiskTells D → Type 0
-SalesComplete {D} tells = (shelf : List Product) (old new : sales.Outside D) (ending : Ending) → SellsAs tells shelf old new ending
-    → (image : List ℕ) (cap : ℕ) (items : List (List ℕ)) (shop : Shop) → tells.content old.disk ≡ Some image → IsStall shelf image cap items shop → NoneFails tells old new
+SalesComplete {D} tells = (shelf : List Product) (offers : Option Tariff) (old new : sales.Outside D) (ending : Ending) → SellsAs tells shelf offers old new ending
+    → (image : List ℕ) (cap : ℕ) (items : List (List ℕ)) (shop : Shop) → tells.content old.disk ≡ Some image → IsStall shelf offers image cap items shop → NoneFails tells old new
     → (ending ≡ at_no_place OUT_OF_MEMORY)
     ⊎ ((ending ≡ at_no_place JOURNAL_FULL) × IfSome (tells.content new.disk) (IsFilled cap items))
     ⊎ ((ending ≡ at_no_place CLEAN) × (new.worker.port.left ≡ 0))

@@ -13,6 +13,7 @@ use Rattle.nb_journal.specs.Reading.{Holds}
 use Rattle.nb_journal.specs.States.{AtRest}
 use Rattle.nb_journal.specs.Time.{Unwritten}
 use Rattle.nb_price.specs.Products.{Product}
+use Rattle.nb_groups.specs.Offers.{Tariff}
 use Rattle.nb_stall.specs.Head.{stall_of}
 use Rattle.nb_merchant.specs.Shop.{Shop, new_shop}
 use Rattle.nb_merchant.specs.Keeping.{IsKept, restarted}
@@ -139,17 +140,17 @@ pub record IsUnbegun {D : Type 0} (tells : DiskTells D) (old new : Outside D) : 
   pub worker : new.worker ≡ old.worker
   pub house : new.house ≡ old.house
 
--- the image is a journal, and this is its first item that no merchant with the stall of its head and this shelf keeps behind those before it
-pub record IsNoStall (shelf : List Product) (image : List ℕ) (item : ℕ) : Type 0 where
+-- the image is a journal, and this is its first item that no merchant with the stall of its head, this shelf and these offers keeps behind those before it
+pub record IsNoStall (shelf : List Product) (offers : Option Tariff) (image : List ℕ) (item : ℕ) : Type 0 where
   pub cap : ℕ
   pub charter : Charter
   pub items : List (List ℕ)
   pub holds : Holds image cap charter items
-  pub first : restarted (new_shop (stall_of charter.head) shelf) 0 items ≡ Err item
+  pub first : restarted (new_shop (stall_of charter.head) shelf offers) 0 items ≡ Err item
 
 -- It was sold with the stall that the disk holds: its journal is at rest with the items of the content, the merchant is what starts again with them and
 -- the shelf, and the links of the port are sold on from there
-pub record SoldWith {D : Type 0} (tells : DiskTells D) (shelf : List Product) (old new : Outside D) (stop : Stop) : Type 0 where
+pub record SoldWith {D : Type 0} (tells : DiskTells D) (shelf : List Product) (offers : Option Tariff) (old new : Outside D) (stop : Stop) : Type 0 where
   pub cap : ℕ
   pub charter : Charter
   pub items : List (List ℕ)
@@ -160,7 +161,7 @@ pub record SoldWith {D : Type 0} (tells : DiskTells D) (shelf : List Product) (o
   pub holds : IfSome (tells.content old.disk) (λ image. Holds image cap charter items)
   pub rest : AtRest tells (front_bytes cap charter) items opened
   pub cap_is : opened.cap ≡ cap
-  pub starts : restarted (new_shop (stall_of charter.head) shelf) 0 items ≡ Ok shop
+  pub starts : restarted (new_shop (stall_of charter.head) shelf offers) 0 items ≡ Ok shop
   -- it kept exactly these, and so its journal is at rest with what it kept
   pub kept : kept_bytes shop ≡ items
   pub is : IsKept shop
@@ -176,16 +177,16 @@ pub record SoldWith {D : Type 0} (tells : DiskTells D) (shelf : List Product) (o
 
 -- what selling comes to: the stall's journal was not opened; or an item of it is none of a stall with this shelf; or nothing was begun for want of memory,
 -- whatever the content; or it was sold
-abbrev pub SellsAs : {D : Type 0} → DiskTells D → List Product → Outside D → Outside D → Ending → Type 0
-SellsAs tells shelf old new ending =
+abbrev pub SellsAs : {D : Type 0} → DiskTells D → List Product → Option Tariff → Outside D → Outside D → Ending → Type 0
+SellsAs tells shelf offers old new ending =
     ((fault : OpenFault) × (ending ≡ not_opened fault) × OpenFails tells old.disk new.disk fault × IsUnbegun tells old new)
-    ⊎ ((item : ℕ) × (ending ≡ at_no_place NO_JOURNAL) × IfSome (tells.content old.disk) (λ image. IsNoStall shelf image item) × IsUnbegun tells old new)
+    ⊎ ((item : ℕ) × (ending ≡ at_no_place NO_JOURNAL) × IfSome (tells.content old.disk) (λ image. IsNoStall shelf offers image item) × IsUnbegun tells old new)
     ⊎ ((ending ≡ at_no_place OUT_OF_MEMORY) × IsUnbegun tells old new)
-    ⊎ ((stop : Stop) × (ending ≡ at_no_place (status_of stop)) × SoldWith tells shelf old new stop)
+    ⊎ ((stop : Stop) × (ending ≡ at_no_place (status_of stop)) × SoldWith tells shelf offers old new stop)
 
 -- so over the one worker and the link to the house that was dialled, which are handed back
-abbrev pub SellsOver : {D L : Type 0} → DiskTells D → (L → LinkSeen) → List Product → D → D → List WorkerSeen → List WorkerSeen → Dials L → Dials L → Ending → Type 0
-SellsOver {D} {L} tells seen shelf disk disk' before after dials dials' ending =
+abbrev pub SellsOver : {D L : Type 0} → DiskTells D → (L → LinkSeen) → List Product → Option Tariff → D → D → List WorkerSeen → List WorkerSeen → Dials L → Dials L → Ending → Type 0
+SellsOver {D} {L} tells seen shelf offers disk disk' before after dials dials' ending =
     (worker worker' : WorkerSeen) × (server server' : L) × (before ≡ worker ∷ []) × (after ≡ worker' ∷ [])
     × (dials.server ≡ Some server) × (dials' ≡ record dials { server = Some server' })
-    × SellsAs tells shelf (outside disk worker (seen server)) (outside disk' worker' (seen server')) ending
+    × SellsAs tells shelf offers (outside disk worker (seen server)) (outside disk' worker' (seen server')) ending

@@ -1,5 +1,6 @@
 -- What a job over links comes to.
-use Rattle.std.specs.Prelude.{◌≡◌, ◌≢◌, ◌⊎◌, ℕ, ◌≤◌, List, [], Option, Some, IsSome, map, slice_get}
+use Rattle.std.specs.Prelude.{◌≡◌, ◌≢◌, ◌⊎◌, ℕ, ◌≤◌, List, [], length, Option, Some, IsSome, map, slice_get}
+use Rattle.nb_body.specs.declared.limits.TheConstants.{MAX_REQUEST}
 use Rattle.nb_port.specs.Tells.{DiskTells}
 use Rattle.nb_turns.specs.declared.line.Line.{Line}
 use Rattle.nb_journal.specs.Time.{Unwritten}
@@ -27,14 +28,20 @@ use Rattle.nb_work.specs.Selling.{SellsOver}
 -- there are as many workers as the job says, and as many as a server may have; one who sells has one
 abbrev pub IsStaffed : Job → ℕ → Type 0
 IsStaffed (Serve workers sessions) count = (count ≡ workers) × (1 ≤ workers) × (workers ≤ MAX_WORKERS)
-IsStaffed (Buy merchant product limit transaction) count = Unit {0}
-IsStaffed (Sell links shelf) count = count ≡ 1
+IsStaffed (Buy merchant product limit transaction request) count = Unit {0}
+IsStaffed (Sell links shelf offers) count = count ≡ 1
 
 -- the links were dialled that the job needs
 abbrev pub IsDialled : {L : Type 0} → Job → Dials L → Type 0
 IsDialled (Serve workers sessions) dials = Unit {0}
-IsDialled (Buy merchant product limit transaction) dials = IsSome dials.server × IsSome dials.seller
-IsDialled (Sell links shelf) dials = IsSome dials.server
+IsDialled (Buy merchant product limit transaction request) dials = IsSome dials.server × IsSome dials.seller
+IsDialled (Sell links shelf offers) dials = IsSome dials.server
+
+-- what a purchase says as it asks for the price is short enough
+abbrev pub IsShort : Job → Type 0
+IsShort (Serve workers sessions) = Unit {0}
+IsShort (Buy merchant product limit transaction request) = length request ≤ MAX_REQUEST
+IsShort (Sell links shelf offers) = Unit {0}
 
 -- one of the workers stopped so
 abbrev pub AnyStopped : How → List WorkerEnd → Type 0
@@ -90,7 +97,7 @@ abbrev pub WorksAs : {D P C L : Type 0} → DiskTells D → (List (Worker P C) �
     → Option (List ℕ) → Option (List ℕ) → ℕ → ℕ → List Line → List WorkerEnd → Ending → Type 0
 WorksAs tells sees seen (Serve workers sessions) old new before after dials dials' sent sent' faults faults' lines ends ending =
     ServesAs tells sees old new before after lines ends ending × (dials' ≡ dials) × (sent' ≡ sent) × (faults' ≡ faults)
-WorksAs tells sees seen (Buy merchant product limit transaction) old new before after dials dials' sent sent' faults faults' lines ends ending =
-    BuysOver tells seen (start_of merchant product limit transaction) old new dials dials' sent sent' faults faults' ending × (after ≡ before) × (lines ≡ []) × (ends ≡ [])
-WorksAs tells sees seen (Sell links shelf) old new before after dials dials' sent sent' faults faults' lines ends ending =
-    SellsOver tells seen shelf old new (sees before) (sees after) dials dials' ending × (sent' ≡ sent) × (faults' ≡ faults) × (lines ≡ []) × (ends ≡ [])
+WorksAs tells sees seen (Buy merchant product limit transaction request) old new before after dials dials' sent sent' faults faults' lines ends ending =
+    BuysOver tells seen (start_of merchant product limit transaction request) old new dials dials' sent sent' faults faults' ending × (after ≡ before) × (lines ≡ []) × (ends ≡ [])
+WorksAs tells sees seen (Sell links shelf offers) old new before after dials dials' sent sent' faults faults' lines ends ending =
+    SellsOver tells seen shelf offers old new (sees before) (sees after) dials dials' ending × (sent' ≡ sent) × (faults' ≡ faults) × (lines ≡ []) × (ends ≡ [])

@@ -1,5 +1,9 @@
-ghost use Rattle.std.specs.Prelude.{◌≡◌, ◌<◌, ◌≤◌, ◌^◌, length};
+ghost use Rattle.std.specs.Prelude.{◌≡◌, ◌<◌, ◌≤◌, ◌^◌, length, IfOk};
 ghost use Rattle.nb_journal.specs.declared.limits.TheConstants.{MAX_ITEM};
+ghost use Rattle.nb_merchant.specs.Keeping.{restarted};
+ghost use Rattle.nb_merchant.specs.Laws.{kept_bytes};
+ghost use Rattle.nb_merchant.specs.Shop.{new_shop};
+ghost use Rattle.nb_merchant.specs.Telling.{Restarts};
 ghost use Rattle.nb_sell.specs.Sold.{IsJournalOf};
 ghost use Rattle.nb_server.specs.Served.{worker_seen};
 ghost use Rattle.nb_work.specs.Buying.{not_opened};
@@ -7,6 +11,7 @@ ghost use Rattle.nb_work.specs.Selling.{Serves, SellsAs, outside, standing, stat
 ghost use Rattle.nb_run.specs.Ending.{at_no_place};
 
 use crate::buying::unopened;
+use nb_groups::Offers;
 use nb_journal::{Journal, MAX_ITEM, Opened};
 use nb_link::{Link, Port, PortOut};
 use nb_merchant::Merchant;
@@ -17,6 +22,7 @@ use nb_run::{CLEAN, DISK_FAILED, Ending, JOURNAL_FULL, NO_JOURNAL, OUT_OF_MEMORY
 use nb_sell::{SellEnd, sell_link};
 use nb_server::Worker;
 use nb_stall::Stall;
+use nb_units::Blob;
 use std::alloc::Global;
 
 // Why nothing more is sold.
@@ -36,15 +42,16 @@ pub enum Stop {
     NoMemory,
 }
 
-// Opens the stall on the disk, and sells on the links that the worker's port gives, with this shelf.
+// Opens the stall on the disk, and sells on the links that the worker's port gives, with this shelf and these offers.
 pub fn sell_with<D: Disk, P: Port, L: Link, C: Clock>(
     alloc: Global,
     shelf: Catalogue,
+    offers: Option<Offers>,
     disk: D,
     worker: &mut Worker<P, C>,
     server: &mut L,
 ) -> (Ending, D)
-    ensures { SellsAs D.tells shelf (outside disk (worker_seen P.seen C.moments worker.old) (L.seen server.old)) (outside result.1 (worker_seen P.seen C.moments worker.new) (L.seen server.new)) result.0 }
+    ensures { SellsAs D.tells shelf offers (outside disk (worker_seen P.seen C.moments worker.old) (L.seen server.old)) (outside result.1 (worker_seen P.seen C.moments worker.new) (L.seen server.new)) result.0 }
 {
     let Opened {
         journal,
@@ -57,7 +64,13 @@ pub fn sell_with<D: Disk, P: Port, L: Link, C: Clock>(
         Ok(opened) => opened,
         Err((fault, disk)) => return (unopened(fault), disk),
     };
-    let started = Merchant::restart(alloc, Stall::of_head(&head), shelf, items.as_slice());
+    let started = started_with(
+        alloc,
+        Stall::of_head(&head),
+        shelf,
+        offers,
+        items.as_slice(),
+    );
     drop(items);
     let mut merchant = match started {
         Ok(merchant) => merchant,
@@ -73,6 +86,24 @@ pub fn sell_with<D: Disk, P: Port, L: Link, C: Clock>(
     let stop = serve_links(alloc, &mut journal, &mut merchant, worker, server);
     drop(merchant);
     (ended(stop), journal.into_disk())
+}
+
+// The merchant of the stall that kept these items, with this shelf, and with offers or without.
+fn started_with(
+    alloc: Global,
+    stall: Stall,
+    shelf: Catalogue,
+    offers: Option<Offers>,
+    items: &[Blob],
+) -> Result<Merchant, RestartFault>
+    requires few { length items.now ≤ 2 ^ 32 }
+    ensures restarts { Restarts (restarted (new_shop stall shelf offers) 0 items.now) result }
+    ensures kept { IfOk result (λ merchant. kept_bytes merchant ≡ items.now) }
+{
+    match offers {
+        Some(offers) => Merchant::restart_with(alloc, stall, shelf, offers, items),
+        None => Merchant::restart(alloc, stall, shelf, items),
+    }
 }
 
 // Sells on the links of a port, one after another, each of which goes back to the port then.

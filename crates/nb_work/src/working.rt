@@ -3,10 +3,11 @@ ghost use Rattle.nb_words.specs.declared.words.TheConstants.{MAX_WORKERS};
 ghost use Rattle.nb_wallet.specs.Spelling.{StartKeepsRules};
 ghost use Rattle.nb_work.specs.Buying.{BuysOver};
 ghost use Rattle.nb_work.specs.Selling.{SellsOver};
-ghost use Rattle.nb_work.specs.Work.{IsStaffed, IsDialled, WorksAs, ServesAs, StoppedAs, workers_seen};
+ghost use Rattle.nb_work.specs.Work.{IsStaffed, IsDialled, IsShort, WorksAs, ServesAs, StoppedAs, workers_seen};
 
 use crate::buying::{buy_with, nothing};
 use crate::selling::sell_with;
+use nb_groups::Offers;
 use nb_link::{Gate, Link, Port};
 use nb_port::{Clock, Disk, Sink};
 use nb_price::Catalogue;
@@ -65,12 +66,12 @@ pub struct Worked<D, P, L, C> {
 /// where each port gave all its links. Where nothing was begun no byte was written, and the workers are those handed in. The dialled links
 /// and the output are not touched. No clause speaks of the gate, nor of threads.
 ///
-/// `Buy`: opens the wallet on the disk, starts its consumer again, and makes the purchase by [`nb_buy::buy`] over the two dialled links. The status is that of a
+/// `Buy`: opens the wallet on the disk, starts its consumer again, and makes the purchase with its request by [`nb_buy::buy`] over the two dialled links. The status is that of a
 /// journal that was not opened, 7, 8 or 6; 8 where an item of it is none of a wallet's, and 6 where there is no memory, both with nothing begun; else 0 where the
 /// goods were written, 4 where the output failed, 10 where the purchase is over and was not paid, 12 where it is not over and nothing more came of a
 /// link or 10,000 frames were read, 14 where the wallet is full, 7 where its disk failed and 6 where there was no memory. The workers and the clock are not touched.
 ///
-/// `Sell`: opens the stall on the disk, starts its merchant again with the shelf, and sells by [`nb_sell::sell_link`] on the links that the port of the one worker
+/// `Sell`: opens the stall on the disk, starts its merchant again with the shelf and the offers, if there are some, and sells by [`nb_sell::sell_link`] on the links that the port of the one worker
 /// gives, one after the other, each of which goes back to the port then; how many those are is the port's own matter. The status is that of a journal that was not
 /// opened, 7, 8 or 6; 8 where an item of it is none of a stall's with this shelf, and 6 where there is no memory, both with nothing begun; else 0 where the port has no
 /// link left, 13 where it or the link to the house failed, 14 where the stall is full, 7 where its disk failed and 6 where there was no memory. The link to a seller is not
@@ -97,6 +98,8 @@ pub fn work<
     requires staffed { IsStaffed job (vec_len workers) }
     // For a purchase both links were dialled, and for who sells that to the house.
     requires dialled { IsDialled job dials }
+    // What a purchase says as it asks for the price has at most 64 bytes.
+    requires short { IsShort job }
     // What it comes to, by the job: a server's end, a purchase's, or that of who sells.
     ensures works { WorksAs D.tells (workers_seen P.seen C.moments) L.seen job disk result.disk workers.items result.workers.items dials result.dials
         (K.sent sink.old) (K.sent sink.new) (K.faults sink.old) (K.faults sink.new) result.lines.items result.ends.items result.ending }
@@ -108,18 +111,19 @@ pub fn work<
             product,
             limit,
             transaction,
+            request,
         } => {
             let start = Start {
                 transaction,
                 merchant,
                 product,
                 limit,
-                request: nothing(),
+                request,
                 memo: nothing(),
             };
             purchase(alloc, &start, disk, workers, dials, sink)
         }
-        Job::Sell { shelf, .. } => sell(alloc, shelf, disk, workers, dials),
+        Job::Sell { shelf, offers, .. } => sell(alloc, shelf, offers, disk, workers, dials),
     }
 }
 
@@ -127,19 +131,20 @@ pub fn work<
 fn sell<D: Disk, P: Port, L: Link, C: Clock>(
     alloc: Global,
     shelf: Catalogue,
+    offers: Option<Offers>,
     disk: D,
     workers: Vec<Worker<P, C>>,
     dials: Dials<L>,
 ) -> Worked<D, P, L, C>
     requires one { vec_len workers ≡ 1 }
     requires server { IsSome dials.server }
-    ensures sells { SellsOver D.tells L.seen shelf disk result.disk (workers_seen P.seen C.moments workers.items) (workers_seen P.seen C.moments result.workers.items) dials result.dials result.ending }
+    ensures sells { SellsOver D.tells L.seen shelf offers disk result.disk (workers_seen P.seen C.moments workers.items) (workers_seen P.seen C.moments result.workers.items) dials result.dials result.ending }
     ensures idle { (result.lines.items ≡ []) × (result.ends.items ≡ []) }
 {
     let Dials { server, seller } = dials;
     let mut server = server.unwrap();
     let mut workers = workers;
-    let (ending, disk) = sell_with(alloc, shelf, disk, &mut workers[0], &mut server);
+    let (ending, disk) = sell_with(alloc, shelf, offers, disk, &mut workers[0], &mut server);
     let dials = Dials {
         server: Some(server),
         seller,

@@ -3,6 +3,7 @@ use Rattle.nb_port.specs.Tells.{DiskTells}
 use Rattle.nb_book.specs.Money.{total}
 use Rattle.nb_journal.specs.Making.{without_fee}
 use Rattle.nb_turns.specs.declared.line.Line.{Line}
+use Rattle.nb_batch.specs.declared.answering.Answerer.TheVariants.{House}
 use Rattle.nb_batch.specs.Batch.{Outside}
 use Rattle.nb_play.specs.Drill.{head_of}
 use Rattle.nb_play.specs.Feed.{Feed, cap_of, told_by, whole}
@@ -16,10 +17,10 @@ use Rattle.nb_run.proofs.drill.answer.Goals as goal
 
 -- what a new source and a new clock tell is what a drill begins with
 fed_so : {D : Type 0} (tells : DiskTells D) (made new : D) (seed orders : ℕ) (source : Feed) (clock : ℕ) (after : Outside) (lines : List Line) (end : Ending) → source ≡ whole seed orders → clock ≡ 0
-    → BatchLines tells made new (record { left = Some source.left; sent = None; moments = told_by clock }) after lines end → BatchLines tells made new (fed seed orders) after lines end
+    → BatchLines tells House made new (record { left = Some source.left; sent = None; moments = told_by clock }) after lines end → BatchLines tells House made new (fed seed orders) after lines end
 fed_so tells made new seed orders source clock after lines end is none b =
     let begins : Feed → ℕ → Outside = λ s k. record { left = Some s.left; sent = None; moments = told_by k } in
-    subst (λ (before : Outside). BatchLines tells made new before after lines end) (ap₂ begins is none) b
+    subst (λ (before : Outside). BatchLines tells House made new before after lines end) (ap₂ begins is none) b
 
 -- its frames are whole
 whole_so : (seed orders : ℕ) (source : Feed) → orders ≤ 100000 → source ≡ whole seed orders → IsWholeInput (Some source.left)

@@ -22,10 +22,10 @@ pub returns-clause-batch : goal.returns-clause-batch
 returns-clause-batch g c =
     let before : Outside = record { left = g.S.Source.left c.args.source.now; sent = g.K.Sink.sent c.args.sink.now; moments = g.C.Clock.moments c.args.clock.now } in
     let after : Outside = record { left = g.S.Source.left c.answer_frames-end.new.source; sent = g.K.Sink.sent c.answer_frames-end.new.sink; moments = g.C.Clock.moments c.answer_frames-end.new.clock } in
-    subst (λ (ending : Ending). BatchLines g.D.Disk.tells c.args.disk c.into_parts-disk.result.0 before after c.into_parts-disk.result.1.items ending) (sym c.ended.ensures)
-    (subst (λ (lines : List Line). BatchLines g.D.Disk.tells c.args.disk c.into_parts-disk.result.0 before after lines (ended c.answer_frames-end.result)) (sym c.into_parts-disk.ensures.lines)
-    (subst (λ (disk : g.row.D.Denot). BatchLines g.D.Disk.tells c.args.disk disk before after c.answer_frames-end.new.house.lines (ended c.answer_frames-end.result)) (sym c.into_parts-disk.ensures.disk)
-    (batch_lines g.D.Disk.tells g.met.D.Disk.only_now c.answer_frames-end.result c.args.disk c.in-Ok.house c.answer_frames-end.new.house before after
+    subst (λ (ending : Ending). BatchLines g.D.Disk.tells c.args.by c.args.disk c.into_parts-disk.result.0 before after c.into_parts-disk.result.1.items ending) (sym c.ended.ensures)
+    (subst (λ (lines : List Line). BatchLines g.D.Disk.tells c.args.by c.args.disk c.into_parts-disk.result.0 before after lines (ended c.answer_frames-end.result)) (sym c.into_parts-disk.ensures.lines)
+    (subst (λ (disk : g.row.D.Denot). BatchLines g.D.Disk.tells c.args.by c.args.disk disk before after c.answer_frames-end.new.house.lines (ended c.answer_frames-end.result)) (sym c.into_parts-disk.ensures.disk)
+    (batch_lines g.D.Disk.tells c.args.by g.met.D.Disk.only_now c.answer_frames-end.result c.args.disk c.in-Ok.house c.answer_frames-end.new.house before after
     c.in-Ok.ensures.gives c.in-Ok.ensures.nothing c.in-Ok.ensures.count c.answer_frames-end.ensures.served c.witness.ensures.keeps c.answer_frames-end.ensures.origin)))
 
 pub returns-clause-counts : goal.returns-clause-counts
@@ -40,7 +40,7 @@ returns-clause-whole g c = λ input no_sink.
     let before : Outside = record { left = g.S.Source.left c.args.source.now; sent = g.K.Sink.sent c.args.sink.now; moments = g.C.Clock.moments c.args.clock.now } in
     let after : Outside = record { left = g.S.Source.left c.answer_frames-end.new.source; sent = g.K.Sink.sent c.answer_frames-end.new.sink; moments = g.C.Clock.moments c.answer_frames-end.new.clock } in
     subst EndsWhole (sym c.ended.ensures)
-    (whole_end g.D.Disk.tells c.in-Ok.house c.answer_frames-end.new.house c.answer_frames-end.result before after (g.S.Source.faults c.args.source.now) (g.S.Source.faults c.answer_frames-end.new.source) (g.K.Sink.faults c.args.sink.now) (g.K.Sink.faults c.answer_frames-end.new.sink)
+    (whole_end g.D.Disk.tells c.args.by c.in-Ok.house c.answer_frames-end.new.house c.answer_frames-end.result before after (g.S.Source.faults c.args.source.now) (g.S.Source.faults c.answer_frames-end.new.source) (g.K.Sink.faults c.args.sink.now) (g.K.Sink.faults c.answer_frames-end.new.sink)
     c.answer_frames-end.ensures.served c.answer_frames-end.ensures.fault input no_sink)
 
 pub returns-clause-opens : goal.returns-clause-opens

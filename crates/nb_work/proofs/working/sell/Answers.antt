@@ -19,7 +19,7 @@ returns-clause-sells g c =
       (λ i. map sees (c.idle.ensures.same.1 i).items) ∙ one_put sees c.args.workers.items later one,
       c.unwrap-server.ensures,
       c.idle.ensures.same.2,
-      subst (λ (x : g.row.D.Denot × Ending). SellsAs g.D.Disk.tells c.args.shelf
+      subst (λ (x : g.row.D.Denot × Ending). SellsAs g.D.Disk.tells c.args.shelf c.args.offers
           (outside c.args.disk (sees worker) (g.L.Link.seen c.unwrap-server.result))
           (outside x.0 (sees later) (g.L.Link.seen c.sell_with-disk.new.server)) x.1)
           (sym (λ i. (c.idle.ensures.same.0 i, c.idle.ensures.same.3 i)))

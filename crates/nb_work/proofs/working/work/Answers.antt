@@ -19,11 +19,11 @@ returns-in-Buy g c = record {
       c.args.workers.items c.purchase.result.workers.items c.args.dials c.purchase.result.dials (g.K.Sink.sent c.args.sink.now) (g.K.Sink.sent c.purchase.new.sink)
       (g.K.Sink.faults c.args.sink.now) (g.K.Sink.faults c.purchase.new.sink) c.purchase.result.lines.items c.purchase.result.ends.items c.purchase.result.ending)
       (sym c.in-Buy.is) (
-        subst (λ (x : List ℕ × List ℕ). BuysOver g.D.Disk.tells g.L.Link.seen
-            record { transaction = c.in-Buy.transaction; merchant = c.in-Buy.merchant; product = c.in-Buy.product; limit = c.in-Buy.limit; request = x.0; memo = x.1 }
+        subst (λ (x : List ℕ). BuysOver g.D.Disk.tells g.L.Link.seen
+            record { transaction = c.in-Buy.transaction; merchant = c.in-Buy.merchant; product = c.in-Buy.product; limit = c.in-Buy.limit; request = c.in-Buy.request; memo = x }
             c.args.disk c.purchase.result.disk c.args.dials c.purchase.result.dials (g.K.Sink.sent c.args.sink.now) (g.K.Sink.sent c.purchase.new.sink)
             (g.K.Sink.faults c.args.sink.now) (g.K.Sink.faults c.purchase.new.sink) c.purchase.result.ending)
-            (λ i. (c.nothing.ensures i, c.nothing-in-Buy.ensures i))
+            c.nothing.ensures
             c.purchase.ensures.buys,
         (λ i. (c.purchase.ensures.idle.0 i).items),
         c.purchase.ensures.idle.1,
