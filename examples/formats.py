@@ -70,7 +70,7 @@ STATUSES = {
     2: ("the words are none of the program's", "", "compare them with docs/netbill.1"),
     3: ("the input failed", "", "send it again: what was answered is recorded, and is told again"),
     4: ("the output failed", "", "send the input again: what was recorded is told again"),
-    5: ("the input ended within a frame, or holds what is no frame, or is no head, or, of migrate, no journal without a rate, or, of judge, no case, or, of sell, no shelf", "bytes read, the place of the fault, or the number of the shelf's item", "mend the input from there on; the frames before it were answered"),
+    5: ("the input ended within a frame, or holds what is no frame, or is no head, or, of migrate, no journal without a rate, or, of judge, no case, or, of sell, no shelf, or, of play, no script", "bytes read, the place of the fault, or the number of the shelf's item or of the script's line", "mend the input from there on; the frames before it were answered"),
     6: ("there was no memory", "", "give the process more: docs/OPERATING.md says how much a journal takes"),
     7: ("the journal's disk failed as it was opened or made, or as a wallet or a stall kept an item", "", "look at the disk and its free room, then start again"),
     8: ("the file is no journal, has a bad entry, or is damaged, or, of sell, the shelf has not what the stall sold", "place of the damage in the file, and else 0", "move the file aside, see what it holds with examples/show journal, and only then take the last copy: docs/OPERATING.md says what that forgets"),
@@ -81,6 +81,7 @@ STATUSES = {
     13: ("a port failed, with connections left, or, of sell, the connection to the house did", "", "start again; of sell, see that the house listens: it goes on from the stall"),
     14: ("the wallet or the stall holds as many items as its cap says", "", "begin another wallet under the same head for further purchases; another stall under the same head for further sales, where no sale of the old one is open"),
     15: ("nobody holds the account, and it is not the house's", "", "look for its number: examples/show journal has all accounts, and 0 is the house's"),
+    16: ("the place from which records were asked for is above the number of entries", "how many entries stand", "ship from the number that the standby's last acknowledgement told; where that is above this, the standby is ahead: this is no primary of it"),
     17: ("a file or a port could not be opened, or another process holds the journal, or nobody listens at an address that is dialled", "", "see who holds it, its mode, whether the port is free, and whether the other side runs"),
 }
 
@@ -273,6 +274,21 @@ def wallet_head(id, account, nonce, key):
 def stall_head(id, account, key, master):
     """The head of a stall's journal."""
     return struct.pack(">IIQ", id, account, 0) + key + master
+
+
+def membership(consumer, until, groups):
+    """What a credential says, before it is sealed."""
+    return struct.pack(">IQ", consumer, until) + sized(struct.pack(f">{len(groups)}I", *groups))
+
+
+def credential(keeper, consumer, until, groups):
+    """A credential of a consumer, under the key of a keeper of groups."""
+    return seal(keeper, b"cred", membership(consumer, until, groups))
+
+
+def offers(keeper, rows):
+    """The offers of a merchant: for a product and a group a price."""
+    return b"".join([b"keeper ", keeper.hex().encode(), b"\n"] + [b"%d;%d;%d\n" % row for row in rows])
 
 
 def journal(head, cap, entries, rate=None):

@@ -1,6 +1,7 @@
 """Scripts of worlds, as docs/FORMATS.md has them: what one sets up, its first bad line, and the report of what happens. It has no keys, seals or bytes of
 messages: a packet is a kind and what it is about. What somebody injects is about nothing, unless its maker says so."""
 
+import random
 import re
 
 # The kinds of messages.
@@ -453,3 +454,61 @@ def play(text, about=()):
     for name, said in setting.acts:
         world.act(name, said)
     return world.report()
+
+
+# ---- scripts that are drawn
+
+
+def first_lines(draw):
+    """Lines that set a script up: one to three consumers, one or two merchants, funds and shelves."""
+    buyers, sellers = [1, 3, 5][: draw.randint(1, 3)], [2, 4][: draw.randint(1, 2)]
+    lines = [f"house {'11' * 32}{'22' * 32}{'33' * 16}", f"cap {draw.choice([8, 12, 40, 40])}"]
+    lines += [f"consumer {id} {id * 10} {id + 6} {bytes([0x40 + id]).hex() * 32}" for id in buyers]
+    lines += [f"merchant {id} {id * 10} {bytes([0x50 + id]).hex() * 32} {bytes([0x60 + id]).hex() * 32}" for id in sellers]
+    lines += [f"fund {id * 10} {draw.choice([100, 300, 500, 1000])}" for id in buyers if draw.random() < 0.8]
+    for id in sellers:
+        lines += [f"shelf {id} {product} {draw.choice([100, 300, 400])} {draw.choice([0, 1, 5, 300])}" for product in (7, 8)[: draw.randint(1, 2)]]
+    return buyers, sellers, [*lines, "clock 1000"]
+
+
+def next_act(draw, world, fresh, buyers, sellers, tid):
+    """What happens next: mostly a packet that was not delivered yet reaches whom it is for."""
+    among, packets, calls = draw.random(), len(world.packets), len(world.calls)
+    if among < 0.07 or not packets:
+        return "buy", [draw.choice(buyers), tid + 1, draw.choice(sellers), draw.choice([7, 7, 7, 8]), draw.choice([100, 300, 400, 1000, 1000])]
+    if among < 0.70 and fresh:
+        number_of = fresh.pop(draw.choice([0, -1]))
+        return "serve" if world.packets[number_of][1][0] == "server" and draw.random() < 0.9 else "deliver", [number_of]
+    if among < 0.74:
+        return "deliver", [draw.randrange(packets + 1)]
+    if among < 0.80:
+        return draw.choice(["turn", "write", "open", "answer"]), [max(0, calls - 1) if draw.random() < 0.7 else draw.randrange(calls + 1)]
+    if among < 0.84:
+        return "quiet consumer", [draw.choice(buyers), draw.randint(1, max(tid, 1))]
+    if among < 0.88:
+        return "quiet merchant", [draw.choice(sellers), draw.choice(buyers), draw.randint(1, max(tid, 1))]
+    if among < 0.91:
+        return draw.choice(["stop with", "stop without"]), []
+    if among < 0.94:
+        return draw.choice([("restart consumer", [draw.choice(buyers)]), ("restart merchant", [draw.choice(sellers)])])
+    if among < 0.96:
+        return "clock", [draw.choice([1000, 1001, 1300, 1900, 1901, 2500, 4600, 4601, 700, 699])]
+    kind = draw.randint(1, 16)
+    return draw.choice([("inject server", [kind, b""]), ("inject consumer", [draw.choice(buyers), kind, b"\0"]), ("inject merchant", [draw.choice(sellers), kind, b""])])
+
+
+def drawn(seed):
+    """A script that is drawn: it is good but where its cap is too small for what is set up."""
+    draw = random.Random(seed)
+    buyers, sellers, lines = first_lines(draw)
+    setting = read("".join(line + "\n" for line in lines).encode())
+    if isinstance(setting, Setting):
+        world, fresh, tid = World(setting, {}), [], 0
+        for _ in range(draw.randint(30, 120)):
+            before = len(world.packets)
+            name, said = next_act(draw, world, fresh, buyers, sellers, tid)
+            tid += name == "buy"
+            world.act(name, said)
+            fresh += range(before, len(world.packets))
+            lines.append(" ".join([name, *((word.hex() or "-") if isinstance(word, bytes) else str(word) for word in said)]))
+    return "".join(line + "\n" for line in lines).encode()

@@ -1,11 +1,12 @@
 //! A program that does one step of a consumer or of a merchant a number of times, so that its speed can be measured:
 //! `bench_nodes consumer|merchant SIZE TIMES`, among SIZE purchases; or that hands out all parts of goods of SIZE bytes so many times over links in memory:
-//! `bench_nodes sell SIZE TIMES`. It prints the SHA-256 digest of what the steps made, in hexadecimal.
+//! `bench_nodes sell SIZE TIMES`; or that quotes a price so many times over SIZE offers: `bench_nodes quote SIZE TIMES`. It prints the SHA-256 digest of what the steps made, in hexadecimal.
 //! `bench_nodes rows` does what each line of standard input says, in the same words. It is beside `bench`, since it stands on what nodes are made
 //! of, and on nothing of a house. How long a step takes is no claim of the proofs: bench/run measures from outside. What is made is compared with
 //! another program: the digests in `stdout` are from it.
 #![tactic(auto)]
 
+mod discount;
 mod nodes;
 mod sale;
 
@@ -15,7 +16,7 @@ use std::alloc::Global;
 use std::env;
 use std::process::ExitCode;
 
-const USAGE: &str = "usage: bench_nodes consumer|merchant|sell SIZE TIMES
+const USAGE: &str = "usage: bench_nodes consumer|merchant|sell|quote SIZE TIMES
        bench_nodes rows";
 
 // The words are none of the program's.

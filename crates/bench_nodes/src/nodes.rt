@@ -5,7 +5,7 @@ ghost use Rattle.std.specs.Prelude.{IfOk};
 ghost use Rattle.nb_msgs.specs.Bodies.{MessageKeepsRules};
 ghost use Rattle.nb_wallet.specs.Spelling.{StartKeepsRules, PassKeepsRules};
 
-use crate::{Made, sale};
+use crate::{Made, discount, sale};
 use nb_consumer::Consumer;
 use nb_merchant::Merchant;
 use nb_msgs::{Message, Step};
@@ -17,8 +17,8 @@ use nb_units::{AcctId, PartyId, Price, Secret, Small};
 use nb_wallet::{SessionTicket, Start, Wallet, price_request};
 use std::alloc::Global;
 
-// The key of all parties, and of the house.
-const KEY: Secret = [0x44; 32];
+/// The key of all parties, of the house and of the keeper of groups.
+pub const KEY: Secret = [0x44; 32];
 
 const CONSUMER: PartyId = PartyId(1);
 
@@ -32,12 +32,13 @@ const PRODUCT: u32 = 7;
 /// The moment of all messages, and the last second of the ticket.
 pub const MOMENT: u64 = 1000;
 
-/// The rows `consumer` and `merchant`: SIZE purchases. The row `sell`: goods of SIZE bytes.
+/// The rows `consumer` and `merchant`: SIZE purchases. The row `sell`: goods of SIZE bytes. The row `quote`: SIZE offers.
 pub fn run(alloc: Global, row: &str, size: u32, times: u32) -> Result<Made, NoMemory> {
     match row {
         "consumer" => asked_again(alloc, size, times),
         "merchant" => told_again(alloc, size, times),
         "sell" => sale::run(alloc, size, times),
+        "quote" => discount::run(alloc, size, times),
         _ => Ok(Made::Unknown),
     }
 }

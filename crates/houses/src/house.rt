@@ -33,6 +33,8 @@ pub struct House {
     pub workers: Vec<Worker<MemPort, MemClock>>,
     // What the next stall sells, and the link of its house.
     pub shelf: Vec<u8>,
+    // What it offers to the members of groups, or nothing.
+    pub offers: Vec<u8>,
     pub server: Option<MemLink>,
     // What the last session left, and the last server.
     pub left: Option<Left>,
@@ -51,6 +53,7 @@ impl House {
             links: Vec::new(alloc),
             workers: Vec::new(alloc),
             shelf: Vec::new(alloc),
+            offers: Vec::new(alloc),
             server: None,
             left: None,
             came: None,

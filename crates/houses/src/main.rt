@@ -108,6 +108,7 @@ fn set(house: &mut House, told: &mut Told, word: &str, words: &[&str]) -> Result
         "link" => house.link(told, words),
         "worker" => house.worker(told, words),
         "shelf" => house.shelf(told, words),
+        "offers" => house.offers(told, words),
         "server" => house.server(told, words),
         _ => told.unclear(),
     }

@@ -3,6 +3,7 @@
 ghost use Rattle.std.specs.Prelude.{◌≡◌, vec_len};
 
 use crate::house::House;
+use nb_groups::{OFFERS_BYTES, Offers};
 use nb_lines::Told;
 use nb_link::{MemLink, MemPort, OpenGate, Port};
 use nb_port::{MemClock, MemDisk, MemSink};
@@ -26,6 +27,15 @@ impl House {
         Ok(())
     }
 
+    /// `offers HEX`: they do so with these offers for groups; with none where nothing stands there.
+    pub fn offers(&mut self, told: &mut Told, words: &[&str]) -> Result<(), NoMemory> {
+        if words.len() > 1 {
+            return told.unclear();
+        }
+        self.offers = nb_lines::spelled(self.alloc, words.first().copied().unwrap_or(""));
+        Ok(())
+    }
+
     /// `server STEP CALL..`: the house of the next job sends what was said, of which one read gives at most so many bytes; these calls of its link fail.
     pub fn server(&mut self, told: &mut Told, words: &[&str]) -> Result<(), NoMemory> {
         let [step, calls @ ..] = words else {
@@ -37,8 +47,8 @@ impl House {
         Ok(())
     }
 
-    /// `sell`: the job of one who sells on the links of the one worker, from the stall on the disk, with the shelf and the house's link: its status and its place, how
-    /// many links are left, what the disk has then, and what was sent to the house and over each link.
+    /// `sell`: the job of one who sells on the links of the one worker, from the stall on the disk, with the shelf, the offers and the house's link: its status and its place,
+    /// how many links are left, what the disk has then, and what was sent to the house and over each link.
     pub fn sell<R: Threads + Wait + Sync>(
         &mut self,
         rt: &R,
@@ -47,7 +57,14 @@ impl House {
     ) -> Result<(), NoMemory> {
         let workers = mem::replace(&mut self.workers, Vec::new(self.alloc));
         let server = mem::replace(&mut self.server, None);
-        if self.shelf.len() > MAX_SHELF {
+        if self.shelf.len() > MAX_SHELF || self.offers.len() > OFFERS_BYTES {
+            return told.unclear();
+        }
+        let offers = match Offers::read(self.alloc, &self.offers) {
+            Ok(offers) => Some(offers),
+            Err(_) => None,
+        };
+        if offers.is_none() && !self.offers.is_empty() {
             return told.unclear();
         }
         let (Some(server), Ok(shelf)) = (server, Catalogue::read(self.alloc, &self.shelf)) else {
@@ -56,7 +73,7 @@ impl House {
         if !words.is_empty() || workers.len() != 1 {
             return told.unclear();
         }
-        let worked = sold(rt, self.alloc, self.disk()?, workers, server, shelf)?;
+        let worked = sold(rt, self.alloc, self.disk()?, workers, server, shelf, offers)?;
         tell(told, &worked);
         Ok(())
     }
@@ -69,6 +86,7 @@ fn sold<R: Threads + Wait + Sync>(
     workers: Vec<Worker<MemPort, MemClock>>,
     server: MemLink,
     shelf: Catalogue,
+    offers: Option<Offers>,
 ) -> Result<Worked<MemDisk, MemPort, MemLink, MemClock>, NoMemory>
     requires { vec_len workers ≡ 1 }
 {
@@ -77,7 +95,11 @@ fn sold<R: Threads + Wait + Sync>(
         server: Some(server),
         seller: None,
     };
-    let job = Job::Sell { links: 1, shelf };
+    let job = Job::Sell {
+        links: 1,
+        shelf,
+        offers,
+    };
     Ok(work(rt, alloc, job, disk, workers, dials, &OpenGate, &mut sink))
 }
 

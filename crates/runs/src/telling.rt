@@ -34,32 +34,54 @@ fn given_as(alloc: Global, word: &str) -> Result<String, NoMemory> {
 pub(crate) fn outcome(told: &mut Told, outcome: Outcome) {
     match outcome {
         Outcome::Done(Ending { status, place }) => {
-            told.show("status ", &status).show(" at ", &place)
+            told.show("status ", &status).show(" at ", &place);
         }
-        Outcome::Work(Job::Serve { workers, sessions }) => told
-            .show("", &workers)
-            .show(" workers are to serve ", &sessions)
-            .text(" sessions each"),
-        Outcome::Work(
-            Job::Buy {
-                merchant,
-                product,
-                limit,
-                transaction,
-            },
-        ) => told
-            .show("product ", &product)
-            .show(" of party ", &merchant.0)
-            .show(" is to be bought for at most ", &limit.0)
-            .show(" as ", &transaction),
-        Outcome::Work(Job::Sell { links, shelf }) => {
-            told.show("", &links).text(" links are to be sold on");
-            for product in [7, 9] {
-                tell_product(told, &shelf, product);
+        Outcome::Work(job) => tell_job(told, &job),
+    }
+}
+
+// The work that is left.
+fn tell_job(told: &mut Told, job: &Job) {
+    match job {
+        Job::Serve { workers, sessions } => {
+            told.show("", workers)
+                .show(" workers are to serve ", sessions)
+                .text(" sessions each");
+        }
+        Job::Buy {
+            merchant,
+            product,
+            limit,
+            transaction,
+            request,
+        } => {
+            told.show("product ", product)
+                .show(" of party ", &merchant.0)
+                .show(" is to be bought for at most ", &limit.0)
+                .show(" as ", transaction);
+            tell_request(told, request.as_slice());
+        }
+        Job::Sell {
+            links,
+            shelf,
+            offers,
+        } => {
+            told.show("", links).text(" links are to be sold on");
+            if offers.is_some() {
+                told.text(" with offers");
             }
-            told
+            for product in [7, 9] {
+                tell_product(told, shelf, product);
+            }
         }
-    };
+    }
+}
+
+// What is said as the price is asked for, where something is.
+fn tell_request(told: &mut Told, request: &[u8]) {
+    if !request.is_empty() {
+        told.bytes(" with ", request);
+    }
 }
 
 // A product of a shelf: its price, and its goods.

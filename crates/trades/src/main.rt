@@ -1,7 +1,7 @@
 //! A program that does with a consumer and with a merchant what the lines of standard input say, and prints what they do: the trials of `nb_consumer`
 //! and of `nb_merchant`, as data, of the heads of `nb_wallet` and `nb_stall`, of the shelves of `nb_price`, and of whole purchases. Each line is a word
 //! and what it is about. [`Trade`] says what those of a consumer do, which are `kept`, `again`, `start`, `hear`, `quiet`, `phase`, `goods`, `seal` and
-//! `part`, and those of a merchant, which are `shelf`, `stall`, `anew`, `consumer`, `house`, `silent`, `stage` and `asker`; `item` and `bytes` are of
+//! `part`, and those of a merchant, which are `shelf`, `offers`, `stall`, `anew`, `consumer`, `house`, `silent`, `stage` and `asker`; `item` and `bytes` are of
 //! both. [`Deal`](crate::deal::Deal) has the lines `wallet`, `comes`, `fails` and `buy`, of purchases over links, and `journal`, `moments`, `sell` and `cuts`, of what a merchant does there. [`heads`] and [`whole`] have the lines of that name, `head` and `whole`, and [`shelves`] has `catalogue`, `puts` and `shortage`. A line that
 //! begins with `#` is printed as it is.
 //!
@@ -131,6 +131,7 @@ fn done_by_merchant(
 ) -> Result<(), NoMemory> {
     match word {
         "shelf" => trade.shelf(words),
+        "offers" => trade.offers(told, words),
         "stall" => trade.stall(told, words),
         "anew" => trade.anew(told, words),
         "consumer" => trade.consumer_says(told, words),

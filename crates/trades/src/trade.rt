@@ -33,6 +33,8 @@ pub struct Trade {
     consumer: Consumer,
     // What a merchant sells that starts.
     shelf: Vec<u8>,
+    // What it offers to the members of groups, or nothing.
+    offers: Vec<u8>,
     merchant: Merchant,
     // What the last step kept and sent.
     kept: Vec<u8>,
@@ -51,6 +53,7 @@ impl Trade {
             items: Vec::new(alloc),
             consumer: Consumer::new(alloc, WALLET),
             shelf: Vec::new(alloc),
+            offers: Vec::new(alloc),
             merchant: selling::new_merchant(alloc, bytes::empty_catalogue(alloc)?),
             kept: Vec::new(alloc),
             sent: Vec::new(alloc),

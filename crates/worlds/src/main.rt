@@ -11,9 +11,11 @@ mod sets;
 use anyhow::anyhow;
 use nb_consumer::Phase;
 use nb_lines::Told;
+use nb_script::PlayFault;
 use nb_simulator::{Event, Setup, SetupFault, Stepped, World};
 use nb_units::{AcctId, NoMemory, PartyId};
 use std::alloc::Global;
+use std::str;
 
 // The world that there is, if one was made.
 #[derive(Drop)]
@@ -73,6 +75,7 @@ fn done_by_word(
         "world" => set(scene, told, words),
         "phase" => phase(scene, told, words),
         "balances" => balances(scene, told),
+        "play" => play(told, words),
         _ => take_on(scene, told, word, words),
     }
 }
@@ -131,6 +134,20 @@ fn phase(scene: &Scene, told: &mut Told, words: &[&str]) -> Result<(), NoMemory>
             world.phase(party(*consumer), nb_lines::number(*transaction)),
         ),
         _ => told.unclear(),
+    }
+}
+
+// `play HEX`: a script, played: its report, or its first bad line.
+fn play(told: &mut Told, words: &[&str]) -> Result<(), NoMemory> {
+    let script = nb_lines::spelled(told.alloc(), words.first().copied().unwrap_or(""));
+    let mut report = Vec::new(told.alloc());
+    match nb_player::play(told.alloc(), &script, &mut report) {
+        Ok(()) => match str::from_utf8(&report) {
+            Ok(text) => told.text(text.trim_end()).done(),
+            Err(_) => told.unclear(),
+        },
+        Err(PlayFault::BadLine { line }) => told.show("bad line ", &line).done(),
+        Err(PlayFault::NoMemory) => Err(NoMemory),
     }
 }
 

@@ -5,6 +5,7 @@ ghost use Rattle.nb_merchant.specs.Sending.{StepIs};
 
 use crate::trade::Trade;
 use crate::{bytes, shelves, telling};
+use nb_groups::{OFFERS_BYTES, Offers};
 use nb_lines::Told;
 use nb_merchant::Merchant;
 use nb_msgs::Step;
@@ -40,7 +41,16 @@ impl Trade {
         Ok(())
     }
 
-    /// `stall ITEM..`: a merchant starts with these items, each a number or spelled, and sells what is on the shelf.
+    /// `offers HEX`: what it offers to the members of groups from its next start on: these offers, or nothing.
+    pub fn offers(&mut self, told: &mut Told, words: &[&str]) -> Result<(), NoMemory> {
+        if words.len() > 1 {
+            return told.unclear();
+        }
+        self.offers = nb_lines::spelled(self.alloc, words.first().copied().unwrap_or(""));
+        Ok(())
+    }
+
+    /// `stall ITEM..`: a merchant starts with these items, each a number or spelled, sells what is on the shelf and offers what was said.
     pub fn stall(&mut self, told: &mut Told, words: &[&str]) -> Result<(), NoMemory> {
         let items = self.items_of(words)?;
         match shelves::read(self.alloc, &self.shelf) {
@@ -86,10 +96,17 @@ impl Trade {
         catalogue: Catalogue,
         items: &[Blob],
     ) -> Result<(), NoMemory> {
-        if items.len() > 100 {
+        if items.len() > 100 || self.offers.len() > OFFERS_BYTES {
             return told.unclear();
         }
-        match Merchant::restart(self.alloc, STALL, catalogue, items) {
+        let restarted = match Offers::read(self.alloc, &self.offers) {
+            Ok(offers) => Merchant::restart_with(self.alloc, STALL, catalogue, offers, items),
+            Err(_) if self.offers.is_empty() => {
+                Merchant::restart(self.alloc, STALL, catalogue, items)
+            }
+            Err(_) => return told.unclear(),
+        };
+        match restarted {
             Ok(merchant) => {
                 drop(mem::replace(&mut self.merchant, merchant));
                 Ok(())
