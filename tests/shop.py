@@ -10,6 +10,8 @@
 - A port that is taken, a house that is not there, a stall that is not there or held: 17. A shelf with a bad item, one that is too long: 5, and
   nothing listens and nobody is dialled. A stall that is full: 14, one that is damaged, one of another kind, one whose shelf lost a product or has other goods
   of it: 8. Another price and further products are sold from then on.
+- Offers to groups, and buyers with a credential that holds, one that has ended, one of another consumer, of a group without an offer, and none: the house moves the price
+  of each. A key, a request, offers and a shelf that are bad: 5, and groups that are none: 2.
 - A price above a buyer's limit: buyer and seller wait for each other until the time limit of links ends it; the buyer ends with 12, and the seller serves
   the next one.
 
@@ -43,6 +45,9 @@ PURCHASES, RELAYED, KILLS, LONGEST_SHELF = 20, 6, 30, 268_435_456
 
 ENDORSED, SHELF_HI = 0x06, b"7;300;Poem;2\nhi"
 
+# The key of who keeps groups, and a second that is far away.
+KEEPER, FAR = bytes([77]) * 32, 4_102_444_800
+
 
 def shelf(goods):
     """A shelf with these products."""
@@ -58,8 +63,8 @@ def stall(path, cap=1000, items=()):
 class Seller:
     """The program, selling from a stall."""
 
-    def __init__(self, folder, draw, server, text, links=1000, cap=1000, path=None):
-        self.path = path or stall(folder / "stall", cap)
+    def __init__(self, folder, draw, server, text, links=1000, cap=1000, path=None, word="sell"):
+        self.path, self.word = path or stall(folder / "stall", cap), word
         self.shelf, self.server, self.links = folder / "shelf", server, links
         self.shelf.write_bytes(text)
         for _ in range(100):
@@ -73,7 +78,7 @@ class Seller:
         return f"127.0.0.1:{self.port}"
 
     def words(self, links=None):
-        return [PROGRAM, "sell", self.path, self.address, self.server, str(self.links if links is None else links)]
+        return [PROGRAM, self.word, self.path, self.address, self.server, str(self.links if links is None else links)]
 
     def starts(self, links=None):
         """The program sells. False where it ended before it listened."""
@@ -380,6 +385,35 @@ def refusals(folder, draw):
     house.process.kill()
 
 
+def discounts(folder, draw):
+    """What is paid with a credential and without, where groups are offered the product for less, and the statuses of the three words."""
+    house = Served(folder, draw)
+    text = formats.offers(KEEPER, [(7, 5, 200), (7, 9, 150)]) + b"\n" + SHELF_HI
+    card = ended(["credential", "1", str(FAR), "5,9"], 0, text=KEEPER)
+    if card != formats.credential(KEEPER, 1, FAR, [5, 9]):
+        fail(f"a credential has other bytes: {card.hex()}")
+    old, other, sixth = (formats.credential(KEEPER, *row) for row in ((1, 2000, [5, 9]), (3, FAR, [5, 9]), (1, FAR, [6])))
+    rows = (card, 150), (b"", 300), (old, 300), (other, 300), (sixth, 300), (formats.credential(KEEPER, 1, FAR, [5]), 200)
+    seller = Seller(folder, draw, house.address(), text, links=len(rows), word="selloffers")
+    path = wallet(folder / "wallet")
+    for tid, (request, _) in enumerate(rows, 1):
+        if ended(["buywith", *buy(path, house.address(1), seller.address, tid)[1:]], 0, text=request) != b"hi":
+            fail(f"purchase {tid} with a credential has other goods")
+    seller.ends(0)
+    settled(house, [price for _, price in rows])
+    # the key is 32 bytes, a request at most 64, and groups ascend
+    for key in b"", KEEPER[1:], KEEPER + b"\0", KEEPER * 9:
+        ended(["credential", "1", "2000", "5,9"], 5, min(len(key), 33), text=key)
+    for words in ["0", "2000", "5"], ["1", "2000", "9,5"], ["1", "2000", "5,"], ["1", "2000", "1,2,3,4,5"], ["1", "2000", "0"], ["1", "2000", "65536"]:
+        ended(["credential", *words], 2, text=KEEPER)
+    nobody = "127.0.0.1:1"
+    ended(["buywith", *buy(path, nobody, nobody, 9)[1:]], 5, 64, text=bytes(65))
+    # the first bad line of the offers, and behind good ones the first bad item of the shelf
+    for bad, place in (b"", 1), (text[1:], 1), (text.replace(b"9;150", b"9;0"), 3), (text.replace(b"7;9", b"7;5"), 3), (text + SHELF_HI, 2), (bytes(LONGEST_SHELF + 1), 0):
+        ended(["selloffers", seller.path, nobody, nobody, "1"], 5, place, text=bad)
+    house.process.kill()
+
+
 class Dear(threading.Thread):
     """A price above a buyer's limit, beside all other trials: it takes as long as links wait."""
 
@@ -410,7 +444,7 @@ def main(seed):
     signal.alarm(SECONDS)
     draw = random.Random(seed)
     with tempfile.TemporaryDirectory() as room:
-        folders = [pathlib.Path(room) / name for name in ("dear", "fire", "relayed", "houses", "few", "refusals")]
+        folders = [pathlib.Path(room) / name for name in ("dear", "fire", "relayed", "houses", "few", "refusals", "discounts")]
         for folder in folders:
             folder.mkdir()
         dear = Dear(folders[0], draw)
@@ -420,6 +454,7 @@ def main(seed):
         houses(folders[3], draw)
         few_links(folders[4], draw)
         refusals(folders[5], draw)
+        discounts(folders[6], draw)
         dear.join()
         if not dear.done:
             fail("the price above a limit was not tried to its end")
