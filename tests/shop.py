@@ -404,7 +404,8 @@ def discounts(folder, draw):
     # the key is 32 bytes, a request at most 64, and groups ascend
     for key in b"", KEEPER[1:], KEEPER + b"\0", KEEPER * 9:
         ended(["credential", "1", "2000", "5,9"], 5, min(len(key), 33), text=key)
-    for words in ["0", "2000", "5"], ["1", "2000", "9,5"], ["1", "2000", "5,"], ["1", "2000", "1,2,3,4,5"], ["1", "2000", "0"], ["1", "2000", "65536"]:
+    high = str(2**32)
+    for words in [high, "2000", "5"], ["1", str(2**64), "5"], ["1", "2000", "9,5"], ["1", "2000", "5,5"], ["1", "2000", "5,"], ["1", "2000", "1,2,3,4,5"], ["1", "2000", high], ["1", "2000", "05"]:
         ended(["credential", *words], 2, text=KEEPER)
     nobody = "127.0.0.1:1"
     ended(["buywith", *buy(path, nobody, nobody, 9)[1:]], 5, 64, text=bytes(65))
