@@ -1,5 +1,5 @@
 """Refuses each growth of memory of the house's program once, one in a run: of a batch of a first purchase, of making and moving a journal, of a
-statement, and of a server that one link asks for the same purchase. A library that is put before the C library does it (failing.c). The program is
+statement, of a script that is played, and of a server that one link asks for the same purchase. A library that is put before the C library does it (failing.c). The program is
 held to this:
 
 - It ends with 6, or with the status of a run that is left alone where it did without; it is not ended by a signal. A server may end so too whose
@@ -154,6 +154,18 @@ def sessions(folder, asked):
     return count
 
 
+def plays(folder):
+    """Playing the script of a purchase. How many growths it has."""
+    stored = PROGRAM.parent.parent
+    text, report = (stored / "stdin").read_bytes(), (stored / "stdout").read_bytes()
+    count = growths(folder, ["play"], text)
+    for words in refusing(count):
+        status, sent, line = run(["play"], text, words)
+        if (status, sent) not in ((0, report), (6, b"")):
+            fail(f"{words}: playing ended with status {status}, {line!r}, and {sent!r}")
+    return count
+
+
 def late(number, frame):
     """Ends a test that takes too long."""
     fail(f"not done after {SECONDS} seconds")
@@ -167,7 +179,7 @@ def test(folder):
         return
     asked = list(failing.requests(int(time.time()), 1))
     made, moved = makings(folder)
-    print(f"{failing.TEST}: {made} growths of making a journal were refused, {moved} of moving one, {statements(folder)} of a statement", flush=True)
+    print(f"{failing.TEST}: {made} growths of making a journal were refused, {moved} of moving one, {statements(folder)} of a statement, {plays(folder)} of a script", flush=True)
     print(f"{failing.TEST}: {batches(folder, asked)} of a batch of {len(asked)} requests", flush=True)
     print(f"{failing.TEST}: {sessions(folder, asked)} of a server with a session of as many")
 

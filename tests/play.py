@@ -158,6 +158,9 @@ def main():
     begun = time.monotonic()
     for name, (text, wanted) in WORKED.items():
         holds(name, text.encode(), wanted.encode())
+    stored = [(TOP / "crates/netbill" / name).read_text() for name in ("stdin", "stdout")]
+    if stored != list(WORKED["purchase"]):
+        fail("the stored run of the program is not the purchase")
     for number in range(DRAWN):
         text = scripts.drawn(seed * DRAWN + number)
         holds(f"script {number} of seed {seed}", text, scripts.play(text))
