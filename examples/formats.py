@@ -75,7 +75,7 @@ STATUSES = {
     7: ("the journal's disk failed as it was opened or made, or as a wallet or a stall kept an item", "", "look at the disk and its free room, then start again"),
     8: ("the file is no journal, has a bad entry, or is damaged, or, of sell, the shelf has not what the stall sold", "place of the damage in the file, and else 0", "move the file aside, see what it holds with examples/show journal, and only then take the last copy: docs/OPERATING.md says what that forgets"),
     9: ("no journal is made: there is one, or the cap is out of its range", "", "take another file, or a cap from 1 to 1,000,000"),
-    10: ("a purchase is over and was not paid: the house refused it, or the key does not open the goods", "", "examples/show wallet says which; for a dispute examples/case writes the papers"),
+    10: ("a purchase is over and was not paid: the house refused it, or the key does not open the goods", "", "examples/show wallet says which; for a dispute examples/case writes the evidence"),
     11: ("as many frames were answered as one run answers", "", "start again with the rest of the input"),
     12: ("a purchase is not over, and nothing more came of the house or the seller", "", "run it again: it goes on from the wallet"),
     13: ("a port failed, with connections left, or, of sell, the connection to the house did", "", "start again; of sell, see that the house listens: it goes on from the stall"),
@@ -374,7 +374,7 @@ def unsealed(key, label, sealed):
 
 
 class Case(typing.NamedTuple):
-    """The papers of a dispute."""
+    """The evidence of a dispute."""
 
     house: bytes
     consumer: bytes
@@ -382,13 +382,13 @@ class Case(typing.NamedTuple):
     receipt: bytes
     sealed: bytes
 
-    def papers(self):
+    def evidence(self):
         """Its bytes before the sealed goods."""
         return self.house + self.consumer + sized(self.order) + sized(self.receipt)
 
     def bytes(self):
         """Its bytes."""
-        return self.papers() + sized(self.sealed)
+        return self.evidence() + sized(self.sealed)
 
     def ruling(self, opens):
         """What is ruled of it, in words, and what that shows. 'opens' says whether bytes are sealed goods under a key."""

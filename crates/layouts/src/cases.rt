@@ -16,11 +16,11 @@ pub fn ruled(told: &mut Told, words: &[&str]) -> Result<(), NoMemory> {
     rule(told, &bytes)
 }
 
-/// `judge-sale PAPERS KEY GOODS LENGTH TURNED`: the same of a case that begins with these papers, which are all that stands before its goods, and
+/// `judge-sale EVIDENCE KEY GOODS LENGTH TURNED`: the same of a case that begins with this evidence, which is all that stands before its goods, and
 /// whose goods are sealed under the key; where TURNED is a number the last bit of that byte of the sealed goods is turned.
 pub fn sale(told: &mut Told, words: &[&str]) -> Result<(), NoMemory> {
     let alloc = told.alloc();
-    let [papers, key, pattern, length, place] = words else {
+    let [evidence, key, pattern, length, place] = words else {
         return told.unclear();
     };
     let goods = patterned(alloc, *pattern, *length)?;
@@ -35,7 +35,7 @@ pub fn sale(told: &mut Told, words: &[&str]) -> Result<(), NoMemory> {
         *byte ^= 1;
     }
     let length = u32::try_from(goods.len()).unwrap_or(0);
-    let mut bytes = nb_lines::spelled(alloc, papers);
+    let mut bytes = nb_lines::spelled(alloc, evidence);
     bytes.extend_from_slice(&length.to_be_bytes())?;
     bytes.extend_from_slice(&goods)?;
     rule(told, &bytes)

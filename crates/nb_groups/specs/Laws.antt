@@ -4,7 +4,7 @@ use Rattle.std.specs.Borrow.{Bor}
 use Rattle.nb_units.specs.Frames.{AreBytes}
 use Rattle.nb_units.specs.declared.ids.PartyId.{PartyId}
 use Rattle.nb_price.specs.Products.{Product, product_in}
-use Rattle.nb_groups.specs.declared.limits.TheConstants.{MAX_GROUPS, CREDENTIAL_BYTES, CREDENTIAL_LABEL, OFFERS_BYTES, KEEPER}
+use Rattle.nb_groups.specs.declared.limits.TheConstants.{MAX_GROUPS, CREDENTIAL_BYTES, CREDENTIAL_LABEL, OFFERS_BYTES, COMMA, KEEPER}
 use Rattle.nb_groups.specs.declared.found.Offer.{Offer}
 use Rattle.nb_groups.specs.declared.membership.Membership.{Membership}
 use Rattle.nb_groups.specs.declared.quoting.Denial.{Denial}
@@ -99,7 +99,7 @@ NoOfferExactly = (products : List Product) (tariff : Tariff) (product : ℕ) (as
 
 -- the limits in numbers
 abbrev pub GroupLimitsAre : Type 0
-GroupLimitsAre = (MAX_GROUPS ≡ 4) × (CREDENTIAL_BYTES ≡ 64) × (OFFERS_BYTES ≡ 268435456)
+GroupLimitsAre = (MAX_GROUPS ≡ 4) × (CREDENTIAL_BYTES ≡ 64) × (OFFERS_BYTES ≡ 268435456) × (COMMA ≡ 44)
 
 -- the label and the word of the keeper's line in texts
 abbrev pub WordsAre : Type 0

@@ -11,7 +11,7 @@ use nb_epo::Order;
 use nb_units::{Blob, Malformed, NoMemory, Secret, Small};
 use std::alloc::Global;
 
-/// The papers of a dispute.
+/// The evidence of a dispute.
 #[derive(Drop)]
 pub struct Case {
     /// The house's key, 32 bytes, which the tags of receipts are made with.

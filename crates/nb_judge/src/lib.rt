@@ -1,4 +1,4 @@
-//! Disputes, decided from the consumer's papers alone.
+//! Disputes, decided from the consumer's evidence alone.
 //!
 //! A case is the house's key, the consumer's key, the order, the receipt and the sealed goods ([`Case`]; its bytes stand in
 //! `specs/Layout.antt`). [`judge`] rules on it by six tests in order (`specs/Ruling.antt`): whether the consumer made the order, whether the house

@@ -1,4 +1,4 @@
--- What a judge rules on papers that real parties made.
+-- What a judge rules on evidence that real parties made.
 use Rattle.std.proofs.Common.{◌≡◌, ◌⊎◌, inl, inr, ℕ, List, [], ◌∷◌, ◌++◌, Bool, true, false, ◌+◌, ◌==◌, Result, Ok, Err, Option, Some, None, codes, length, refl, sym, ap, subst, ◌∙◌}
 use Rattle.std.specs.Option.{option_or}
 use Rattle.std.specs.Prelude.{IsNone, IsSome, option_to_list}
@@ -43,7 +43,7 @@ use Rattle.nb_escrow.specs.declared.order.Presented.{Presented}
 use Rattle.nb_escrow.proofs.Judging.{Answer, Comes, comes}
 use Rattle.nb_escrow.proofs.Replying.{receipts_name_the_order}
 use Rattle.nb_merchant.specs.Sending.{OpensOrCollides}
-use Rattle.nb_parties.specs.Judged.{ArePapers, RulesAsEntry, IsJudged, OrdersAreJudged, EndorsedGoodsAreJudged}
+use Rattle.nb_parties.specs.Judged.{IsEvidence, RulesAsEntry, IsJudged, OrdersAreJudged, EndorsedGoodsAreJudged}
 use Rattle.nb_parties.proofs.Endorsing.{endorsed_goods_open}
 
 some_is : {A : Type 0} (a b : A) → (let first : Option A = Some a in first ≡ Some b) → a ≡ b
@@ -167,15 +167,15 @@ orders_are_judged H head most body moment merchant consumer keys entry is within
       new = new;
       settles = last.1;
       keyed = (now.3, second);
-      ruled = λ c ruling papers rules.
+      ruled = λ c ruling evidence rules.
           subst (λ (e : Entry). RulesAsEntry c e ruling) last.0
           (as_entry c tells.1 consumer ruling tells.6
-          (shown_receipt_rules c consumer ruling (ap (λ (o : Order). o.tag) papers.order ∙ tells.2.signed.signed ∙ sym (λ i. order_tag ((papers.key ∙ second) i) (papers.order i)))
+          (shown_receipt_rules c consumer ruling (ap (λ (o : Order). o.tag) evidence.order ∙ tells.2.signed.signed ∙ sym (λ i. order_tag ((evidence.key ∙ second) i) (evidence.order i)))
           (record {
             lawful = record { receipt = within; tag = length-hmac_of c.house _ };
-            opens = papers.receipt ∙ sym (λ i. sealed_receipt (papers.house i) (papers.key i) consumer);
+            opens = evidence.receipt ∙ sym (λ i. sealed_receipt (evidence.house i) (evidence.key i) consumer);
           })
-          (names_is_of p (length H) moment consumer c papers.order (tells.7 refl).1) rules));
+          (names_is_of p (length H) moment consumer c evidence.order (tells.7 refl).1) rules));
     }
 
 pub endorsed_goods_are_judged : EndorsedGoodsAreJudged

@@ -1,4 +1,4 @@
--- What a judge rules on papers that real parties made: of an order, by the entry that settled it, and of goods that a merchant endorsed.
+-- What a judge rules on evidence that real parties made: of an order, by the entry that settled it, and of goods that a merchant endorsed.
 use Rattle.std.specs.Prelude.{◌≡◌, ◌⊎◌, ℕ, List, true, length, Option, Some, None, IsNone, Ok}
 use Rattle.sha2.specs.Sha256.{sha256}
 use Rattle.nb_units.specs.declared.frames.TheConstants.{ORDER_REQUEST}
@@ -31,8 +31,8 @@ use Rattle.nb_merchant.specs.Shop.{Shop}
 use Rattle.nb_merchant.specs.Table.{after}
 use Rattle.nb_merchant.specs.declared.answer.Answer.{Answer}
 
--- the papers of an order, and of what its consumer was told of it under these keys: whatever goods they are
-pub record ArePapers (keys : ReplyKeys) (presented : Order) (consumer : Receipt) (c : Case) : Type 0 where
+-- the evidence of an order, and of what its consumer was told of it under these keys: whatever goods they are
+pub record IsEvidence (keys : ReplyKeys) (presented : Order) (consumer : Receipt) (c : Case) : Type 0 where
   pub house : c.house ≡ keys.house
   pub key : c.consumer ≡ keys.second
   pub order : c.order ≡ presented
@@ -47,23 +47,23 @@ RulesAsEntry c (Refused digest epoid consumer merchant product price code a b mo
 RulesAsEntry c other ruling = ⊥
 
 -- an order is authentic over these entries, no entry of them settles its identifier, the recorded one does; the keys are those of the house and of its
--- consumer; and its papers are ruled on as the recorded entry says
+-- consumer; and its evidence is ruled on as the recorded entry says
 pub record IsJudged (H : List Entry) (recorded : Entry) (body : List ℕ) (consumer : Receipt) (keys : ReplyKeys) (house : List ℕ) : Type 0 where
   pub order : Presented
   pub authentic : IsAuthenticOrder H body order
   pub new : IsNone (order_in H order.order.epoid)
   pub settles : settles order.order.epoid recorded ≡ true
   pub keyed : (keys.house ≡ house) × (keys.second ≡ order.consumer.key)
-  pub ruled : (c : Case) (ruling : Ruling) → ArePapers keys order.order consumer c → Rules c ruling → RulesAsEntry c recorded ruling
+  pub ruled : (c : Case) (ruling : Ruling) → IsEvidence keys order.order consumer c → Rules c ruling → RulesAsEntry c recorded ruling
 
--- Where a verdict records an entry for an order, the papers of that order with the receipt that its consumer is given, under the keys of the reply, are ruled
+-- Where a verdict records an entry for an order, the evidence of that order with the receipt that its consumer is given, under the keys of the reply, is ruled
 -- on as that entry says: never by one of the first three rulings, and as not paid, with the code, exactly where the order was refused.
 abbrev pub OrdersAreJudged : Type 0
 OrdersAreJudged = (H : List Entry) (head : Head) (cap : ℕ) (body : List ℕ) (moment : ℕ) (merchant consumer : Receipt) (keys : ReplyKeys) (entry : Entry)
     → verdict H head cap ORDER_REQUEST body moment ≡ record { reply = Receipts merchant consumer; keys = keys; entry = Some entry }
     → IsReceipt consumer → IsJudged H entry body consumer keys head.house
 
--- Where a merchant endorses an order, at whatever it hears, and papers have that order's checksum and goods with it, they are ruled on by the endorsement's
+-- Where a merchant endorses an order, at whatever it hears, and evidence has that order's checksum and goods with it, it is ruled on by the endorsement's
 -- key as goods that it opens, with their length, or the goods are a collision with those of the product as they were sealed.
 abbrev pub EndorsedGoodsAreJudged : Type 0
 EndorsedGoodsAreJudged = (shop : Shop) (w : Word) (a : Answer) (merchant : PartyId) (sealed : List ℕ) → AllFollow shop → done_at shop w ≡ Ok a

@@ -50,14 +50,14 @@ pub fn premises_are_met()
     nb_book::laws::stays_legal();
 }
 
-/// The papers of an order for which an entry is recorded now, with the receipt that its consumer is given, under the keys of the reply, are ruled on as that
+/// The evidence of an order for which an entry is recorded now, with the receipt that its consumer is given, under the keys of the reply, is ruled on as that
 /// entry says: never by one of the first three rulings, and as not paid, with the entry's code, exactly where the order was refused. The keys are those of the
 /// house and of the order's consumer. Premise: the receipt's fields have their widths.
 pub fn orders_are_judged()
     ensures { judged.OrdersAreJudged }
 {}
 
-/// Papers with the checksum of an order that a merchant endorsed, and goods that have it, are ruled on by the endorsement's key as goods that it opens, with the length of
+/// Evidence with the checksum of an order that a merchant endorsed, and goods that have it, is ruled on by the endorsement's key as goods that it opens, with the length of
 /// the product's goods; or the goods are a collision with those as they were sealed.
 pub fn endorsed_goods_are_judged()
     ensures { judged.EndorsedGoodsAreJudged }

@@ -4,6 +4,7 @@ ghost use Rattle.clap.specs.Walk.{first_of};
 ghost use Rattle.clap.specs.Words.{app_of, found_of, rows_of, subcommand_rows_of, with_subcommand};
 ghost use Rattle.nb_groups.specs.Groups.{AreGroups, groups_text};
 ghost use Rattle.nb_words.specs.Table as table;
+ghost use Rattle.nb_words.specs.declared.words.Command.TheVariants as commands;
 ghost use Rattle.nb_words.specs.Words.{AreServed};
 ghost use Rattle.nb_units.specs.declared.limits.TheConstants.{MAX_RATE};
 
@@ -162,18 +163,7 @@ pub(crate) fn command_in(matches: &ArgMatches<'_>) -> Option<Command>
         return Some(Command::Judge);
     }
     if is_buy(name) {
-        let Purchase {
-            merchant,
-            product,
-            limit,
-            transaction,
-        } = purchase_in(given)?;
-        return Some(Command::Buy {
-            merchant,
-            product,
-            limit,
-            transaction,
-        });
+        return Some(buy_of(purchase_in(given)?));
     }
     if is_sell(name) {
         let links = links_in(given)?;
@@ -183,18 +173,7 @@ pub(crate) fn command_in(matches: &ArgMatches<'_>) -> Option<Command>
         return credential_in(given);
     }
     if is_buywith(name) {
-        let Purchase {
-            merchant,
-            product,
-            limit,
-            transaction,
-        } = purchase_in(given)?;
-        return Some(Command::BuyWith {
-            merchant,
-            product,
-            limit,
-            transaction,
-        });
+        return Some(buy_with_of(purchase_in(given)?));
     }
     if is_selloffers(name) {
         let links = links_in(given)?;
@@ -261,6 +240,30 @@ fn purchase_in(given: &ArgMatches<'_>) -> Option<Purchase>
         limit,
         transaction,
     })
+}
+
+// The purchase as a command without a request.
+fn buy_of(purchase: Purchase) -> Command
+    ensures { result ≡ commands.Buy purchase.merchant purchase.product purchase.limit purchase.transaction }
+{
+    Command::Buy {
+        merchant: purchase.merchant,
+        product: purchase.product,
+        limit: purchase.limit,
+        transaction: purchase.transaction,
+    }
+}
+
+// The purchase as a command whose request is the input.
+fn buy_with_of(purchase: Purchase) -> Command
+    ensures { result ≡ commands.BuyWith purchase.merchant purchase.product purchase.limit purchase.transaction }
+{
+    Command::BuyWith {
+        merchant: purchase.merchant,
+        product: purchase.product,
+        limit: purchase.limit,
+        transaction: purchase.transaction,
+    }
 }
 
 // The credential whose numbers were read.
