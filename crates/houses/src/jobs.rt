@@ -5,10 +5,10 @@ ghost use Rattle.nb_server.specs.declared.server.TheConstants.{MAX_WORKERS};
 
 use crate::house::House;
 use crate::servers::{Came, ended};
+use nb_commands::Job;
 use nb_lines::Told;
 use nb_link::{MemLink, MemPort, OpenGate};
 use nb_port::{MemClock, MemDisk, MemSink};
-use nb_run::Job;
 use nb_server::{MAX_WORKERS, Worker};
 use nb_units::NoMemory;
 use nb_work::{Dials, work};

@@ -3,12 +3,12 @@
 ghost use Rattle.std.specs.Prelude.{◌≡◌, vec_len};
 
 use crate::house::House;
+use nb_commands::Job;
 use nb_groups::{OFFERS_BYTES, Offers};
 use nb_lines::Told;
 use nb_link::{MemLink, MemPort, OpenGate, Port};
 use nb_port::{MemClock, MemDisk, MemSink};
 use nb_price::{Catalogue, MAX_SHELF};
-use nb_run::Job;
 use nb_server::Worker;
 use nb_units::NoMemory;
 use nb_work::{Dials, Worked, work};

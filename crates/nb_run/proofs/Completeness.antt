@@ -1,5 +1,5 @@
 -- An input of whole frames alone ends a batch well, unless something failed or memory was wanting.
-use Rattle.std.proofs.Common.{◌≡◌, ◌≢◌, ℕ, ◌⊎◌, List, [], ◌∷◌, ◌++◌, length, Option, None, Some, Err, refl, sym, ap, subst, ◌∙◌, append_assoc, append-nil, arith, inl, inr, ⊎_elim}
+use Rattle.std.proofs.Common.{◌≡◌, ◌≢◌, ℕ, ◌⊎◌, List, [], ◌∷◌, ◌++◌, length, Option, None, Some, refl, sym, ap, subst, ◌∙◌, append_assoc, append-nil, arith, inl, inr, ⊎_elim}
 use Rattle.std.specs.Prelude.{map}
 use Rattle.std.specs.List.{flat_map, AllByRecursion}
 use Rattle.std.specs.Io.KnownBytes.{Consumes, IsAtEnd}
@@ -9,17 +9,17 @@ use Rattle.nb_port.specs.Tells.{DiskTells}
 use Rattle.nb_port.specs.Faults.{Rose}
 use Rattle.nb_units.specs.Frames.{Whole, Empty, Partial, Bad, HeaderFault, Frame, frame, IsFrame, front_of, Splits}
 use Rattle.nb_units.proofs.FrameLaws.{longest, whole_front, bad_stays, empty_bad}
-use Rattle.nb_run.specs.declared.ending.TheConstants.{OUT_OF_MEMORY, NO_JOURNAL, DISK_FAILED}
+use Rattle.nb_commands.specs.declared.ending.TheConstants.{OUT_OF_MEMORY, NO_JOURNAL, DISK_FAILED}
 use Rattle.nb_batch.specs.declared.batch.BatchEnd.{BatchEnd}
 use Rattle.nb_batch.specs.declared.batch.BatchEnd.TheVariants.{Clean, Cut, BadFrame, ReadFault, WriteFault, NoMemory, FrameLimit}
 use Rattle.nb_vault.specs.declared.vault.opening.VaultFault.{VaultFault}
 use Rattle.nb_vault.specs.declared.vault.opening.VaultFault.TheVariants.{Unborn, Damaged, BadEntry, DiskFault, NoMemory as Starved}
-use Rattle.nb_vault.specs.Opens.{WholeOpens, VaultOpenFails}
 use Rattle.nb_vault.specs.Vaults.{Chronicled}
 use Rattle.nb_batch.specs.declared.answering.Answerer.{Answerer}
 use Rattle.nb_batch.specs.Batch.{frame_of, Outside, Served, FaultOf}
 use Rattle.nb_run.specs.Ending.{EndsEarly, ended}
-use Rattle.nb_run.specs.Run.{EndsWhole, IsWholeInput, IsJournal, unopened}
+use Rattle.nb_commands.specs.Opening.{unopened}
+use Rattle.nb_run.specs.Run.{EndsWhole, IsWholeInput}
 use Rattle.nb_batch.proofs.Serving.{nothing_whole}
 
 nothing_partial : front_of [] ≡ Partial → ⊥
@@ -115,17 +115,6 @@ unopened_whole (Damaged item place) = inr (inr (inr (inl refl)))
 unopened_whole (BadEntry item) = inr (inr (inr (inl refl)))
 unopened_whole (DiskFault before after) = inr (inr (inr (inr refl)))
 unopened_whole Starved = inr (inl refl)
-
--- a content that stands for entries is opened, unless the disk failed or memory was wanting
-pub unopened_end : {D : Type 0} (tells : DiskTells D) (disk : D) (fault : VaultFault) (new : D) → WholeOpens (tells.content disk) (Err (fault, new)) → VaultOpenFails tells disk new fault → IsJournal (tells.content disk)
-    → (Rose (tells.faults disk) (tells.faults new) → ⊥) → ((unopened fault).status ≢ NO_JOURNAL) × ((unopened fault).status ≢ DISK_FAILED)
-unopened_end tells disk (Unborn found) new whole why j no_disk = absurd (whole j.image j.charter j.cap j.entries j.is j.stands)
-unopened_end tells disk (Damaged item place) new whole why j no_disk = absurd (whole j.image j.charter j.cap j.entries j.is j.stands)
-unopened_end tells disk (BadEntry item) new whole why j no_disk = absurd (whole j.image j.charter j.cap j.entries j.is j.stands)
-unopened_end tells disk (DiskFault before after) new whole why j no_disk =
-    let P : ℕ → ℕ → Type 0 = λ a b. Rose a b in
-    absurd (no_disk (subst (λ (b : ℕ). P (tells.faults disk) b) why.1 (subst (λ (a : ℕ). P a after) why.0 why.2)))
-unopened_end tells disk Starved new whole why j no_disk = (λ e. omega (arith, e), λ e. omega (arith, e))
 
 -- a batch that was opened ends with none of the two
 pub opened_end : (end : BatchEnd) → ((ended end).status ≢ NO_JOURNAL) × ((ended end).status ≢ DISK_FAILED)

@@ -24,10 +24,11 @@ use Rattle.nb_play.specs.declared.frames.TheConstants.{MOMENT}
 use Rattle.nb_play.specs.Drill.{head_of}
 use Rattle.nb_play.specs.Feed.{bytes_from, cap_of, count_of, frames_from, frames_of}
 use Rattle.nb_play.proofs.Lengths.{are_frames}
-use Rattle.nb_run.specs.declared.ending.Ending.{Ending}
-use Rattle.nb_run.specs.declared.ending.TheConstants.{CLEAN, SOURCE_FAILED, SINK_FAILED, BAD_INPUT, OUT_OF_MEMORY, FRAME_LIMIT}
-use Rattle.nb_run.specs.Ending.{at_no_place}
-use Rattle.nb_run.specs.Run.{Batch, BatchLines, EndsWhole, IsWholeInput, unopened}
+use Rattle.nb_commands.specs.declared.ending.Ending.{Ending}
+use Rattle.nb_commands.specs.declared.ending.TheConstants.{CLEAN, SOURCE_FAILED, SINK_FAILED, BAD_INPUT, OUT_OF_MEMORY, FRAME_LIMIT}
+use Rattle.nb_commands.specs.Ending.{at_no_place}
+use Rattle.nb_commands.specs.Opening.{unopened}
+use Rattle.nb_run.specs.Run.{Batch, BatchLines, EndsWhole, IsWholeInput}
 use Rattle.nb_run.specs.Drill.{Answers, Drilled, IsFresh, TellsLine, fed, held, line_of, line_with, recorded, requests_of, tally}
 use Rattle.nb_run.proofs.Completeness.{parts}
 

@@ -2,11 +2,11 @@
 use Rattle.std.proofs.Common.{◌≡◌, ◌⊎◌, inl, inr, ℕ, List, Option, length, refl, ap, arith}
 use Rattle.nb_units.specs.declared.width.TheConstants.{SECRET}
 use Rattle.nb_port.specs.Faults.{Rose}
-use Rattle.nb_run.specs.declared.ending.TheConstants.{CLEAN, OUT_OF_MEMORY}
-use Rattle.nb_run.specs.declared.granting.GrantEnd.{GrantEnd}
-use Rattle.nb_run.specs.declared.granting.GrantEnd.TheVariants.{Granted, ReadFault, BadKey, WriteFault, NoMemory}
-use Rattle.nb_run.specs.Granting.{GrantsAs, IsKeyInput, TookOther, grant_ending}
-use Rattle.nb_run.proofs.Moving.{same_input, not_longer}
+use Rattle.nb_commands.specs.declared.ending.TheConstants.{CLEAN, OUT_OF_MEMORY}
+use Rattle.nb_commands.specs.declared.granting.GrantEnd.{GrantEnd}
+use Rattle.nb_commands.specs.declared.granting.GrantEnd.TheVariants.{Granted, ReadFault, BadKey, WriteFault, NoMemory}
+use Rattle.nb_commands.specs.Granting.{GrantsAs, IsKeyInput, TookOther, grant_ending}
+use Rattle.nb_commands.proofs.Moving.{same_input, not_longer}
 
 module _ (left left' : Option (List ℕ)) (source source' : ℕ) (sent sent' : Option (List ℕ)) (sink sink' : ℕ) (credential : List ℕ → List ℕ) (input : IsKeyInput left) where
   is_key : (count : ℕ) → TookOther left left' count → ⊥

@@ -1,17 +1,9 @@
 pub mod Running
 pub mod Completeness
 pub mod Numerals
-pub mod Heads
-pub mod Making
 pub mod Tallying
 pub mod Drilling
-pub mod Moving
-pub mod Stating
-pub mod Rulings
 pub mod Stocking
 pub mod Requests
 pub mod Wares
 pub mod Grants
-pub mod Plays
-pub mod Ships
-pub mod Promotions

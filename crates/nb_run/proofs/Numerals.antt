@@ -6,8 +6,8 @@ use Rattle.nb_units.specs.declared.ids.AcctId.{AcctId}
 use Rattle.nb_units.specs.declared.ids.PartyId.{PartyId}
 use Rattle.nb_units.specs.declared.ids.Price.{Price}
 use Rattle.nb_units.specs.declared.limits.TheConstants.{MAX_RATE}
-use Rattle.nb_run.specs.declared.ending.Outcome.TheVariants.{Work}
-use Rattle.nb_run.specs.declared.ending.Job.TheVariants.{Serve}
+use Rattle.nb_commands.specs.declared.ending.Outcome.TheVariants.{Work}
+use Rattle.nb_commands.specs.declared.ending.Job.TheVariants.{Serve}
 use Rattle.nb_batch.specs.declared.answering.Answerer.{Answerer}
 use Rattle.nb_batch.specs.declared.answering.Answerer.TheVariants as answers
 use Rattle.nb_run.specs.Run.{IsAnswered}

@@ -6,17 +6,17 @@ use Rattle.nb_units.specs.declared.ids.Price.{Price}
 use Rattle.nb_body.specs.declared.limits.TheConstants.{MAX_REQUEST}
 use Rattle.nb_port.specs.Faults.{Rose}
 use Rattle.nb_words.specs.Words.{IsBuy, IsBuyWith}
-use Rattle.nb_run.specs.declared.asking.RequestEnd.{RequestEnd}
-use Rattle.nb_run.specs.declared.asking.RequestEnd.TheVariants as ends
-use Rattle.nb_run.specs.declared.ending.Job.{Job}
-use Rattle.nb_run.specs.declared.ending.Job.TheVariants.{Serve, Buy, Sell}
-use Rattle.nb_run.specs.declared.ending.Outcome.{Outcome}
-use Rattle.nb_run.specs.declared.ending.Outcome.TheVariants.{Work}
-use Rattle.nb_run.specs.declared.ending.TheConstants.{OUT_OF_MEMORY}
-use Rattle.nb_run.specs.Asking.{AsksAs, AsksOnly, IsAskedBy, IsRequestInput, RequestIs, asked}
-use Rattle.nb_run.specs.Ending.{EndsWith}
-use Rattle.nb_run.specs.Selling.{IsUnread}
-use Rattle.nb_run.proofs.Moving.{same_input, not_longer}
+use Rattle.nb_commands.specs.declared.asking.RequestEnd.{RequestEnd}
+use Rattle.nb_commands.specs.declared.asking.RequestEnd.TheVariants as ends
+use Rattle.nb_commands.specs.declared.ending.Job.{Job}
+use Rattle.nb_commands.specs.declared.ending.Job.TheVariants.{Serve, Buy, Sell}
+use Rattle.nb_commands.specs.declared.ending.Outcome.{Outcome}
+use Rattle.nb_commands.specs.declared.ending.Outcome.TheVariants.{Work}
+use Rattle.nb_commands.specs.declared.ending.TheConstants.{OUT_OF_MEMORY}
+use Rattle.nb_commands.specs.Asking.{AsksAs, AsksOnly, IsRequestInput, RequestIs, asked}
+use Rattle.nb_commands.specs.Ending.{EndsWith}
+use Rattle.nb_run.specs.Run.{IsAskedBy, IsUnread}
+use Rattle.nb_commands.proofs.Moving.{same_input, not_longer}
 use Rattle.nb_run.proofs.Numerals.{not_both}
 
 -- a purchase without a request that is left is that of these words

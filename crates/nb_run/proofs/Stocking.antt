@@ -13,18 +13,18 @@ use Rattle.nb_price.proofs.Once.{one_item}
 use Rattle.nb_groups.specs.Offers.{Tariff}
 use Rattle.nb_price.proofs.Reading.{smaller}
 use Rattle.nb_words.specs.Words.{IsSell}
-use Rattle.nb_run.specs.declared.ending.Outcome.{Outcome}
-use Rattle.nb_run.specs.declared.ending.Outcome.TheVariants.{Work}
-use Rattle.nb_run.specs.declared.ending.Job.{Job}
-use Rattle.nb_run.specs.declared.ending.Job.TheVariants.{Serve, Buy, Sell}
-use Rattle.nb_run.specs.declared.ending.TheConstants.{OUT_OF_MEMORY}
-use Rattle.nb_run.specs.declared.selling.ShelfEnd.{ShelfEnd}
-use Rattle.nb_run.specs.declared.selling.ShelfEnd.TheVariants as ends
-use Rattle.nb_run.specs.Ending.{EndsWith}
-use Rattle.nb_run.specs.Input.{TookAll}
-use Rattle.nb_run.specs.Offering.{IsSoldBy}
-use Rattle.nb_run.specs.Selling.{IsShelfInput, IsUnread, ReadsAs, StocksAs, StocksOnly, stocked}
-use Rattle.nb_run.proofs.Moving.{same_input, not_longer}
+use Rattle.nb_commands.specs.declared.ending.Outcome.{Outcome}
+use Rattle.nb_commands.specs.declared.ending.Outcome.TheVariants.{Work}
+use Rattle.nb_commands.specs.declared.ending.Job.{Job}
+use Rattle.nb_commands.specs.declared.ending.Job.TheVariants.{Serve, Buy, Sell}
+use Rattle.nb_commands.specs.declared.ending.TheConstants.{OUT_OF_MEMORY}
+use Rattle.nb_commands.specs.declared.selling.ShelfEnd.{ShelfEnd}
+use Rattle.nb_commands.specs.declared.selling.ShelfEnd.TheVariants as ends
+use Rattle.nb_commands.specs.Ending.{EndsWith}
+use Rattle.nb_commands.specs.Input.{TookAll}
+use Rattle.nb_commands.specs.Selling.{IsShelfInput, ReadsAs, StocksAs, StocksOnly, stocked}
+use Rattle.nb_run.specs.Run.{IsSoldBy, IsUnread}
+use Rattle.nb_commands.proofs.Moving.{same_input, not_longer}
 
 -- ---- one shelf
 

@@ -10,18 +10,18 @@ use Rattle.nb_groups.specs.Offers.{Tariff}
 use Rattle.nb_groups.specs.Reads.{FaultIs, IsEmptyLine}
 use Rattle.nb_groups.proofs.OneReading.{one_offered, none_bad}
 use Rattle.nb_words.specs.Words.{IsSellOffers}
-use Rattle.nb_run.specs.declared.ending.Job.{Job}
-use Rattle.nb_run.specs.declared.ending.Job.TheVariants.{Serve, Buy, Sell}
-use Rattle.nb_run.specs.declared.ending.Outcome.{Outcome}
-use Rattle.nb_run.specs.declared.ending.Outcome.TheVariants.{Work}
-use Rattle.nb_run.specs.declared.ending.TheConstants.{OUT_OF_MEMORY}
-use Rattle.nb_run.specs.declared.offering.WaresEnd.{WaresEnd}
-use Rattle.nb_run.specs.declared.offering.WaresEnd.TheVariants as ends
-use Rattle.nb_run.specs.Ending.{EndsWith}
-use Rattle.nb_run.specs.Input.{TookAll}
-use Rattle.nb_run.specs.Offering.{BeginsWithOffers, IsSoldBy, IsWaresInput, OffersAs, OffersOnly, WaresAre, offered}
-use Rattle.nb_run.specs.Selling.{IsUnread}
-use Rattle.nb_run.proofs.Moving.{same_input, not_longer}
+use Rattle.nb_commands.specs.declared.ending.Job.{Job}
+use Rattle.nb_commands.specs.declared.ending.Job.TheVariants.{Serve, Buy, Sell}
+use Rattle.nb_commands.specs.declared.ending.Outcome.{Outcome}
+use Rattle.nb_commands.specs.declared.ending.Outcome.TheVariants.{Work}
+use Rattle.nb_commands.specs.declared.ending.TheConstants.{OUT_OF_MEMORY}
+use Rattle.nb_commands.specs.declared.offering.WaresEnd.{WaresEnd}
+use Rattle.nb_commands.specs.declared.offering.WaresEnd.TheVariants as ends
+use Rattle.nb_commands.specs.Ending.{EndsWith}
+use Rattle.nb_commands.specs.Input.{TookAll}
+use Rattle.nb_commands.specs.Offering.{BeginsWithOffers, IsWaresInput, OffersAs, OffersOnly, WaresAre, offered}
+use Rattle.nb_run.specs.Run.{IsSoldBy, IsUnread}
+use Rattle.nb_commands.proofs.Moving.{same_input, not_longer}
 use Rattle.nb_run.proofs.Stocking.{not_failing, not_repeating, same_products}
 
 module _ (left left' : Option (List ℕ)) (source source' links : ℕ) (outcome : Outcome) where

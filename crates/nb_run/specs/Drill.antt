@@ -21,11 +21,11 @@ use Rattle.nb_batch.specs.Send.{SentPart}
 use Rattle.nb_play.specs.declared.frames.TheConstants.{MOMENT}
 use Rattle.nb_play.specs.Drill.{head_of}
 use Rattle.nb_play.specs.Feed.{bytes_from, cap_of, count_of, frames_of}
-use Rattle.nb_run.specs.declared.ending.Ending.{Ending}
-use Rattle.nb_run.specs.declared.ending.TheConstants.{CLEAN, SINK_FAILED, OUT_OF_MEMORY, DISK_FAILED, NOT_MADE}
+use Rattle.nb_commands.specs.declared.ending.Ending.{Ending}
+use Rattle.nb_commands.specs.declared.ending.TheConstants.{CLEAN, SINK_FAILED, OUT_OF_MEMORY, DISK_FAILED, NOT_MADE}
 use Rattle.nb_run.specs.declared.tally.Tally.{Tally}
-use Rattle.nb_run.specs.Ending.{at_no_place}
-use Rattle.nb_run.specs.Init.{IsMade}
+use Rattle.nb_commands.specs.Ending.{at_no_place}
+use Rattle.nb_commands.specs.Init.{IsMade}
 use Rattle.nb_run.specs.Run.{Batch, NotOpened}
 
 -- ---- the line

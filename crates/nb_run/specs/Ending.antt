@@ -1,25 +1,11 @@
--- How a run of the program ends.
+-- How a batch ends the program.
 use Rattle.std.specs.Prelude.{◌≡◌, ◌⊎◌, ℕ}
 use Rattle.nb_frame.specs.Faults.{place_of}
 use Rattle.nb_batch.specs.declared.batch.BatchEnd.{BatchEnd}
 use Rattle.nb_batch.specs.declared.batch.BatchEnd.TheVariants.{Clean, Cut, BadFrame, ReadFault, WriteFault, NoMemory, FrameLimit}
-use Rattle.nb_run.specs.declared.ending.Ending.{Ending}
-use Rattle.nb_run.specs.declared.ending.TheConstants.{CLEAN, SOURCE_FAILED, SINK_FAILED, BAD_INPUT, OUT_OF_MEMORY, DISK_FAILED, NO_JOURNAL, FRAME_LIMIT}
-use Rattle.nb_run.specs.declared.ending.Outcome.{Outcome}
-use Rattle.nb_run.specs.declared.ending.Outcome.TheVariants.{Done, Work}
-
--- the ending with this status, at place 0
-abbrev pub at_no_place : ℕ → Ending
-at_no_place status = record { status = status; place = 0 }
-
--- the run is over, and this is true of its ending
-abbrev pub Ends : Outcome → (Ending → Type 0) → Type 0
-Ends (Done ending) P = P ending
-Ends (Work job) P = ⊥
-
--- it is over with this status
-abbrev pub EndsWith : Outcome → ℕ → Type 0
-EndsWith outcome status = Ends outcome (λ ending. ending.status ≡ status)
+use Rattle.nb_commands.specs.declared.ending.Ending.{Ending}
+use Rattle.nb_commands.specs.declared.ending.TheConstants.{CLEAN, SOURCE_FAILED, SINK_FAILED, BAD_INPUT, OUT_OF_MEMORY, DISK_FAILED, NO_JOURNAL, FRAME_LIMIT}
+use Rattle.nb_commands.specs.Ending.{at_no_place}
 
 -- a batch that ends so took nothing in: there was no memory, no journal, or the disk failed as the journal was opened
 abbrev pub EndsEarly : Ending → Type 0

@@ -1,16 +1,3 @@
 pub mod Ending
-pub mod Init
 pub mod Run
 pub mod Drill
-pub mod Numbers
-pub mod Input
-pub mod Migrate
-pub mod Statement
-pub mod Judge
-pub mod Play
-pub mod Selling
-pub mod Asking
-pub mod Offering
-pub mod Granting
-pub mod Ship
-pub mod Promote

@@ -1,5 +1,5 @@
 -- What a run of the program does.
-use Rattle.std.specs.Prelude.{◌≡◌, ◌≢◌, ℕ, ◌+◌, ◌≤◌, ◌<◌, ◌⊎◌, List, [], ◌++◌, Option, Some, length, map, IfSome}
+use Rattle.std.specs.Prelude.{◌≡◌, ◌≢◌, ℕ, ◌+◌, ◌≤◌, ◌<◌, ◌⊎◌, List, [], ◌++◌, Option, Some, None, length, map, IfSome}
 use Rattle.std.specs.List.{flat_map, AllByRecursion}
 use Rattle.std.specs.Io.KnownBytes.{Consumes, Appends, IsAtEnd}
 use Rattle.nb_port.specs.Tells.{DiskTells}
@@ -15,7 +15,6 @@ use Rattle.nb_book.specs.Legal.{LegalUnder}
 use Rattle.nb_escrow.specs.Head.{head_of}
 use Rattle.nb_journal.specs.Time.{Unwritten}
 use Rattle.nb_vault.specs.declared.vault.opening.VaultFault.{VaultFault}
-use Rattle.nb_vault.specs.declared.vault.opening.VaultFault.TheVariants.{Unborn, Damaged, BadEntry, DiskFault, NoMemory}
 use Rattle.nb_vault.specs.Holdings.{StandsFor, StandsForEither}
 use Rattle.nb_vault.specs.Opens.{VaultOpenFails}
 use Rattle.nb_turns.specs.declared.line.Line.{Line}
@@ -25,14 +24,25 @@ use Rattle.nb_turns.specs.Laws.{IsBalanced}
 use Rattle.nb_vault.specs.Rules.{house_of}
 use Rattle.nb_batch.specs.declared.batch.TheConstants.{MOST_FRAMES}
 use Rattle.nb_units.specs.declared.ids.AcctId.{AcctId}
-use Rattle.nb_words.specs.Words.{IsBatch, IsFollow, IsPromote, IsShip, IsStatement}
-use Rattle.nb_run.specs.declared.ending.Ending.{Ending}
-use Rattle.nb_run.specs.declared.ending.Outcome.{Outcome}
-use Rattle.nb_run.specs.declared.ending.Outcome.TheVariants.{Done}
-use Rattle.nb_run.specs.declared.ending.TheConstants.{CLEAN, BAD_WORDS, SOURCE_FAILED, SINK_FAILED, BAD_INPUT, OUT_OF_MEMORY, DISK_FAILED, NO_JOURNAL, NOT_MADE, FRAME_LIMIT, NO_ACCOUNT, NO_PLACE}
-use Rattle.nb_run.specs.declared.init.InitEnd.{InitEnd}
-use Rattle.nb_run.specs.Ending.{at_no_place}
-use Rattle.nb_run.specs.Init.{MakesAs, ending_of}
+use Rattle.nb_units.specs.declared.ids.PartyId.{PartyId}
+use Rattle.nb_units.specs.declared.ids.Price.{Price}
+use Rattle.nb_body.specs.declared.limits.TheConstants.{MAX_REQUEST}
+use Rattle.nb_price.specs.Products.{Product}
+use Rattle.nb_groups.specs.Offers.{Tariff}
+use Rattle.nb_words.specs.Words.{IsBatch, IsBuy, IsBuyWith, IsFollow, IsPromote, IsSell, IsSellOffers, IsShip, IsStatement}
+use Rattle.nb_commands.specs.declared.ending.Ending.{Ending}
+use Rattle.nb_commands.specs.declared.ending.Job.{Job}
+use Rattle.nb_commands.specs.declared.ending.Job.TheVariants.{Serve, Buy, Sell}
+use Rattle.nb_commands.specs.declared.ending.Outcome.{Outcome}
+use Rattle.nb_commands.specs.declared.ending.Outcome.TheVariants.{Done}
+use Rattle.nb_commands.specs.declared.ending.TheConstants.{CLEAN, BAD_WORDS, SOURCE_FAILED, SINK_FAILED, BAD_INPUT, OUT_OF_MEMORY, DISK_FAILED, NO_JOURNAL, NOT_MADE, FRAME_LIMIT, NO_ACCOUNT, NO_PLACE}
+use Rattle.nb_commands.specs.declared.init.InitEnd.{InitEnd}
+use Rattle.nb_commands.specs.Ending.{at_no_place}
+use Rattle.nb_commands.specs.Init.{MakesAs, ending_of}
+use Rattle.nb_commands.specs.Input.{TookAll}
+use Rattle.nb_commands.specs.Offering.{AreWares}
+use Rattle.nb_commands.specs.Opening.{unopened}
+use Rattle.nb_commands.specs.Selling.{IsStock}
 use Rattle.nb_batch.specs.declared.answering.Answerer.{Answerer}
 use Rattle.nb_batch.specs.declared.answering.Answerer.TheVariants as answers
 use Rattle.nb_batch.specs.Answering.{Asked, Goes}
@@ -56,14 +66,6 @@ InitIs tells rest rest' source source' old new cap rate ending = (end : InitEnd)
 
 -- ---- batch, over a journal that was not opened
 
--- how the run ends, by why it was not opened: a place is shown of damage alone
-abbrev pub unopened : VaultFault → Ending
-unopened (Unborn found) = at_no_place NO_JOURNAL
-unopened (Damaged item place) = record { status = NO_JOURNAL; place = place }
-unopened (BadEntry item) = at_no_place NO_JOURNAL
-unopened (DiskFault before after) = at_no_place DISK_FAILED
-unopened NoMemory = at_no_place OUT_OF_MEMORY
-
 -- it was not opened, and nothing was taken, sent, asked for or written
 pub record NotOpened {D : Type 0} (tells : DiskTells D) (old new : D) (before after : Outside) (ending : Ending) : Type 0 where
   pub fault : VaultFault
@@ -82,6 +84,25 @@ IsAnswered words answers.Standby = IsFollow words
 -- those of a command that opens a journal and reads it alone
 abbrev pub IsReader : List (List ℕ) → Type 0
 IsReader words = ((acct : AcctId) × IsStatement words acct.0) ⊎ ((from : ℕ) × IsShip words from) ⊎ IsPromote words
+
+-- ---- the words of a job that is left to do
+
+-- a job takes nothing of the input: a server's, and a purchase's whose words are without a request
+abbrev pub IsUnread : List (List ℕ) → Job → Type 0
+IsUnread words (Serve workers sessions) = Unit {0}
+IsUnread words (Buy merchant product limit transaction request) = IsBuy words merchant.0 product limit.0 transaction
+IsUnread words (Sell links shelf offers) = ⊥
+
+-- the words are those of this purchase, without a request, or with one that is all that was read
+abbrev pub IsAskedBy : List (List ℕ) → Option (List ℕ) → Option (List ℕ) → PartyId → ℕ → Price → ℕ → List ℕ → Type 0
+IsAskedBy words left left' merchant product limit transaction request =
+    (IsBuy words merchant.0 product limit.0 transaction × (request ≡ []))
+    ⊎ (IsBuyWith words merchant.0 product limit.0 transaction × TookAll left left' MAX_REQUEST request)
+
+-- the words are those of one who sells this shelf without offers, or with these, and what was read is that
+abbrev pub IsSoldBy : List (List ℕ) → Option (List ℕ) → Option (List ℕ) → ℕ → List Product → Option Tariff → Type 0
+IsSoldBy words left left' links products None = IsSell words links × IsStock left left' products
+IsSoldBy words left left' links products (Some tariff) = IsSellOffers words links × AreWares left left' tariff products
 
 -- ---- batch, over a journal that was opened
 
@@ -196,12 +217,3 @@ pub record IsWholeInput (left : Option (List ℕ)) : Type 0 where
   pub lawful : AllByRecursion IsFrame frames
   pub few : length frames < MOST_FRAMES
   pub is : left ≡ Some (flat_map frame frames)
-
--- the content stands for a list of entries
-pub record IsJournal (content : Option (List ℕ)) : Type 0 where
-  pub image : List ℕ
-  pub charter : Charter
-  pub cap : ℕ
-  pub entries : List Entry
-  pub is : content ≡ Some image
-  pub stands : StandsFor charter cap entries image

@@ -4,16 +4,16 @@ ghost use Rattle.nb_journal.specs.Making.{InitFails, SparesJournal, without_fee}
 ghost use Rattle.nb_play.specs.Feed.{cap_of};
 ghost use Rattle.nb_play.specs.declared.frames.TheConstants.{MAX_ORDERS};
 ghost use Rattle.nb_port.specs.Faults.{Rose};
-ghost use Rattle.nb_run.specs.declared.ending.TheConstants.{CLEAN, SINK_FAILED, OUT_OF_MEMORY, DISK_FAILED};
+ghost use Rattle.nb_commands.specs.declared.ending.TheConstants.{CLEAN, SINK_FAILED, OUT_OF_MEMORY, DISK_FAILED};
 ghost use Rattle.nb_run.specs.Drill as drills;
-ghost use Rattle.nb_run.specs.Init.{HasNoJournal, IsMade};
+ghost use Rattle.nb_commands.specs.Init.{HasNoJournal, IsMade};
 
-use crate::ending::{
-    CLEAN, DISK_FAILED, Ending, NOT_MADE, OUT_OF_MEMORY, SINK_FAILED, SOURCE_FAILED,
-};
 use crate::program::{Batched, answer_batch};
 use crate::tally::tally_of;
 use nb_batch::{Answerer, Sent, send_all};
+use nb_commands::{
+    CLEAN, DISK_FAILED, Ending, NOT_MADE, OUT_OF_MEMORY, SINK_FAILED, SOURCE_FAILED,
+};
 use nb_journal::{HEAD, InitFault, init};
 use nb_play::{DrillClock, DrillSource, NullSink, drill_head, entry_count};
 use nb_port::{Disk, Sink};

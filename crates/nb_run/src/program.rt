@@ -1,51 +1,43 @@
 ghost use Rattle.std.specs.Prelude.{◌≡◌, ◌≢◌, ◌≤◌, ◌⊎◌, ℕ, List, [], Option, Some, None, map, string_bytes};
 ghost use Rattle.nb_port.specs.Faults.{Rose};
 ghost use Rattle.nb_journal.specs.Making.{SparesJournal, IsCap};
-ghost use Rattle.nb_run.specs.declared.ending.TheConstants.{CLEAN, BAD_WORDS, SOURCE_FAILED, SINK_FAILED, OUT_OF_MEMORY, DISK_FAILED, NO_JOURNAL, NO_ACCOUNT, NO_PLACE};
+ghost use Rattle.nb_commands.specs.declared.ending.TheConstants.{CLEAN, BAD_WORDS, SOURCE_FAILED, SINK_FAILED, OUT_OF_MEMORY, DISK_FAILED, NO_JOURNAL, NO_ACCOUNT, NO_PLACE};
 ghost use Rattle.nb_journal.specs.Time.{Unwritten};
-ghost use Rattle.nb_run.specs.Ending.{Ends, EndsEarly, EndsWith};
-ghost use Rattle.nb_run.specs.declared.ending.Outcome.TheVariants as outcomes;
-ghost use Rattle.nb_run.specs.declared.ending.Job.{Job};
-ghost use Rattle.nb_run.specs.declared.ending.Job.TheVariants as jobs;
+ghost use Rattle.nb_commands.specs.Ending.{Ends, EndsWith};
+ghost use Rattle.nb_commands.specs.Opening.{IsJournal};
+ghost use Rattle.nb_run.specs.Ending.{EndsEarly};
+ghost use Rattle.nb_commands.specs.declared.ending.Outcome.TheVariants as outcomes;
+ghost use Rattle.nb_commands.specs.declared.ending.Job.{Job};
+ghost use Rattle.nb_commands.specs.declared.ending.Job.TheVariants as jobs;
 ghost use Rattle.nb_batch.specs.declared.answering.Answerer.{Answerer};
 ghost use Rattle.nb_run.specs.Ending as endings;
 ghost use Rattle.nb_units.specs.declared.ids.AcctId.{AcctId};
 ghost use Rattle.nb_units.specs.declared.ids.PartyId.{PartyId};
 ghost use Rattle.nb_units.specs.declared.ids.Price.{Price};
 ghost use Rattle.nb_words.specs.Words.{IsBuy, IsBuyWith, IsCredential, IsDrill, IsInit, IsMigrate, IsServe, IsStatement, IsJudge, IsPlay, IsPromote, IsSell, IsSellOffers, IsShip, IsCommand, MayBeRead};
-ghost use Rattle.nb_run.specs.Init.{IsHeadInput, HasNoJournal};
+ghost use Rattle.nb_commands.specs.Init.{IsHeadInput, HasNoJournal};
 ghost use Rattle.nb_run.specs.Drill as drills;
-ghost use Rattle.nb_run.specs.Judge as judges;
-ghost use Rattle.nb_run.specs.Migrate as moves;
+ghost use Rattle.nb_commands.specs.Judge as judges;
+ghost use Rattle.nb_commands.specs.Migrate as moves;
 ghost use Rattle.nb_price.specs.Products.{Product};
 ghost use Rattle.nb_groups.specs.Offers.{Tariff};
-ghost use Rattle.nb_run.specs.Asking as asks;
-ghost use Rattle.nb_run.specs.Granting as grants;
-ghost use Rattle.nb_run.specs.Offering as wares;
-ghost use Rattle.nb_run.specs.Play as plays;
-ghost use Rattle.nb_run.specs.Promote as promotes;
+ghost use Rattle.nb_commands.specs.Asking as asks;
+ghost use Rattle.nb_commands.specs.Granting as grants;
+ghost use Rattle.nb_commands.specs.Offering as wares;
+ghost use Rattle.nb_commands.specs.Play as plays;
+ghost use Rattle.nb_commands.specs.Promote as promotes;
 ghost use Rattle.nb_run.specs.Run as runs;
-ghost use Rattle.nb_run.specs.Selling as sales;
-ghost use Rattle.nb_run.specs.Ship as ships;
-ghost use Rattle.nb_run.specs.Statement as states;
+ghost use Rattle.nb_commands.specs.Selling as sales;
+ghost use Rattle.nb_commands.specs.Ship as ships;
+ghost use Rattle.nb_commands.specs.Statement as states;
 
-use crate::asking::ask_with;
 use crate::drill::drill;
-use crate::ending::{
-    BAD_INPUT, BAD_WORDS, CLEAN, Ending, FRAME_LIMIT, Job, OUT_OF_MEMORY, Outcome, SINK_FAILED,
-    SOURCE_FAILED,
-};
-use crate::granting::grant;
-use crate::init::make_journal;
-use crate::judging::rule_on;
-use crate::migrate::move_journal;
-use crate::offering::take_offers;
-use crate::playing::play_input;
-use crate::promoting::promote;
-use crate::selling::take_stock;
-use crate::shipping::ship_records;
-use crate::statement::write_statement;
 use nb_batch::{Answerer, BatchEnd, answer_frames};
+use nb_commands::{
+    BAD_INPUT, BAD_WORDS, CLEAN, Ending, FRAME_LIMIT, Job, OUT_OF_MEMORY, Outcome, SINK_FAILED,
+    SOURCE_FAILED, ask_with, grant, make_journal, move_journal, play_input, promote, rule_on,
+    ship_records, take_offers, take_stock, write_statement,
+};
 use nb_port::{Clock, Disk, Sink, Source};
 use nb_turns::Line;
 use nb_units::{NoMemory, Small};
@@ -82,14 +74,14 @@ pub fn run<S: Source, K: Sink, D: Disk, C: Clock>(
         → (result.0 ≡ outcomes.Work (jobs.Serve workers sessions)) ⊎ runs.Unbegun result.0 source.old source.new sink.old sink.new disk result.1 clock.old clock.new }
     // The job of a purchase only at the words of one with these numbers, and with no request, or with the one that was read.
     ensures buys { (merchant : PartyId) (product : ℕ) (limit : Price) (transaction : ℕ) (request : List ℕ) → result.0 ≡ outcomes.Work (jobs.Buy merchant product limit transaction request)
-        → asks.IsAskedBy (map string_bytes words.now) (S.left source.old) (S.left source.new) merchant product limit transaction request }
+        → runs.IsAskedBy (map string_bytes words.now) (S.left source.old) (S.left source.new) merchant product limit transaction request }
     // And there always, or the run did not begin.
     ensures buy { (merchant : PartyId) (product : ℕ) (limit : Price) (transaction : ℕ) → IsBuy (map string_bytes words.now) merchant.0 product limit.0 transaction
         → (result.0 ≡ outcomes.Work (jobs.Buy merchant product limit transaction [])) ⊎ runs.Unbegun result.0 source.old source.new sink.old sink.new disk result.1 clock.old clock.new }
     // The job of who sells only at the words of one with this number, where the input was read to its end and is the shelf of these products, behind
     // offers or with none.
     ensures sells { (links : ℕ) (products : List Product) (offers : Option Tariff) → result.0 ≡ outcomes.Work (jobs.Sell links products offers)
-        → wares.IsSoldBy (map string_bytes words.now) (S.left source.old) (S.left source.new) links products offers }
+        → runs.IsSoldBy (map string_bytes words.now) (S.left source.old) (S.left source.new) links products offers }
     // And there with the shelf of the whole input; or its first bad item is told, that it is too long, that its source failed, or that memory was
     // wanting.
     ensures sell { (links : ℕ) → IsSell (map string_bytes words.now) links
@@ -199,7 +191,7 @@ pub fn run<S: Source, K: Sink, D: Disk, C: Clock>(
         × ((EndsWith result.0 CLEAN → ⊥) → (EndsWith result.0 SINK_FAILED → ⊥) → sink.new ≡ sink.old) }
 
     // A journal, and nothing that fails: the statement is told, or nobody holds the account, unless memory is wanting.
-    ensures states { (acct : AcctId) → IsStatement (map string_bytes words.now) acct.0 → runs.IsJournal (D.tells.content disk)
+    ensures states { (acct : AcctId) → IsStatement (map string_bytes words.now) acct.0 → IsJournal (D.tells.content disk)
         → (Rose (K.faults sink.old) (K.faults sink.new) → ⊥) → (Rose (D.tells.faults disk) (D.tells.faults result.1) → ⊥)
         → EndsWith result.0 CLEAN ⊎ EndsWith result.0 NO_ACCOUNT ⊎ EndsWith result.0 OUT_OF_MEMORY }
 
@@ -209,7 +201,7 @@ pub fn run<S: Source, K: Sink, D: Disk, C: Clock>(
         ⊎ runs.Unbegun result.0 source.old source.new sink.old sink.new disk result.1 clock.old clock.new }
 
     // A journal, and nothing that fails: its records are shipped, or the place is above them, unless memory is wanting.
-    ensures ships { (from : ℕ) → IsShip (map string_bytes words.now) from → runs.IsJournal (D.tells.content disk)
+    ensures ships { (from : ℕ) → IsShip (map string_bytes words.now) from → IsJournal (D.tells.content disk)
         → (Rose (K.faults sink.old) (K.faults sink.new) → ⊥) → (Rose (D.tells.faults disk) (D.tells.faults result.1) → ⊥)
         → EndsWith result.0 CLEAN ⊎ EndsWith result.0 NO_PLACE ⊎ EndsWith result.0 OUT_OF_MEMORY }
 
@@ -219,7 +211,7 @@ pub fn run<S: Source, K: Sink, D: Disk, C: Clock>(
         ⊎ runs.Unbegun result.0 source.old source.new sink.old sink.new disk result.1 clock.old clock.new }
 
     // A journal, and nothing that fails: it is told how many entries stand, unless memory is wanting.
-    ensures promotes { IsPromote (map string_bytes words.now) → runs.IsJournal (D.tells.content disk)
+    ensures promotes { IsPromote (map string_bytes words.now) → IsJournal (D.tells.content disk)
         → (Rose (K.faults sink.old) (K.faults sink.new) → ⊥) → (Rose (D.tells.faults disk) (D.tells.faults result.1) → ⊥)
         → EndsWith result.0 CLEAN ⊎ EndsWith result.0 OUT_OF_MEMORY }
 
@@ -275,14 +267,14 @@ pub fn run<S: Source, K: Sink, D: Disk, C: Clock>(
 
     // Nothing is taken, sent or asked for where the words are no command, work is left to do that takes no input, or a batch ends with 6, 7 or 8; and
     // such a batch wrote nothing.
-    ensures closed { (IsCommand (map string_bytes words.now) → ⊥) ⊎ (Ends result.0 EndsEarly × ((by : Answerer) × runs.IsAnswered (map string_bytes words.now) by)) ⊎ ((job : Job) × (result.0 ≡ outcomes.Work job) × sales.IsUnread (map string_bytes words.now) job)
+    ensures closed { (IsCommand (map string_bytes words.now) → ⊥) ⊎ (Ends result.0 EndsEarly × ((by : Answerer) × runs.IsAnswered (map string_bytes words.now) by)) ⊎ ((job : Job) × (result.0 ≡ outcomes.Work job) × runs.IsUnread (map string_bytes words.now) job)
         → (source.new ≡ source.old) × (sink.new ≡ sink.old) × (clock.new ≡ clock.old) }
 
     // And nothing was written there.
     ensures unwritten { (by : Answerer) → runs.IsAnswered (map string_bytes words.now) by → Ends result.0 EndsEarly → Unwritten D.tells disk result.1 }
 
     // Whole frames alone over a journal, and nothing that fails: all is done, unless memory is wanting.
-    ensures complete { (by : Answerer) → runs.IsAnswered (map string_bytes words.now) by → runs.IsJournal (D.tells.content disk) → runs.IsWholeInput (S.left source.old)
+    ensures complete { (by : Answerer) → runs.IsAnswered (map string_bytes words.now) by → IsJournal (D.tells.content disk) → runs.IsWholeInput (S.left source.old)
         → (Rose (S.faults source.old) (S.faults source.new) → ⊥) → (Rose (K.faults sink.old) (K.faults sink.new) → ⊥) → (Rose (D.tells.faults disk) (D.tells.faults result.1) → ⊥)
         → EndsWith result.0 CLEAN ⊎ EndsWith result.0 OUT_OF_MEMORY }
 {
@@ -425,7 +417,7 @@ pub(crate) fn answer_batch<S: Source, K: Sink, D: Disk, C: Clock>(
     ensures closed { EndsEarly result.ending → (source.new ≡ source.old) × (sink.new ≡ sink.old) × (clock.new ≡ clock.old) }
     ensures unwritten { EndsEarly result.ending → Unwritten D.tells disk result.disk }
     ensures whole { runs.IsWholeInput (S.left source.old) → (Rose (K.faults sink.old) (K.faults sink.new) → ⊥) → runs.EndsWhole result.ending }
-    ensures opens { runs.IsJournal (D.tells.content disk) → (Rose (D.tells.faults disk) (D.tells.faults result.disk) → ⊥)
+    ensures opens { IsJournal (D.tells.content disk) → (Rose (D.tells.faults disk) (D.tells.faults result.disk) → ⊥)
         → (result.ending.status ≢ NO_JOURNAL) × (result.ending.status ≢ DISK_FAILED) }
 {
     let mut house = match Vault::open(alloc, disk) {

@@ -1,7 +1,5 @@
-mod Places
 mod Nodes
 mod Calls
-mod Kept
 mod Setting
 mod Lawful
 mod Behind

@@ -1,5 +1,5 @@
 -- What a node did is what the world's step says of it.
-use Rattle.std.proofs.Common.{◌≡◌, ℕ, zero, suc, ◌≤◌, ◌<◌, Bool, true, false, List, [], ◌∷◌, ◌++◌, length, set, Option, Some, None, refl, sym, ap, ◌∙◌, arith}
+use Rattle.std.proofs.Common.{◌≡◌, ℕ, ◌≤◌, ◌<◌, Bool, true, false, List, ◌++◌, length, set, Option, Some, None, refl, sym, ap, ◌∙◌, arith}
 use Rattle.std.specs.Prelude.{if◌then◌else◌, nat_le, option_map}
 use Rattle.std.specs.List.{slice_get}
 use Rattle.std.proofs.lemmas.List.{append-nil}
@@ -15,14 +15,10 @@ use Rattle.nb_world.specs.declared.packet.Packet.{Packet}
 use Rattle.nb_world.specs.World.{Going, Stays, Goes, Rules, World}
 use Rattle.nb_world.specs.Steps.{where_so, consumer_goes, merchant_goes, consumer_at, merchant_at, started, buy_of, quiet_consumer_of, quiet_merchant_of, restart_consumer_of, restart_merchant_of, server_gets, deliver_of}
 use Rattle.nb_world.proofs.Chains.{so, same_some, stands_there}
-use Rattle.nb_simulator.specs.declared.did.Did.{Did}
-use Rattle.nb_simulator.specs.declared.did.Did.TheVariants.{Stayed, Went, Sent}
-use Rattle.nb_simulator.specs.Doing.{is_nothing, packets_did, Follows, WentAt, BecameAt, TestsAt}
-
-pub set_same : {A : Type 0} (xs : List A) (i : ℕ) (x : A) → slice_get xs i ≡ Some x → set xs i x ≡ xs
-set_same [] i x e = refl
-set_same (y ∷ xs) zero x e = ap (λ z. z ∷ xs) (sym (same_some y x e))
-set_same (y ∷ xs) (suc i) x e = ap (λ ys. y ∷ ys) (set_same xs i x e)
+use Rattle.nb_nodes.specs.declared.did.Did.{Did}
+use Rattle.nb_nodes.specs.declared.did.Did.TheVariants.{Stayed, Went, Sent}
+use Rattle.nb_nodes.specs.Doing.{is_nothing, packets_did, Follows, WentAt, BecameAt, TestsAt}
+use Rattle.nb_nodes.proofs.Places.{set_same}
 
 not_so : (b : Bool) → b ≡ false → where_so b ≡ None
 not_so b is = ap where_so is

@@ -1,5 +1,3 @@
-pub mod Parcels
-pub mod Doing
 pub mod Worlds
 pub mod Setups
 pub mod Laws

@@ -5,21 +5,14 @@
 //! changes then. What is made is behind no event, and what is behind some events is by a step behind these and one more (`IsBehind` of `specs/Laws.antt`): so a
 //! caller has that its world is the set-up's behind the events of its own calls, by their clauses alone, and with that each law of [`laws`].
 //!
-//! A packet keeps the message that a node sent, and it is spelled where the house reads it (`packet.rt`). A node keeps the items of its journal, and a
-//! restart starts it again with these (`buying.rt`, `selling.rt`). That nodes are found by their numbers, and packets and calls by theirs, without going
+//! Its nodes are those of `nb_nodes`. That packets and calls are found by their numbers, without going
 //! through the others, and that all memory that an event needs is taken before anything changes, is how it is built: no contract promises it. What is
 //! promised of a step without memory is that nothing changed.
 //!
 //! Left to others: which events happen, and what is told of a world.
 #![tactic(auto)]
 
-mod buyers;
-mod buying;
-mod did;
 pub mod laws;
-mod packet;
-mod sellers;
-mod selling;
 mod setup;
 mod turns;
 mod world;

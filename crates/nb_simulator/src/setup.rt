@@ -5,10 +5,9 @@ ghost use Rattle.nb_escrow.specs.Head.{IsRuling};
 ghost use Rattle.nb_consumer.specs.State.{new_buyer};
 ghost use Rattle.nb_simulator.specs.Setups as setups;
 
-use crate::buyers::Buyers;
-use crate::sellers::Sellers;
 use nb_book::{Book, CONSUMER, Entry, MERCHANT, Party};
 use nb_escrow::Head;
+use nb_nodes::{Buyers, Sellers};
 use nb_price::Catalogue;
 use nb_stall::Stall;
 use nb_units::{AcctId, FEE_VERSION, FIRST_VERSION, HEAD, MAX_RATE, NoMemory, Secret};

@@ -3,12 +3,9 @@ ghost use Rattle.nb_msgs.specs.declared.node.To.TheVariants as to;
 ghost use Rattle.nb_world.specs.Steps as steps;
 ghost use Rattle.nb_simulator.specs.Laws.{IsBehind};
 ghost use Rattle.nb_simulator.specs.Setups.{IsLawful, SellersFit, Sets, world_of};
-ghost use Rattle.nb_simulator.specs.Worlds.{Tells, SameHouse, rules_of, phase_of_first, told_of, knows_of};
+ghost use Rattle.nb_nodes.specs.Nodes.{phase_of_first, told_of, knows_of};
+ghost use Rattle.nb_simulator.specs.Worlds.{Tells, SameHouse, rules_of};
 
-use crate::buyers::Buyers;
-use crate::did::send;
-use crate::packet::{Content, Parcel};
-use crate::sellers::Sellers;
 use crate::setup::{Setup, SetupFault, book_of, buyers_of, may_rule, sellers_of};
 use crate::turns::{
     acknowledge, addressee, asker_of, call_at, come_to, hand_out, left, let_go, may_answer,
@@ -19,6 +16,7 @@ use nb_book::Book;
 use nb_consumer::Phase;
 use nb_escrow::Head;
 use nb_msgs::To;
+use nb_nodes::{Buyers, Content, Parcel, Sellers, send};
 use nb_units::frames::{LAST_KIND, MAX_BODY};
 use nb_units::{Blob, MAX_CAP, MAX_MEMO, NoMemory, PartyId};
 use nb_wallet::Start;

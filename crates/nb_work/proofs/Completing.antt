@@ -19,10 +19,10 @@ use Rattle.nb_server.specs.declared.worker.WorkerEnd.{WorkerEnd}
 use Rattle.nb_server.specs.Served.{WorkerSeen}
 use Rattle.nb_server.specs.Laws.{AreFaultless, AllServeWhole, ServesWhole}
 use Rattle.nb_server.proofs.Resting.{complete_all}
-use Rattle.nb_run.specs.declared.ending.Ending.{Ending}
-use Rattle.nb_run.specs.declared.ending.TheConstants.{CLEAN, OUT_OF_MEMORY}
-use Rattle.nb_run.specs.Ending.{at_no_place}
-use Rattle.nb_run.specs.Run.{unopened}
+use Rattle.nb_commands.specs.declared.ending.Ending.{Ending}
+use Rattle.nb_commands.specs.declared.ending.TheConstants.{CLEAN, OUT_OF_MEMORY}
+use Rattle.nb_commands.specs.Ending.{at_no_place}
+use Rattle.nb_commands.specs.Opening.{unopened}
 use Rattle.nb_work.specs.Work.{IsServed, StoppedAs}
 use Rattle.nb_work.specs.Laws.{Completes}
 

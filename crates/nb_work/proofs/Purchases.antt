@@ -28,9 +28,9 @@ use Rattle.nb_buy.specs.Bought.{Around, around, WritesGoods}
 use Rattle.nb_buy.specs.Laws.{link_at, IsBrought, NoneFails, EndsAsOver}
 use Rattle.nb_buy.proofs.NextTime.{goes_on_since}
 use Rattle.nb_buy.proofs.Coming.{comes_to_its_end}
-use Rattle.nb_run.specs.declared.ending.Ending.{Ending}
-use Rattle.nb_run.specs.declared.ending.TheConstants.{OUT_OF_MEMORY}
-use Rattle.nb_run.specs.Ending.{at_no_place}
+use Rattle.nb_commands.specs.declared.ending.Ending.{Ending}
+use Rattle.nb_commands.specs.declared.ending.TheConstants.{OUT_OF_MEMORY}
+use Rattle.nb_commands.specs.Ending.{at_no_place}
 use Rattle.nb_work.specs.Buying.{Outside, IsNoWallet, BoughtWith, not_opened, status_of}
 use Rattle.nb_work.specs.Laws.{IsWallet, NothingFails, EndsPaid, StopsGoOn, PurchasesComplete}
 

@@ -28,9 +28,9 @@ use Rattle.nb_sell.proofs.NextTime.{goes_on_since, moves_on, stays_kept}
 use Rattle.nb_sell.proofs.Within.{ended_holds, full_is_full}
 use Rattle.nb_sell.proofs.Faults.{NoneFell, none_fell, house_rose, disk_rose}
 use Rattle.nb_link.specs.Link.{LinkSeen}
-use Rattle.nb_run.specs.declared.ending.Ending.{Ending}
-use Rattle.nb_run.specs.declared.ending.TheConstants.{CLEAN, OUT_OF_MEMORY, DISK_FAILED, NO_JOURNAL, PORT_FAILED, JOURNAL_FULL}
-use Rattle.nb_run.specs.Ending.{at_no_place}
+use Rattle.nb_commands.specs.declared.ending.Ending.{Ending}
+use Rattle.nb_commands.specs.declared.ending.TheConstants.{CLEAN, OUT_OF_MEMORY, DISK_FAILED, NO_JOURNAL, PORT_FAILED, JOURNAL_FULL}
+use Rattle.nb_commands.specs.Ending.{at_no_place}
 use Rattle.nb_work.specs.declared.selling.Stop.{Stop}
 use Rattle.nb_work.specs.declared.selling.Stop.TheVariants as stops
 use Rattle.nb_work.specs.Buying.{not_opened}

@@ -6,9 +6,9 @@ use Rattle.std.proofs.lemmas.Option.{slice_get_within, same_Some}
 use Rattle.nb_server.specs.declared.worker.How.{How}
 use Rattle.nb_server.specs.declared.worker.How.TheVariants.{Closed, PortFault, NoMemory}
 use Rattle.nb_server.specs.declared.worker.WorkerEnd.{WorkerEnd}
-use Rattle.nb_run.specs.declared.ending.Ending.{Ending}
-use Rattle.nb_run.specs.declared.ending.TheConstants.{CLEAN, OUT_OF_MEMORY, PORT_FAILED}
-use Rattle.nb_run.specs.Ending.{at_no_place}
+use Rattle.nb_commands.specs.declared.ending.Ending.{Ending}
+use Rattle.nb_commands.specs.declared.ending.TheConstants.{CLEAN, OUT_OF_MEMORY, PORT_FAILED}
+use Rattle.nb_commands.specs.Ending.{at_no_place}
 use Rattle.nb_work.specs.Work.{AnyStopped, StoppedAs}
 
 -- each of the first so many stopped so

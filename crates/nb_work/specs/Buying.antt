@@ -21,9 +21,9 @@ use Rattle.nb_buy.specs.declared.ended.BuyEnd.{BuyEnd}
 use Rattle.nb_buy.specs.declared.ended.BuyEnd.TheVariants as ends
 use Rattle.nb_buy.specs.declared.ended.Lost.TheVariants as lost
 use Rattle.nb_buy.specs.Bought.{Bought, IsUnwritten, WritesGoods, around}
-use Rattle.nb_run.specs.declared.ending.Ending.{Ending}
-use Rattle.nb_run.specs.declared.ending.TheConstants.{CLEAN, SINK_FAILED, OUT_OF_MEMORY, DISK_FAILED, NO_JOURNAL, UNPAID, LINK_FAILED, JOURNAL_FULL}
-use Rattle.nb_run.specs.Ending.{at_no_place}
+use Rattle.nb_commands.specs.declared.ending.Ending.{Ending}
+use Rattle.nb_commands.specs.declared.ending.TheConstants.{CLEAN, SINK_FAILED, OUT_OF_MEMORY, DISK_FAILED, NO_JOURNAL, UNPAID, LINK_FAILED, JOURNAL_FULL}
+use Rattle.nb_commands.specs.Ending.{at_no_place}
 use Rattle.nb_work.specs.declared.working.Dials.{Dials}
 
 -- the purchase that a job asks for, with what is said to the merchant: no note is made

@@ -10,10 +10,10 @@ use Rattle.nb_vault.specs.Holdings.{StandsFor}
 use Rattle.nb_server.specs.declared.worker.WorkerEnd.{WorkerEnd}
 use Rattle.nb_server.specs.Served.{WorkerSeen}
 use Rattle.nb_server.specs.Laws.{AreFaultless, AllServeWhole}
-use Rattle.nb_run.specs.declared.ending.Ending.{Ending}
-use Rattle.nb_run.specs.declared.ending.TheConstants.{CLEAN, OUT_OF_MEMORY, DISK_FAILED, PORT_FAILED, JOURNAL_FULL}
-use Rattle.nb_run.specs.Ending.{at_no_place}
-use Rattle.nb_run.specs.declared.ending.TheConstants.{UNPAID}
+use Rattle.nb_commands.specs.declared.ending.Ending.{Ending}
+use Rattle.nb_commands.specs.declared.ending.TheConstants.{CLEAN, OUT_OF_MEMORY, DISK_FAILED, PORT_FAILED, JOURNAL_FULL}
+use Rattle.nb_commands.specs.Ending.{at_no_place}
+use Rattle.nb_commands.specs.declared.ending.TheConstants.{UNPAID}
 use Rattle.nb_journal.specs.Layout.{front_bytes}
 use Rattle.nb_journal.specs.Reading.{Holds}
 use Rattle.nb_journal.specs.Stands.{Stands}

@@ -22,9 +22,9 @@ use Rattle.nb_sell.specs.declared.ended.SellEnd.{SellEnd}
 use Rattle.nb_sell.specs.declared.ended.SellEnd.TheVariants as ends
 use Rattle.nb_sell.specs.Sold.{Around, around, Sold}
 use Rattle.nb_server.specs.Served.{WorkerSeen, with_given, with_taken}
-use Rattle.nb_run.specs.declared.ending.Ending.{Ending}
-use Rattle.nb_run.specs.declared.ending.TheConstants.{CLEAN, OUT_OF_MEMORY, DISK_FAILED, NO_JOURNAL, PORT_FAILED, JOURNAL_FULL}
-use Rattle.nb_run.specs.Ending.{at_no_place}
+use Rattle.nb_commands.specs.declared.ending.Ending.{Ending}
+use Rattle.nb_commands.specs.declared.ending.TheConstants.{CLEAN, OUT_OF_MEMORY, DISK_FAILED, NO_JOURNAL, PORT_FAILED, JOURNAL_FULL}
+use Rattle.nb_commands.specs.Ending.{at_no_place}
 use Rattle.nb_work.specs.declared.working.Dials.{Dials}
 use Rattle.nb_work.specs.declared.selling.Stop.{Stop}
 use Rattle.nb_work.specs.declared.selling.Stop.TheVariants as stops

@@ -14,12 +14,12 @@ use Rattle.nb_link.specs.Link.{LinkSeen}
 use Rattle.nb_link.specs.Port.{PortSeen}
 use Rattle.nb_server.specs.declared.worker.Worker.{Worker}
 use Rattle.nb_server.specs.Served.{WorkerSeen, AllSessions, worker_seen}
-use Rattle.nb_run.specs.declared.ending.Ending.{Ending}
-use Rattle.nb_run.specs.declared.ending.Job.{Job}
-use Rattle.nb_run.specs.declared.ending.Job.TheVariants.{Serve, Buy, Sell}
-use Rattle.nb_run.specs.declared.ending.TheConstants.{CLEAN, OUT_OF_MEMORY, PORT_FAILED}
-use Rattle.nb_run.specs.Ending.{at_no_place}
-use Rattle.nb_run.specs.Run.{unopened}
+use Rattle.nb_commands.specs.declared.ending.Ending.{Ending}
+use Rattle.nb_commands.specs.declared.ending.Job.{Job}
+use Rattle.nb_commands.specs.declared.ending.Job.TheVariants.{Serve, Buy, Sell}
+use Rattle.nb_commands.specs.declared.ending.TheConstants.{CLEAN, OUT_OF_MEMORY, PORT_FAILED}
+use Rattle.nb_commands.specs.Ending.{at_no_place}
+use Rattle.nb_commands.specs.Opening.{unopened}
 use Rattle.nb_words.specs.declared.words.TheConstants.{MAX_WORKERS}
 use Rattle.nb_work.specs.declared.working.Dials.{Dials}
 use Rattle.nb_work.specs.Buying.{BuysOver, start_of}

@@ -1,18 +1,18 @@
 ghost use Rattle.std.specs.Prelude.{◌≡◌, []};
 ghost use Rattle.nb_wallet.specs.Spelling.{StartKeepsRules};
 ghost use Rattle.nb_work.specs.Buying.{BuysAs, not_opened, status_of};
-ghost use Rattle.nb_run.specs.Ending.{at_no_place};
+ghost use Rattle.nb_commands.specs.Ending.{at_no_place};
 
 use nb_buy::{BuyEnd, Lost, buy};
+use nb_commands::{
+    CLEAN, DISK_FAILED, Ending, JOURNAL_FULL, LINK_FAILED, NO_JOURNAL, OUT_OF_MEMORY, SINK_FAILED,
+    UNPAID,
+};
 use nb_consumer::Consumer;
 use nb_journal::{Journal, MAX_ITEM, OpenFault, Opened};
 use nb_link::Link;
 use nb_msgs::RestartFault;
 use nb_port::{Disk, Sink};
-use nb_run::{
-    CLEAN, DISK_FAILED, Ending, JOURNAL_FULL, LINK_FAILED, NO_JOURNAL, OUT_OF_MEMORY, SINK_FAILED,
-    UNPAID,
-};
 use nb_units::Small;
 use nb_wallet::{Start, Wallet};
 use std::alloc::Global;

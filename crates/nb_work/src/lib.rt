@@ -1,6 +1,6 @@
 //! Work over links: what a job comes to, over a disk, workers and dialled links that are handed in.
 //!
-//! [`work`] does a [`Job`](nb_run::Job). For `serve` it opens the vault on the disk and serves the links of all workers
+//! [`work`] does a [`Job`](nb_commands::Job). For `serve` it opens the vault on the disk and serves the links of all workers
 //! ([`nb_server::serve_all`]). Its contract (`specs/Work.antt`) says what stands after each status: over a journal that was not opened,
 //! or where there was no memory to begin, nothing was touched; else every line of the vault is told, with what came of each worker.
 //! For `buy` it opens the wallet on the disk and makes the purchase over the dialled links ([`nb_buy::buy`]). What stands then

@@ -8,9 +8,12 @@ ghost use Rattle.nb_sell.specs.Sold.{IsJournalOf};
 ghost use Rattle.nb_server.specs.Served.{worker_seen};
 ghost use Rattle.nb_work.specs.Buying.{not_opened};
 ghost use Rattle.nb_work.specs.Selling.{Serves, SellsAs, outside, standing, status_of, stop_for};
-ghost use Rattle.nb_run.specs.Ending.{at_no_place};
+ghost use Rattle.nb_commands.specs.Ending.{at_no_place};
 
 use crate::buying::unopened;
+use nb_commands::{
+    CLEAN, DISK_FAILED, Ending, JOURNAL_FULL, NO_JOURNAL, OUT_OF_MEMORY, PORT_FAILED,
+};
 use nb_groups::Offers;
 use nb_journal::{Journal, MAX_ITEM, Opened};
 use nb_link::{Link, Port, PortOut};
@@ -18,7 +21,6 @@ use nb_merchant::Merchant;
 use nb_msgs::RestartFault;
 use nb_port::{Clock, Disk};
 use nb_price::Catalogue;
-use nb_run::{CLEAN, DISK_FAILED, Ending, JOURNAL_FULL, NO_JOURNAL, OUT_OF_MEMORY, PORT_FAILED};
 use nb_sell::{SellEnd, sell_link};
 use nb_server::Worker;
 use nb_stall::Stall;

@@ -7,11 +7,11 @@ ghost use Rattle.nb_work.specs.Work.{IsStaffed, IsDialled, IsShort, WorksAs, Ser
 
 use crate::buying::{buy_with, nothing};
 use crate::selling::sell_with;
+use nb_commands::{CLEAN, Ending, Job, OUT_OF_MEMORY, PORT_FAILED};
 use nb_groups::Offers;
 use nb_link::{Gate, Link, Port};
 use nb_port::{Clock, Disk, Sink};
 use nb_price::Catalogue;
-use nb_run::{CLEAN, Ending, Job, OUT_OF_MEMORY, PORT_FAILED};
 use nb_server::{How, Served, Worker, WorkerEnd, serve_all};
 use nb_turns::Line;
 use nb_vault::Vault;

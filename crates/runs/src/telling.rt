@@ -1,8 +1,8 @@
 // What a run does, in words.
 
+use nb_commands::{Ending, Job, Outcome};
 use nb_lines::Told;
 use nb_price::Catalogue;
-use nb_run::{Ending, Job, Outcome};
 use nb_units::NoMemory;
 use std::alloc::Global;
 

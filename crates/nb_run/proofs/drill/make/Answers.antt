@@ -1,7 +1,7 @@
 use Rattle.std.proofs.Common.{ℕ, inl, refl, subst}
 use Rattle.nb_journal.specs.Making.{without_fee}
-use Rattle.nb_run.specs.Init.{IsMade}
-use Rattle.nb_run.proofs.Making.{made_of}
+use Rattle.nb_commands.specs.Init.{IsMade}
+use Rattle.nb_commands.proofs.Making.{made_of}
 use Rattle.nb_run.proofs.drill.make.Goals as goal
 
 pub returns-in-Ok-clause-made : goal.returns-in-Ok-clause-made

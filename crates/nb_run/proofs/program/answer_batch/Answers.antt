@@ -1,12 +1,13 @@
 use Rattle.std.proofs.Common.{sym, ap, ◌∙◌, subst, arith, ◌≢◌, ◌≤◌, List}
 use Rattle.nb_turns.specs.declared.line.Line.{Line}
-use Rattle.nb_run.specs.declared.ending.Ending.{Ending}
-use Rattle.nb_run.specs.declared.ending.TheConstants.{DISK_FAILED, NO_JOURNAL}
+use Rattle.nb_commands.specs.declared.ending.Ending.{Ending}
+use Rattle.nb_commands.specs.declared.ending.TheConstants.{DISK_FAILED, NO_JOURNAL}
 use Rattle.nb_batch.specs.Batch.{Outside}
 use Rattle.nb_journal.specs.Time.{Unwritten}
 use Rattle.nb_run.specs.Ending.{EndsEarly, ended}
 use Rattle.nb_run.specs.Run.{BatchLines, EndsWhole}
-use Rattle.nb_run.proofs.Completeness.{early_end, opened_end, unopened_end, unopened_whole, whole_end}
+use Rattle.nb_commands.proofs.Opening.{unopened_end}
+use Rattle.nb_run.proofs.Completeness.{early_end, opened_end, unopened_whole, whole_end}
 use Rattle.nb_run.proofs.Running.{batch_lines}
 use Rattle.nb_run.proofs.program.answer_batch.Goals as goal
 

@@ -5,27 +5,27 @@ use Rattle.nb_units.specs.declared.ids.PartyId.{PartyId}
 use Rattle.nb_units.specs.declared.ids.Price.{Price}
 use Rattle.nb_words.specs.declared.words.Command.TheVariants as commands
 use Rattle.nb_words.specs.Words.{CommandIs, IsBuy, IsBuyWith, IsCredential, IsMigrate, IsSell, IsSellOffers, IsStatement, IsJudge, IsPlay}
-use Rattle.nb_run.specs.declared.ending.Outcome.TheVariants.{Work}
-use Rattle.nb_run.specs.declared.ending.Job.TheVariants.{Buy}
-use Rattle.nb_run.specs.Asking.{AsksAs}
-use Rattle.nb_run.specs.Granting.{GrantIs, credential_for, grant_ending}
-use Rattle.nb_run.specs.Offering.{OffersAs}
+use Rattle.nb_commands.specs.declared.ending.Outcome.TheVariants.{Work}
+use Rattle.nb_commands.specs.declared.ending.Job.TheVariants.{Buy}
+use Rattle.nb_commands.specs.Asking.{AsksAs}
+use Rattle.nb_commands.specs.Granting.{GrantIs, credential_for, grant_ending}
+use Rattle.nb_commands.specs.Offering.{OffersAs}
 use Rattle.nb_run.specs.Drill.{DrillIs}
 use Rattle.nb_run.specs.Run.{InitIs}
 use Rattle.nb_run.proofs.Numerals.{one_init, one_drill, one_job, one_purchase, one_sale, one_credential, one_migrate, one_ship, one_statement, rate_small, two_words, is_command}
-use Rattle.nb_run.proofs.Making.{makes_clean}
-use Rattle.nb_run.proofs.Moving.{moves_clean}
-use Rattle.nb_run.proofs.Rulings.{rules_clean}
-use Rattle.nb_run.proofs.Plays.{plays_clean}
+use Rattle.nb_commands.proofs.Making.{makes_clean}
+use Rattle.nb_commands.proofs.Moving.{moves_clean}
+use Rattle.nb_commands.proofs.Rulings.{rules_clean}
+use Rattle.nb_commands.proofs.Plays.{plays_clean}
 use Rattle.nb_run.proofs.Stocking.{stocks_clean, sold_by, not_unread}
 use Rattle.nb_run.proofs.Requests.{bought_plain, asks_clean, asked_by, not_unasked}
 use Rattle.nb_run.proofs.Wares.{offers_clean, offered_by, not_unoffered}
 use Rattle.nb_run.proofs.Grants.{grants_clean}
-use Rattle.nb_run.specs.Init.{MakesAs}
-use Rattle.nb_run.specs.Migrate.{MigrateIs}
-use Rattle.nb_run.specs.Selling.{StocksAs}
-use Rattle.nb_run.specs.Ship.{ShipIs}
-use Rattle.nb_run.specs.Statement.{StatementIs}
+use Rattle.nb_commands.specs.Init.{MakesAs}
+use Rattle.nb_commands.specs.Migrate.{MigrateIs}
+use Rattle.nb_commands.specs.Selling.{StocksAs}
+use Rattle.nb_commands.specs.Ship.{ShipIs}
+use Rattle.nb_commands.specs.Statement.{StatementIs}
 use Rattle.nb_run.proofs.program.run.Goals as goal
 
 pub make_journal-end-requires : goal.make_journal-end-requires

@@ -1,5 +1,5 @@
 use Rattle.std.proofs.Common.{sym, subst}
-use Rattle.nb_run.specs.declared.ending.Ending.{Ending}
+use Rattle.nb_commands.specs.declared.ending.Ending.{Ending}
 use Rattle.nb_work.specs.Buying.{BuysAs}
 use Rattle.nb_work.proofs.working.purchase.Goals as goal
 

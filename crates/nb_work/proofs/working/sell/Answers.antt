@@ -1,5 +1,5 @@
 use Rattle.std.proofs.Common.{length, map, sym, subst, ◌∙◌, arith, ◌≡◌}
-use Rattle.nb_run.specs.declared.ending.Ending.{Ending}
+use Rattle.nb_commands.specs.declared.ending.Ending.{Ending}
 use Rattle.nb_server.specs.Served.{worker_seen}
 use Rattle.nb_work.specs.Selling.{SellsAs, outside}
 use Rattle.nb_work.proofs.Sales.{one_there, one_put}

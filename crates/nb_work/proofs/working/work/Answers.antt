@@ -1,5 +1,5 @@
 use Rattle.std.proofs.Common.{ℕ, List, sym, subst, refl}
-use Rattle.nb_run.specs.declared.ending.Job.{Job}
+use Rattle.nb_commands.specs.declared.ending.Job.{Job}
 use Rattle.nb_work.specs.Work.{WorksAs, workers_seen}
 use Rattle.nb_work.specs.Buying.{BuysOver}
 use Rattle.nb_work.proofs.working.work.Goals as goal

@@ -1,7 +1,7 @@
 use Rattle.std.proofs.Common.{◌≤◌, ◌<◌, ℕ, List, ◌++◌, length, refl, sym, ap, subst, ◌∙◌, arith}
 use Rattle.nb_world.specs.declared.packet.Maker.TheVariants as by
 use Rattle.nb_world.specs.declared.packet.Packet.{Packet}
-use Rattle.nb_simulator.specs.Doing.{packets_did}
+use Rattle.nb_nodes.specs.Doing.{packets_did}
 use Rattle.nb_units.specs.declared.limits.TheConstants.{MAX_MEMO}
 use Rattle.nb_body.specs.declared.limits.TheConstants.{MAX_REQUEST}
 use Rattle.nb_simulator.proofs.Nodes.{buy_went, buy_ignored_is, buy_unknown, buy_long_request, buy_long_memo}

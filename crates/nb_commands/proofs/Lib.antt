@@ -1,0 +1,9 @@
+pub mod Heads
+pub mod Making
+pub mod Moving
+pub mod Opening
+pub mod Stating
+pub mod Ships
+pub mod Promotions
+pub mod Rulings
+pub mod Plays

@@ -1,0 +1,15 @@
+pub mod Ending
+pub mod Numbers
+pub mod Opening
+pub mod Input
+pub mod Init
+pub mod Migrate
+pub mod Statement
+pub mod Ship
+pub mod Promote
+pub mod Judge
+pub mod Play
+pub mod Granting
+pub mod Asking
+pub mod Selling
+pub mod Offering
