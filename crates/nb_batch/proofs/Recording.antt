@@ -13,7 +13,7 @@ use Rattle.nb_book.specs.Spelling.{EntryKeepsRules}
 use Rattle.nb_book.proofs.Growing.{front_legal}
 use Rattle.nb_book.proofs.Layouts.{legal_keeps_rules}
 use Rattle.nb_batch.specs.Send.{SentPart}
-use Rattle.nb_batch.specs.Shipping.{record_frame, record_frames, shipped_from}
+use Rattle.nb_batch.specs.Shipping.{SentBut, record_frame, record_frames, shipped_from}
 
 -- the frames of two lists, one behind the other
 frames_append : (key : List ℕ) (place : ℕ) (xs ys : List Entry) → record_frames key place (xs ++ ys) ≡ record_frames key place xs ++ record_frames key (place + length xs) ys
@@ -72,8 +72,8 @@ pub first_part : (H D : List Entry) → Legal (H ++ D) → Legal H
 first_part H D legal = subst Legal (take_at H D (length H) refl) (front_legal (H ++ D) (length H) legal)
 
 -- nothing is sent up to the place
-pub none_sent : (key : List ℕ) (from : ℕ) (H : List Entry) (sent : Option (List ℕ)) → from ≤ length H → Appends sent sent (frames_up_to key from H from)
-none_sent key from H sent within = subst (λ (bytes : List ℕ). Appends sent sent bytes) (sym nothing) (Appends-nil sent)
+pub none_sent : (key : List ℕ) (from : ℕ) (H : List Entry) (sent : Option (List ℕ)) (waits : List ℕ) → from ≤ length H → waits ≡ [] → SentBut sent sent waits (frames_up_to key from H from)
+none_sent key from H sent waits within none = record { done = []; appends = Appends-nil sent; all = none ∙ sym nothing }
   where
     nothing : frames_up_to key from H from ≡ []
     nothing = ap (λ (es : List Entry). record_frames key from es) (empty (drop from (take from H)) (omega (arith, length-drop from (take from H), length-take-le from H within)))
@@ -82,45 +82,51 @@ none_sent key from H sent within = subst (λ (bytes : List ℕ). Appends sent se
         empty [] e = refl
         empty (x ∷ es) e = absurd (omega (arith, e))
 
--- all are sent behind the last entry
-pub all_sent : (key : List ℕ) (from : ℕ) (H : List Entry) (sent sent' : Option (List ℕ)) (at : ℕ) → at ≡ length H → Appends sent sent' (frames_up_to key from H at) → Appends sent sent' (shipped_from key from H)
-all_sent key from H sent sent' at is done =
-    subst (λ (es : List Entry). Appends sent sent' (record_frames key from (drop from es))) (take_all at H (omega (arith, is))) done
+-- where room was made for a record it waits behind the others
+pub one_more : (key : List ℕ) (from at : ℕ) (H : List Entry) (e : Entry) (a b c : Option (List ℕ)) (waited left waits : List ℕ) → from ≤ at → at < length H → slice_get H at ≡ Some e
+    → SentBut a b waited (frames_up_to key from H at) → SentBut b c left waited → waits ≡ left ++ record_frame key at e → SentBut a c waits (frames_up_to key from H (at + 1))
+one_more key from at H e a b c waited left waits low within there first second put = record {
+  done = first.done ++ second.done;
+  appends = Appends-trans a b c first.done second.done first.appends second.appends;
+  all = ap (λ (bytes : List ℕ). (first.done ++ second.done) ++ bytes) put
+      ∙ append_assoc first.done second.done (left ++ record_frame key at e)
+      ∙ ap (λ (bytes : List ℕ). first.done ++ bytes) (sym (append_assoc second.done left (record_frame key at e)) ∙ ap (λ (bytes : List ℕ). bytes ++ record_frame key at e) second.all)
+      ∙ sym (append_assoc first.done waited (record_frame key at e))
+      ∙ ap (λ (bytes : List ℕ). bytes ++ record_frame key at e) first.all
+      ∙ sym (frames_next key from at H low (omega (arith, within)) e there);
+}
 
--- a record more is sent
-pub one_sent : (key : List ℕ) (from at : ℕ) (H : List Entry) (e : Entry) (a b c : Option (List ℕ)) (piece : List ℕ) → from ≤ at → at < length H → slice_get H at ≡ Some e → piece ≡ record_frame key at e
-    → Appends a b (frames_up_to key from H at) → Appends b c piece → Appends a c (frames_up_to key from H (at + 1))
-one_sent key from at H e a b c piece low within there is done more =
-    subst (λ (bytes : List ℕ). Appends a c bytes)
-    (ap (λ (bytes : List ℕ). frames_up_to key from H at ++ bytes) is ∙ sym (frames_next key from at H low (omega (arith, within)) e there))
-    (Appends-trans a b c (frames_up_to key from H at) piece done more)
-
--- or a part of it
-pub part_sent : (key : List ℕ) (from at : ℕ) (H : List Entry) (e : Entry) (a b c : Option (List ℕ)) (piece : List ℕ) → from ≤ at → at < length H → slice_get H at ≡ Some e → piece ≡ record_frame key at e
-    → Appends a b (frames_up_to key from H at) → SentPart b c piece → SentPart a c (shipped_from key from H)
-part_sent key from at H e a b c piece low within there is done part =
-    let front = frames_up_to key from H at in
-    let behind = record_frames key (at + 1) (drop (at + 1) H) in
-    let whole : shipped_from key from H ≡ front ++ (piece ++ behind) =
-    frames_parted key from (at + 1) H (omega (arith, low)) (omega (arith, within))
-    ∙ ap (λ (bytes : List ℕ). bytes ++ behind) (frames_next key from at H low (omega (arith, within)) e there ∙ ap (λ (bytes : List ℕ). front ++ bytes) (sym is))
-    ∙ append_assoc front piece behind
+-- or a part of what waited was sent, and that is a part of all
+pub part_sent : (key : List ℕ) (from at : ℕ) (H : List Entry) (a b c : Option (List ℕ)) (waits : List ℕ) → from ≤ at → at ≤ length H
+    → SentBut a b waits (frames_up_to key from H at) → SentPart b c waits → SentPart a c (shipped_from key from H)
+part_sent key from at H a b c waits low high first part =
+    let front = first.done in
+    let behind = record_frames key at (drop at H) in
+    let whole : shipped_from key from H ≡ front ++ (waits ++ behind) =
+    frames_parted key from at H low high ∙ ap (λ (bytes : List ℕ). bytes ++ behind) (sym first.all) ∙ append_assoc front waits behind
     in
-    let cut : take (length front + part.count) (shipped_from key from H) ≡ front ++ take part.count piece =
-    ap (take (length front + part.count)) whole ∙ take-append-add front (piece ++ behind) part.count
-    ∙ ap (λ (bytes : List ℕ). front ++ bytes) (take-append-le part.count piece behind (omega (arith, part.less)))
+    let cut : take (length front + part.count) (shipped_from key from H) ≡ front ++ take part.count waits =
+    ap (take (length front + part.count)) whole ∙ take-append-add front (waits ++ behind) part.count
+    ∙ ap (λ (bytes : List ℕ). front ++ bytes) (take-append-le part.count waits behind (omega (arith, part.less)))
     in
     record {
       count = length front + part.count;
-      less = omega (arith, part.less, ap length whole, length-append front (piece ++ behind), length-append piece behind);
-      appends = subst (λ (bytes : List ℕ). Appends a c bytes) (sym cut) (Appends-trans a b c front (take part.count piece) done part.appends);
+      less = omega (arith, part.less, ap length whole, length-append front (waits ++ behind), length-append waits behind);
+      appends = subst (λ (bytes : List ℕ). Appends a c bytes) (sym cut) (Appends-trans a b c front (take part.count waits) first.appends part.appends);
     }
 
--- what is sent is the record's frame
-pub piece_is : (key house : List ℕ) (place at : ℕ) (e : Entry) (piece items cleared : List ℕ) → piece ≡ items → items ≡ cleared ++ record_frame house place e → cleared ≡ [] → house ≡ key → place ≡ at
-    → piece ≡ record_frame key at e
-piece_is key house place at e piece items cleared same put none key_is place_is =
-    same ∙ put ∙ ap (λ (xs : List ℕ). xs ++ record_frame house place e) none ∙ ap (λ (k : List ℕ). record_frame k place e) key_is ∙ ap (λ (n : ℕ). record_frame key n e) place_is
+-- all are sent behind the last entry
+pub all_sent : (key : List ℕ) (from at : ℕ) (H : List Entry) (a b c : Option (List ℕ)) (waits : List ℕ) → at ≡ length H
+    → SentBut a b waits (frames_up_to key from H at) → Appends b c waits → Appends a c (shipped_from key from H)
+all_sent key from at H a b c waits is first last =
+    subst (λ (bytes : List ℕ). Appends a c bytes) (first.all ∙ ap (λ (es : List Entry). record_frames key from (drop from es)) (take_all at H (omega (arith, is))))
+    (Appends-trans a b c first.done waits first.appends last)
+
+-- what is put behind the bytes that wait is the record's frame
+pub put_is : (key house : List ℕ) (place at : ℕ) (e : Entry) (left waits : List ℕ) → waits ≡ left ++ record_frame house place e → house ≡ key → place ≡ at
+    → waits ≡ left ++ record_frame key at e
+put_is key house place at e left waits put key_is place_is =
+    put ∙ ap (λ (k : List ℕ). left ++ record_frame k place e) key_is ∙ ap (λ (n : ℕ). left ++ record_frame key n e) place_is
 
 pub rose_behind : (a b c : ℕ) → a ≤ b → Rose b c → Rose a c
 rose_behind a b c first rose = omega (arith, first, rose)

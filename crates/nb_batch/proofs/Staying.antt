@@ -1,6 +1,8 @@
 -- What was recorded stays in all that a stop leaves behind it.
-use Rattle.std.proofs.Common.{◌≡◌, ◌⊎◌, ⊎_elim, ℕ, ◌≤◌, zero, suc, List, [], ◌∷◌, ◌++◌, take, Some, sym, ap, subst, ◌∙◌, append_assoc, append-nil, arith}
-use Rattle.std.specs.List.{slice_get}
+use Rattle.std.proofs.Common.{◌≡◌, ◌⊎◌, ⊎_elim, ℕ, ◌<◌, ◌≤◌, zero, suc, List, [], ◌∷◌, ◌++◌, length, take, Some, refl, sym, ap, subst, ◌∙◌, append_assoc, append-nil, arith}
+use Rattle.std.specs.Prelude.{◌^◌}
+use Rattle.std.specs.List.{slice_get, AllByRecursion}
+use Rattle.std.proofs.lemmas.List.{length-append}
 use Rattle.std.specs.Option.{option_to_list}
 use Rattle.std.proofs.Math.Seq.{take-append_seam}
 use Rattle.nb_units.specs.declared.charter.Charter.{Charter}
@@ -12,9 +14,15 @@ use Rattle.nb_vault.specs.Rules.{house_of}
 use Rattle.nb_turns.specs.declared.mark.Mark.{Mark}
 use Rattle.nb_turns.specs.declared.mark.Mark.TheVariants.{At, Fault, Worn}
 use Rattle.nb_turns.specs.Turns.{Request, House, State, Answered}
-use Rattle.nb_turns.specs.Laws.{TurnOfOne, RunOfOnes}
+use Rattle.nb_turns.specs.Laws.{DecidesOne, TurnOfOne, RunOfOnes}
+use Rattle.nb_standby.specs.declared.code.TheConstants.{TAKEN, SAME}
+use Rattle.nb_standby.specs.Answering.{Acknowledges, AcknowledgesAll, acknowledgement, record_in}
+use Rattle.nb_standby.proofs.Runs.{IsWithin, acknowledged_grows, all_within, came_there, told_once}
+use Rattle.nb_batch.specs.declared.answering.Answerer.{Answerer}
+use Rattle.nb_batch.specs.declared.answering.Answerer.TheVariants as answers
+use Rattle.nb_batch.specs.Answering.{Goes, GoesTo}
 use Rattle.nb_batch.specs.Batch.{HoldsState, GoesThrough, last_disk}
-use Rattle.nb_batch.specs.Acknowledged.{StandsForMore, Stays}
+use Rattle.nb_batch.specs.Acknowledged.{StandsForMore, Stays, StaysTaken}
 
 -- the entries of a state begin with these
 abbrev Begins : List Entry → State → Type 0
@@ -44,6 +52,45 @@ turn_begins house base old new request (Fault before after) reply begins turn = 
     (λ doubts. begins_more base doubts.over [] new (over_begins base doubts.over old begins doubts.settled) (ap (λ (s : State). s.entries) doubts.left ∙ sym (append-nil doubts.over)))
     turn.2
 
+-- each of these states begins with the entries of the one before it
+abbrev Grow : State → List State → Type 0
+Grow first [] = Unit {0}
+Grow first (next ∷ states) = Begins first.entries next × Grow next states
+
+-- what begins with a list begins with its front
+begins_on : (base : List Entry) (old new : State) → Begins base old → Begins old.entries new → Begins base new
+begins_on base old new begins more = begins_more base old.entries more.0 new begins more.1
+
+itself : (state : State) → Begins state.entries state
+itself state = ([], sym (append-nil state.entries))
+
+-- ---- who answers
+
+goes_on : (by : Answerer) (charter : Charter) (cap : ℕ) (first : State) (a : Answered) (answered : List Answered) (next : State) (states : List State)
+    → Goes by charter cap first (a ∷ answered) (next ∷ states) → GoesTo by charter cap first a.request a.mark a.reply next × Goes by charter cap next answered states
+goes_on answers.House charter cap first a answered next states goes = (goes.0, goes.1)
+goes_on answers.Standby charter cap first a answered next states goes = (goes.0, goes.1)
+
+goes_short : (by : Answerer) (charter : Charter) (cap : ℕ) (first : State) (a : Answered) (answered : List Answered) → Goes by charter cap first (a ∷ answered) [] → ⊥
+goes_short answers.House charter cap first a answered goes = goes
+goes_short answers.Standby charter cap first a answered goes = goes
+
+goes_long : (by : Answerer) (charter : Charter) (cap : ℕ) (first next : State) (states : List State) → Goes by charter cap first [] (next ∷ states) → ⊥
+goes_long answers.House charter cap first next states goes = goes
+goes_long answers.Standby charter cap first next states goes = goes
+
+to_grows : (by : Answerer) (charter : Charter) (cap : ℕ) (old : State) (request : Request) (mark : Mark) (reply : List ℕ) (new : State) → GoesTo by charter cap old request mark reply new
+    → Begins old.entries new
+to_grows answers.House charter cap old request mark reply new goes = turn_begins (house_of (head_of charter) cap) old.entries old new request mark reply (itself old) goes
+to_grows answers.Standby charter cap old request mark reply new goes = acknowledged_grows charter cap old request mark reply new goes
+
+goes_grow : (by : Answerer) (charter : Charter) (cap : ℕ) (first : State) (answered : List Answered) (states : List State) → Goes by charter cap first answered states → Grow first states
+goes_grow by charter cap first answered [] goes = tt
+goes_grow by charter cap first [] (next ∷ states) goes = absurd (goes_long by charter cap first next states goes)
+goes_grow by charter cap first (a ∷ answered) (next ∷ states) goes =
+    let parts = goes_on by charter cap first a answered next states goes in
+    (to_grows by charter cap first a.request a.mark a.reply next parts.0, goes_grow by charter cap next answered states parts.1)
+
 -- an image that stands for a state which begins so
 more_in : (charter : Charter) (cap : ℕ) (base : List Entry) (state : State) (image : List ℕ) → Begins base state → StandsForEither charter cap state.entries state.doubt image → StandsForMore charter cap base image
 more_in charter cap base state image begins stands = ⊎_elim
@@ -54,21 +101,37 @@ more_in charter cap base state image begins stands = ⊎_elim
     })
     stands
 
+there_within : (cap : ℕ) (states : List State) (k : ℕ) (state : State) → AllByRecursion (IsWithin cap) states → slice_get states k ≡ Some state → IsWithin cap state
+there_within cap [] k state all is = absurd cc
+there_within cap (s ∷ states) zero state all is = subst (IsWithin cap) (same s state is) all.0
+  where
+    same : (x y : State) → Some x ≡ Some y → x ≡ y
+    same x y is = cc
+there_within cap (s ∷ states) (suc k) state all is = there_within cap states k state all.1 is
+
+-- what there is at a turn: it was answered from some state, and these states and disks come behind it
+record AtTurn {D : Type 0} (tells : DiskTells D) (by : Answerer) (charter : Charter) (cap : ℕ) (one : Answered) (state : State) (disk last : D) : Type 0 where
+  old : State
+  turn : GoesTo by charter cap old one.request one.mark one.reply state
+  states : List State
+  disks : List D
+  grow : Grow state states
+  through : GoesThrough tells charter cap state disk states disks
+  last_is : last ≡ last_disk disk disks
+
 module _ {D : Type 0} (tells : DiskTells D) (only_now : (d : D) (c : List ℕ) → tells.left d (tells.moment d) c → tells.allowed d c) (charter : Charter) (cap : ℕ) where
   -- all that comes later leaves it
-  stays_on : (since : ℕ) (base : List Entry) (first : State) (disk : D) (answered : List Answered) (states : List State) (disks : List D) → RunOfOnes (house_of (head_of charter) cap) first answered states → GoesThrough tells charter cap first disk states disks
+  stays_on : (since : ℕ) (base : List Entry) (first : State) (disk : D) (states : List State) (disks : List D) → Grow first states → GoesThrough tells charter cap first disk states disks
       → Begins base first → since ≤ tells.moment disk → ((image : List ℕ) → tells.left disk since image → StandsForMore charter cap base image)
       → (image : List ℕ) → tells.left (last_disk disk disks) since image → StandsForMore charter cap base image
-  stays_on since base first disk [] [] [] run through begins le here image left = here image left
-  stays_on since base first disk (a ∷ answered) (s ∷ states) (d ∷ disks) run through begins le here image left =
-      let next = turn_begins (house_of (head_of charter) cap) base first s a.request a.mark a.reply begins run.0 in
-      stays_on since base s d answered states disks run.1 through.2 next (omega (arith, le, through.1.later))
+  stays_on since base first disk [] [] grow through begins le here image left = here image left
+  stays_on since base first disk (s ∷ states) (d ∷ disks) grow through begins le here image left =
+      let next = begins_on base first s begins grow.0 in
+      stays_on since base s d states disks grow.1 through.2 next (omega (arith, le, through.1.later))
       (λ c is. ⊎_elim (here c) (λ either. ⊎_elim (more_in charter cap base first c begins) (more_in charter cap base s c next) either) (through.1.before since c le is))
       image left
-  stays_on since base first disk [] [] (d ∷ disks) run through begins le here image left = absurd through
-  stays_on since base first disk [] (s ∷ states) disks run through begins le here image left = absurd run
-  stays_on since base first disk (a ∷ answered) [] disks run through begins le here image left = absurd run
-  stays_on since base first disk (a ∷ answered) (s ∷ states) [] run through begins le here image left = absurd through
+  stays_on since base first disk [] (d ∷ disks) grow through begins le here image left = absurd through
+  stays_on since base first disk (s ∷ states) [] grow through begins le here image left = absurd through
 
   -- the disk at the front holds the state
   holds_first : (first : State) (disk : D) (states : List State) (disks : List D) → GoesThrough tells charter cap first disk states disks → HoldsState tells charter cap first disk
@@ -77,50 +140,84 @@ module _ {D : Type 0} (tells : DiskTells D) (only_now : (d : D) (c : List ℕ) �
   holds_first first disk [] (d ∷ disks) through = absurd through
   holds_first first disk (s ∷ states) [] through = absurd through
 
+  -- since a disk that holds a state, its entries stay
+  stays_since : (first : State) (disk : D) (states : List State) (disks : List D) → Grow first states → GoesThrough tells charter cap first disk states disks
+      → (image : List ℕ) → tells.left (last_disk disk disks) (tells.moment disk) image → StandsForMore charter cap first.entries image
+  stays_since first disk states disks grow through image left =
+      stays_on (tells.moment disk) first.entries first disk states disks grow through (itself first) (omega arith)
+      (λ c now. more_in charter cap first.entries first c (itself first) (holds_first first disk states disks through c (only_now disk c now))) image left
+
   -- what was there at the start
-  pub opening_stays : (first : State) (opened : D) (answered : List Answered) (states : List State) (disks : List D) → RunOfOnes (house_of (head_of charter) cap) first answered states → GoesThrough tells charter cap first opened states disks
+  pub opening_stays : (by : Answerer) (first : State) (opened : D) (answered : List Answered) (states : List State) (disks : List D) → Goes by charter cap first answered states → GoesThrough tells charter cap first opened states disks
       → (image : List ℕ) → tells.left (last_disk opened disks) (tells.moment opened) image → StandsForMore charter cap first.entries image
-  opening_stays first opened answered states disks run through image left =
-      let begins : Begins first.entries first = ([], sym (append-nil first.entries)) in
-      stays_on (tells.moment opened) first.entries first opened answered states disks run through begins (omega arith)
-      (λ c now. more_in charter cap first.entries first c begins (holds_first first opened states disks through c (only_now opened c now))) image left
+  opening_stays by first opened answered states disks goes through = stays_since first opened states disks (goes_grow by charter cap first answered states goes) through
 
-  -- the first turn of what is left
-  stays_here : (first state : State) (disk : D) (request : Request) (place : ℕ) (reply : List ℕ) (answered : List Answered) (states : List State) (disks : List D)
-      → TurnOfOne (house_of (head_of charter) cap) first request (At place) reply state → RunOfOnes (house_of (head_of charter) cap) state answered states → GoesThrough tells charter cap state disk states disks
-      → Stays tells charter cap request place reply state disk (last_disk disk disks)
-  stays_here first state disk request place reply answered states disks turn run through =
-      let house = house_of (head_of charter) cap in
-      let d = turn.1 in
-      let entries : state.entries ≡ d.over ++ option_to_list (house.rules d.over request).entry = ap (λ (s : State). s.entries) d.left in
-      let front : take place state.entries ≡ d.over = ap (take place) entries ∙ ap (λ (n : ℕ). take n (d.over ++ option_to_list (house.rules d.over request).entry)) d.at ∙ take-append_seam d.over (option_to_list (house.rules d.over request).entry) in
-      let begins : Begins state.entries state = ([], sym (append-nil state.entries)) in
-      record {
-        told = d.told ∙ ap (λ (over : List Entry). (house.rules over request).reply) (sym front);
-        recorded = entries ∙ ap (λ (over : List Entry). over ++ option_to_list (house.rules over request).entry) (sym front);
-        images = stays_on (tells.moment disk) state.entries state disk answered states disks run through begins (omega arith)
-            (λ c left. more_in charter cap state.entries state c begins (holds_first state disk states disks through c (only_now disk c left)));
-      }
+  -- one turn of all
+  at_turn : (by : Answerer) (first : State) (opened : D) (answered : List Answered) (states : List State) (disks : List D) → Goes by charter cap first answered states → GoesThrough tells charter cap first opened states disks
+      → (turn : ℕ) (one : Answered) (state : State) (disk : D) → slice_get answered turn ≡ Some one → slice_get states turn ≡ Some state → slice_get disks turn ≡ Some disk
+      → AtTurn tells by charter cap one state disk (last_disk opened disks)
+  at_turn by first opened (a ∷ answered) (s ∷ states) (d ∷ disks) goes through zero one state disk asked is behind =
+      let parts = goes_on by charter cap first a answered s states goes in
+      let here : AtTurn tells by charter cap a s d (last_disk d disks) =
+      record { old = first; turn = parts.0; states = states; disks = disks; grow = goes_grow by charter cap s answered states parts.1; through = through.2; last_is = refl }
+      in
+      subst (λ (e : D). AtTurn tells by charter cap one state e (last_disk d disks)) (some_same d disk behind)
+      (subst (λ (t : State). AtTurn tells by charter cap one t d (last_disk d disks)) (some_same s state is)
+      (subst (λ (b : Answered). AtTurn tells by charter cap b s d (last_disk d disks)) (some_same a one asked) here))
+    where
+      some_same : {A : Type 0} (x y : A) → Some x ≡ Some y → x ≡ y
+      some_same x y is = cc
+  at_turn by first opened (a ∷ answered) (s ∷ states) (d ∷ disks) goes through (suc turn) one state disk asked is behind =
+      at_turn by s d answered states disks (goes_on by charter cap first a answered s states goes).1 through.2 turn one state disk asked is behind
+  at_turn by first opened [] states disks goes through turn one state disk asked is behind = absurd cc
+  at_turn by first opened (a ∷ answered) [] disks goes through turn one state disk asked is behind = absurd (goes_short by charter cap first a answered goes)
+  at_turn by first opened (a ∷ answered) (s ∷ states) [] goes through turn one state disk asked is behind = absurd through
 
+  -- what was there then stays
+  turn_stays : (by : Answerer) (one : Answered) (state : State) (disk last : D) → AtTurn tells by charter cap one state disk last
+      → (image : List ℕ) → tells.left last (tells.moment disk) image → StandsForMore charter cap state.entries image
+  turn_stays by one state disk last t image left =
+      stays_since state disk t.states t.disks t.grow t.through image (subst (λ (d : D). tells.left d (tells.moment disk) image) t.last_is left)
+
+  -- a request that a house decided
   pub acknowledged : (first : State) (opened : D) (answered : List Answered) (states : List State) (disks : List D)
       → RunOfOnes (house_of (head_of charter) cap) first answered states → GoesThrough tells charter cap first opened states disks
       → (turn place : ℕ) (request : Request) (reply : List ℕ) (state : State) (disk : D)
       → slice_get answered turn ≡ Some (record { request = request; mark = At place; reply = reply })
       → slice_get states turn ≡ Some state → slice_get disks turn ≡ Some disk
       → Stays tells charter cap request place reply state disk (last_disk opened disks)
-  acknowledged first opened (a ∷ answered) (s ∷ states) (d ∷ disks) run through zero place request reply state disk one is behind =
-      let T : Answered → State → Type 0 = λ b t. TurnOfOne (house_of (head_of charter) cap) first b.request b.mark b.reply t in
-      let P : Answered → State → D → Type 0 = λ b t e. TurnOfOne (house_of (head_of charter) cap) first b.request b.mark b.reply t × RunOfOnes (house_of (head_of charter) cap) t answered states × GoesThrough tells charter cap t e states disks in
+  acknowledged first opened answered states disks run through turn place request reply state disk one is behind =
+      let house = house_of (head_of charter) cap in
       let asked : Answered = record { request = request; mark = At place; reply = reply } in
-      let all : P asked state disk =
-      subst (λ (e : D). P asked state e) (some_same d disk behind) (subst (λ (t : State). P asked t d) (some_same s state is) (subst (λ (b : Answered). P b s d) (some_same a asked one) (run.0, run.1, through.2))) in
-      subst (λ (last : D). Stays tells charter cap request place reply state disk last) (ap (λ (e : D). last_disk e disks) (sym (some_same d disk behind)))
-      (stays_here first state disk request place reply answered states disks all.0 all.1 all.2)
-    where
-      some_same : {A : Type 0} (x y : A) → Some x ≡ Some y → x ≡ y
-      some_same x y is = cc
-  acknowledged first opened (a ∷ answered) (s ∷ states) (d ∷ disks) run through (suc turn) place request reply state disk one is behind =
-      acknowledged s d answered states disks run.1 through.2 turn place request reply state disk one is behind
-  acknowledged first opened [] states disks run through turn place request reply state disk one is behind = absurd cc
-  acknowledged first opened (a ∷ answered) [] disks run through turn place request reply state disk one is behind = absurd run
-  acknowledged first opened (a ∷ answered) (s ∷ states) [] run through turn place request reply state disk one is behind = absurd through
+      let t = at_turn answers.House first opened answered states disks run through turn asked state disk one is behind in
+      let d : DecidesOne house t.old request place reply state = t.turn.1 in
+      let entries : state.entries ≡ d.over ++ option_to_list (house.rules d.over request).entry = ap (λ (s : State). s.entries) d.left in
+      let front : take place state.entries ≡ d.over = ap (take place) entries ∙ ap (λ (n : ℕ). take n (d.over ++ option_to_list (house.rules d.over request).entry)) d.at ∙ take-append_seam d.over (option_to_list (house.rules d.over request).entry) in
+      record {
+        told = d.told ∙ ap (λ (over : List Entry). (house.rules over request).reply) (sym front);
+        recorded = entries ∙ ap (λ (over : List Entry). over ++ option_to_list (house.rules over request).entry) (sym front);
+        images = turn_stays answers.House asked state disk (last_disk opened disks) t;
+      }
+
+  -- a record that a standby told to stand
+  pub taken_in : (first : State) (opened : D) (answered : List Answered) (states : List State) (disks : List D)
+      → cap < 2 ^ 64 → length (first.entries ++ first.doubt) ≤ cap
+      → AcknowledgesAll charter cap first answered states → GoesThrough tells charter cap first opened states disks
+      → (turn code n : ℕ) (one : Answered) (state : State) (disk : D)
+      → slice_get answered turn ≡ Some one → slice_get states turn ≡ Some state → slice_get disks turn ≡ Some disk
+      → (code ≡ TAKEN) ⊎ (code ≡ SAME) → n < 2 ^ 64 → one.reply ≡ acknowledgement (head_of charter).house code n
+      → StaysTaken tells charter cap one.request n state disk (last_disk opened disks)
+  taken_in first opened answered states disks narrow within run through turn code n one state disk asked is behind stands fits told =
+      let t = at_turn answers.Standby first opened answered states disks run through turn one state disk asked is behind in
+      let a : Acknowledges charter cap t.old one.request one.mark one.reply state = t.turn in
+      let few : IsWithin cap state = there_within cap states turn state (all_within charter cap first answered states within run) is in
+      let same = told_once (head_of charter).house code a.code n (length state.entries) fits (omega (arith, narrow, few, length-append state.entries state.doubt)) (sym told ∙ a.reply_is) in
+      let r = came_there charter cap t.old (record_in one.request) one.mark a.code state a.came (subst (λ (c : ℕ). (c ≡ TAKEN) ⊎ (c ≡ SAME)) same.0 stands) in
+      record {
+        shipped = r.shipped;
+        spelled = r.spelled;
+        signed = r.signed;
+        counted = same.1;
+        stands = r.stands;
+        images = turn_stays answers.Standby one state disk (last_disk opened disks) t;
+      }

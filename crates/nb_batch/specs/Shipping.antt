@@ -4,10 +4,13 @@ use Rattle.std.specs.Io.KnownBytes.{Appends}
 use Rattle.nb_units.specs.Frames.{frame}
 use Rattle.nb_port.specs.Faults.{Rose}
 use Rattle.nb_book.specs.declared.entry.Entry.{Entry}
-use Rattle.nb_standby.specs.declared.limits.TheConstants.{SHIPPED_FRAME}
+use Rattle.nb_standby.specs.declared.limits.TheConstants.{SHIPPED_FRAME, SHIPPED_ROOM}
 use Rattle.nb_standby.specs.Spelling.{shipped_bytes, signed}
 use Rattle.nb_batch.specs.declared.shipping.ShipFault.{ShipFault}
 use Rattle.nb_batch.specs.declared.shipping.ShipFault.TheVariants.{Beyond, WriteFault, NoMemory}
+use Rattle.nb_batch.specs.declared.shipping.TheConstants.{SHIPPED_PIECE}
+use Rattle.nb_batch.specs.declared.send.Sent.{Sent}
+use Rattle.nb_batch.specs.declared.send.Sent.TheVariants.{All, Failed}
 use Rattle.nb_batch.specs.Send.{SentPart}
 
 -- the frame of the record of an entry at this place, as a house with this key signs it
@@ -36,3 +39,15 @@ ShipsUnheld old new (Ok u) = ⊤
 ShipsUnheld old new (Err (Beyond n)) = new ≡ old
 ShipsUnheld old new (Err WriteFault) = ⊤
 ShipsUnheld old new (Err NoMemory) = new ≡ old
+
+-- all of the bytes were sent but for their last, which wait
+pub record SentBut (sent sent' : Option (List ℕ)) (waits bytes : List ℕ) : Type 0 where
+  pub done : List ℕ
+  pub appends : Appends sent sent' done
+  pub all : done ++ waits ≡ bytes
+
+-- for the counts of faults, what was sent, and what waits, before and after: there is room for a record behind what waits still, or a write failed behind
+-- a part of what waited
+abbrev pub MakesRoom : ℕ → ℕ → Option (List ℕ) → Option (List ℕ) → List ℕ → List ℕ → Sent → Type 0
+MakesRoom before after sent sent' waited waits All = SentBut sent sent' waits waited × (length waits + SHIPPED_ROOM ≤ SHIPPED_PIECE)
+MakesRoom before after sent sent' waited waits Failed = Rose before after × SentPart sent sent' waited

@@ -1,9 +1,10 @@
-ghost use Rattle.std.specs.Prelude.{◌≡◌, ◌≤◌, ◌↔◌, ◌<◌, Err, length, vec_capacity};
+ghost use Rattle.std.specs.Prelude.{◌≡◌, ◌≤◌, ◌↔◌, ◌<◌, ◌+◌, [], Err, length, vec_len, vec_capacity};
 ghost use Rattle.nb_standby.specs.declared.limits.TheConstants.{SHIPPED_ROOM};
 ghost use Rattle.nb_standby.specs.Following.{house_key};
 ghost use Rattle.nb_vault.specs.Vaults.{entries_in};
 ghost use Rattle.nb_batch.specs.declared.shipping.ShipFault.TheVariants.{Beyond};
-ghost use Rattle.nb_batch.specs.Shipping.{Ships, ShipsUnheld};
+ghost use Rattle.nb_batch.specs.declared.shipping.TheConstants.{SHIPPED_PIECE};
+ghost use Rattle.nb_batch.specs.Shipping.{MakesRoom, Ships, ShipsUnheld};
 
 use crate::send::{Sent, send_all};
 use nb_port::{Disk, Sink};
@@ -11,6 +12,9 @@ use nb_standby::{SHIPPED_ROOM, ship};
 use nb_units::Secret;
 use nb_vault::Vault;
 use std::alloc::Global;
+
+// So many bytes of records wait at most for a write, 64 KiB.
+const SHIPPED_PIECE: usize = 65_536;
 
 /// Why records were not shipped.
 #[derive(Clone, Copy)]
@@ -42,23 +46,24 @@ pub fn ship_from<D: Disk, K: Sink>(
     if from > u64::from(entries) {
         return Err(ShipFault::Beyond { entries });
     }
-    let Ok(mut frame) = Vec::with_capacity(alloc, SHIPPED_ROOM) else {
+    let Ok(mut waits) = Vec::with_capacity(alloc, SHIPPED_PIECE) else {
         return Err(ShipFault::NoMemory);
     };
-    ship_all(vault, from as u32, &vault.house(), &mut frame, sink)
+    ship_all(vault, from as u32, &vault.house(), &mut waits, sink)
 }
 
-// Sends the records from a place on that is none beyond the entries.
+// Sends the records from a place on that is none beyond the entries, in pieces.
 fn ship_all<D: Disk, K: Sink>(
     vault: &Vault<D>,
     from: u32,
     house: &Secret,
-    frame: &mut Vec<u8>,
+    waits: &mut Vec<u8>,
     sink: &mut K,
 ) -> Result<(), ShipFault>
     requires key { house.now ≡ house_key vault.now }
     requires within { from ≤ length (entries_in vault.now) }
-    requires room { SHIPPED_ROOM ≤ vec_capacity frame.old }
+    requires none { waits.old.items ≡ [] }
+    requires room { SHIPPED_PIECE ≤ vec_capacity waits.old }
     ensures ships { Ships (K.faults sink.old) (K.faults sink.new) (K.sent sink.old) (K.sent sink.new) (house_key vault.now) from (entries_in vault.now) result }
     ensures count { K.faults sink.old ≤ K.faults sink.new }
     ensures known { result ≡ Err (Beyond (length (entries_in vault.now))) → length (entries_in vault.now) < from }
@@ -68,13 +73,30 @@ fn ship_all<D: Disk, K: Sink>(
     vault.witness();
     'entries: for at in from..vault.entries() {
         if let Some(entry) = vault.entry(at) {
-            frame.clear();
-            ship(u64::from(at), &entry, house, frame);
-            match send_all(sink, frame.as_slice()) {
-                Sent::All => {}
+            match make_room(waits, sink) {
+                Sent::All => ship(u64::from(at), &entry, house, waits),
                 Sent::Failed => return Err(ShipFault::WriteFault),
             }
         }
     }
-    Ok(())
+    match send_all(sink, waits.as_slice()) {
+        Sent::All => Ok(()),
+        Sent::Failed => Err(ShipFault::WriteFault),
+    }
+}
+
+// Makes room for a record: where there is none behind the bytes that wait, these are sent.
+fn make_room<K: Sink>(waits: &mut Vec<u8>, sink: &mut K) -> Sent
+    ensures made { MakesRoom (K.faults sink.old) (K.faults sink.new) (K.sent sink.old) (K.sent sink.new) waits.old.items waits.new.items result }
+    ensures count { K.faults sink.old ≤ K.faults sink.new }
+    ensures room { vec_capacity waits.new ≡ vec_capacity waits.old }
+    // nothing is written where there is room
+    ensures quiet { vec_len waits.old + SHIPPED_ROOM ≤ SHIPPED_PIECE → sink.new ≡ sink.old }
+{
+    if SHIPPED_PIECE.saturating_sub(waits.len()) >= SHIPPED_ROOM {
+        return Sent::All;
+    }
+    let sent = send_all(sink, waits.as_slice());
+    waits.clear();
+    sent
 }

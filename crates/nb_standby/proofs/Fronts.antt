@@ -47,14 +47,14 @@ next_front all over place e front is at =
     subst (λ (es : List Entry). BeginsWith es (over ++ e ∷ [])) (sym front.1)
     (behind_front over front.0 e (subst (λ (es : List Entry). slice_get es (length over) ≡ Some e) front.1 (subst (λ (n : ℕ). slice_get all n ≡ Some e) at is)))
 
-begins_then : (all mid front : List Entry) → BeginsWith all mid → BeginsWith mid front → BeginsWith all front
+pub begins_then : (all mid front : List Entry) → BeginsWith all mid → BeginsWith mid front → BeginsWith all front
 begins_then all mid front first second =
     (second.0 ++ first.0, first.1 ∙ ap (λ (es : List Entry). es ++ first.0) second.1 ∙ append_assoc front second.0 first.0)
 
 grown : (all front more : List Entry) → BeginsWith all front → BeginsWith (all ++ more) front
 grown all front more begins = begins_then (all ++ more) all front (more, refl) begins
 
-itself : (all : List Entry) → BeginsWith all all
+pub itself : (all : List Entry) → BeginsWith all all
 itself all = ([], sym (append-nil all))
 
 picked : (P : Sent → Type 0) (ss : List Sent) (k : ℕ) (s : Sent) → AllByRecursion P ss → slice_get ss k ≡ Some s → P s
@@ -65,7 +65,7 @@ picked P (x ∷ ss) (suc k) s all is = picked P ss k s all.1 is
 -- ---- one record
 
 -- the entries are a front of a list, and so they are with those in doubt
-abbrev AreFront : List Entry → State → Type 0
+abbrev pub AreFront : List Entry → State → Type 0
 AreFront all state = BeginsWith all state.entries × BeginsWith all (state.entries ++ state.doubt)
 
 module _ (all : List Entry) (old new : State) (front : AreFront all old) where
@@ -163,7 +163,7 @@ turn_stays house old new outcome turn =
     let g = turn_grows house old new nothing_asked outcome turn in
     (g.kept ++ g.made, g.grows)
 
-takes_stays : (charter : Charter) (cap : ℕ) (old new : State) (place : ℕ) (e : Entry) (how : TakeIn) → TakesTo charter cap old place e how new → BeginsWith new.entries old.entries
+pub takes_stays : (charter : Charter) (cap : ℕ) (old new : State) (place : ℕ) (e : Entry) (how : TakeIn) → TakesTo charter cap old place e how new → BeginsWith new.entries old.entries
 takes_stays charter cap old new place e takes.Taken t = turn_stays (house_told (Some e)) old new (Decides t.0) t.1
 takes_stays charter cap old new place e takes.Same t = turn_stays (house_told None) old new (Decides t.0) t.1
 takes_stays charter cap old new place e takes.Other t = turn_stays (house_told None) old new (Decides t.0) t.1

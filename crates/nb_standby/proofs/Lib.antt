@@ -1,3 +1,4 @@
 pub mod Layouts
 pub mod Fronts
 pub mod Steps
+pub mod Runs

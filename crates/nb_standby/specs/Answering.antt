@@ -39,10 +39,14 @@ CameOf key charter cap old (Ok r) mark code new =
     ⊎ ((r.tag ≡ ship_tag key r.place r.entry)
     × ((how : TakeIn) × (mark ≡ mark_of r.place how) × (code ≡ code_of how) × TakesTo charter cap old r.place r.entry how new))
 
+-- the frame of the acknowledgement of this code and this number of entries, as a house with this key signs it
+abbrev pub acknowledgement : List ℕ → ℕ → ℕ → List ℕ
+acknowledgement key code entries = frame (record { kind = ACKNOWLEDGED_FRAME; body = acknowledged_bytes (told key code entries) })
+
 -- the frame was answered by an acknowledgement, of the code and of how many entries stand then
 pub record Acknowledges (charter : Charter) (cap : ℕ) (old : State) (request : Request) (mark : Mark) (reply : List ℕ) (new : State) : Type 0 where
   pub code : ℕ
-  pub reply_is : reply ≡ frame (record { kind = ACKNOWLEDGED_FRAME; body = acknowledged_bytes (told (head_of charter).house code (length new.entries)) })
+  pub reply_is : reply ≡ acknowledgement (head_of charter).house code (length new.entries)
   pub came : CameOf (head_of charter).house charter cap old (record_in request) mark code new
 
 -- these frames were answered, one after another, and the standby came to these states

@@ -1,11 +1,15 @@
 -- What holds of every record and acknowledgement, of every list of events, and of what `follow` does.
-use Rattle.std.specs.Prelude.{◌≡◌, ℕ, ◌<◌, ◌≤◌, ◌^◌, Bool, List, [], ◌∷◌, length, codes, Some, Ok, slice_get}
+use Rattle.std.specs.Prelude.{◌≡◌, ◌⊎◌, ℕ, ◌<◌, ◌≤◌, ◌^◌, Bool, List, [], ◌∷◌, ◌++◌, length, map, codes, Some, Ok, slice_get}
 use Rattle.std.specs.List.{AllByRecursion}
-use Rattle.nb_units.specs.Frames.{AreBytes}
+use Rattle.nb_units.specs.Frames.{AreBytes, Frame}
 use Rattle.nb_units.specs.declared.charter.Charter.{Charter}
 use Rattle.nb_port.specs.Tells.{DiskTells}
 use Rattle.nb_book.specs.declared.entry.Entry.{Entry}
 use Rattle.nb_book.specs.Spelling.{IsEntry}
+use Rattle.nb_escrow.specs.Head.{head_of}
+use Rattle.nb_turns.specs.declared.mark.Mark.{Mark}
+use Rattle.nb_turns.specs.declared.mark.Mark.TheVariants.{Fault}
+use Rattle.nb_turns.specs.Turns.{Answered, Request, State}
 use Rattle.nb_vault.specs.declared.taking.TakeIn.{TakeIn}
 use Rattle.nb_vault.specs.declared.taking.TakeIn.TheVariants as takes
 use Rattle.nb_vault.specs.Opens.{VaultOpensAs, WholeOpens}
@@ -16,9 +20,10 @@ use Rattle.nb_standby.specs.declared.code.TheConstants.{TAKEN, SAME, OTHER, AHEA
 use Rattle.nb_standby.specs.declared.limits.TheConstants.{SHIPPED_FRAME, ACKNOWLEDGED_FRAME, PRIMARY, SHIPPED_ROOM, ACKNOWLEDGED_ROOM}
 use Rattle.nb_standby.specs.declared.shipped.Shipped.{Shipped}
 use Rattle.nb_standby.specs.declared.shipped.TheConstants.{SHIP_LABEL}
+use Rattle.nb_standby.specs.Answering.{AcknowledgesAll, record_in}
 use Rattle.nb_standby.specs.Following.{FollowsAs, code_of, house_key}
 use Rattle.nb_standby.specs.Reading.{shipped_of, acknowledged_of}
-use Rattle.nb_standby.specs.Spelling.{IsShipped, shipped_bytes, signed, IsAcknowledged, acknowledged_bytes}
+use Rattle.nb_standby.specs.Spelling.{IsShipped, ship_tag, shipped_bytes, signed, IsAcknowledged, acknowledged_bytes}
 use Rattle.nb_standby.specs.World.{BeginsWith, Delivers, Event, Happens, IsFront, Starts, Steps, World, restarted}
 
 -- ---- layouts
@@ -82,3 +87,66 @@ abbrev pub StopIsStep : {D : Type 0} → DiskTells D → Type 0
 StopIsStep {D} tells = (old opened : Chronicled D) (disk : D) (image : List ℕ) → StandsForState old image → tells.content disk ≡ Some image
     → VaultOpensAs tells disk opened → WholeOpens (tells.content disk) (Ok opened)
     → (kept : Bool) × (state_of opened ≡ restarted (state_of old) kept)
+
+-- ---- whole runs of follow
+
+-- where a frame spells a record with the tag of this key, the world has shipped that one
+abbrev pub IsShippedIn : List ℕ → World → Request → Type 0
+IsShippedIn key world request = (r : Shipped) → record_in request ≡ Ok r → r.tag ≡ ship_tag key r.place r.entry
+    → (k : ℕ) × (slice_get world.sent k ≡ Some (record { place = r.place; entry = r.entry }))
+
+-- each frame is so of the world's house
+abbrev pub AreShippedIn : Charter → World → List Answered → Type 0
+AreShippedIn charter world answered = AllByRecursion (λ (a : Answered). IsShippedIn (head_of charter).house world a.request) answered
+
+-- the event is a delivery
+abbrev pub IsDelivery : Event → Type 0
+IsDelivery (Delivers k how) = Unit {0}
+IsDelivery other = ⊥
+
+-- the standby comes to these states one after another: each is the one before it, or that of the next of these worlds, where nothing else changed. There
+-- are no other worlds
+abbrev pub StandsIn : World → List World → List State → Type 0
+StandsIn world [] [] = Unit {0}
+StandsIn world (next ∷ worlds) [] = ⊥
+StandsIn world [] (state ∷ states) = (state ≡ world.standby) × StandsIn world [] states
+StandsIn world (next ∷ worlds) (state ∷ states) =
+    ((state ≡ world.standby) × StandsIn world (next ∷ worlds) states)
+    ⊎ ((next ≡ record { primary = world.primary; sent = world.sent; standby = state }) × StandsIn next worlds states)
+
+-- deliveries happen one after another, at most one for each of these states, and the standby comes to these
+pub record AreDeliveries (charter : Charter) (cap : ℕ) (world : World) (states : List State) : Type 0 where
+  pub events : List Event
+  pub worlds : List World
+  pub deliveries : AllByRecursion IsDelivery events
+  pub happens : Happens charter cap world events worlds
+  pub stands : StandsIn world worlds states
+
+-- a whole run of `follow` is a run of each world that has shipped its records: all of its events are deliveries
+abbrev pub FollowIsDeliveries : Type 0
+FollowIsDeliveries = (charter : Charter) (cap : ℕ) (world : World) (answered : List Answered) (states : List State)
+    → AreShippedIn charter world answered → AcknowledgesAll charter cap world.standby answered states → AreDeliveries charter cap world states
+
+-- where the standby began as a front of the primary, it is one in each state of the run, and so it is with what is in doubt
+abbrev pub FollowedStaysFront : Type 0
+FollowedStaysFront = (charter : Charter) (cap : ℕ) (world : World) (answered : List Answered) (states : List State)
+    → Starts world → AreShippedIn charter world answered → AcknowledgesAll charter cap world.standby answered states
+    → AllByRecursion (λ (state : State). BeginsWith world.primary state.entries × BeginsWith world.primary (state.entries ++ state.doubt)) states
+
+-- the frame that was answered
+abbrev pub frame_in : Answered → Frame
+frame_in a = record { kind = a.request.kind; body = a.request.body }
+
+-- the mark tells of no failure of the disk
+abbrev pub IsNoFault : Mark → Type 0
+IsNoFault (Fault before after) = ⊥
+IsNoFault other = Unit {0}
+
+-- from a state in which nothing is in doubt, and where the disk never fails, the frames alone say which states a standby comes to and what it answers: no
+-- clock has a part in it
+abbrev pub OneAcknowledging : Type 0
+OneAcknowledging = (charter : Charter) (cap : ℕ) (first : State) (answered others : List Answered) (states ends : List State)
+    → first.doubt ≡ [] → map frame_in answered ≡ map frame_in others
+    → AllByRecursion (λ (a : Answered). IsNoFault a.mark) answered → AllByRecursion (λ (a : Answered). IsNoFault a.mark) others
+    → AcknowledgesAll charter cap first answered states → AcknowledgesAll charter cap first others ends
+    → (states ≡ ends) × (map (λ (a : Answered). a.reply) answered ≡ map (λ (a : Answered). a.reply) others)

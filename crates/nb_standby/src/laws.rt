@@ -45,6 +45,22 @@ pub fn follow_is_step<D: Disk>()
     ensures { law.FollowIsStep D.tells }
 {}
 
+/// A whole run of `follow`, over frames each of which spells a record that the world has shipped, or none of its house, is a run of that world, of
+/// deliveries alone.
+pub fn follow_is_deliveries()
+    ensures { law.FollowIsDeliveries }
+{}
+
+/// Each state of such a run is a front of the primary's list, also with what is in doubt, where it began so.
+pub fn followed_stays_front()
+    ensures { law.FollowedStaysFront }
+{}
+
+/// What a standby answers is a function of its state and of the frames, where nothing is in doubt at first and the disk never fails.
+pub fn one_acknowledging()
+    ensures { law.OneAcknowledging }
+{}
+
 /// A vault that is opened over what a stop left of a standby is that standby behind the world's stop.
 pub fn stop_is_step<D: Disk>()
     ensures { law.StopIsStep D.tells }

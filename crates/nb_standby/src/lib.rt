@@ -9,7 +9,7 @@
 //! each; that they are the two sides of one thing is proved by the functions of [`laws`]. What following does stands in `specs/Following.antt`.
 //! `specs/World.antt` has a primary that grows, the records that it ever shipped, and a standby that any of these reach in any order, whose disk
 //! fails and which stops at any moment. In every such world the standby's list is the front of the primary's, and what was acknowledged as taken
-//! in stays (`specs/Laws.antt`).
+//! in stays; a whole run of [`follow`] over records that were shipped is such a run (`specs/Laws.antt`).
 //!
 //! Left to others: how frames come and go, which records are shipped when, and that nobody but the house has its key. No memory is taken.
 #![tactic(auto)]
