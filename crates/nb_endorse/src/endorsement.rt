@@ -4,7 +4,7 @@ ghost use Rattle.nb_seal.specs.Seal.{Opens, seal_of};
 ghost use Rattle.nb_units.specs.Room.{spare_of};
 ghost use Rattle.nb_units.specs.Reads.{Reads};
 ghost use Rattle.nb_units.specs.declared.small.TheConstants.{MAX_SMALL};
-ghost use Rattle.nb_units.specs.declared.limits.TheConstants.{MAX_MEMO};
+ghost use Rattle.nb_units.specs.declared.limits.TheConstants.{MAX_MEMO, MAX_ORDER};
 ghost use Rattle.nb_endorse.specs.declared.endorsement.TheConstants.{MAX_SEALED};
 ghost use Rattle.nb_endorse.specs.Spelling.{IsEndorsement, endorsement_bytes};
 ghost use Rattle.nb_endorse.specs.Reading.{endorsement_of};
@@ -15,6 +15,7 @@ use crate::sealed::SealedFault;
 use nb_seal::{KeyState, seal_spare, sha};
 use nb_units::width::{ACCOUNT, LENGTH, SEAL, SECRET};
 use nb_units::{AcctId, Buffer, Cut, Digest, MAX_MEMO, MAX_ORDER, Malformed, Secret, Small};
+use std::marker::Model;
 
 /// The most bytes of an endorsement, sealed: the order behind its length, the merchant's account, the memo behind its length,
 /// and the key of the goods.
@@ -97,6 +98,90 @@ pub fn read_sealed_with(bytes: &[u8], key: &KeyState) -> Result<DigestedEndorsem
     })
 }
 
+/// An endorsement that was read, and its digest, whose order and memo stay where they were read. It is seen as the [`DigestedEndorsement`] that it is.
+#[derive(Drop)]
+pub struct EndorsementBytes<'a> {
+    order: &'a [u8],
+    macct: AcctId,
+    memo: &'a [u8],
+    key: Secret,
+    digest: Digest,
+}
+
+impl<'a> Model for EndorsementBytes<'a> {
+    ghost use Rattle.nb_endorse.specs.declared.endorsement.DigestedEndorsement.{DigestedEndorsement};
+
+    ghost Value = { DigestedEndorsement };
+
+    ghost view = { λ e. record { endorsement = record { order = e.order.now; macct = e.macct; memo = e.memo.now; key = e.key }; digest = e.digest } };
+}
+
+impl<'a> EndorsementBytes<'a> {
+    /// What [`read_sealed_with`] gives. The endorsement's bytes are opened to the front of `plain`, and none is copied from there.
+    pub fn open(
+        bytes: &[u8],
+        key: &KeyState,
+        plain: &'a mut [u8; MAX_SEALED],
+    ) -> Result<EndorsementBytes<'a>, SealedFault>
+        requires short { length bytes.now ≤ MAX_SEALED }
+        ensures reads { ReadsSealed endorsement_of key.now (codes "endo") bytes.now (undigested result) }
+        // After Ok the digest is that of the endorsement.
+        ensures digest { IfOk result (λ read. read.digest ≡ endorsement_digest read.endorsement) }
+    {
+        let n = key.unseal_to(&ENDORSE_LABEL, bytes, plain)?;
+        let text = plain.split_at(n).0;
+        let parts = EndorsementParts::read(text)?;
+        Ok(EndorsementBytes {
+            order: parts.order,
+            macct: parts.macct,
+            memo: parts.memo,
+            key: parts.key,
+            digest: sha(text),
+        })
+    }
+
+    /// An endorsement that was read before.
+    pub fn of(read: &'a DigestedEndorsement) -> EndorsementBytes<'a>
+        ensures { result ≡ read.now }
+    {
+        EndorsementBytes {
+            order: read.endorsement.order.as_slice(),
+            macct: read.endorsement.macct,
+            memo: read.endorsement.memo.as_slice(),
+            key: read.endorsement.key,
+            digest: read.digest,
+        }
+    }
+
+    /// The order's bytes.
+    pub fn order(&self) -> &'a [u8]
+        ensures { result.now ≡ self.now.endorsement.order }
+    {
+        self.order
+    }
+
+    /// The merchant's account, which is paid, 4 bytes wide.
+    pub fn macct(&self) -> AcctId
+        ensures { result ≡ self.now.endorsement.macct }
+    {
+        self.macct
+    }
+
+    /// The key that opens the goods, 32 bytes wide.
+    pub fn key(&self) -> &Secret
+        ensures { result.now ≡ self.now.endorsement.key }
+    {
+        &self.key
+    }
+
+    /// The digest of the endorsement.
+    pub fn digest(&self) -> &Digest
+        ensures { result.now ≡ self.now.digest }
+    {
+        &self.digest
+    }
+}
+
 // The endorsement that the bytes are the seal of. Its bytes are left at the front of `plain`.
 fn opened(
     bytes: &[u8],
@@ -145,20 +230,61 @@ fn read_endorsement(bytes: &[u8]) -> Result<Endorsement, Malformed>
     read_fields(bytes)
 }
 
-#[tactic(auto, unfolding(crate::specs::Reading::endorsement_of))]
 fn read_fields(bytes: &[u8]) -> Result<Endorsement, Malformed>
     ensures { Reads result (endorsement_of bytes.now) }
 {
-    let mut cut = Cut::new(bytes);
-    let order = cut.bytes(MAX_ORDER as u32)?;
-    let macct = cut.u32()?;
-    let memo = cut.bytes(MAX_MEMO as u32)?;
-    let key = cut.fixed32()?;
-    cut.done()?;
+    let parts = EndorsementParts::fields(bytes)?;
     Ok(Endorsement {
-        order: Small::of(order).unwrap(),
-        macct: AcctId(macct),
-        memo: Small::of(memo).unwrap(),
-        key,
+        order: Small::of(parts.order).unwrap(),
+        macct: parts.macct,
+        memo: Small::of(parts.memo).unwrap(),
+        key: parts.key,
     })
+}
+
+// The fields of an endorsement, of which the texts stay where they were read. They are seen as the endorsement.
+#[derive(Drop)]
+struct EndorsementParts<'a> {
+    order: &'a [u8],
+    macct: AcctId,
+    memo: &'a [u8],
+    key: Secret,
+}
+
+impl<'a> Model for EndorsementParts<'a> {
+    ghost use Rattle.nb_endorse.specs.declared.endorsement.Endorsement.{Endorsement};
+
+    ghost Value = { Endorsement };
+
+    ghost view = { λ e. record { order = e.order.now; macct = e.macct; memo = e.memo.now; key = e.key } };
+}
+
+impl<'a> EndorsementParts<'a> {
+    // The endorsement that the bytes spell, or the place of the first field that fails.
+    fn read(bytes: &'a [u8]) -> Result<EndorsementParts<'a>, Malformed>
+        ensures reads { Reads result (endorsement_of bytes.now) }
+        ensures spelled { IfOk result (λ e. IsEndorsement e × (bytes.now ≡ endorsement_bytes e)) }
+    {
+        EndorsementParts::fields(bytes)
+    }
+
+    #[tactic(auto, unfolding(crate::specs::Reading::endorsement_of))]
+    fn fields(bytes: &'a [u8]) -> Result<EndorsementParts<'a>, Malformed>
+        ensures reads { Reads result (endorsement_of bytes.now) }
+        ensures order { IfOk result (λ e. length e.order ≤ MAX_ORDER) }
+        ensures memo { IfOk result (λ e. length e.memo ≤ MAX_MEMO) }
+    {
+        let mut cut = Cut::new(bytes);
+        let order = cut.bytes(MAX_ORDER as u32)?;
+        let macct = cut.u32()?;
+        let memo = cut.bytes(MAX_MEMO as u32)?;
+        let key = cut.fixed32()?;
+        cut.done()?;
+        Ok(EndorsementParts {
+            order,
+            macct: AcctId(macct),
+            memo,
+            key,
+        })
+    }
 }

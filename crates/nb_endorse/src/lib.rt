@@ -2,7 +2,8 @@
 //! house's refusals and replies.
 //!
 //! An [`Endorsement`] is an order's bytes with the merchant's account, a memo and the key of the goods. It goes to the house
-//! sealed under the merchant's key, and is held by its digest. A [`Receipt`] is what the house says of the order to one of
+//! sealed under the merchant's key, and is held by its digest. The house looks at it as [`EndorsementBytes`], whose texts stay where
+//! they were opened. A [`Receipt`] is what the house says of the order to one of
 //! its parties: [`Signed`] with the house's tag, and sealed under the party's key. A [`Refusal`] is a code and what the code
 //! shows: two numbers and 32 bytes, of which zeros are what it does not show. A [`Reply`] is what one request is answered,
 //! and [`ReplyKeys`] are the keys that it is made with. [`KeptStates`] are the states of keys that a house, or who writes its replies, keeps from one
@@ -38,8 +39,8 @@ mod sealed;
 
 pub use cache::{ASKER_SLOTS, KeptStates, PARTY_SLOTS, StateCache};
 pub use endorsement::{
-    DigestedEndorsement, Endorsement, MAX_SEALED, digest_of, read_sealed, read_sealed_with,
-    write_sealed,
+    DigestedEndorsement, Endorsement, EndorsementBytes, MAX_SEALED, digest_of, read_sealed,
+    read_sealed_with, write_sealed,
 };
 pub use receipt::{
     ABSENT, NO_KEY, PAID_CODE, PRESENT, RECEIPT_BYTES, Receipt, SIGNED_BYTES, Signed, read_receipt,

@@ -10,6 +10,7 @@ ghost use Rattle.nb_epo.specs.Tags.{account_digest_of};
 use nb_seal::{BadSeal, KeyState, seal_to, sha};
 use nb_units::{AcctId, Buffer, Cut, Digest, MAX_HIDDEN, MAX_MEMO, Malformed, Secret, Small};
 use std::fmt;
+use std::marker::Model;
 
 // A hidden part is sealed under this label.
 const HIDE_LABEL: [u8; 4] = *b"hide";
@@ -158,18 +159,88 @@ fn read_hidden(bytes: &[u8]) -> Result<Hidden, Malformed>
     read_fields(bytes)
 }
 
-#[tactic(auto, unfolding(crate::specs::Reading::hidden_of))]
 fn read_fields(bytes: &[u8]) -> Result<Hidden, Malformed>
     ensures { Reads result (hidden_of bytes.now) }
 {
-    let mut cut = Cut::new(bytes);
-    let acct = cut.u32()?;
-    let nonce = cut.u64()?;
-    let memo = cut.bytes(MAX_MEMO as u32)?;
-    cut.done()?;
+    let parts = HiddenBytes::read(bytes)?;
     Ok(Hidden {
-        acct: AcctId(acct),
-        nonce,
-        memo: Small::of(memo).unwrap(),
+        acct: parts.acct,
+        nonce: parts.nonce,
+        memo: Small::of(parts.memo).unwrap(),
     })
+}
+
+/// What an order says to the house alone, with a memo that stays where it was read. It is seen as the [`Hidden`] that it is.
+#[derive(Drop)]
+pub struct HiddenBytes<'a> {
+    acct: AcctId,
+    nonce: u64,
+    memo: &'a [u8],
+}
+
+impl<'a> Model for HiddenBytes<'a> {
+    ghost use Rattle.nb_epo.specs.declared.hidden.Hidden.{Hidden};
+
+    ghost Value = { Hidden };
+
+    ghost view = { λ h. record { acct = h.acct; nonce = h.nonce; memo = h.memo.now } };
+}
+
+impl<'a> HiddenBytes<'a> {
+    /// What [`reveal_with`] gives. The hidden part's bytes are opened to the front of `plain`, and none is copied from there.
+    pub fn reveal(
+        bytes: &[u8],
+        key: &KeyState,
+        plain: &'a mut [u8; MAX_HIDDEN],
+    ) -> Result<HiddenBytes<'a>, RevealFault>
+        requires short { length bytes.now ≤ MAX_HIDDEN }
+        ensures reveals { Reveals key.now bytes.now result }
+    {
+        let n = key.unseal_to(&HIDE_LABEL, bytes, plain)?;
+        let hidden = HiddenBytes::read(plain.split_at(n).0)?;
+        Ok(hidden)
+    }
+
+    /// A hidden part that was revealed before.
+    pub fn of(hidden: &'a Hidden) -> HiddenBytes<'a>
+        ensures { result ≡ hidden.now }
+    {
+        HiddenBytes {
+            acct: hidden.acct,
+            nonce: hidden.nonce,
+            memo: hidden.memo.as_slice(),
+        }
+    }
+
+    /// The account that pays, 4 bytes wide.
+    pub fn acct(&self) -> AcctId
+        ensures { result ≡ self.now.acct }
+    {
+        self.acct
+    }
+
+    /// The nonce that the account was enrolled with, 8 bytes wide.
+    pub fn nonce(&self) -> u64
+        ensures { result ≡ self.now.nonce }
+    {
+        self.nonce
+    }
+
+    // The hidden part that the bytes spell, or the place of the first field that fails.
+    #[tactic(auto, unfolding(crate::specs::Reading::hidden_of))]
+    fn read(bytes: &'a [u8]) -> Result<HiddenBytes<'a>, Malformed>
+        ensures reads { Reads result (hidden_of bytes.now) }
+        ensures short { IfOk result (λ h. length h.memo ≤ MAX_MEMO) }
+    {
+        let mut cut = Cut::new(bytes);
+        let acct = cut.u32()?;
+        let nonce = cut.u64()?;
+        let memo = cut.bytes(MAX_MEMO as u32)?;
+        cut.done()?;
+        Ok(HiddenBytes {
+            acct: AcctId(acct),
+            nonce,
+            memo,
+        })
+    }
 }

@@ -2,7 +2,8 @@
 //!
 //! An [`Order`] names consumer, merchant, product, price and identifier, the checksum of the sealed goods and two digests,
 //! all in the open. Its hidden part is a seal under the consumer's key, which the consumer and the house alone can open:
-//! the account, its nonce and a memo, a [`Hidden`]. The consumer's tag is over all bytes before it.
+//! the account, its nonce and a memo, a [`Hidden`], or [`HiddenBytes`], whose memo stays where it was opened. The consumer's tag is
+//! over all bytes before it.
 //!
 //! The layouts stand in `specs/Spelling.antt`, each as a function of the value, and in `specs/Reading.antt`, field by field
 //! with the place of each. That they are the two sides of one thing is proved by the functions of [`laws`]: what was
@@ -18,6 +19,6 @@ pub mod laws;
 mod order;
 pub mod places;
 
-pub use hidden::{Hidden, RevealFault, account_digest, hide, reveal, reveal_with};
+pub use hidden::{Hidden, HiddenBytes, RevealFault, account_digest, hide, reveal, reveal_with};
 pub use nb_units::Malformed;
 pub use order::{Order, order_tag_ok, read_order, read_tag_ok, sign_order, write_order};

@@ -2,7 +2,7 @@
 use Rattle.std.proofs.Common.{◌≡◌, ℕ, ◌+◌, Bool, true, false, cond, List, [], ◌∷◌, ◌++◌, Some, None, IsNone, IfSome, refl, sym, ap, subst}
 use Rattle.std.proofs.lemmas.Option.{same_Some}
 use Rattle.std.specs.List.{AllByRecursion}
-use Rattle.std.specs.Option.{option_or}
+use Rattle.std.specs.Option.{option_and_then, option_or}
 use Rattle.nb_units.specs.declared.epoid.Epoid.{Epoid}
 use Rattle.nb_book.specs.declared.entry.Entry.{Entry}
 use Rattle.nb_book.specs.declared.entry.Entry.TheVariants.{Enrol, Fund, Paid, Charged, Refused}
@@ -10,7 +10,8 @@ use Rattle.nb_book.specs.declared.kept.Kept.{Kept}
 use Rattle.nb_book.specs.Searches.{first_from, settles, order_at, order_in}
 use Rattle.nb_book.specs.Legal.{LegalAfter, Legal}
 use Rattle.nb_book.proofs.Growing.{along}
-use Rattle.nb_escrow.specs.Settlements.{IsPaymentOutcome, settlement_at, settlement_of}
+use Rattle.nb_escrow.specs.declared.settlement.PaymentOutcome.{PaymentOutcome}
+use Rattle.nb_escrow.specs.Settlements.{IsPaymentOutcome, outcome_in, settlement_at, settlement_of, settlement_with}
 use Rattle.nb_escrow.proofs.Paying.{reason_code}
 
 -- the reason of each entry of a Legal list is one that receipts have
@@ -44,9 +45,9 @@ settles_found p at (e ∷ es) kept found = part (settles p e) refl found (λ res
     part false is found rest = rest found
 
 -- and its reason is one that receipts have
-outcome_in : (p : Epoid) (at : ℕ) (es : List Entry) (kept : Kept) → AllByRecursion HasLawfulOutcome es → first_from (order_at p) at es ≡ Some kept → HasLawfulOutcome kept.entry
-outcome_in p at [] kept all found = absurd cc
-outcome_in p at (e ∷ es) kept all found = part (settles p e) found (λ rest. outcome_in p (at + 1) es kept all.1 rest)
+outcome_of_found : (p : Epoid) (at : ℕ) (es : List Entry) (kept : Kept) → AllByRecursion HasLawfulOutcome es → first_from (order_at p) at es ≡ Some kept → HasLawfulOutcome kept.entry
+outcome_of_found p at [] kept all found = absurd cc
+outcome_of_found p at (e ∷ es) kept all found = part (settles p e) found (λ rest. outcome_of_found p (at + 1) es kept all.1 rest)
   where
     part : (b : Bool) → option_or (cond b (Some (record { at = at; entry = e })) None) (first_from (order_at p) (at + 1) es) ≡ Some kept
         → (first_from (order_at p) (at + 1) es ≡ Some kept → HasLawfulOutcome kept.entry) → HasLawfulOutcome kept.entry
@@ -74,4 +75,17 @@ none_found H legal p kept found none = absurd (settlement_some p kept.at kept.en
 
 -- the settlement of an order that was found has such a reason
 pub outcome_found : (H : List Entry) → Legal H → (p : Epoid) (kept : Kept) → Some kept ≡ order_in H p → IfSome (settlement_of kept) (λ s. IsPaymentOutcome s.outcome)
-outcome_found H legal p kept found = outcome_at kept.at kept.entry (outcome_in p 0 H kept (outcomes H legal) (sym found))
+outcome_found H legal p kept found = outcome_at kept.at kept.entry (outcome_of_found p 0 H kept (outcomes H legal) (sym found))
+
+-- ---- a settlement, in its two parts
+
+by_entry : (at : ℕ) (e : Entry) → settlement_at at e ≡ option_and_then (λ (outcome : PaymentOutcome). settlement_with outcome at e) (outcome_in e)
+by_entry at (Enrol id role acct nonce key) = refl
+by_entry at (Fund acct amount reference) = refl
+by_entry at (Paid digest epoid consumer merchant product price cacct macct moment key) = refl
+by_entry at (Charged digest epoid consumer merchant product price fee cacct macct moment key) = refl
+by_entry at (Refused digest epoid consumer merchant product price code a b moment) = refl
+
+-- an entry's settlement has what became of its order, and the rest of it
+pub settled_in_parts : (kept : Kept) → settlement_of kept ≡ option_and_then (λ (outcome : PaymentOutcome). settlement_with outcome kept.at kept.entry) (outcome_in kept.entry)
+settled_in_parts kept = by_entry kept.at kept.entry

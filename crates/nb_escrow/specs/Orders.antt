@@ -48,6 +48,10 @@ abbrev pub unread_endorsement : SealedFault → Refusal
 unread_endorsement (sealed.BadSeal iv) = refusal_with NOT_SEALED iv
 unread_endorsement (sealed.Malformed place) = refusal MALFORMED place IN_ENDORSEMENT
 
+-- what an order that is not in its grammar is told as: the place of the first field that fails
+abbrev pub unread_order : ℕ → Refusal
+unread_order place = refusal MALFORMED place IN_ORDER
+
 -- what a fault of a hidden part is told as
 abbrev pub unread_hidden : RevealFault → Refusal
 unread_hidden (reveal.BadSeal iv) = refusal_with NOT_SEALED iv

@@ -50,6 +50,23 @@ settlement_at at other = None
 abbrev pub settlement_of : Kept → Option Settlement
 settlement_of kept = settlement_at kept.at kept.entry
 
+-- for the contracts of private functions alone: what became of the order that an entry settles
+abbrev pub outcome_in : Entry → Option PaymentOutcome
+outcome_in (entries.Paid digest epoid consumer merchant product price cacct macct moment key) = Some (Paid cacct macct key None)
+outcome_in (entries.Charged digest epoid consumer merchant product price fee cacct macct moment key) = Some (Paid cacct macct key (Some fee))
+outcome_in (entries.Refused digest epoid consumer merchant product price code a b moment) = Some (Refused (record { code = code; a = a; b = b }))
+outcome_in other = None
+
+-- the settlement of the order that an entry at this place settles, with this outcome
+abbrev pub settlement_with : PaymentOutcome → ℕ → Entry → Option Settlement
+settlement_with outcome at (entries.Paid digest epoid consumer merchant product price cacct macct moment key) =
+    Some (settlement at digest epoid consumer merchant product price moment outcome)
+settlement_with outcome at (entries.Charged digest epoid consumer merchant product price fee cacct macct moment key) =
+    Some (settlement at digest epoid consumer merchant product price moment outcome)
+settlement_with outcome at (entries.Refused digest epoid consumer merchant product price code a b moment) =
+    Some (settlement at digest epoid consumer merchant product price moment outcome)
+settlement_with outcome at other = None
+
 -- how the order of this identifier was settled, if it was
 unfoldable pub settlement_in : List Entry → Epoid → Option Settlement
 settlement_in H epoid = option_and_then settlement_of (order_in H epoid)

@@ -7,16 +7,18 @@ ghost use Rattle.nb_epo.specs.Spelling.{order_bytes};
 ghost use Rattle.nb_epo.specs.Tags.{order_tag};
 ghost use Rattle.nb_endorse.specs.Tags.{endorsement_digest};
 ghost use Rattle.nb_endorse.specs.declared.endorsement.TheConstants.{MAX_SEALED};
-ghost use Rattle.nb_endorse.specs.declared.refusal.TheConstants.{IN_ORDER};
-ghost use Rattle.nb_escrow.specs.Checks.{well_formed, right_tag};
+ghost use Rattle.nb_escrow.specs.Checks.{right_tag};
 ghost use Rattle.nb_escrow.specs.Orders as orders;
 
 use nb_body::EndorsedBytes;
 use nb_endorse::refusal::{IN_ENDORSEMENT, IN_HIDDEN, IN_ORDER, MALFORMED, NOT_SEALED, WRONG_TAG};
-use nb_endorse::{DigestedEndorsement, KeptStates, Refusal, SealedFault, read_sealed_with};
-use nb_epo::{Hidden, Order, RevealFault, read_order, read_tag_ok, reveal_with};
+use nb_endorse::{
+    DigestedEndorsement, EndorsementBytes, KeptStates, MAX_SEALED, Refusal, SealedFault,
+    read_sealed_with,
+};
+use nb_epo::{Hidden, HiddenBytes, Order, RevealFault, read_order, read_tag_ok, reveal_with};
 use nb_seal::KeyState;
-use nb_units::{Buffer, Malformed, Secret, Small};
+use nb_units::{Buffer, MAX_HIDDEN, Malformed, Secret, Small};
 use std::marker::Model;
 
 /// What was opened of an endorsed order before its turn, under the keys that were known then: what its sealed endorsement gave, and the
@@ -105,26 +107,28 @@ impl Model for TestedOrder {
 
 impl TestedOrder {
     fn of(bytes: &Small, kept: &KeptStates) -> Option<TestedOrder> {
-        let Ok(order) = read_endorsed(bytes) else {
+        let Ok(order) = read_order(bytes.as_slice()) else {
             return None;
         };
         let key = kept.kept_consumer(order.consumer)?;
         Some(TestedOrder {
             bytes: *bytes,
             key: key.copy(),
-            tag: check_order_tag(bytes, &order, key),
+            tag: check_order_tag(bytes.as_slice(), &order, key),
             hidden: open_hidden(&order.hidden, key),
         })
     }
 }
 
-// The endorsement that is sealed under the merchant's key: as it was opened before, where that was of these bytes under this key.
-pub(crate) fn opened_endorsement(
-    opened: Option<&OpenedOrder>,
+// The endorsement that is sealed under the merchant's key: as it was opened before, where that was of these bytes under this key, and else as it
+// is opened to `plain`. Its texts stay there.
+pub(crate) fn opened_endorsement<'a>(
+    opened: Option<&'a OpenedOrder>,
     asked: &EndorsedBytes,
     key: &Secret,
     kept: &mut KeptStates,
-) -> Result<DigestedEndorsement, Refusal>
+    plain: &'a mut [u8; MAX_SEALED],
+) -> Result<EndorsementBytes<'a>, Refusal>
     requires { length asked.now.sealed ≤ MAX_SEALED }
     ensures read { IfOk result (λ opened. orders.endorsement_in key.now asked.now.sealed ≡ Ok opened.endorsement) }
     ensures refused { IfErr result (λ refusal. orders.endorsement_in key.now asked.now.sealed ≡ Err refusal) }
@@ -138,16 +142,19 @@ pub(crate) fn opened_endorsement(
     ) = opened
     {
         if memo.key.is_of(key) && memo.sealed.as_slice() == asked.sealed() {
-            return memo.read;
+            return match &memo.read {
+                Ok(read) => Ok(EndorsementBytes::of(read)),
+                Err(refusal) => Err(*refusal),
+            };
         }
     }
-    open_endorsement(asked.sealed(), kept.merchant(asked.merchant(), key))
+    look_in_endorsement(asked.sealed(), kept.merchant(asked.merchant(), key), plain)
 }
 
 // Tests the tag of an order that was read from these bytes: as it was tested before, where that was of these bytes under this key.
 pub(crate) fn tested_tag(
     opened: Option<&OpenedOrder>,
-    bytes: &Small,
+    bytes: &[u8],
     order: &Order,
     key: &Secret,
     kept: &mut KeptStates,
@@ -163,7 +170,7 @@ pub(crate) fn tested_tag(
         },
     ) = opened
     {
-        if memo.key.is_of(key) && memo.bytes == *bytes {
+        if memo.key.is_of(key) && memo.bytes.as_slice() == bytes {
             return memo.tag;
         }
     }
@@ -171,14 +178,15 @@ pub(crate) fn tested_tag(
 }
 
 // The hidden part, sealed under the consumer's key, of an order that was read from these bytes: as it was opened before, where that was of
-// these bytes under this key.
-pub(crate) fn opened_hidden(
-    opened: Option<&OpenedOrder>,
-    bytes: &Small,
+// these bytes under this key, and else as it is opened to `plain`. Its memo stays there.
+pub(crate) fn opened_hidden<'a>(
+    opened: Option<&'a OpenedOrder>,
+    bytes: &[u8],
     order: &Order,
     key: &Secret,
     kept: &mut KeptStates,
-) -> Result<Hidden, Refusal>
+    plain: &'a mut [u8; MAX_HIDDEN],
+) -> Result<HiddenBytes<'a>, Refusal>
     requires short { length order.now.hidden ≤ MAX_HIDDEN }
     requires found { order_of bytes.now ≡ Ok order.now }
     ensures { result ≡ orders.hidden_in key.now order.now.hidden }
@@ -190,11 +198,14 @@ pub(crate) fn opened_hidden(
         },
     ) = opened
     {
-        if memo.key.is_of(key) && memo.bytes == *bytes {
-            return memo.hidden;
+        if memo.key.is_of(key) && memo.bytes.as_slice() == bytes {
+            return match &memo.hidden {
+                Ok(hidden) => Ok(HiddenBytes::of(hidden)),
+                Err(refusal) => Err(*refusal),
+            };
         }
     }
-    open_hidden(&order.hidden, kept.consumer(order.consumer, key))
+    look_in_hidden(&order.hidden, kept.consumer(order.consumer, key), plain)
 }
 
 // The endorsement that is sealed under the merchant's key.
@@ -211,6 +222,24 @@ fn open_endorsement(sealed: &[u8], key: &KeyState) -> Result<DigestedEndorsement
     }
 }
 
+// The same, whose texts stay in `plain`.
+#[tactic(auto, unfolding(crate::specs::Orders::endorsement_in))]
+fn look_in_endorsement<'a>(
+    sealed: &[u8],
+    key: &KeyState,
+    plain: &'a mut [u8; MAX_SEALED],
+) -> Result<EndorsementBytes<'a>, Refusal>
+    requires { length sealed.now ≤ MAX_SEALED }
+    ensures read { IfOk result (λ opened. orders.endorsement_in key.now sealed.now ≡ Ok opened.endorsement) }
+    ensures refused { IfErr result (λ refusal. orders.endorsement_in key.now sealed.now ≡ Err refusal) }
+    ensures digest { IfOk result (λ opened. opened.digest ≡ endorsement_digest opened.endorsement) }
+{
+    match EndorsementBytes::open(sealed, key, plain) {
+        Ok(opened) => Ok(opened),
+        Err(fault) => Err(unread_endorsement(fault)),
+    }
+}
+
 // The refusal of an endorsement that was not read.
 fn unread_endorsement(fault: SealedFault) -> Refusal
     ensures { result ≡ orders.unread_endorsement fault }
@@ -221,17 +250,11 @@ fn unread_endorsement(fault: SealedFault) -> Refusal
     }
 }
 
-// The order that is endorsed.
-pub(crate) fn read_endorsed(bytes: &Small) -> Result<Order, Refusal>
-    ensures test { result ≡ well_formed IN_ORDER (order_of bytes.now) }
-    ensures found { IfOk result (λ order. order_of bytes.now ≡ Ok order) }
-    ensures spelled { IfOk result (λ order. bytes.now ≡ order_bytes order) }
-    ensures short { IfOk result (λ order. length order.hidden ≤ MAX_HIDDEN) }
+// The refusal of an order that was not read.
+pub(crate) fn unread_order(malformed: Malformed) -> Refusal
+    ensures { result ≡ orders.unread_order malformed.place }
 {
-    match read_order(bytes.as_slice()) {
-        Ok(order) => Ok(order),
-        Err(Malformed { place }) => Err(Refusal::of(MALFORMED, place as u64, IN_ORDER)),
-    }
+    Refusal::of(MALFORMED, malformed.place as u64, IN_ORDER)
 }
 
 // The hidden part that is sealed under the consumer's key.
@@ -241,6 +264,22 @@ fn open_hidden(sealed: &Small, key: &KeyState) -> Result<Hidden, Refusal>
     ensures { result ≡ orders.hidden_in key.now sealed.now }
 {
     match reveal_with(sealed.as_slice(), key) {
+        Ok(hidden) => Ok(hidden),
+        Err(fault) => Err(unread_hidden(fault)),
+    }
+}
+
+// The same, whose memo stays in `plain`.
+#[tactic(auto, unfolding(crate::specs::Orders::hidden_in))]
+fn look_in_hidden<'a>(
+    sealed: &Small,
+    key: &KeyState,
+    plain: &'a mut [u8; MAX_HIDDEN],
+) -> Result<HiddenBytes<'a>, Refusal>
+    requires { length sealed.now ≤ MAX_HIDDEN }
+    ensures { result ≡ orders.hidden_in key.now sealed.now }
+{
+    match HiddenBytes::reveal(sealed.as_slice(), key, plain) {
         Ok(hidden) => Ok(hidden),
         Err(fault) => Err(unread_hidden(fault)),
     }
@@ -257,11 +296,11 @@ fn unread_hidden(fault: RevealFault) -> Refusal
 }
 
 #[tactic(auto, unfolding(crate::specs::Checks::right_tag))]
-fn check_order_tag(bytes: &Small, order: &Order, key: &KeyState) -> Result<(), Refusal>
+fn check_order_tag(bytes: &[u8], order: &Order, key: &KeyState) -> Result<(), Refusal>
     requires read { bytes.now ≡ order_bytes order.now }
     ensures { result ≡ right_tag order.now.tag (order_tag key.now order.now) }
 {
-    if read_tag_ok(bytes.as_slice(), order, key) {
+    if read_tag_ok(bytes, order, key) {
         Ok(())
     } else {
         Err(Refusal::with(WRONG_TAG, &order.tag))

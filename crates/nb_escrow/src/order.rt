@@ -9,18 +9,21 @@ ghost use Rattle.nb_escrow.specs.Settlements.{settlement_entry, settlement_in, I
 use crate::checks::{check_room, find_party_as};
 use crate::decision::Decision;
 use crate::head::Head;
-use crate::opened::{OpenedOrder, opened_endorsement, opened_hidden, read_endorsed, tested_tag};
+use crate::opened::{OpenedOrder, opened_endorsement, opened_hidden, tested_tag, unread_order};
 use crate::payment::outcome;
 use crate::settlement::{Settlement, settled_before};
 use nb_body::EndorsedBytes;
 use nb_book::{Book, CONSUMER, Entry, MERCHANT, Party};
 use nb_endorse::refusal::{IDENTIFIER_USED, OTHER_MERCHANT};
-use nb_endorse::{Endorsement, KeptStates, Refusal, Reply, ReplyKeys};
-use nb_epo::{Hidden, Order};
-use nb_units::{Digest, PartyId};
+use nb_endorse::{
+    Endorsement, EndorsementBytes, KeptStates, MAX_SEALED, Refusal, Reply, ReplyKeys,
+};
+use nb_epo::{Hidden, HiddenBytes, Order, read_order};
+use nb_units::{Digest, MAX_HIDDEN, PartyId};
+use std::marker::Model;
 
 /// An order whose parties, seals, grammar and tag were tested: who takes part, and what each of them says. Whether it was
-/// settled before, and whether it is paid, is tested next.
+/// settled before, and whether it is paid, is tested next. The clauses speak of it; the house has its parts where they were read.
 #[derive(Clone, Copy)]
 pub struct Presented {
     /// Who endorses the order.
@@ -33,6 +36,24 @@ pub struct Presented {
     pub order: Order,
     /// What the order says to the house alone.
     pub hidden: Hidden,
+}
+
+// The parts of such an order, which stay where they were read. They are seen as the order.
+#[derive(Drop)]
+pub(crate) struct PresentedParts<'a> {
+    pub(crate) merchant: &'a Party,
+    pub(crate) consumer: &'a Party,
+    pub(crate) endorsed: &'a EndorsementBytes<'a>,
+    pub(crate) order: &'a Order,
+    pub(crate) hidden: &'a HiddenBytes<'a>,
+}
+
+impl<'a> Model for PresentedParts<'a> {
+    ghost use Rattle.nb_escrow.specs.declared.order.Presented.{Presented};
+
+    ghost Value = { Presented };
+
+    ghost view = { λ p. record { merchant = p.merchant.now; consumer = p.consumer.now; endorsement = p.endorsed.now.endorsement; digest = p.endorsed.now.digest; order = p.order.now; hidden = p.hidden.now } };
 }
 
 // The tests of an endorsed order, in order.
@@ -53,24 +74,30 @@ pub(crate) fn decide_order(
 {
     let asked = EndorsedBytes::read(body)?;
     let merchant = find_party_as(book, MERCHANT, asked.merchant())?;
-    let read = opened_endorsement(opened, &asked, &merchant.key, kept)?;
-    let order = read_endorsed(&read.endorsement.order)?;
+    let mut plain = [0; MAX_SEALED];
+    let endorsed = opened_endorsement(opened, &asked, &merchant.key, kept, &mut plain)?;
+    let bytes = endorsed.order();
+    let read = read_order(bytes);
+    let order = match &read {
+        Ok(order) => order,
+        Err(malformed) => return Err(unread_order(*malformed)),
+    };
     let consumer = find_party_as(book, CONSUMER, order.consumer)?;
-    check_merchant(asked.merchant(), &order)?;
-    tested_tag(opened, &read.endorsement.order, &order, &consumer.key, kept)?;
-    let hidden = opened_hidden(opened, &read.endorsement.order, &order, &consumer.key, kept)?;
-    let presented = Presented {
-        merchant,
-        consumer,
-        endorsement: read.endorsement,
-        digest: read.digest,
+    check_merchant(asked.merchant(), order)?;
+    tested_tag(opened, bytes, order, &consumer.key, kept)?;
+    let mut plain = [0; MAX_HIDDEN];
+    let hidden = opened_hidden(opened, bytes, order, &consumer.key, kept, &mut plain)?;
+    let presented = PresentedParts {
+        merchant: &merchant,
+        consumer: &consumer,
+        endorsed: &endorsed,
         order,
-        hidden,
+        hidden: &hidden,
     };
     presented.again_or_settle(book, head, moment)
 }
 
-impl Presented {
+impl<'a> PresentedParts<'a> {
     // An order that is settled already is told again; a new one is settled and recorded.
     #[tactic(auto, using(crate::proofs::Paying::as_presented))]
     fn again_or_settle(&self, book: &Book, head: &Head, moment: u64) -> Result<Decision, Refusal>
@@ -83,7 +110,7 @@ impl Presented {
         ensures keys { IfOk result (λ decision. decision.keys ≡ record { house = head.now.house; first = self.now.merchant.key; second = self.now.consumer.key }) }
     {
         if let Some(kept) = settled_before(book, &self.order.epoid) {
-            check_digest(&kept.digest, &self.digest)?;
+            check_digest(&kept.digest, self.endorsed.digest())?;
             return Ok(self.result(head, &kept, None));
         }
         check_room(book)?;
@@ -102,7 +129,7 @@ impl Presented {
     {
         Settlement {
             at: u64::from(book.len()),
-            digest: self.digest,
+            digest: *self.endorsed.digest(),
             epoid: self.order.epoid,
             consumer: self.order.consumer,
             merchant: self.order.merchant,

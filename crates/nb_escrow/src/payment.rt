@@ -6,7 +6,7 @@ ghost use Rattle.nb_escrow.specs.Head.{IsRuling, charge};
 ghost use Rattle.nb_escrow.specs.Payments.{because, payment_steps, outcome_of};
 
 use crate::head::Head;
-use crate::order::Presented;
+use crate::order::PresentedParts;
 use crate::settlement::{PaymentOutcome, RefusalReason};
 use nb_book::reason::{
     BALANCE_LOW, CONSUMER_ACCOUNT, CONSUMER_NONCE, MERCHANT_ACCOUNT, PRICE_RANGE, TOO_EARLY,
@@ -16,7 +16,7 @@ use nb_book::{Book, MAX_AGE, MAX_AHEAD, MAX_PRICE, fee_of};
 use nb_units::{FEE_VERSION, Price};
 
 // What becomes of an order: it is paid where all tests of the payment hold.
-pub(crate) fn outcome(book: &Book, head: &Head, p: &Presented, moment: u64) -> PaymentOutcome
+pub(crate) fn outcome(book: &Book, head: &Head, p: &PresentedParts, moment: u64) -> PaymentOutcome
     requires terms { IsRuling head.now }
     requires consumer { party_in book.now.entries p.now.order.consumer ≡ Some p.now.consumer }
     ensures { result ≡ outcome_of head.now p.now (payment_steps book.now.entries p.now moment) }
@@ -25,7 +25,7 @@ pub(crate) fn outcome(book: &Book, head: &Head, p: &Presented, moment: u64) -> P
         Ok(()) => PaymentOutcome::Paid {
             cacct: p.consumer.acct,
             macct: p.merchant.acct,
-            key: p.endorsement.key,
+            key: *p.endorsed.key(),
             fee: charged(head, p.order.price),
         },
         Err(reason) => PaymentOutcome::Refused(reason),
@@ -47,17 +47,17 @@ fn charged(head: &Head, price: Price) -> Option<u64>
 
 // The tests of a payment, in order, each with the reason that it gives.
 #[tactic(auto, unfolding(crate::specs::Payments::payment_steps))]
-fn check_payment(book: &Book, p: &Presented, moment: u64) -> Result<(), RefusalReason>
+fn check_payment(book: &Book, p: &PresentedParts, moment: u64) -> Result<(), RefusalReason>
     requires consumer { party_in book.now.entries p.now.order.consumer ≡ Some p.now.consumer }
     ensures steps { result ≡ payment_steps book.now.entries p.now moment }
     ensures priced { OnOk result (p.now.order.price.0 ≤ MAX_PRICE) }
 {
-    let (named, own) = (u64::from(p.hidden.acct.0), u64::from(p.consumer.acct.0));
+    let (named, own) = (u64::from(p.hidden.acct().0), u64::from(p.consumer.acct.0));
     check(named == own, CONSUMER_ACCOUNT, named, own)?;
-    let (shown, own) = (p.hidden.nonce, p.consumer.nonce);
+    let (shown, own) = (p.hidden.nonce(), p.consumer.nonce);
     check(shown == own, CONSUMER_NONCE, shown, own)?;
     let (named, own) = (
-        u64::from(p.endorsement.macct.0),
+        u64::from(p.endorsed.macct().0),
         u64::from(p.merchant.acct.0),
     );
     check(named == own, MERCHANT_ACCOUNT, named, own)?;

@@ -62,90 +62,12 @@ pub struct Settlement {
 
 impl Settlement {
     /// How an entry that was found settled its order. `None` where the entry is an enrolment or a fund, which settle none.
+    #[tactic(auto, using(crate::proofs::Settling::settled_in_parts))]
     pub fn of(kept: &Kept) -> Option<Settlement>
         ensures { result ≡ told.settlement_of kept.now }
     {
-        let at = kept.at;
-        match kept.entry {
-            Entry::Paid {
-                digest,
-                epoid,
-                consumer,
-                merchant,
-                product,
-                price,
-                cacct,
-                macct,
-                moment,
-                key,
-            } => Some(Settlement {
-                at,
-                digest,
-                epoid,
-                consumer,
-                merchant,
-                product,
-                price,
-                moment,
-                outcome: PaymentOutcome::Paid {
-                    cacct,
-                    macct,
-                    key,
-                    fee: None,
-                },
-            }),
-            Entry::Charged {
-                digest,
-                epoid,
-                consumer,
-                merchant,
-                product,
-                price,
-                fee,
-                cacct,
-                macct,
-                moment,
-                key,
-            } => Some(Settlement {
-                at,
-                digest,
-                epoid,
-                consumer,
-                merchant,
-                product,
-                price,
-                moment,
-                outcome: PaymentOutcome::Paid {
-                    cacct,
-                    macct,
-                    key,
-                    fee: Some(fee),
-                },
-            }),
-            Entry::Refused {
-                digest,
-                epoid,
-                consumer,
-                merchant,
-                product,
-                price,
-                code,
-                a,
-                b,
-                moment,
-            } => Some(Settlement {
-                at,
-                digest,
-                epoid,
-                consumer,
-                merchant,
-                product,
-                price,
-                moment,
-                outcome: PaymentOutcome::Refused(RefusalReason { code, a, b }),
-            }),
-            _ => None,
-        }
+        let outcome = outcome_in(&kept.entry)?;
+        settlement_with(kept, outcome)
     }
 
     /// The entry that records it.
@@ -265,6 +187,90 @@ impl Settlement {
         } else {
             None
         }
+    }
+}
+
+// What became of the order that an entry settles. `None` where it settles none.
+fn outcome_in(entry: &Entry) -> Option<PaymentOutcome>
+    ensures { result ≡ told.outcome_in entry.now }
+{
+    match *entry {
+        Entry::Paid {
+            cacct,
+            macct,
+            key,
+            ..
+        } => Some(PaymentOutcome::Paid {
+            cacct,
+            macct,
+            key,
+            fee: None,
+        }),
+        Entry::Charged {
+            fee,
+            cacct,
+            macct,
+            key,
+            ..
+        } => Some(PaymentOutcome::Paid {
+            cacct,
+            macct,
+            key,
+            fee: Some(fee),
+        }),
+        Entry::Refused { code, a, b, .. } => {
+            Some(PaymentOutcome::Refused(RefusalReason { code, a, b }))
+        }
+        _ => None,
+    }
+}
+
+// The settlement of the order that an entry settles, with this outcome. `None` where it settles none.
+fn settlement_with(kept: &Kept, outcome: PaymentOutcome) -> Option<Settlement>
+    ensures { result ≡ told.settlement_with outcome kept.now.at kept.now.entry }
+{
+    match kept.entry {
+        Entry::Paid {
+            digest,
+            epoid,
+            consumer,
+            merchant,
+            product,
+            price,
+            moment,
+            ..
+        }
+        | Entry::Charged {
+            digest,
+            epoid,
+            consumer,
+            merchant,
+            product,
+            price,
+            moment,
+            ..
+        }
+        | Entry::Refused {
+            digest,
+            epoid,
+            consumer,
+            merchant,
+            product,
+            price,
+            moment,
+            ..
+        } => Some(Settlement {
+            at: kept.at,
+            digest,
+            epoid,
+            consumer,
+            merchant,
+            product,
+            price,
+            moment,
+            outcome,
+        }),
+        _ => None,
     }
 }
 

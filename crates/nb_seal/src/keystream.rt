@@ -19,7 +19,9 @@ pub fn stream_xor(key: &[u8; CODE_BYTES], first: u64, buf: &mut [u8])
     ensures { buf.new ≡ xored key.now first buf.old }
 {
     let mut rng = ChaCha20Rng::from_seed(*key);
-    rng.set_word_pos(u128::from(first / 4));
+    if first > 0 {
+        rng.set_word_pos(u128::from(first / 4));
+    }
     let whole = buf.len() / 4;
     for i in 0..whole {
         xor_word(&mut rng, &mut buf[4 * i..4 * i + 4]);
