@@ -1,11 +1,11 @@
 // Entries in words: a name and its fields, in the order of the layout. Numbers are decimal, and bytes are hexadecimal.
 
 ghost use Rattle.std.specs.Prelude.{IfSome};
-ghost use Rattle.nb_book.specs.Spelling.{EntryKeepsRules};
+ghost use Rattle.nb_entry.specs.Spelling.{EntryKeepsRules};
 
 use crate::trial::Trial;
 use crate::words::Words;
-use nb_book::{CONSUMER, Entry, MERCHANT, read_entry};
+use nb_entry::{CONSUMER, Entry, MERCHANT, read_entry};
 use nb_lines::Told;
 use nb_units::{AcctId, Cut, Epoid, NoMemory, PartyId, Price, is_reason};
 

@@ -3,7 +3,7 @@
 
 use crate::house::House;
 use crate::servers::Came;
-use nb_book::Entry;
+use nb_entry::Entry;
 use nb_lines::Told;
 use nb_link::MemLink;
 use nb_session::Record;

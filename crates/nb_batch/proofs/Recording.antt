@@ -7,11 +7,11 @@ use Rattle.std.proofs.Math.Seq.{take-append-add}
 use Rattle.std.proofs.lemmas.List.{drop-append-le, length-append, length-drop, length-take-le, take-append-drop, take-append-le, take_at, take_all, take_more}
 use Rattle.std.proofs.lemmas.Option.{slice_get_within, get_or_from_slice_get}
 use Rattle.nb_port.specs.Faults.{Rose}
-use Rattle.nb_book.specs.declared.entry.Entry.{Entry}
+use Rattle.nb_entry.specs.declared.entry.Entry.{Entry}
 use Rattle.nb_book.specs.Legal.{Legal, LegalAfter}
-use Rattle.nb_book.specs.Spelling.{EntryKeepsRules}
+use Rattle.nb_entry.specs.Spelling.{EntryKeepsRules}
 use Rattle.nb_book.proofs.Growing.{front_legal}
-use Rattle.nb_book.proofs.Layouts.{legal_keeps_rules}
+use Rattle.nb_book.proofs.Roles.{legal_keeps_rules}
 use Rattle.nb_batch.specs.Send.{SentPart}
 use Rattle.nb_batch.specs.Shipping.{SentBut, record_frame, record_frames, shipped_from}
 

@@ -7,7 +7,7 @@ use Rattle.std.specs.Option.{option_to_list}
 use Rattle.std.proofs.Math.Seq.{take-append_seam}
 use Rattle.nb_units.specs.declared.charter.Charter.{Charter}
 use Rattle.nb_port.specs.Tells.{DiskTells}
-use Rattle.nb_book.specs.declared.entry.Entry.{Entry}
+use Rattle.nb_entry.specs.declared.entry.Entry.{Entry}
 use Rattle.nb_escrow.specs.Head.{head_of}
 use Rattle.nb_vault.specs.Holdings.{StandsFor, StandsForEither}
 use Rattle.nb_vault.specs.Rules.{house_of}

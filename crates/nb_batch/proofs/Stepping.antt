@@ -25,7 +25,7 @@ use Rattle.nb_vault.specs.Vaults.{Chronicled, Keeps, IsDurable, StandsForState, 
 use Rattle.nb_vault.specs.declared.origin.Origin.{Origin}
 use Rattle.nb_vault.specs.Rules.{house_of, refused}
 use Rattle.nb_escrow.specs.Head.{head_of}
-use Rattle.nb_book.specs.declared.entry.Entry.{Entry}
+use Rattle.nb_entry.specs.declared.entry.Entry.{Entry}
 use Rattle.nb_batch.specs.declared.batch.BatchEnd.{BatchEnd}
 use Rattle.nb_batch.specs.declared.batch.BatchEnd.TheVariants.{Clean, Cut, BadFrame, ReadFault, WriteFault, NoMemory as Starved, FrameLimit}
 use Rattle.nb_batch.specs.declared.batch.Step.TheVariants as step

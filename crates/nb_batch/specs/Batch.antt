@@ -10,7 +10,7 @@ use Rattle.nb_units.specs.Frames.{Frame, frame, IsFrame, Splits}
 use Rattle.nb_frame.specs.State.{Collected, waiting}
 use Rattle.nb_frame.specs.declared.stream.TheConstants.{MAX_PIECE}
 use Rattle.nb_journal.specs.Time.{LeavesOnly}
-use Rattle.nb_book.specs.declared.entry.Entry.{Entry}
+use Rattle.nb_entry.specs.declared.entry.Entry.{Entry}
 use Rattle.nb_turns.specs.declared.mark.Mark.{Mark}
 use Rattle.nb_turns.specs.declared.mark.Mark.TheVariants.{At}
 use Rattle.nb_turns.specs.Turns.{State, Answered, last_state, IsStateOf, replies}

@@ -3,7 +3,7 @@ use Rattle.std.specs.Prelude.{◌≡◌, ℕ, ◌+◌, ◌<◌, ◌≤◌, List,
 use Rattle.std.specs.Io.KnownBytes.{Appends}
 use Rattle.nb_units.specs.Frames.{frame}
 use Rattle.nb_port.specs.Faults.{Rose}
-use Rattle.nb_book.specs.declared.entry.Entry.{Entry}
+use Rattle.nb_entry.specs.declared.entry.Entry.{Entry}
 use Rattle.nb_standby.specs.declared.limits.TheConstants.{SHIPPED_FRAME, SHIPPED_ROOM}
 use Rattle.nb_standby.specs.Spelling.{shipped_bytes, signed}
 use Rattle.nb_batch.specs.declared.shipping.ShipFault.{ShipFault}

@@ -7,8 +7,8 @@ use Rattle.std.specs.List.{sum_by, count_by}
 use Rattle.std.specs.Option.{IsNone, option_or}
 use Rattle.nb_units.specs.declared.ids.AcctId.{AcctId}
 use Rattle.nb_units.specs.declared.ids.PartyId.{PartyId}
-use Rattle.nb_book.specs.declared.entry.Entry.{Entry}
-use Rattle.nb_book.specs.declared.entry.Entry.TheVariants.{Enrol, Fund, Paid, Charged, Refused}
+use Rattle.nb_entry.specs.declared.entry.Entry.{Entry}
+use Rattle.nb_entry.specs.declared.entry.Entry.TheVariants.{Enrol, Fund, Paid, Charged, Refused}
 use Rattle.nb_book.specs.Searches.{holder_at, holder_in}
 use Rattle.nb_book.specs.Money.{house_account, balance, debits, total, fees, accounts}
 use Rattle.nb_book.specs.Legal.{Legal, LegalAfter}

@@ -6,8 +6,8 @@ use Rattle.std.specs.Prelude.{◌==◌}
 use Rattle.std.specs.Option.{option_or, is_some, IfSome}
 use Rattle.nb_units.specs.declared.ids.PartyId.{PartyId}
 use Rattle.nb_units.specs.declared.ids.AcctId.{AcctId}
-use Rattle.nb_book.specs.declared.entry.Entry.{Entry}
-use Rattle.nb_book.specs.declared.entry.Entry.TheVariants.{Fund}
+use Rattle.nb_entry.specs.declared.entry.Entry.{Entry}
+use Rattle.nb_entry.specs.declared.entry.Entry.TheVariants.{Fund}
 use Rattle.nb_book.specs.declared.party.Party.{Party}
 use Rattle.nb_book.specs.Searches.{party_at, party_in, holder_at}
 use Rattle.nb_book.specs.Legal.{LegalAfter, Legal}

@@ -12,8 +12,8 @@ use Rattle.std.specs.Str.{bytes_eq}
 use Rattle.nb_units.specs.declared.ids.PartyId.{PartyId}
 use Rattle.nb_units.specs.declared.ids.AcctId.{AcctId}
 use Rattle.nb_units.specs.declared.epoid.Epoid.{Epoid}
-use Rattle.nb_book.specs.declared.entry.Entry.{Entry}
-use Rattle.nb_book.specs.declared.entry.Entry.TheVariants.{Enrol, Fund, Paid, Charged, Refused}
+use Rattle.nb_entry.specs.declared.entry.Entry.{Entry}
+use Rattle.nb_entry.specs.declared.entry.Entry.TheVariants.{Enrol, Fund, Paid, Charged, Refused}
 use Rattle.nb_book.specs.Searches.{first_from, party_at, party_in, holder_at, holder_in, funded_at, funded_in, same_epoid, settles, order_at, order_in, account_of}
 use Rattle.nb_book.specs.Legal.{LegalAfter, Legal}
 use Rattle.nb_book.specs.Laws.{enrols, opens, cites}

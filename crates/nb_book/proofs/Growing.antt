@@ -1,8 +1,8 @@
 -- A Legal list is made by one legal entry after another.
 use Rattle.std.proofs.Common.{◌≡◌, ℕ, zero, suc, ◌<◌, ◌≤◌, List, [], ◌∷◌, ◌++◌, length, take, get_or, sym, subst, arith, add-one, length-take}
 use Rattle.std.proofs.lemmas.List.{take_more, take_all, take-take, get_or-take}
-use Rattle.nb_book.specs.declared.entry.Entry.{Entry}
-use Rattle.nb_book.specs.declared.entry.Entry.TheVariants.{Fund}
+use Rattle.nb_entry.specs.declared.entry.Entry.{Entry}
+use Rattle.nb_entry.specs.declared.entry.Entry.TheVariants.{Fund}
 use Rattle.nb_book.specs.Legal.{LegalAfter, Legal}
 
 -- the front of a Legal list is Legal

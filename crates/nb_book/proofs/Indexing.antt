@@ -7,8 +7,8 @@ use Rattle.std.specs.Option.{option_or, is_some, IsNone, IfSome}
 use Rattle.std.specs.Str.{bytes_eq}
 use Rattle.nb_index.specs.declared.put.Put.{Put}
 use Rattle.nb_index.specs.Puts.{Indexed, Shape, value_in, IsLast}
-use Rattle.nb_book.specs.declared.entry.Entry.{Entry}
-use Rattle.nb_book.specs.declared.entry.Entry.TheVariants.{Fund}
+use Rattle.nb_entry.specs.declared.entry.Entry.{Entry}
+use Rattle.nb_entry.specs.declared.entry.Entry.TheVariants.{Fund}
 use Rattle.nb_book.specs.Searches.{first_from}
 use Rattle.nb_book.specs.Indexes.{KeysFit, puts_at, puts_from, place_if, first_place, Indexes}
 use Rattle.nb_book.proofs.Counting.{Tests, tested, found-count}

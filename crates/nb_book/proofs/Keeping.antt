@@ -10,8 +10,8 @@ use Rattle.nb_units.specs.declared.ids.PartyId.{PartyId}
 use Rattle.nb_units.specs.declared.ids.AcctId.{AcctId}
 use Rattle.nb_units.specs.declared.ids.Price.{Price}
 use Rattle.nb_units.specs.declared.epoid.Epoid.{Epoid}
-use Rattle.nb_book.specs.declared.entry.Entry.{Entry}
-use Rattle.nb_book.specs.declared.entry.Entry.TheVariants.{Enrol, Fund}
+use Rattle.nb_entry.specs.declared.entry.Entry.{Entry}
+use Rattle.nb_entry.specs.declared.entry.Entry.TheVariants.{Enrol, Fund}
 use Rattle.nb_book.specs.declared.party.Party.{Party}
 use Rattle.nb_book.specs.Searches.{party_at, party_in, holder_at, holder_in}
 use Rattle.nb_book.specs.Money.{brought, taken, balance}

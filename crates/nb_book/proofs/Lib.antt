@@ -4,9 +4,8 @@ pub mod Fees
 pub mod Summing
 pub mod Balances
 pub mod Rates
-pub mod Steps
-pub mod Layouts
 pub mod Indexing
 pub mod Naming
 pub mod Keeping
 pub mod Confirming
+pub mod Roles

@@ -11,7 +11,7 @@ use Rattle.nb_units.specs.declared.ids.AcctId.{AcctId}
 use Rattle.nb_units.specs.declared.epoid.Epoid.{Epoid}
 use Rattle.nb_units.specs.Epoid.{IsEpoid, epoid_bytes, epoid_of}
 use Rattle.nb_units.proofs.EpoidLaws.{reads_back}
-use Rattle.nb_book.specs.declared.entry.Entry.TheVariants.{Enrol, Fund, Paid, Charged, Refused}
+use Rattle.nb_entry.specs.declared.entry.Entry.TheVariants.{Enrol, Fund, Paid, Charged, Refused}
 use Rattle.nb_book.specs.Searches.{same_epoid, settles}
 use Rattle.nb_book.specs.Laws.{enrols, opens, cites}
 use Rattle.nb_book.specs.Indexes.{name_key, party_key, account_key, reference_key, order_key}

@@ -2,8 +2,8 @@
 use Rattle.std.proofs.Common.{inl, inr, refl, ℕ, arith}
 use Rattle.std.proofs.lemmas.List.Elements.{All-from_recursion, recursion_from_All}
 use Rattle.nb_units.specs.declared.limits.TheConstants.{FIRST_VERSION, FEE_VERSION}
-use Rattle.nb_book.specs.declared.entry.Entry.{Entry}
-use Rattle.nb_book.specs.declared.entry.Entry.TheVariants.{Charged}
+use Rattle.nb_entry.specs.declared.entry.Entry.{Entry}
+use Rattle.nb_entry.specs.declared.entry.Entry.TheVariants.{Charged}
 use Rattle.nb_book.specs.Legal.{IsOfRate}
 use Rattle.nb_book.specs.Laws.{LegalUnderSome, LegalUnderIsNext, FirstStaysLegal}
 

@@ -7,8 +7,8 @@ use Rattle.std.proofs.lemmas.List.Sums.{sum_by-cons, sum_by-append, sum_by_push}
 use Rattle.std.specs.Prelude.{◌==◌}
 use Rattle.std.specs.List.{sum_by, count_by}
 use Rattle.nb_units.specs.declared.ids.AcctId.{AcctId}
-use Rattle.nb_book.specs.declared.entry.Entry.{Entry}
-use Rattle.nb_book.specs.declared.entry.Entry.TheVariants.{Enrol, Fund, Paid, Charged, Refused}
+use Rattle.nb_entry.specs.declared.entry.Entry.{Entry}
+use Rattle.nb_entry.specs.declared.entry.Entry.TheVariants.{Enrol, Fund, Paid, Charged, Refused}
 use Rattle.nb_book.specs.declared.limits.TheConstants.{MAX_TOTAL}
 use Rattle.nb_book.specs.Searches.{holder_at}
 use Rattle.nb_book.specs.Money.{fee_in, brought, taken, credit, debit, fund, credits, debits, balance, total, fees, opened, accounts}

@@ -7,8 +7,8 @@ use Rattle.nb_units.specs.Epoid.{IsEpoid, epoid_bytes}
 use Rattle.nb_units.specs.declared.limits.TheConstants.{MAX_CAP}
 use Rattle.nb_index.specs.declared.put.Put.{Put}
 use Rattle.nb_index.specs.Puts.{Indexed, IsShaped, Shape}
-use Rattle.nb_book.specs.declared.entry.Entry.{Entry}
-use Rattle.nb_book.specs.declared.entry.Entry.TheVariants.{Enrol, Fund, Paid, Charged, Refused}
+use Rattle.nb_entry.specs.declared.entry.Entry.{Entry}
+use Rattle.nb_entry.specs.declared.entry.Entry.TheVariants.{Enrol, Fund, Paid, Charged, Refused}
 use Rattle.nb_book.specs.declared.list.EntryList.{EntryList}
 use Rattle.nb_book.specs.declared.list.EmptyIndexes.{EmptyIndexes}
 use Rattle.nb_book.specs.Searches.{first_from}

@@ -1,16 +1,14 @@
--- What holds of every Legal list, and of the bytes of entries.
-use Rattle.std.specs.Prelude.{◌≡◌, ◌≢◌, ◌↔◌, ℕ, ◌==◌, ◌+◌, ◌-◌, ◌≤◌, Bool, false, List, [], ◌∷◌, ◌++◌, length, take, EachIndex, IsNone, Ok, if◌then◌else◌}
+-- What holds of every Legal list.
+use Rattle.std.specs.Prelude.{◌≡◌, ◌≢◌, ◌↔◌, ℕ, ◌==◌, ◌+◌, ◌-◌, ◌≤◌, Bool, false, List, [], ◌∷◌, ◌++◌, take, EachIndex, IsNone, if◌then◌else◌}
 use Rattle.std.specs.List.{HoldsAt, sum_by, count_by}
 use Rattle.std.specs.Str.{bytes_eq}
 use Rattle.nb_units.specs.declared.ids.PartyId.{PartyId}
 use Rattle.nb_units.specs.declared.ids.AcctId.{AcctId}
 use Rattle.nb_units.specs.declared.ids.Price.{Price}
 use Rattle.nb_units.specs.declared.epoid.Epoid.{Epoid}
-use Rattle.nb_units.specs.Frames.{AreBytes}
-use Rattle.nb_units.specs.Laws.{StandsAt}
-use Rattle.nb_book.specs.declared.entry.Entry.{Entry}
-use Rattle.nb_book.specs.declared.entry.Entry.TheVariants.{Enrol, Fund, Paid, Charged}
-use Rattle.nb_book.specs.declared.entry.TheConstants.{CONSUMER, MERCHANT}
+use Rattle.nb_entry.specs.declared.entry.Entry.{Entry}
+use Rattle.nb_entry.specs.declared.entry.Entry.TheVariants.{Enrol, Fund, Paid, Charged}
+use Rattle.nb_entry.specs.declared.entry.TheConstants.{CONSUMER, MERCHANT}
 use Rattle.nb_units.specs.Charter.{MayRule}
 use Rattle.nb_units.specs.declared.limits.TheConstants.{MAX_CAP, MAX_RATE, FIRST_VERSION, FEE_VERSION}
 use Rattle.nb_book.specs.declared.limits.TheConstants.{MAX_TOTAL, MAX_PRICE, MAX_AGE, MAX_AHEAD}
@@ -18,10 +16,8 @@ use Rattle.nb_book.specs.declared.reason.TheConstants.{CONSUMER_ACCOUNT, MERCHAN
 use Rattle.nb_units.specs.declared.reason.TheConstants.{FIRST_REASON, LAST_REASON}
 use Rattle.nb_book.specs.Searches.{holder_in, settles}
 use Rattle.nb_book.specs.Money.{fee_at, house_account, credit, debit, credits, debits, balance, total, fees, accounts}
-use Rattle.nb_book.specs.declared.spelling.TheConstants.{ENROL_ENTRY, FUND_ENTRY, PAID_ENTRY, REFUSED_ENTRY, CHARGED_ENTRY, MAX_ENTRY, MAX_ITEM_ENTRIES}
 use Rattle.nb_book.specs.Legal.{LegalAfter, Legal, NextUnder, LegalUnder}
-use Rattle.nb_book.specs.Spelling.{IsEntry, EntryKeepsRules, Spells, entry_bytes, bytes_of_kind}
-use Rattle.nb_book.specs.Reading.{entry_at}
+use Rattle.nb_entry.specs.Spelling.{EntryKeepsRules}
 
 -- the limits and roles in numbers
 abbrev pub BookLimitsAre : Type 0
@@ -141,29 +137,6 @@ FundedOnce = (H : List Entry) → Legal H → (r : List ℕ) → count_by (cites
 -- at most one entry pays or refuses the order of an identifier
 abbrev pub SettledOnce : Type 0
 SettledOnce = (H : List Entry) → Legal H → (p : Epoid) → count_by (settles p) H ≤ 1
-
--- ---- bytes
-
--- an entry that stands at a place is read there as that entry
-abbrev pub EntryReadsBack : Type 0
-EntryReadsBack = (bytes : List ℕ) (place : ℕ) (e : Entry) → IsEntry e → StandsAt (entry_bytes e) bytes place → entry_at bytes place ≡ Ok e
-
--- what is read as an entry at a place is within its limits, and its spelling stands there
-abbrev pub EntrySpellsBack : Type 0
-EntrySpellsBack = (bytes : List ℕ) (place : ℕ) (e : Entry) → AreBytes bytes → entry_at bytes place ≡ Ok e
-    → IsEntry e × StandsAt (entry_bytes e) bytes place
-
--- bytes begin with the spelling of one entry at most, and an item spells one list of entries
-abbrev pub OneSpelling : Type 0
-OneSpelling =
-    ((d e : Entry) (rest more : List ℕ) → IsEntry d → IsEntry e → entry_bytes d ++ rest ≡ entry_bytes e ++ more → (d ≡ e) × (rest ≡ more))
-    × ((item : List ℕ) (ds es : List Entry) → Spells item ds → Spells item es → ds ≡ es)
-
--- an entry has as many bytes as its kind says, at most 125; the kinds are 1 to 5, and an item has at most 32 entries
-abbrev pub EntryLayout : Type 0
-EntryLayout =
-    ((e : Entry) → IsEntry e → (length (entry_bytes e) ≡ bytes_of_kind e) × (length (entry_bytes e) ≤ MAX_ENTRY))
-    × (ENROL_ENTRY ∷ FUND_ENTRY ∷ PAID_ENTRY ∷ REFUSED_ENTRY ∷ CHARGED_ENTRY ∷ [] ≡ 1 ∷ 2 ∷ 3 ∷ 4 ∷ 5 ∷ []) × (MAX_ENTRY ≡ 125) × (MAX_ITEM_ENTRIES ≡ 32)
 
 -- an entry that may come next keeps the rules of entries, so that it can be written
 abbrev pub LegalKeepsRules : Type 0

@@ -2,7 +2,7 @@
 -- the shapes of its indexes.
 use Rattle.std.specs.Prelude.{ℕ, List}
 use Rattle.nb_index.specs.Puts.{Shape}
-use Rattle.nb_book.specs.declared.entry.Entry.{Entry}
+use Rattle.nb_entry.specs.declared.entry.Entry.{Entry}
 
 pub record Ledger : Type 0 where
   pub entries : List Entry

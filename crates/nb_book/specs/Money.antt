@@ -5,8 +5,8 @@ use Rattle.std.specs.Option.{option_map}
 use Rattle.nb_units.specs.declared.ids.PartyId.{PartyId}
 use Rattle.nb_units.specs.declared.ids.AcctId.{AcctId}
 use Rattle.nb_units.specs.declared.ids.Price.{Price}
-use Rattle.nb_book.specs.declared.entry.Entry.{Entry}
-use Rattle.nb_book.specs.declared.entry.Entry.TheVariants.{Enrol, Fund, Paid, Charged}
+use Rattle.nb_entry.specs.declared.entry.Entry.{Entry}
+use Rattle.nb_entry.specs.declared.entry.Entry.TheVariants.{Enrol, Fund, Paid, Charged}
 use Rattle.nb_book.specs.declared.account.Account.{Account}
 use Rattle.nb_book.specs.Searches.{holder_in, account_of}
 

@@ -10,12 +10,13 @@ ghost use Rattle.nb_book.specs.Legal.{LegalAfter, Legal, NextUnder};
 ghost use Rattle.nb_book.specs.Indexes.{slots_for};
 
 use crate::account::Account;
-use crate::entry::Entry;
 use crate::funded::Funded;
 use crate::kept::Kept;
+use crate::legal::is_next_under;
 use crate::limits::{MAX_CAP, MAX_TOTAL};
 use crate::list::EntryList;
 use crate::party::Party;
+use nb_entry::Entry;
 use nb_units::{AcctId, Epoid, NoMemory, PartyId};
 use std::alloc::Global;
 use std::marker::Model;
@@ -174,7 +175,7 @@ impl Book {
         // fee of the rate.
         ensures { IsTrue result ↔ NextUnder version rate self.now.entries e.now }
     {
-        e.is_next_under(self, version, rate)
+        is_next_under(e, self, version, rate)
     }
 
     /// Appends the entry, which may come next under some version and rate. This takes no memory.

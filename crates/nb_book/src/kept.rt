@@ -1,4 +1,4 @@
-use crate::entry::Entry;
+use nb_entry::Entry;
 
 /// A payment or a refusal, and its place.
 #[derive(Clone, Copy)]

@@ -5,7 +5,6 @@ ghost use Rattle.nb_book.specs.Searches.{party_in, role_of, account_of, nonce_of
 ghost use Rattle.nb_book.specs.Legal as legal;
 
 use crate::book::Book;
-use crate::entry::{CONSUMER, Entry, MERCHANT};
 use crate::fee::fee_of;
 use crate::limits::{MAX_AGE, MAX_AHEAD, MAX_PRICE, MAX_TOTAL};
 use crate::party::Party;
@@ -13,71 +12,70 @@ use crate::reason::{
     BALANCE_LOW, CONSUMER_ACCOUNT, CONSUMER_NONCE, MERCHANT_ACCOUNT, PRICE_RANGE, TOO_EARLY,
     TOO_OLD,
 };
+use nb_entry::{CONSUMER, Entry, MERCHANT};
 use nb_units::{AcctId, Epoid, FEE_VERSION, PartyId, Price};
 
-impl Entry {
-    // Whether this entry may come after these in a journal of this version and this rate.
-    #[tactic(auto, using(crate::proofs::Summing::total_fits))]
-    pub(crate) fn is_next_under(&self, book: &Book, version: u8, rate: u16) -> bool
-        requires { rate ≤ MAX_RATE }
-        ensures { IsTrue result ↔ legal.NextUnder version rate book.now.entries self.now }
-    {
-        match *self {
-            Entry::Enrol { id, role, acct, .. } => {
-                id.0 != 0
-                    && acct.0 != 0
-                    && (role == CONSUMER || role == MERCHANT)
-                    && book.party(id).is_none()
-                    && book.holder(acct).is_none()
-            }
-            Entry::Fund {
-                acct,
-                amount,
-                ref reference,
-            } => {
-                book.holder(acct).is_some()
-                    && 1 <= amount
-                    && amount <= MAX_TOTAL
-                    && book.reference(reference).is_none()
-                    && book.total() <= MAX_TOTAL - amount
-            }
-            Entry::Paid {
-                ref epoid,
-                consumer,
-                merchant,
-                price,
-                cacct,
-                macct,
-                moment,
-                ..
-            } => paid_is_legal(book, epoid, consumer, merchant, price, cacct, macct, moment),
-            Entry::Charged {
-                ref epoid,
-                consumer,
-                merchant,
-                price,
-                fee,
-                cacct,
-                macct,
-                moment,
-                ..
-            } => {
-                paid_is_legal(book, epoid, consumer, merchant, price, cacct, macct, moment)
-                    && version == FEE_VERSION
-                    && fee == fee_of(price, rate)
-            }
-            Entry::Refused {
-                ref epoid,
-                consumer,
-                merchant,
-                price,
-                code,
-                a,
-                b,
-                moment,
-                ..
-            } => refused_is_legal(book, epoid, consumer, merchant, price, code, a, b, moment),
+// Whether an entry may come after these in a journal of this version and this rate.
+#[tactic(auto, using(crate::proofs::Summing::total_fits))]
+pub(crate) fn is_next_under(entry: &Entry, book: &Book, version: u8, rate: u16) -> bool
+    requires { rate ≤ MAX_RATE }
+    ensures { IsTrue result ↔ legal.NextUnder version rate book.now.entries entry.now }
+{
+    match *entry {
+        Entry::Enrol { id, role, acct, .. } => {
+            id.0 != 0
+                && acct.0 != 0
+                && (role == CONSUMER || role == MERCHANT)
+                && book.party(id).is_none()
+                && book.holder(acct).is_none()
         }
+        Entry::Fund {
+            acct,
+            amount,
+            ref reference,
+        } => {
+            book.holder(acct).is_some()
+                && 1 <= amount
+                && amount <= MAX_TOTAL
+                && book.reference(reference).is_none()
+                && book.total() <= MAX_TOTAL - amount
+        }
+        Entry::Paid {
+            ref epoid,
+            consumer,
+            merchant,
+            price,
+            cacct,
+            macct,
+            moment,
+            ..
+        } => paid_is_legal(book, epoid, consumer, merchant, price, cacct, macct, moment),
+        Entry::Charged {
+            ref epoid,
+            consumer,
+            merchant,
+            price,
+            fee,
+            cacct,
+            macct,
+            moment,
+            ..
+        } => {
+            paid_is_legal(book, epoid, consumer, merchant, price, cacct, macct, moment)
+                && version == FEE_VERSION
+                && fee == fee_of(price, rate)
+        }
+        Entry::Refused {
+            ref epoid,
+            consumer,
+            merchant,
+            price,
+            code,
+            a,
+            b,
+            moment,
+            ..
+        } => refused_is_legal(book, epoid, consumer, merchant, price, code, a, b, moment),
     }
 }
 

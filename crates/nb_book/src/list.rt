@@ -9,11 +9,12 @@ ghost use Rattle.nb_index.specs.Puts.{IsShaped};
 ghost use Rattle.nb_book.specs.Indexes.{AreEmptyIndexes, IsEmptyIndex, Tied, first_place, slots_for, list_places, list_indexes};
 
 use crate::account::Account;
-use crate::entry::Entry;
+use crate::found::{funded_at, holder_at, order_at, party_at};
 use crate::funded::Funded;
 use crate::kept::Kept;
 use crate::keys::name_key;
 use crate::party::Party;
+use nb_entry::Entry;
 use nb_index::FixedIndex;
 use nb_units::{AcctId, Epoid, NoMemory, PartyId};
 use std::alloc::Global;
@@ -392,7 +393,7 @@ impl EntryList {
         if at as usize >= self.entries.len() {
             return None;
         }
-        self.entries[at as usize].enrolled(at, id)
+        party_at(&self.entries[at as usize], at, id)
     }
 
     // The same by the index.
@@ -401,7 +402,7 @@ impl EntryList {
         ensures { result ≡ party_in self.now.entries.items id }
     {
         match self.parties.find(&name_key(id.0)) {
-            Some(at) => self.entries[at as usize].enrolled(at, id),
+            Some(at) => party_at(&self.entries[at as usize], at, id),
             None => None,
         }
     }
@@ -412,7 +413,7 @@ impl EntryList {
         ensures { result ≡ holder_in self.now.entries.items id }
     {
         match self.place_of(id) {
-            Some(at) => self.entries[at as usize].holder(id),
+            Some(at) => holder_at(&self.entries[at as usize], id),
             None => None,
         }
     }
@@ -423,7 +424,7 @@ impl EntryList {
         ensures { result ≡ order_in self.now.entries.items epoid.now }
     {
         match self.orders.find(&epoid.write()) {
-            Some(at) => self.entries[at as usize].settlement(at, epoid),
+            Some(at) => order_at(&self.entries[at as usize], at, epoid),
             None => None,
         }
     }
@@ -434,7 +435,7 @@ impl EntryList {
         ensures { result ≡ funded_in self.now.entries.items reference.now }
     {
         match self.references.find(reference) {
-            Some(at) => self.entries[at as usize].fund(at, reference),
+            Some(at) => funded_at(&self.entries[at as usize], at, reference),
             None => None,
         }
     }
@@ -446,7 +447,7 @@ impl EntryList {
         ensures { result ≡ account_in self.now.entries.items id }
     {
         match self.place_of(id) {
-            Some(at) => match self.entries[at as usize].holder(id) {
+            Some(at) => match holder_at(&self.entries[at as usize], id) {
                 Some(party) => Some(Account {
                     party,
                     balance: self.balances[at as usize],

@@ -5,7 +5,7 @@ use nb_units::{AcctId, PartyId, Secret};
 pub struct Party {
     /// The number of entries before its enrolment, 8 bytes wide.
     pub at: u64,
-    /// [`CONSUMER`](crate::CONSUMER) or [`MERCHANT`](crate::MERCHANT), one byte wide.
+    /// [`CONSUMER`](nb_entry::CONSUMER) or [`MERCHANT`](nb_entry::MERCHANT), one byte wide.
     pub role: u8,
     /// The number of its account, 4 bytes wide.
     pub acct: AcctId,

@@ -1,6 +1,6 @@
 -- The bytes of a grant's frame are those that the verdict's law speaks of.
 use Rattle.std.specs.Prelude.{List}
-use Rattle.nb_book.specs.declared.entry.Entry.{Entry}
+use Rattle.nb_entry.specs.declared.entry.Entry.{Entry}
 use Rattle.nb_endorse.specs.declared.reply.Reply.{Reply}
 use Rattle.nb_endorse.specs.declared.reply.Reply.TheVariants.{Result, Status, Grant, Done, Refused}
 use Rattle.nb_endorse.specs.declared.reply.ReplyKeys.{ReplyKeys}

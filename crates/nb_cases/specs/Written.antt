@@ -1,7 +1,7 @@
 -- What the house writes of a grant is what both sides open.
 use Rattle.std.specs.Prelude.{◌≡◌, ℕ, List, Some}
 use Rattle.nb_units.specs.Frames.{AreBytes}
-use Rattle.nb_book.specs.declared.entry.Entry.{Entry}
+use Rattle.nb_entry.specs.declared.entry.Entry.{Entry}
 use Rattle.nb_book.specs.declared.party.Party.{Party}
 use Rattle.nb_book.specs.Searches.{party_in}
 use Rattle.nb_endorse.specs.declared.reply.Reply.{Reply}

@@ -11,7 +11,7 @@ use Rattle.nb_port.specs.Faults.{Rose}
 use Rattle.nb_units.specs.Fields.{be2, be4}
 use Rattle.nb_units.specs.declared.charter.Charter.{Charter}
 use Rattle.nb_units.specs.declared.limits.TheConstants.{HEAD, MAX_RATE}
-use Rattle.nb_book.specs.declared.entry.Entry.{Entry}
+use Rattle.nb_entry.specs.declared.entry.Entry.{Entry}
 use Rattle.nb_book.proofs.Rates.{first_stays_legal}
 use Rattle.nb_journal.specs.Layout.{IsMagic, front_bytes, item_bytes, magic, up_to_gate}
 use Rattle.nb_journal.specs.Making.{NoJournal, with_fee, without_fee}
@@ -28,7 +28,7 @@ use Rattle.nb_vault.specs.declared.vault.opening.VaultFault.TheVariants as opens
 use Rattle.nb_vault.specs.Holdings.{Joins, StandsFor}
 use Rattle.nb_vault.specs.Opens.{IsBadEntry, VaultOpenFails, VaultOpensAs}
 use Rattle.nb_vault.specs.Vaults.{Chronicled, GateIsAt, HoldsItems, entries_in, doubt_in}
-use Rattle.nb_book.specs.Spelling.{entries_bytes}
+use Rattle.nb_entry.specs.Spelling.{entries_bytes}
 use Rattle.nb_vault.proofs.HoldingLaws.{no_damage, no_bad}
 use Rattle.nb_commands.specs.declared.ending.TheConstants.{CLEAN, OUT_OF_MEMORY}
 use Rattle.nb_commands.specs.declared.migrate.MigrateEnd.{MigrateEnd}

@@ -5,7 +5,7 @@ use Rattle.nb_port.specs.Disk.{Only, put_at, wrote_at}
 use Rattle.nb_port.specs.Faults.{Rose}
 use Rattle.nb_units.specs.Fields.{be2}
 use Rattle.nb_units.specs.declared.limits.TheConstants.{FIRST_VERSION, FEE_VERSION}
-use Rattle.nb_book.specs.declared.entry.Entry.{Entry}
+use Rattle.nb_entry.specs.declared.entry.Entry.{Entry}
 use Rattle.nb_journal.specs.Layout.{IsMagic, front_bytes, magic, up_to_gate}
 use Rattle.nb_journal.specs.declared.limits.TheConstants.{MAX_IMAGE}
 use Rattle.nb_journal.specs.Making.{NoJournal, with_fee, without_fee}

@@ -5,7 +5,7 @@ use Rattle.std.specs.Io.KnownBytes.{Appends}
 use Rattle.nb_port.specs.Faults.{Rose}
 use Rattle.nb_port.specs.Tells.{DiskTells}
 use Rattle.nb_units.specs.declared.charter.Charter.{Charter}
-use Rattle.nb_book.specs.declared.entry.Entry.{Entry}
+use Rattle.nb_entry.specs.declared.entry.Entry.{Entry}
 use Rattle.nb_vault.specs.Holdings.{StandsFor}
 use Rattle.nb_batch.specs.Send.{SentPart}
 use Rattle.nb_commands.specs.declared.ending.Ending.{Ending}

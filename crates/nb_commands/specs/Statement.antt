@@ -4,7 +4,7 @@ use Rattle.std.specs.Io.KnownBytes.{Appends}
 use Rattle.nb_port.specs.Tells.{DiskTells}
 use Rattle.nb_units.specs.declared.charter.Charter.{Charter}
 use Rattle.nb_units.specs.declared.ids.AcctId.{AcctId}
-use Rattle.nb_book.specs.declared.entry.Entry.{Entry}
+use Rattle.nb_entry.specs.declared.entry.Entry.{Entry}
 use Rattle.nb_vault.specs.Holdings.{StandsFor}
 use Rattle.nb_statement.specs.declared.fault.StatementFault.{StatementFault}
 use Rattle.nb_statement.specs.declared.fault.StatementFault.TheVariants as why

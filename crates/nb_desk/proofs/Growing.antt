@@ -4,7 +4,7 @@ use Rattle.std.specs.List.{Any, filter_map}
 use Rattle.std.specs.Option.{option_to_list}
 use Rattle.nb_port.specs.Tells.{DiskTells}
 use Rattle.nb_units.specs.declared.frames.TheConstants.{ORDER_REQUEST, STATUS_REQUEST}
-use Rattle.nb_book.specs.declared.entry.Entry.{Entry}
+use Rattle.nb_entry.specs.declared.entry.Entry.{Entry}
 use Rattle.nb_book.specs.Legal.{Legal}
 use Rattle.nb_book.proofs.Growing.{front_legal}
 use Rattle.nb_escrow.specs.declared.decision.Decision.{Decision}

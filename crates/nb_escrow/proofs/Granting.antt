@@ -2,8 +2,8 @@
 use Rattle.std.proofs.Common.{◌≡◌, inl, inr, ℕ, List, Ok, Err, arith, sym, ap, subst, ◌∙◌}
 use Rattle.nb_units.specs.declared.frames.TheConstants.{TICKET_REQUEST}
 use Rattle.nb_seal.proofs.Opening.{length-hmac_of}
-use Rattle.nb_book.specs.declared.entry.Entry.{Entry}
-use Rattle.nb_book.specs.declared.entry.TheConstants.{CONSUMER, MERCHANT}
+use Rattle.nb_entry.specs.declared.entry.Entry.{Entry}
+use Rattle.nb_entry.specs.declared.entry.TheConstants.{CONSUMER, MERCHANT}
 use Rattle.nb_book.specs.declared.party.Party.{Party}
 use Rattle.nb_endorse.specs.declared.refusal.TheConstants.{IN_BODY}
 use Rattle.nb_ticket.specs.declared.ask.TicketAsk.{TicketAsk}

@@ -9,8 +9,8 @@ use Rattle.nb_units.specs.declared.ids.PartyId.{PartyId}
 use Rattle.nb_units.specs.declared.epoid.Epoid.{Epoid}
 use Rattle.nb_units.specs.Fields.{◌>>=◌, or_place, allowed, u8_at, u32_at, u64_at, raw_at, done_at}
 use Rattle.nb_seal.specs.Hmac.{hmac_of}
-use Rattle.nb_book.specs.declared.entry.Entry.{Entry}
-use Rattle.nb_book.specs.declared.entry.TheConstants.{CONSUMER, MERCHANT}
+use Rattle.nb_entry.specs.declared.entry.Entry.{Entry}
+use Rattle.nb_entry.specs.declared.entry.TheConstants.{CONSUMER, MERCHANT}
 use Rattle.nb_book.specs.declared.funded.Funded.{Funded}
 use Rattle.nb_book.specs.declared.limits.TheConstants.{MAX_TOTAL}
 use Rattle.nb_book.specs.declared.party.Party.{Party}

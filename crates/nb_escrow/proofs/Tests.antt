@@ -10,7 +10,7 @@ use Rattle.nb_units.specs.declared.ids.PartyId.{PartyId}
 use Rattle.nb_units.specs.Fields.{◌>>=◌}
 use Rattle.nb_seal.specs.Seal.{text_in}
 use Rattle.nb_seal.proofs.Opening.{text_in_opens, text_in_no_seal}
-use Rattle.nb_book.specs.declared.entry.Entry.{Entry}
+use Rattle.nb_entry.specs.declared.entry.Entry.{Entry}
 use Rattle.nb_book.specs.declared.party.Party.{Party}
 use Rattle.nb_book.specs.Searches.{party_in}
 use Rattle.nb_epo.specs.declared.order.Order.{Order}

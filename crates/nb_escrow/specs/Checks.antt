@@ -4,7 +4,7 @@ use Rattle.std.specs.Str.{bytes_eq}
 use Rattle.nb_units.specs.declared.ids.PartyId.{PartyId}
 use Rattle.nb_units.specs.Fields.{◌>>=◌}
 use Rattle.nb_seal.specs.Seal.{text_in, iv_shown}
-use Rattle.nb_book.specs.declared.entry.Entry.{Entry}
+use Rattle.nb_entry.specs.declared.entry.Entry.{Entry}
 use Rattle.nb_book.specs.declared.party.Party.{Party}
 use Rattle.nb_book.specs.Searches.{party_in}
 use Rattle.nb_endorse.specs.declared.refusal.TheConstants.{MALFORMED, NOT_ENROLLED, NOT_SEALED, WRONG_TAG, JOURNAL_FULL}

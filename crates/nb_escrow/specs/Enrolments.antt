@@ -6,8 +6,8 @@ use Rattle.nb_units.specs.declared.ids.AcctId.{AcctId}
 use Rattle.nb_units.specs.declared.ids.PartyId.{PartyId}
 use Rattle.nb_units.specs.Fields.{◌>>=◌}
 use Rattle.nb_seal.specs.Hmac.{hmac_of}
-use Rattle.nb_book.specs.declared.entry.Entry.{Entry}
-use Rattle.nb_book.specs.declared.entry.Entry.TheVariants.{Enrol}
+use Rattle.nb_entry.specs.declared.entry.Entry.{Entry}
+use Rattle.nb_entry.specs.declared.entry.Entry.TheVariants.{Enrol}
 use Rattle.nb_book.specs.Searches.{party_in, holder_in}
 use Rattle.nb_book.specs.Money.{balance}
 use Rattle.nb_escrow.specs.declared.head.Head.{Head}

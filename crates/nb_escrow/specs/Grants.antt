@@ -1,8 +1,8 @@
 -- What a request for a ticket has to be for it to be granted, and what is granted, in the words of the entries and of grammars. No
 -- test of the verdict is cited here.
 use Rattle.std.specs.Prelude.{◌≡◌, ℕ, List, Some, Ok}
-use Rattle.nb_book.specs.declared.entry.Entry.{Entry}
-use Rattle.nb_book.specs.declared.entry.TheConstants.{CONSUMER, MERCHANT}
+use Rattle.nb_entry.specs.declared.entry.Entry.{Entry}
+use Rattle.nb_entry.specs.declared.entry.TheConstants.{CONSUMER, MERCHANT}
 use Rattle.nb_book.specs.declared.party.Party.{Party}
 use Rattle.nb_book.specs.Searches.{party_in}
 use Rattle.nb_endorse.specs.declared.reply.Reply.{Reply}

@@ -7,8 +7,8 @@ use Rattle.nb_units.specs.Frames.{AreBytes}
 use Rattle.nb_units.specs.declared.ids.AcctId.{AcctId}
 use Rattle.nb_units.specs.declared.ids.PartyId.{PartyId}
 use Rattle.nb_seal.specs.Hmac.{hmac_of}
-use Rattle.nb_book.specs.declared.entry.Entry.{Entry}
-use Rattle.nb_book.specs.declared.entry.Entry.TheVariants as entries
+use Rattle.nb_entry.specs.declared.entry.Entry.{Entry}
+use Rattle.nb_entry.specs.declared.entry.Entry.TheVariants as entries
 use Rattle.nb_book.specs.declared.kept.Kept.{Kept}
 use Rattle.nb_book.specs.declared.party.Party.{Party}
 use Rattle.nb_book.specs.Money.{balance}

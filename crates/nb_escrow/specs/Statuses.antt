@@ -2,7 +2,7 @@
 use Rattle.std.specs.Prelude.{ℕ, List, ◌++◌, codes, length, nat_le, None, Result, Ok}
 use Rattle.nb_units.specs.Fields.{◌>>=◌}
 use Rattle.nb_seal.specs.Hmac.{hmac_of}
-use Rattle.nb_book.specs.declared.entry.Entry.{Entry}
+use Rattle.nb_entry.specs.declared.entry.Entry.{Entry}
 use Rattle.nb_book.specs.declared.party.Party.{Party}
 use Rattle.nb_endorse.specs.declared.refusal.TheConstants.{IN_BODY, TOO_FEW_ENTRIES}
 use Rattle.nb_endorse.specs.declared.refusal.Refusal.{Refusal}

@@ -1,8 +1,8 @@
 -- The verdict on a request for a ticket: its tests in order, each a line.
 use Rattle.std.specs.Prelude.{ℕ, List, None, Result, Ok}
 use Rattle.nb_units.specs.Fields.{◌>>=◌}
-use Rattle.nb_book.specs.declared.entry.Entry.{Entry}
-use Rattle.nb_book.specs.declared.entry.TheConstants.{CONSUMER, MERCHANT}
+use Rattle.nb_entry.specs.declared.entry.Entry.{Entry}
+use Rattle.nb_entry.specs.declared.entry.TheConstants.{CONSUMER, MERCHANT}
 use Rattle.nb_book.specs.declared.party.Party.{Party}
 use Rattle.nb_endorse.specs.declared.refusal.TheConstants.{IN_BODY}
 use Rattle.nb_endorse.specs.declared.refusal.Refusal.{Refusal}

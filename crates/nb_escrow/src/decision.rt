@@ -14,9 +14,10 @@ use crate::opened::OpenedOrder;
 use crate::order::decide_order;
 use crate::status::decide_status;
 use crate::ticket::decide_ticket;
-use nb_book::{Book, Entry};
+use nb_book::Book;
 use nb_endorse::refusal::NOT_SERVED;
 use nb_endorse::{KeptStates, Refusal, Reply, ReplyKeys};
+use nb_entry::Entry;
 use nb_units::AcctId;
 use nb_units::frames::{
     ENROL_REQUEST, FUND_REQUEST, ORDER_REQUEST, STATUS_REQUEST, TICKET_REQUEST,

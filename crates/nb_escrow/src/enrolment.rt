@@ -10,9 +10,10 @@ use crate::checks::{balance_now, check_room, check_tag, signed};
 use crate::decision::Decision;
 use crate::head::Head;
 use nb_body::Enrolment;
-use nb_book::{Book, Entry, Party};
+use nb_book::{Book, Party};
 use nb_endorse::refusal::PARTY_HELD;
 use nb_endorse::{KeptStates, Refusal};
+use nb_entry::Entry;
 use nb_units::{AcctId, PartyId};
 
 // What the tag of an enrolment is over begins with this.

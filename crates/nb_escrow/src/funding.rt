@@ -12,9 +12,10 @@ use crate::checks::{balance_now, check_room, check_tag, signed};
 use crate::decision::Decision;
 use crate::head::Head;
 use nb_body::Funding;
-use nb_book::{Book, Entry, Funded, MAX_TOTAL};
+use nb_book::{Book, Funded, MAX_TOTAL};
 use nb_endorse::refusal::{ACCOUNT_NOT_HELD, REFERENCE_HELD, TOTAL_TOO_HIGH};
 use nb_endorse::{KeptStates, Refusal};
+use nb_entry::Entry;
 use nb_units::AcctId;
 
 // What the tag of a funding is over begins with this.

@@ -13,11 +13,12 @@ use crate::opened::{OpenedOrder, opened_endorsement, opened_hidden, tested_tag, 
 use crate::payment::outcome;
 use crate::settlement::{Settlement, settled_before};
 use nb_body::EndorsedBytes;
-use nb_book::{Book, CONSUMER, Entry, MERCHANT, Party};
+use nb_book::{Book, Party};
 use nb_endorse::refusal::{IDENTIFIER_USED, OTHER_MERCHANT};
 use nb_endorse::{
     Endorsement, EndorsementBytes, KeptStates, MAX_SEALED, Refusal, Reply, ReplyKeys,
 };
+use nb_entry::{CONSUMER, Entry, MERCHANT};
 use nb_epo::{Hidden, HiddenBytes, Order, read_order};
 use nb_units::{Digest, MAX_HIDDEN, PartyId};
 use std::marker::Model;

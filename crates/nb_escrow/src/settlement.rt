@@ -6,8 +6,9 @@ ghost use Rattle.nb_endorse.specs.Spelling.{IsReceiptCode};
 ghost use Rattle.nb_escrow.specs.Settlements as told;
 
 use nb_book::reason::{BALANCE_LOW, CONSUMER_ACCOUNT, CONSUMER_NONCE, MERCHANT_ACCOUNT};
-use nb_book::{Book, CONSUMER, Entry, Kept, MERCHANT};
+use nb_book::{Book, Kept};
 use nb_endorse::{PAID_CODE, Receipt};
+use nb_entry::{CONSUMER, Entry, MERCHANT};
 use nb_units::{AcctId, Digest, Epoid, PartyId, Price, Secret};
 
 /// Why an order was refused: one of the codes of [`reason`](nb_book::reason), and the two numbers of which it speaks.

@@ -8,9 +8,10 @@ ghost use Rattle.nb_escrow.specs.Tickets.{ticket_steps};
 use crate::checks::find_party_as;
 use crate::decision::Decision;
 use crate::head::Head;
-use nb_book::{Book, CONSUMER, MERCHANT, Party};
+use nb_book::{Book, Party};
 use nb_endorse::refusal::WRONG_TAG;
 use nb_endorse::{KeptStates, Refusal, Reply, ReplyKeys};
+use nb_entry::{CONSUMER, MERCHANT};
 use nb_seal::KeyState;
 use nb_ticket::{TicketAsk, request_ok_with, session_key_with, until};
 

@@ -1,7 +1,7 @@
 -- What a run of a house told stands in each list that begins with what came of it.
 use Rattle.std.proofs.Common.{◌≡◌, inl, inr, ℕ, ◌≤◌, List, [], ◌∷◌, ◌++◌, length, refl, sym, ap, subst, ◌∙◌, append_assoc, arith}
 use Rattle.std.proofs.lemmas.List.{append-nil, length-append}
-use Rattle.nb_book.specs.declared.entry.Entry.{Entry}
+use Rattle.nb_entry.specs.declared.entry.Entry.{Entry}
 use Rattle.nb_turns.specs.declared.mark.Mark.TheVariants.{Fault, Worn}
 use Rattle.nb_turns.specs.Turns.{Request, House, State, Outcome, Decides, Fails, Refuses, Answered, Round, SettlesInto, Turn, Run, alike, answered, answered_in, decided, last_state, recorded, with_entry}
 use Rattle.nb_turns.specs.Callers.{AreTaken}

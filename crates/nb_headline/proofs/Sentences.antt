@@ -4,7 +4,7 @@ use Rattle.std.specs.List.{count_by, slice_get, AllByRecursion}
 use Rattle.nb_port.specs.Tells.{DiskTells}
 use Rattle.nb_units.specs.declared.frames.TheConstants.{STATUS_REQUEST}
 use Rattle.nb_units.specs.Charter.{MayRule, AreVersionAndRate}
-use Rattle.nb_book.specs.declared.entry.Entry.{Entry}
+use Rattle.nb_entry.specs.declared.entry.Entry.{Entry}
 use Rattle.nb_book.specs.Laws.{StaysLegal}
 use Rattle.nb_book.specs.Legal.{Legal}
 use Rattle.nb_book.specs.declared.party.Party.{Party}

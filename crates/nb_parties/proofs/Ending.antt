@@ -10,7 +10,7 @@ use Rattle.nb_units.specs.declared.ids.PartyId.{PartyId}
 use Rattle.nb_units.specs.declared.ids.Price.{Price}
 use Rattle.nb_seal.specs.Seal.{text_in}
 use Rattle.nb_seal.proofs.Opening.{text_in_opens, text_in_no_seal}
-use Rattle.nb_book.specs.declared.entry.TheConstants.{CONSUMER, MERCHANT}
+use Rattle.nb_entry.specs.declared.entry.TheConstants.{CONSUMER, MERCHANT}
 use Rattle.nb_book.specs.Laws.{StaysLegal}
 use Rattle.nb_epo.specs.declared.order.Order.{Order}
 use Rattle.nb_endorse.specs.Differing.{IsOf}

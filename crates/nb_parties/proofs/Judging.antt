@@ -11,8 +11,8 @@ use Rattle.nb_units.specs.declared.epoid.Epoid.{Epoid}
 use Rattle.nb_body.specs.declared.endorsed.EndorsedOrder.{EndorsedOrder}
 use Rattle.nb_book.specs.Searches.{first_from, order_at, order_in, party_in, settles}
 use Rattle.nb_book.specs.declared.party.Party.{Party}
-use Rattle.nb_book.specs.declared.entry.Entry.{Entry}
-use Rattle.nb_book.specs.declared.entry.Entry.TheVariants.{Paid, Charged, Refused}
+use Rattle.nb_entry.specs.declared.entry.Entry.{Entry}
+use Rattle.nb_entry.specs.declared.entry.Entry.TheVariants.{Paid, Charged, Refused}
 use Rattle.nb_book.specs.declared.kept.Kept.{Kept}
 use Rattle.nb_epo.specs.Tags.{order_tag}
 use Rattle.nb_epo.specs.declared.order.Order.{Order}

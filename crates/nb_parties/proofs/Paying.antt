@@ -16,8 +16,8 @@ use Rattle.nb_body.specs.declared.limits.TheConstants.{MAX_ENDORSED}
 use Rattle.nb_body.proofs.Layouts.{endorsed_reads_back}
 use Rattle.nb_book.specs.Laws.{StaysLegal}
 use Rattle.nb_book.specs.Searches.{party_in}
-use Rattle.nb_book.specs.declared.entry.Entry.{Entry}
-use Rattle.nb_book.specs.declared.entry.Entry.TheVariants.{Enrol, Fund, Paid, Charged, Refused}
+use Rattle.nb_entry.specs.declared.entry.Entry.{Entry}
+use Rattle.nb_entry.specs.declared.entry.Entry.TheVariants.{Enrol, Fund, Paid, Charged, Refused}
 use Rattle.nb_book.specs.declared.party.Party.{Party}
 use Rattle.nb_endorse.specs.Reading.{endorsement_of}
 use Rattle.nb_endorse.specs.Spelling.{endorsement_bytes, IsEndorsement}

@@ -21,9 +21,9 @@ use Rattle.nb_units.specs.declared.frames.TheConstants.{ORDER_REQUEST, STATUS_RE
 use Rattle.nb_units.specs.declared.width.TheConstants.{SEAL}
 use Rattle.nb_book.specs.Laws.{StaysLegal}
 use Rattle.nb_book.specs.Legal.{LegalAfter, Legal}
-use Rattle.nb_book.specs.declared.entry.Entry.{Entry}
-use Rattle.nb_book.specs.declared.entry.Entry.TheVariants.{Enrol, Fund}
-use Rattle.nb_book.specs.declared.entry.TheConstants.{CONSUMER, MERCHANT}
+use Rattle.nb_entry.specs.declared.entry.Entry.{Entry}
+use Rattle.nb_entry.specs.declared.entry.Entry.TheVariants.{Enrol, Fund}
+use Rattle.nb_entry.specs.declared.entry.TheConstants.{CONSUMER, MERCHANT}
 use Rattle.nb_msgs.specs.Bodies.{kind_of, body_bytes, IsMessage}
 use Rattle.nb_msgs.specs.Reading.{message_of}
 use Rattle.nb_msgs.specs.ReplyBytes.{sealed_receipt}

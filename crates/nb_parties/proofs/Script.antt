@@ -26,9 +26,9 @@ use Rattle.nb_body.specs.declared.limits.TheConstants.{MAX_ENDORSED}
 use Rattle.nb_body.specs.declared.query.StatusQuery.{StatusQuery}
 use Rattle.nb_body.specs.declared.quote.Quote.{Quote}
 use Rattle.nb_body.proofs.Layouts.{price_request_reads_back, quote_reads_back, goods_request_reads_back, goods_head_reads_back, payment_request_reads_back, endorsed_reads_back, query_reads_back, query_is_as_long}
-use Rattle.nb_book.specs.declared.entry.Entry.{Entry}
-use Rattle.nb_book.specs.declared.entry.Entry.TheVariants as entries
-use Rattle.nb_book.specs.declared.entry.TheConstants.{CONSUMER, MERCHANT}
+use Rattle.nb_entry.specs.declared.entry.Entry.{Entry}
+use Rattle.nb_entry.specs.declared.entry.Entry.TheVariants as entries
+use Rattle.nb_entry.specs.declared.entry.TheConstants.{CONSUMER, MERCHANT}
 use Rattle.nb_book.specs.declared.party.Party.{Party}
 use Rattle.nb_epo.specs.Reading.{hidden_of}
 use Rattle.nb_epo.specs.Spelling.{untagged_bytes, order_bytes, hidden_bytes, IsOrder, IsHidden}

@@ -6,8 +6,8 @@ use Rattle.nb_units.specs.declared.epoid.Epoid.{Epoid}
 use Rattle.nb_units.specs.declared.ids.PartyId.{PartyId}
 use Rattle.nb_body.specs.Reading.{query_of}
 use Rattle.nb_body.specs.declared.query.StatusQuery.{StatusQuery}
-use Rattle.nb_book.specs.declared.entry.Entry.{Entry}
-use Rattle.nb_book.specs.declared.entry.TheConstants.{CONSUMER}
+use Rattle.nb_entry.specs.declared.entry.Entry.{Entry}
+use Rattle.nb_entry.specs.declared.entry.TheConstants.{CONSUMER}
 use Rattle.nb_epo.specs.declared.order.Order.{Order}
 use Rattle.nb_endorse.specs.Differing.{IsOf}
 use Rattle.nb_endorse.specs.Reading.{signed_of}

@@ -5,8 +5,8 @@ use Rattle.std.specs.List.{slice_get, AllByRecursion}
 use Rattle.sha2.specs.Sha256.{sha256}
 use Rattle.nb_units.specs.declared.ids.PartyId.{PartyId}
 use Rattle.nb_book.specs.Searches.{party_in}
-use Rattle.nb_book.specs.declared.entry.Entry.{Entry}
-use Rattle.nb_book.specs.declared.entry.Entry.TheVariants.{Paid, Charged}
+use Rattle.nb_entry.specs.declared.entry.Entry.{Entry}
+use Rattle.nb_entry.specs.declared.entry.Entry.TheVariants.{Paid, Charged}
 use Rattle.nb_book.specs.declared.party.Party.{Party}
 use Rattle.nb_epo.specs.Places.{checksum_in}
 use Rattle.nb_epo.specs.Spelling.{order_bytes}

@@ -4,8 +4,8 @@ use Rattle.sha2.specs.Sha256.{sha256}
 use Rattle.nb_units.specs.declared.frames.TheConstants.{ORDER_REQUEST}
 use Rattle.nb_units.specs.declared.ids.PartyId.{PartyId}
 use Rattle.nb_book.specs.Searches.{order_in, settles}
-use Rattle.nb_book.specs.declared.entry.Entry.{Entry}
-use Rattle.nb_book.specs.declared.entry.Entry.TheVariants.{Paid, Charged, Refused}
+use Rattle.nb_entry.specs.declared.entry.Entry.{Entry}
+use Rattle.nb_entry.specs.declared.entry.Entry.TheVariants.{Paid, Charged, Refused}
 use Rattle.nb_epo.specs.Places.{checksum_in}
 use Rattle.nb_epo.specs.declared.order.Order.{Order}
 use Rattle.nb_endorse.specs.Spelling.{IsReceipt}

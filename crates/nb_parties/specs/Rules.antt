@@ -7,7 +7,7 @@ use Rattle.std.specs.Prelude.{ℕ, ◌==◌, List, Option, Some, None, Result, O
 use Rattle.std.specs.Option.{is_some}
 use Rattle.std.specs.Result.{is_ok}
 use Rattle.nb_units.specs.Frames.{Frame}
-use Rattle.nb_book.specs.declared.entry.Entry.{Entry}
+use Rattle.nb_entry.specs.declared.entry.Entry.{Entry}
 use Rattle.nb_turns.specs.Turns.{Request}
 use Rattle.nb_msgs.specs.Bodies.{kind_of, body_bytes}
 use Rattle.nb_msgs.specs.Reading.{message_of}

@@ -3,9 +3,9 @@ use Rattle.std.specs.Prelude.{◌≡◌, ℕ, List, [], ◌∷◌, ◌++◌, len
 use Rattle.std.specs.List.{slice_get, AllByRecursion}
 use Rattle.nb_units.specs.declared.ids.PartyId.{PartyId}
 use Rattle.nb_book.specs.Money.{balance}
-use Rattle.nb_book.specs.declared.entry.Entry.{Entry}
-use Rattle.nb_book.specs.declared.entry.Entry.TheVariants.{Enrol, Fund}
-use Rattle.nb_book.specs.declared.entry.TheConstants.{CONSUMER, MERCHANT}
+use Rattle.nb_entry.specs.declared.entry.Entry.{Entry}
+use Rattle.nb_entry.specs.declared.entry.Entry.TheVariants.{Enrol, Fund}
+use Rattle.nb_entry.specs.declared.entry.TheConstants.{CONSUMER, MERCHANT}
 use Rattle.nb_endorse.specs.declared.receipt.Signed.{Signed}
 use Rattle.nb_goods.specs.Goods.{sealed_goods}
 use Rattle.nb_price.specs.Products.{Product}

@@ -3,7 +3,7 @@ use Rattle.std.proofs.Common.{◌≡◌, ℕ, suc, ◌+◌, Bool, true, false, c
 use Rattle.std.specs.Prelude.{is_none, ◌==◌, ◌&&◌, nat_lt, not}
 use Rattle.std.specs.List.{position, prefix_len, AllByRecursion}
 use Rattle.std.proofs.lemmas.Bool.{false≢true}
-use Rattle.nb_book.specs.declared.entry.Entry.{Entry}
+use Rattle.nb_entry.specs.declared.entry.Entry.{Entry}
 
 -- each is as `ok` says, and its number is that of none before it
 abbrev pub may : {A N : Type 0} → (A → N) → (N → ℕ) → (A → ℕ) → (List Entry → A → Bool) → List Entry → List N → List A → Bool

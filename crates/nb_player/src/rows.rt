@@ -3,7 +3,8 @@
 ghost use Rattle.std.specs.Prelude.{IfOk, OnOk};
 ghost use Rattle.nb_player.specs.Report.{AddsAccount, AddsPurchases, AreAccounts, ArePurchases};
 
-use nb_book::{Book, Entry};
+use nb_book::Book;
+use nb_entry::Entry;
 use nb_simulator::World;
 use nb_units::NoMemory;
 use std::alloc::Global;

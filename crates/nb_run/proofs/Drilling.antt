@@ -6,7 +6,7 @@ use Rattle.std.specs.Io.KnownBytes.{Appends, IsAtEnd}
 use Rattle.std.proofs.lemmas.List.Sums.{sum_by-append}
 use Rattle.nb_port.specs.Tells.{DiskTells}
 use Rattle.nb_units.specs.Frames.{Frame, frame, IsFrame}
-use Rattle.nb_book.specs.declared.entry.Entry.{Entry}
+use Rattle.nb_entry.specs.declared.entry.Entry.{Entry}
 use Rattle.nb_book.specs.Money.{fund, total}
 use Rattle.nb_book.proofs.Summing.{total_fits}
 use Rattle.nb_turns.specs.declared.line.Line.{Line}

@@ -10,7 +10,7 @@ use Rattle.nb_port.proofs.Backing.{backed_earlier, backed_grows}
 use Rattle.nb_port.specs.Faults.{Rose, Backed}
 use Rattle.nb_units.specs.declared.charter.Charter.{Charter}
 use Rattle.nb_units.specs.Frames.{Frame, frame, front_of, IsBad, Splits}
-use Rattle.nb_book.specs.declared.entry.Entry.{Entry}
+use Rattle.nb_entry.specs.declared.entry.Entry.{Entry}
 use Rattle.nb_escrow.specs.Head.{head_of}
 use Rattle.nb_units.specs.declared.frames.TheConstants.{HEADER}
 use Rattle.nb_frame.specs.declared.stream.TheConstants.{MAX_PIECE}

@@ -5,8 +5,8 @@ use Rattle.std.specs.Fmt.{decimal}
 use Rattle.std.specs.Io.KnownBytes.{Appends}
 use Rattle.nb_port.specs.Tells.{DiskTells}
 use Rattle.nb_units.specs.Frames.{Frame}
-use Rattle.nb_book.specs.declared.entry.Entry.{Entry}
-use Rattle.nb_book.specs.declared.entry.Entry.TheVariants.{Fund, Paid, Charged, Refused}
+use Rattle.nb_entry.specs.declared.entry.Entry.{Entry}
+use Rattle.nb_entry.specs.declared.entry.Entry.TheVariants.{Fund, Paid, Charged, Refused}
 use Rattle.nb_book.specs.Money.{accounts, balance, total, fees}
 use Rattle.nb_journal.specs.declared.making.InitFault.{InitFault}
 use Rattle.nb_journal.specs.declared.making.InitFault.TheVariants as inits

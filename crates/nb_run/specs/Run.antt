@@ -10,7 +10,7 @@ use Rattle.nb_frame.specs.Faults.{placed, place_of}
 use Rattle.nb_frame.specs.Looks.{IsShort}
 use Rattle.nb_frame.specs.declared.stream.TheConstants.{MAX_PIECE}
 use Rattle.nb_units.specs.declared.frames.TheConstants.{HEADER}
-use Rattle.nb_book.specs.declared.entry.Entry.{Entry}
+use Rattle.nb_entry.specs.declared.entry.Entry.{Entry}
 use Rattle.nb_book.specs.Legal.{LegalUnder}
 use Rattle.nb_escrow.specs.Head.{head_of}
 use Rattle.nb_journal.specs.Time.{Unwritten}

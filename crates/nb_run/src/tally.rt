@@ -2,7 +2,7 @@ ghost use Rattle.std.specs.Prelude.{◌≡◌, ◌<◌, ◌+◌, ◌^◌, IfOk, 
 ghost use Rattle.nb_book.specs.Money.{fund, total};
 ghost use Rattle.nb_run.specs.Drill as drills;
 
-use nb_book::Entry;
+use nb_entry::Entry;
 use nb_turns::Line;
 use nb_units::NoMemory;
 use std::alloc::Global;

@@ -7,7 +7,7 @@ use crate::limits::{LINE_FEED, MAX_LINES};
 use crate::line::{Consumer, Merchant, Shelf, cap_in, head_in, line_in};
 use crate::scene::Scene;
 use crate::words::{Words, cut};
-use nb_book::Entry;
+use nb_entry::Entry;
 use nb_units::{HEAD, NoMemory};
 use std::alloc::Global;
 

@@ -10,7 +10,7 @@ use Rattle.nb_units.specs.Frames.{Frame, frame, IsFrame, Bad, front_of, IsWhole,
 use Rattle.nb_units.proofs.FrameLaws.{bad_stays, one_reading, longest_in}
 use Rattle.nb_frame.specs.declared.fault.FrameFault.{FrameFault}
 use Rattle.nb_frame.proofs.Shortness.{bad_not_whole, nothing_short, short_not_whole}
-use Rattle.nb_book.specs.declared.entry.Entry.{Entry}
+use Rattle.nb_entry.specs.declared.entry.Entry.{Entry}
 use Rattle.nb_turns.specs.declared.limits.TheConstants.{MAX_FAULTS}
 use Rattle.nb_turns.specs.declared.line.Line.{Line}
 use Rattle.nb_turns.specs.declared.mark.Mark.{Mark}

@@ -19,7 +19,7 @@ use Rattle.nb_frame.specs.declared.fault.FrameFault.{FrameFault}
 use Rattle.nb_frame.specs.declared.stream.Next.TheVariants as next
 use Rattle.nb_frame.specs.declared.stream.TheConstants.{MAX_PIECE}
 use Rattle.nb_frame.proofs.Shortness.{short_not_whole, bad_not_whole, nothing_short}
-use Rattle.nb_book.specs.declared.entry.Entry.{Entry}
+use Rattle.nb_entry.specs.declared.entry.Entry.{Entry}
 use Rattle.nb_turns.specs.declared.limits.TheConstants.{MAX_REQUESTS}
 use Rattle.nb_turns.specs.declared.line.Line.{Line}
 use Rattle.nb_turns.specs.Turns.{Request, House, Answered, Outcome, Decides, Fails, Refuses, answered, decided, with_entry}

@@ -9,7 +9,7 @@ use Rattle.nb_port.specs.Tells.{DiskTells}
 use Rattle.nb_link.specs.Link.{LinkSeen}
 use Rattle.nb_units.specs.Frames.{frame, IsFrame}
 use Rattle.nb_frame.specs.State.{waiting}
-use Rattle.nb_book.specs.declared.entry.Entry.{Entry}
+use Rattle.nb_entry.specs.declared.entry.Entry.{Entry}
 use Rattle.nb_endorse.specs.declared.refusal.TheConstants.{DISK_FAULT, WORN}
 use Rattle.nb_endorse.specs.declared.refusal.Refusal.{Refusal}
 use Rattle.nb_endorse.specs.declared.reply.Reply.TheVariants.{Refused}

@@ -4,7 +4,7 @@ use Rattle.std.proofs.lemmas.List.{append_assoc}
 use Rattle.std.proofs.lemmas.List.{take_more}
 use Rattle.std.specs.Prelude.{position, is_some, is_none, ◌==◌}
 use Rattle.std.proofs.lemmas.Bool.{false≢true}
-use Rattle.nb_book.specs.declared.entry.TheConstants.{MERCHANT}
+use Rattle.nb_entry.specs.declared.entry.TheConstants.{MERCHANT}
 use Rattle.nb_book.specs.Searches.{party_in}
 use Rattle.nb_price.specs.Products.{Product}
 use Rattle.nb_stall.specs.declared.stall.Stall.{Stall}
@@ -26,7 +26,7 @@ use Rattle.nb_simulator.specs.declared.setup.SetupFault.{SetupFault}
 use Rattle.nb_simulator.specs.declared.setup.SetupFault.TheVariants as fault
 use Rattle.nb_simulator.specs.Worlds.{Simulated}
 use Rattle.nb_simulator.specs.Setups.{Fills, IsLawful, Makes, Sets, is_enrolled, wallets_may, stalls_may, shop_of, world_of}
-use Rattle.nb_book.specs.declared.entry.Entry.{Entry}
+use Rattle.nb_entry.specs.declared.entry.Entry.{Entry}
 use Rattle.nb_book.specs.Legal.{LegalUnder, NextUnder}
 use Rattle.nb_book.specs.Laws.{LegalUnderIsNext}
 

@@ -2,7 +2,7 @@
 use Rattle.std.specs.Prelude.{◌≡◌, ℕ, ◌<◌, ◌≤◌, ◌==◌, ◌&&◌, Bool, false, zero, suc, List, [], ◌∷◌, length, set, Option, Some, None}
 use Rattle.std.specs.List.{slice_get}
 use Rattle.nb_units.specs.declared.frames.TheConstants.{LAST_KIND}
-use Rattle.nb_book.specs.declared.entry.Entry.{Entry}
+use Rattle.nb_entry.specs.declared.entry.Entry.{Entry}
 use Rattle.nb_book.specs.Legal.{NextUnder}
 use Rattle.nb_escrow.specs.declared.head.Head.{Head}
 use Rattle.nb_consumer.specs.State.{Buyer}

@@ -5,7 +5,8 @@ ghost use Rattle.nb_escrow.specs.Head.{IsRuling};
 ghost use Rattle.nb_consumer.specs.State.{new_buyer};
 ghost use Rattle.nb_simulator.specs.Setups as setups;
 
-use nb_book::{Book, CONSUMER, Entry, MERCHANT, Party};
+use nb_book::{Book, Party};
+use nb_entry::{CONSUMER, Entry, MERCHANT};
 use nb_escrow::Head;
 use nb_nodes::{Buyers, Sellers};
 use nb_price::Catalogue;

@@ -6,7 +6,8 @@ ghost use Rattle.nb_world.specs.World.{request_of};
 ghost use Rattle.nb_world.specs.Steps.{set_phase, stopped, phase_stopped, acknowledged_by, reply_to};
 ghost use Rattle.nb_simulator.specs.Worlds.{EntryReady, IsKind, asker_among, turn_may_answer, left_of, StopsAt};
 
-use nb_book::{Book, Entry};
+use nb_book::Book;
+use nb_entry::Entry;
 use nb_escrow::{Head, decide};
 use nb_msgs::{REPLY_ROOM, To, write_message, write_reply};
 use nb_nodes::{Content, Parcel};

@@ -4,7 +4,7 @@ use Rattle.std.specs.List.{slice_get, AllByRecursion}
 use Rattle.std.specs.Option.{option_to_list}
 use Rattle.std.proofs.lemmas.List.{append-nil, length-append}
 use Rattle.nb_units.specs.declared.charter.Charter.{Charter}
-use Rattle.nb_book.specs.declared.entry.Entry.{Entry}
+use Rattle.nb_entry.specs.declared.entry.Entry.{Entry}
 use Rattle.nb_turns.specs.Turns.{House, State, Outcome, Decides, Fails, Refuses, SettlesInto, Turn, Unsettled, Doubts}
 use Rattle.nb_turns.proofs.Lists.{all_append, all_weaker}
 use Rattle.nb_turns.proofs.Growth.{turn_grows}

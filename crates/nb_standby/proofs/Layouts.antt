@@ -2,10 +2,10 @@
 use Rattle.std.proofs.Common.{◌≡◌, ℕ, ◌+◌, List, length, Ok, Err, Result, refl, sym, subst, ◌∙◌}
 use Rattle.nb_units.specs.Fields.{◌>>=◌}
 use Rattle.nb_units.proofs.Rows.{Row, IsRow, ◌&◌, and_row, byte, byte_row, number8, number8_row, raw, raw_row, whole, whole_found, whole_reads, ok_is}
-use Rattle.nb_book.specs.declared.entry.Entry.{Entry}
-use Rattle.nb_book.specs.Reading.{entry_at}
-use Rattle.nb_book.specs.Spelling.{IsEntry, entry_bytes}
-use Rattle.nb_book.proofs.Layouts.{entry_reads_back, entry_spells_back}
+use Rattle.nb_entry.specs.declared.entry.Entry.{Entry}
+use Rattle.nb_entry.specs.Reading.{entry_at}
+use Rattle.nb_entry.specs.Spelling.{IsEntry, entry_bytes}
+use Rattle.nb_entry.proofs.Layouts.{entry_reads_back, entry_spells_back}
 use Rattle.nb_standby.specs.declared.shipped.Shipped.{Shipped}
 use Rattle.nb_standby.specs.declared.acknowledged.Acknowledged.{Acknowledged}
 use Rattle.nb_standby.specs.Spelling.{IsShipped, unsigned_bytes, shipped_bytes, IsAcknowledged, untold_bytes, acknowledged_bytes}

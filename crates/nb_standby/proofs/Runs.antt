@@ -10,7 +10,7 @@ use Rattle.std.proofs.lemmas.Option.{slice_get_within}
 use Rattle.nb_units.specs.declared.charter.Charter.{Charter}
 use Rattle.nb_units.specs.Frames.{Frame}
 use Rattle.nb_escrow.specs.Head.{head_of}
-use Rattle.nb_book.specs.declared.entry.Entry.{Entry}
+use Rattle.nb_entry.specs.declared.entry.Entry.{Entry}
 use Rattle.nb_turns.specs.declared.limits.TheConstants.{MAX_FAULTS}
 use Rattle.nb_turns.specs.declared.mark.Mark.{Mark}
 use Rattle.nb_turns.specs.Turns.{Answered, Decides, Doubts, Request, SettlesInto, State, Turn, Unsettled}

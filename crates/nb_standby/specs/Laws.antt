@@ -4,8 +4,8 @@ use Rattle.std.specs.List.{AllByRecursion}
 use Rattle.nb_units.specs.Frames.{AreBytes, Frame}
 use Rattle.nb_units.specs.declared.charter.Charter.{Charter}
 use Rattle.nb_port.specs.Tells.{DiskTells}
-use Rattle.nb_book.specs.declared.entry.Entry.{Entry}
-use Rattle.nb_book.specs.Spelling.{IsEntry}
+use Rattle.nb_entry.specs.declared.entry.Entry.{Entry}
+use Rattle.nb_entry.specs.Spelling.{IsEntry}
 use Rattle.nb_escrow.specs.Head.{head_of}
 use Rattle.nb_turns.specs.declared.mark.Mark.{Mark}
 use Rattle.nb_turns.specs.declared.mark.Mark.TheVariants.{Fault}

@@ -1,8 +1,8 @@
 -- What bytes spell, read field by field at the place of each: the value, or the place of the first field that fails.
 use Rattle.std.specs.Prelude.{ℕ, ◌+◌, List, length, Result, Ok}
 use Rattle.nb_units.specs.Fields.{◌>>=◌, u8_at, u64_at, raw_at, done_at, or_place}
-use Rattle.nb_book.specs.Reading.{entry_at}
-use Rattle.nb_book.specs.Spelling.{entry_bytes}
+use Rattle.nb_entry.specs.Reading.{entry_at}
+use Rattle.nb_entry.specs.Spelling.{entry_bytes}
 use Rattle.nb_standby.specs.declared.shipped.Shipped.{Shipped}
 use Rattle.nb_standby.specs.declared.acknowledged.Acknowledged.{Acknowledged}
 

@@ -2,8 +2,8 @@
 use Rattle.std.specs.Prelude.{◌≡◌, ℕ, ◌<◌, ◌^◌, List, [], ◌∷◌, ◌++◌, length, codes}
 use Rattle.nb_units.specs.Fields.{be8}
 use Rattle.nb_seal.specs.Hmac.{hmac_of}
-use Rattle.nb_book.specs.declared.entry.Entry.{Entry}
-use Rattle.nb_book.specs.Spelling.{IsEntry, entry_bytes}
+use Rattle.nb_entry.specs.declared.entry.Entry.{Entry}
+use Rattle.nb_entry.specs.Spelling.{IsEntry, entry_bytes}
 use Rattle.nb_standby.specs.declared.shipped.Shipped.{Shipped}
 use Rattle.nb_standby.specs.declared.acknowledged.Acknowledged.{Acknowledged}
 

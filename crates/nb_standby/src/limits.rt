@@ -1,4 +1,4 @@
-use nb_book::MAX_ENTRY;
+use nb_entry::MAX_ENTRY;
 use nb_units::frames::HEADER;
 use nb_units::width::{CODE, PLACE, TAG};
 

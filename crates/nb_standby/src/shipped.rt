@@ -3,14 +3,14 @@ ghost use Rattle.nb_units.specs.Fields.{moved};
 ghost use Rattle.nb_units.specs.Frames.{frame};
 ghost use Rattle.nb_units.specs.Reads.{Reads};
 ghost use Rattle.nb_units.specs.Room.{spare_of};
-ghost use Rattle.nb_book.specs.Reading.{entry_at};
-ghost use Rattle.nb_book.specs.Spelling.{EntryKeepsRules, IsEntry, entry_bytes};
+ghost use Rattle.nb_entry.specs.Reading.{entry_at};
+ghost use Rattle.nb_entry.specs.Spelling.{EntryKeepsRules, IsEntry, entry_bytes};
 ghost use Rattle.nb_standby.specs.Spelling.{IsShipped, unsigned_bytes, shipped_bytes, ship_tag, signed};
 ghost use Rattle.nb_standby.specs.Reading.{shipped_of};
 ghost use Rattle.nb_standby.specs.declared.limits.TheConstants.{SHIPPED_FRAME, SHIPPED_ROOM};
 
 use crate::limits::SHIPPED_FRAME;
-use nb_book::{Entry, EntryFault, read_entry};
+use nb_entry::{Entry, EntryFault, read_entry};
 use nb_frame::write_frame;
 use nb_seal::{hmac, same};
 use nb_units::{Buffer, Cut, Malformed, Secret, Tag};

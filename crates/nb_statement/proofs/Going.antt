@@ -4,7 +4,7 @@ use Rattle.std.proofs.lemmas.List.{take_at, length_push}
 use Rattle.std.proofs.Math.ListN.{take-append-drop}
 use Rattle.std.specs.List.{slice_get}
 use Rattle.nb_units.specs.declared.ids.AcctId.{AcctId}
-use Rattle.nb_book.specs.declared.entry.Entry.{Entry}
+use Rattle.nb_entry.specs.declared.entry.Entry.{Entry}
 use Rattle.nb_book.specs.Money.{balance}
 use Rattle.nb_book.specs.Legal.{Legal}
 use Rattle.nb_book.proofs.Growing.{front_legal}

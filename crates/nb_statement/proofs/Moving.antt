@@ -3,8 +3,8 @@ use Rattle.std.proofs.Common.{◌≡◌, ℕ, ◌+◌, ◌-◌, ◌<◌, ◌≤�
 use Rattle.std.proofs.lemmas.Bool.{eqb-true}
 use Rattle.std.specs.Prelude.{◌==◌}
 use Rattle.nb_units.specs.declared.ids.AcctId.{AcctId}
-use Rattle.nb_book.specs.declared.entry.Entry.{Entry}
-use Rattle.nb_book.specs.declared.entry.Entry.TheVariants.{Fund, Paid, Charged}
+use Rattle.nb_entry.specs.declared.entry.Entry.{Entry}
+use Rattle.nb_entry.specs.declared.entry.Entry.TheVariants.{Fund, Paid, Charged}
 use Rattle.nb_book.specs.Money.{balance, brought, taken, credit, debit, fee_in}
 use Rattle.nb_book.specs.Legal.{Legal, LegalAfter}
 use Rattle.nb_book.proofs.Summing.{balance_after, total_fits}

@@ -5,9 +5,9 @@ use Rattle.std.specs.Prelude.{◌==◌}
 use Rattle.std.specs.Option.{option_map, option_or}
 use Rattle.nb_units.specs.declared.ids.PartyId.{PartyId}
 use Rattle.nb_units.specs.declared.ids.AcctId.{AcctId}
-use Rattle.nb_book.specs.declared.entry.Entry.{Entry}
-use Rattle.nb_book.specs.declared.entry.Entry.TheVariants.{Enrol, Fund}
-use Rattle.nb_book.specs.declared.entry.TheConstants.{CONSUMER, MERCHANT}
+use Rattle.nb_entry.specs.declared.entry.Entry.{Entry}
+use Rattle.nb_entry.specs.declared.entry.Entry.TheVariants.{Enrol, Fund}
+use Rattle.nb_entry.specs.declared.entry.TheConstants.{CONSUMER, MERCHANT}
 use Rattle.nb_book.specs.declared.party.Party.{Party}
 use Rattle.nb_book.specs.Searches.{first_from, party_at, party_in}
 use Rattle.nb_book.specs.Legal.{Legal, RolesAre, AccountsAre}

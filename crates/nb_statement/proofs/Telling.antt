@@ -5,7 +5,7 @@ use Rattle.std.proofs.lemmas.List.Elements.{filter_map-append}
 use Rattle.std.proofs.lemmas.Option.{slice_get_within, get_or_from_slice_get}
 use Rattle.std.specs.List.{fold, slice_get}
 use Rattle.nb_units.specs.declared.ids.AcctId.{AcctId}
-use Rattle.nb_book.specs.declared.entry.Entry.{Entry}
+use Rattle.nb_entry.specs.declared.entry.Entry.{Entry}
 use Rattle.nb_book.specs.Money.{balance}
 use Rattle.nb_book.specs.Legal.{Legal, LegalAfter}
 use Rattle.nb_book.proofs.Growing.{front_legal}

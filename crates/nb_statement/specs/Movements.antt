@@ -3,8 +3,8 @@ use Rattle.std.specs.Prelude.{ℕ, ◌+◌, ◌-◌, ◌==◌, List, Option, Som
 use Rattle.std.specs.List.{filter_map}
 use Rattle.nb_units.specs.declared.ids.AcctId.{AcctId}
 use Rattle.nb_units.specs.Epoid.{epoid_bytes}
-use Rattle.nb_book.specs.declared.entry.Entry.{Entry}
-use Rattle.nb_book.specs.declared.entry.Entry.TheVariants as entry
+use Rattle.nb_entry.specs.declared.entry.Entry.{Entry}
+use Rattle.nb_entry.specs.declared.entry.Entry.TheVariants as entry
 use Rattle.nb_statement.specs.declared.movement.Movement.{Movement}
 use Rattle.nb_statement.specs.declared.movement.Way.{Way}
 use Rattle.nb_statement.specs.declared.movement.Way.TheVariants.{Fund, Out, In, Fee}

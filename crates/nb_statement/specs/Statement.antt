@@ -6,7 +6,7 @@ use Rattle.std.specs.Option.{is_some}
 use Rattle.hex.specs.Hex.{encode_lower}
 use Rattle.nb_units.specs.declared.ids.AcctId.{AcctId}
 use Rattle.nb_port.specs.Faults.{Rose}
-use Rattle.nb_book.specs.declared.entry.Entry.{Entry}
+use Rattle.nb_entry.specs.declared.entry.Entry.{Entry}
 use Rattle.nb_book.specs.Searches.{holder_in}
 use Rattle.nb_book.specs.Money.{balance}
 use Rattle.nb_statement.specs.declared.fault.StatementFault.{StatementFault}

@@ -1,7 +1,7 @@
 ghost use Rattle.std.specs.Prelude.{◌≡◌, ◌<◌, ◌≤◌, ◌+◌, ◌^◌};
 ghost use Rattle.nb_statement.specs.Movements as moves;
 
-use nb_book::Entry;
+use nb_entry::Entry;
 use nb_units::AcctId;
 
 /// The way that money moves on an account.

@@ -12,7 +12,7 @@ use crate::fault::StatementFault;
 use crate::lines::{closing, heading, line_of};
 use crate::movement::movement_of;
 use crate::sending::{PIECE, put, send_all};
-use nb_book::Entry;
+use nb_entry::Entry;
 use nb_port::{Disk, Sink};
 use nb_units::AcctId;
 use nb_vault::Vault;

@@ -4,7 +4,7 @@ use Rattle.std.specs.Prelude.{reverse}
 use Rattle.std.specs.List.{filter_map, take_while, prefix_len, AllByRecursion}
 use Rattle.std.proofs.lemmas.List.{reverse-append, reverse-reverse, append-nil, length-append, take_at}
 use Rattle.std.proofs.lemmas.List.Sums.{take_while-cons}
-use Rattle.nb_book.specs.declared.entry.Entry.{Entry}
+use Rattle.nb_entry.specs.declared.entry.Entry.{Entry}
 use Rattle.nb_book.specs.Legal.{Legal}
 use Rattle.nb_book.specs.Laws.{StaysLegal}
 use Rattle.nb_book.proofs.Growing.{front_legal}

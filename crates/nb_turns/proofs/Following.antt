@@ -5,7 +5,7 @@ use Rattle.std.specs.List.{filter_map, AllByRecursion}
 use Rattle.std.proofs.lemmas.List.{append-nil, length-append, map-append}
 use Rattle.std.proofs.lemmas.Bool.{eq-eqb}
 use Rattle.std.proofs.lemmas.List.Elements.{filter-append}
-use Rattle.nb_book.specs.declared.entry.Entry.{Entry}
+use Rattle.nb_entry.specs.declared.entry.Entry.{Entry}
 use Rattle.nb_turns.specs.declared.limits.TheConstants.{MAX_FAULTS}
 use Rattle.nb_turns.specs.declared.line.Line.{Line}
 use Rattle.nb_turns.specs.declared.mark.Mark.{Mark}

@@ -1,6 +1,6 @@
 -- The turns of the small house.
 use Rattle.std.proofs.Common.{◌≡◌, inl, inr, List, [], ◌∷◌, refl, arith}
-use Rattle.nb_book.specs.declared.entry.Entry.{Entry}
+use Rattle.nb_entry.specs.declared.entry.Entry.{Entry}
 use Rattle.nb_turns.specs.Worked.{enrolment, funding, two_entries, three_entries, ThreeAtOnce, KeptTogether, DroppedAndRecorded, KeptAndTold, FailedTwice}
 
 some : (e : Entry) (es : List Entry) → e ∷ es ≡ [] → ⊥

@@ -1,7 +1,7 @@
 -- What is told of each request of a turn.
 use Rattle.std.proofs.Common.{◌≡◌, ℕ, List, [], ◌∷◌, length, refl, ap, arith}
 use Rattle.std.specs.Prelude.{map}
-use Rattle.nb_book.specs.declared.entry.Entry.{Entry}
+use Rattle.nb_entry.specs.declared.entry.Entry.{Entry}
 use Rattle.nb_turns.specs.declared.mark.Mark.{Mark}
 use Rattle.nb_turns.specs.declared.mark.Mark.TheVariants.{Fault, Worn}
 use Rattle.nb_turns.specs.Turns.{Request, House, Decides, Fails, Refuses, Answered, alike, decided, places, with_entry}

@@ -4,7 +4,7 @@ use Rattle.std.specs.List.{count_by, sum_by, AllByRecursion}
 use Rattle.std.specs.Option.{option_to_list}
 use Rattle.nb_units.specs.declared.epoid.Epoid.{Epoid}
 use Rattle.nb_units.specs.declared.ids.AcctId.{AcctId}
-use Rattle.nb_book.specs.declared.entry.Entry.{Entry}
+use Rattle.nb_entry.specs.declared.entry.Entry.{Entry}
 use Rattle.nb_book.specs.Legal.{IsOfRate, LegalAfter, Legal}
 use Rattle.nb_book.specs.Money.{accounts, balance, credits, debits, fees, total}
 use Rattle.nb_book.specs.Searches.{settles}

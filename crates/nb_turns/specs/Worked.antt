@@ -1,8 +1,8 @@
 -- Turns in numbers: a small house enrols two parties and takes in a fund, and its disk fails.
 use Rattle.std.specs.Prelude.{◌≡◌, ℕ, ◌==◌, List, [], ◌∷◌, ◌++◌, Option, None, Some, length, slice_index_or, if◌then◌else◌}
-use Rattle.nb_book.specs.declared.entry.Entry.{Entry}
-use Rattle.nb_book.specs.declared.entry.Entry.TheVariants.{Enrol, Fund}
-use Rattle.nb_book.specs.declared.entry.TheConstants.{CONSUMER}
+use Rattle.nb_entry.specs.declared.entry.Entry.{Entry}
+use Rattle.nb_entry.specs.declared.entry.Entry.TheVariants.{Enrol, Fund}
+use Rattle.nb_entry.specs.declared.entry.TheConstants.{CONSUMER}
 use Rattle.nb_book.specs.declared.funded.Funded.{Funded}
 use Rattle.nb_book.specs.declared.party.Party.{Party}
 use Rattle.nb_book.specs.Money.{balance}

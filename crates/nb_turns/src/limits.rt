@@ -1,4 +1,4 @@
-use nb_book::MAX_ITEM_ENTRIES;
+use nb_entry::MAX_ITEM_ENTRIES;
 
 /// The most requests of one turn: each may record an entry, and what a turn records is one item.
 pub const MAX_REQUESTS: usize = MAX_ITEM_ENTRIES;

@@ -1,7 +1,7 @@
 ghost use Rattle.std.specs.Prelude.{◌≡◌};
 ghost use Rattle.nb_turns.specs.Lines.{maker_of, turn_of};
 
-use nb_book::Entry;
+use nb_entry::Entry;
 
 /// One thing that a turn did, told in the order in which it was done. `by` is the number of who asked, 8 bytes wide. All lines
 /// of one turn have its number, 8 bytes wide: one above that of the line before them, or 0 where there is none.

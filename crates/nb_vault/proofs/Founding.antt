@@ -1,7 +1,7 @@
 -- What a vault that was opened stands for.
 use Rattle.std.proofs.Common.{◌≡◌, inl, ℕ, ◌≤◌, Bool, false, cond, List, [], ◌∷◌, ◌++◌, length, take, Option, Some, IfSome, Err, refl, sym, ap, subst, ◌∙◌, arith}
 use Rattle.std.proofs.lemmas.List.{append-nil, take_all}
-use Rattle.nb_book.specs.declared.entry.Entry.{Entry}
+use Rattle.nb_entry.specs.declared.entry.Entry.{Entry}
 use Rattle.std.specs.Vec.{vec_capacity}
 use Rattle.nb_units.specs.declared.charter.Charter.{Charter}
 use Rattle.nb_book.specs.Legal.{Legal, LegalUnder}

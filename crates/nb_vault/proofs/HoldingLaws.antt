@@ -5,10 +5,10 @@ use Rattle.std.specs.List.{flat_map, AllByRecursion}
 use Rattle.std.proofs.lemmas.List.{map-append, length-map, take_at, get_or_at}
 use Rattle.std.proofs.lemmas.Grind.{flat_map-append}
 use Rattle.nb_units.specs.declared.charter.Charter.{Charter}
-use Rattle.nb_book.specs.declared.entry.Entry.{Entry}
+use Rattle.nb_entry.specs.declared.entry.Entry.{Entry}
 use Rattle.nb_book.specs.Legal.{LegalUnder}
-use Rattle.nb_book.specs.Spelling.{Spells, entries_bytes}
-use Rattle.nb_book.proofs.Layouts.{one_spelling}
+use Rattle.nb_entry.specs.Spelling.{Spells, entries_bytes}
+use Rattle.nb_entry.proofs.Layouts.{one_spelling}
 use Rattle.nb_journal.specs.Layout.{IsItem}
 use Rattle.nb_journal.specs.Reading.{Holds, IsUnborn, IsDamaged}
 use Rattle.nb_journal.proofs.ReadingLaws.{stands_read, one_journal, whole_not_damaged, unborn_is_neither}

@@ -7,11 +7,11 @@ use Rattle.std.proofs.Math.Seq.{drop-cons, take-append_seam, get_or-append_seam}
 use Rattle.std.proofs.lemmas.Bool.{ltb-true, ltb-false}
 use Rattle.std.proofs.lemmas.Grind.{flat_map-append}
 use Rattle.nb_units.specs.Charter.{MayRule, AreVersionAndRate}
-use Rattle.nb_book.specs.declared.entry.Entry.{Entry}
+use Rattle.nb_entry.specs.declared.entry.Entry.{Entry}
 use Rattle.nb_book.specs.Legal.{IsOfRate, LegalAfter, Legal, LegalUnder, NextUnder}
-use Rattle.nb_book.specs.Spelling.{entry_bytes, entries_bytes, IsEntry, Spells}
+use Rattle.nb_entry.specs.Spelling.{entry_bytes, entries_bytes, IsEntry, Spells}
 use Rattle.nb_book.proofs.Growing.{front_legal}
-use Rattle.nb_book.proofs.Layouts.{entry_layout}
+use Rattle.nb_entry.proofs.Layouts.{entry_layout}
 use Rattle.nb_turns.proofs.Lists.{all_at, all_parts}
 use Rattle.nb_vault.specs.Holdings.{Joins}
 

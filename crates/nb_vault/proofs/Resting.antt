@@ -5,10 +5,10 @@ use Rattle.std.specs.Vec.{vec_capacity}
 use Rattle.std.proofs.lemmas.List.{append-nil, length-append, take-append-le}
 use Rattle.std.proofs.lemmas.Grind.{flat_map-append}
 use Rattle.nb_units.specs.declared.charter.Charter.{Charter}
-use Rattle.nb_book.specs.declared.entry.Entry.{Entry}
+use Rattle.nb_entry.specs.declared.entry.Entry.{Entry}
 use Rattle.nb_book.specs.Legal.{LegalUnder, NextUnder}
-use Rattle.nb_book.specs.Spelling.{entry_bytes, entries_bytes, IsEntry, Spells}
-use Rattle.nb_book.specs.declared.spelling.TheConstants.{MAX_ENTRY, MAX_ITEM_ENTRIES}
+use Rattle.nb_entry.specs.Spelling.{entry_bytes, entries_bytes, IsEntry, Spells}
+use Rattle.nb_entry.specs.declared.spelling.TheConstants.{MAX_ENTRY, MAX_ITEM_ENTRIES}
 use Rattle.nb_journal.specs.declared.journal.Journal.{Journal}
 use Rattle.nb_journal.specs.Layout.{front_bytes, item_bytes}
 use Rattle.nb_journal.specs.Stands.{Stands, BeforeOrAfter}

@@ -5,13 +5,13 @@ use Rattle.std.proofs.lemmas.List.{append-nil, take-append-drop, take_at, drop-d
 use Rattle.std.proofs.lemmas.Grind.{flat_map-append}
 use Rattle.nb_units.specs.declared.charter.Charter.{Charter}
 use Rattle.nb_units.specs.Laws.{StandsAt}
-use Rattle.nb_book.specs.declared.entry.Entry.{Entry}
-use Rattle.nb_book.specs.declared.entry.Entry.TheVariants.{Enrol, Fund, Paid, Charged, Refused}
-use Rattle.nb_book.specs.declared.spelling.EntryFault.{EntryFault}
-use Rattle.nb_book.specs.declared.spelling.TheConstants.{MAX_ITEM_ENTRIES}
+use Rattle.nb_entry.specs.declared.entry.Entry.{Entry}
+use Rattle.nb_entry.specs.declared.entry.Entry.TheVariants.{Enrol, Fund, Paid, Charged, Refused}
+use Rattle.nb_entry.specs.declared.spelling.EntryFault.{EntryFault}
+use Rattle.nb_entry.specs.declared.spelling.TheConstants.{MAX_ITEM_ENTRIES}
 use Rattle.nb_book.specs.Legal.{LegalUnder, NextUnder}
-use Rattle.nb_book.specs.Spelling.{IsEntry, Spells, entry_bytes, entries_bytes, bytes_of_kind}
-use Rattle.nb_book.proofs.Layouts.{one_spelling, entry_long}
+use Rattle.nb_entry.specs.Spelling.{IsEntry, Spells, entry_bytes, entries_bytes, bytes_of_kind}
+use Rattle.nb_entry.proofs.Layouts.{one_spelling, entry_long}
 use Rattle.nb_vault.specs.Restoring.{SpellsNothing}
 use Rattle.nb_vault.proofs.Joining.{all_more, under_at}
 

@@ -2,9 +2,9 @@
 use Rattle.std.proofs.Common.{◌≡◌, ⊎_elim, ℕ, ◌≤◌, Bool, true, false, cond, List, [], ◌++◌, length, Option, None, Some, IfSome, refl, sym, ap, subst, ◌∙◌, arith}
 use Rattle.std.proofs.lemmas.List.{append-nil, length-append, length-take}
 use Rattle.nb_port.specs.Tells.{DiskTells}
-use Rattle.nb_book.specs.declared.entry.Entry.{Entry}
+use Rattle.nb_entry.specs.declared.entry.Entry.{Entry}
 use Rattle.nb_book.specs.Legal.{LegalUnder}
-use Rattle.nb_book.specs.Spelling.{entries_bytes}
+use Rattle.nb_entry.specs.Spelling.{entries_bytes}
 use Rattle.nb_book.proofs.Counting.{settled_once}
 use Rattle.nb_book.proofs.Summing.{balances_make_total, none_overdrawn}
 use Rattle.nb_turns.specs.declared.limits.TheConstants.{MAX_FAULTS, MAX_REQUESTS}

@@ -1,7 +1,7 @@
 -- One gate opens all entries of a turn, or none of them.
 use Rattle.std.specs.Prelude.{◌≡◌, ◌⊎◌, ℕ, List, ◌++◌}
 use Rattle.nb_port.specs.Tells.{DiskTells}
-use Rattle.nb_book.specs.declared.entry.Entry.{Entry}
+use Rattle.nb_entry.specs.declared.entry.Entry.{Entry}
 use Rattle.nb_journal.specs.Time.{LeavesOnly}
 use Rattle.nb_turns.specs.Turns.{Request, Outcome, Decides, Fails, Refuses, SettlesInto, Doubts, recorded}
 use Rattle.nb_vault.specs.Holdings.{StandsFor}

@@ -2,9 +2,9 @@
 use Rattle.std.specs.Prelude.{◌≡◌, ◌⊎◌, ℕ, ◌+◌, ◌≤◌, List, [], ◌∷◌, ◌++◌, length, map, Option, IfSome}
 use Rattle.std.specs.List.{flat_map, AllByRecursion}
 use Rattle.nb_units.specs.declared.charter.Charter.{Charter}
-use Rattle.nb_book.specs.declared.entry.Entry.{Entry}
+use Rattle.nb_entry.specs.declared.entry.Entry.{Entry}
 use Rattle.nb_book.specs.Legal.{LegalUnder}
-use Rattle.nb_book.specs.Spelling.{entries_bytes, Spells}
+use Rattle.nb_entry.specs.Spelling.{entries_bytes, Spells}
 use Rattle.nb_port.specs.Disk.{wrote_at, MayTear}
 use Rattle.nb_journal.specs.Layout.{front_bytes, item_bytes, up_to_gate, AreTerms}
 use Rattle.nb_journal.specs.Stands.{Stands}

@@ -3,8 +3,8 @@ use Rattle.std.specs.Prelude.{◌≡◌, ℕ, ◌≤◌, ⊤, false, List, [], O
 use Rattle.nb_units.specs.declared.charter.Charter.{Charter}
 use Rattle.nb_port.specs.Tells.{DiskTells}
 use Rattle.nb_port.specs.Faults.{Rose}
-use Rattle.nb_book.specs.declared.entry.Entry.{Entry}
-use Rattle.nb_book.specs.declared.spelling.TheConstants.{MAX_ITEM_ENTRIES}
+use Rattle.nb_entry.specs.declared.entry.Entry.{Entry}
+use Rattle.nb_entry.specs.declared.spelling.TheConstants.{MAX_ITEM_ENTRIES}
 use Rattle.nb_journal.specs.declared.opening.Opened.{Opened}
 use Rattle.nb_journal.specs.Layout.{IsMagic, front_bytes, AreTerms}
 use Rattle.nb_journal.specs.Opening.{charter_of}

@@ -4,10 +4,10 @@ use Rattle.std.specs.List.{AllByRecursion}
 use Rattle.nb_units.specs.declared.charter.Charter.{Charter}
 use Rattle.nb_port.specs.Tells.{DiskTells}
 use Rattle.nb_port.specs.Faults.{Rose}
-use Rattle.nb_book.specs.declared.entry.Entry.{Entry}
-use Rattle.nb_book.specs.declared.spelling.TheConstants.{MAX_ITEM_ENTRIES}
+use Rattle.nb_entry.specs.declared.entry.Entry.{Entry}
+use Rattle.nb_entry.specs.declared.spelling.TheConstants.{MAX_ITEM_ENTRIES}
 use Rattle.nb_book.specs.Legal.{LegalUnder}
-use Rattle.nb_book.specs.Spelling.{entries_bytes, IsEntry}
+use Rattle.nb_entry.specs.Spelling.{entries_bytes, IsEntry}
 use Rattle.nb_journal.specs.declared.journal.Settled.{Settled}
 use Rattle.nb_journal.specs.declared.journal.Settled.TheVariants as settles
 use Rattle.nb_journal.specs.Layout.{front_bytes, AreTerms}

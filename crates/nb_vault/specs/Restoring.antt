@@ -2,9 +2,9 @@
 use Rattle.std.specs.Prelude.{◌≡◌, ℕ, ◌<◌, ◌≤◌, List, [], ◌++◌, length, take, slice_index_or}
 use Rattle.std.specs.List.{AllByRecursion}
 use Rattle.nb_units.specs.declared.charter.Charter.{Charter}
-use Rattle.nb_book.specs.declared.entry.Entry.{Entry}
+use Rattle.nb_entry.specs.declared.entry.Entry.{Entry}
 use Rattle.nb_book.specs.Legal.{IsOfRate, LegalUnder}
-use Rattle.nb_book.specs.Spelling.{Spells}
+use Rattle.nb_entry.specs.Spelling.{Spells}
 use Rattle.nb_vault.specs.declared.restore.ItemRead.{ItemRead}
 use Rattle.nb_vault.specs.declared.restore.ItemRead.TheVariants as reads
 use Rattle.nb_vault.specs.declared.restore.ItemsRead.{ItemsRead}

@@ -1,6 +1,6 @@
 -- The house of a vault: the verdict with the bytes of its reply, and the bytes of the two refusals of a turn that did not decide.
 use Rattle.std.specs.Prelude.{ℕ, List}
-use Rattle.nb_book.specs.declared.entry.Entry.{Entry}
+use Rattle.nb_entry.specs.declared.entry.Entry.{Entry}
 use Rattle.nb_endorse.specs.declared.refusal.TheConstants.{DISK_FAULT, WORN}
 use Rattle.nb_endorse.specs.declared.reply.Reply.TheVariants.{Refused}
 use Rattle.nb_endorse.specs.Refusals.{refusal}

@@ -3,9 +3,9 @@ use Rattle.std.specs.Prelude.{◌≡◌, ◌≢◌, ◌⊎◌, ℕ, ◌+◌, ◌
 use Rattle.std.proofs.Common.{inl, inr}
 use Rattle.nb_port.specs.Tells.{DiskTells}
 use Rattle.nb_port.specs.Faults.{Rose, Backed}
-use Rattle.nb_book.specs.declared.entry.Entry.{Entry}
+use Rattle.nb_entry.specs.declared.entry.Entry.{Entry}
 use Rattle.nb_book.specs.Legal.{LegalUnder}
-use Rattle.nb_book.specs.Spelling.{entries_bytes}
+use Rattle.nb_entry.specs.Spelling.{entries_bytes}
 use Rattle.nb_journal.specs.Layout.{AreTerms, front_bytes, up_to_gate}
 use Rattle.nb_journal.specs.Stands.{Stands, BeforeOrAfter}
 use Rattle.nb_journal.specs.Time.{LeavesOnly, Unwritten}

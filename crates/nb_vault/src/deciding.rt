@@ -3,7 +3,7 @@
 ghost use Rattle.std.specs.Prelude.{◌≡◌, ◌≤◌, ◌<◌, ◌++◌, ◌∷◌, [], false, length, vec_capacity};
 ghost use Rattle.std.specs.List.{All};
 ghost use Rattle.std.specs.Option.{option_to_list};
-ghost use Rattle.nb_book.specs.declared.spelling.TheConstants.{MAX_ITEM_ENTRIES};
+ghost use Rattle.nb_entry.specs.declared.spelling.TheConstants.{MAX_ITEM_ENTRIES};
 ghost use Rattle.nb_escrow.specs.Head.{head_of};
 ghost use Rattle.nb_msgs.specs.ReplyBytes.{joined};
 ghost use Rattle.nb_turns.specs.declared.limits.TheConstants.{MAX_REQUESTS};

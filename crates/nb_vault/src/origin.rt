@@ -1,4 +1,4 @@
-use nb_book::Entry;
+use nb_entry::Entry;
 use nb_units::Charter;
 use std::collections::LinkedList;
 

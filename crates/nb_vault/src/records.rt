@@ -2,11 +2,12 @@
 
 ghost use Rattle.std.specs.Prelude.{◌≡◌, ◌≤◌, ◌<◌, ◌++◌, ◌∷◌, [], false, length, take, vec_capacity};
 ghost use Rattle.nb_book.specs.Legal.{Legal, NextUnder};
-ghost use Rattle.nb_book.specs.declared.spelling.TheConstants.{MAX_ITEM_ENTRIES};
+ghost use Rattle.nb_entry.specs.declared.spelling.TheConstants.{MAX_ITEM_ENTRIES};
 ghost use Rattle.nb_journal.specs.Time.{LeavesOnly, Unwritten};
 ghost use Rattle.nb_vault.specs.Records.{Rests, Gathers, RecordsSettle, RecordGives, RecordWrites, SameTerms, disk_under, over_of, EitherOf, WithOrWithout};
 
-use nb_book::{Book, Entry, MAX_ENTRY, MAX_ITEM_ENTRIES, write_entry};
+use nb_book::Book;
+use nb_entry::{Entry, MAX_ENTRY, MAX_ITEM_ENTRIES, write_entry};
 use nb_journal::{AppendFault, Journal, Settled, StillStale};
 use nb_port::Disk;
 use nb_units::Charter;

@@ -7,7 +7,8 @@ ghost use Rattle.nb_units.specs.declared.limits.TheConstants.{MAX_CAP};
 ghost use Rattle.nb_book.specs.Legal.{IsOfRate};
 ghost use Rattle.nb_vault.specs.Restoring.{ItemGives, ItemsRestore, IsList};
 
-use nb_book::{Book, MAX_ITEM_ENTRIES, read_entry};
+use nb_book::Book;
+use nb_entry::{MAX_ITEM_ENTRIES, read_entry};
 use nb_units::{Blob, Charter, Cut};
 
 // How the entries of one item went into the book.

@@ -12,7 +12,8 @@ ghost use Rattle.nb_vault.specs.Vaults.{DurableWhere, SameWhere, FaultWithin, St
 use crate::parts::Parts;
 use crate::records::{Counts, Records};
 use crate::telling::next_turn;
-use nb_book::{Book, Entry};
+use nb_book::Book;
+use nb_entry::Entry;
 use nb_port::Disk;
 use nb_turns::MAX_FAULTS;
 use nb_units::Charter;

@@ -4,7 +4,7 @@ ghost use Rattle.std.specs.Prelude.{◌≡◌, ◌≤◌, ◌+◌, ◌++◌, len
 ghost use Rattle.nb_turns.specs.Lines.{next_turn};
 ghost use Rattle.nb_vault.specs.Parts.{line_of, lines_of};
 
-use nb_book::Entry;
+use nb_entry::Entry;
 use nb_turns::Line;
 
 // What became of an entry in a turn.

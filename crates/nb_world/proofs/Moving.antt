@@ -4,7 +4,7 @@ use Rattle.std.proofs.lemmas.Option.{slice_get_within}
 use Rattle.std.specs.Prelude.{◌==◌}
 use Rattle.std.specs.Option.{option_to_list, option_map, is_none}
 use Rattle.std.specs.List.{slice_get, AllByRecursion}
-use Rattle.nb_book.specs.declared.entry.Entry.{Entry}
+use Rattle.nb_entry.specs.declared.entry.Entry.{Entry}
 use Rattle.nb_world.specs.declared.call.Call.{Call}
 use Rattle.nb_world.specs.declared.call.CallPhase.TheVariants.{InTurn, Answered}
 use Rattle.nb_world.specs.declared.event.Event.{Event}

@@ -7,7 +7,7 @@ use Rattle.nb_units.specs.declared.frames.TheConstants.{LAST_KIND, MAX_BODY}
 use Rattle.nb_units.specs.declared.limits.TheConstants.{MAX_MEMO}
 use Rattle.nb_body.specs.declared.limits.TheConstants.{MAX_REQUEST}
 use Rattle.nb_units.specs.declared.ids.PartyId.{PartyId}
-use Rattle.nb_book.specs.declared.entry.Entry.{Entry}
+use Rattle.nb_entry.specs.declared.entry.Entry.{Entry}
 use Rattle.nb_book.specs.Legal.{Legal}
 use Rattle.nb_turns.specs.Turns.{Request}
 use Rattle.nb_world.specs.declared.call.Call.{Call}

@@ -4,7 +4,7 @@ use Rattle.std.proofs.lemmas.List.{append-nil}
 use Rattle.std.specs.Prelude.{if◌then◌else◌}
 use Rattle.std.specs.Option.{option_to_list, is_some}
 use Rattle.std.specs.List.{cons_option, AllByRecursion}
-use Rattle.nb_book.specs.declared.entry.Entry.{Entry}
+use Rattle.nb_entry.specs.declared.entry.Entry.{Entry}
 use Rattle.nb_turns.specs.Turns.{Request, House, State, Outcome, Decides, Fails, Refuses, Answered as Reply, Round, SettlesInto, Unsettled, Doubts, Turn, Run, answered, answered_in, alike, decided, recorded, with_entry, last_state}
 use Rattle.nb_turns.specs.declared.mark.Mark.TheVariants as mark
 use Rattle.nb_world.specs.declared.event.Event.{Event}

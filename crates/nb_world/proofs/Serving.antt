@@ -5,7 +5,7 @@ use Rattle.std.proofs.lemmas.Bool.{eqb-true}
 use Rattle.std.specs.Prelude.{◌==◌, map}
 use Rattle.std.specs.Option.{option_to_list, option_map, is_none}
 use Rattle.std.specs.List.{slice_get, AllByRecursion}
-use Rattle.nb_book.specs.declared.entry.Entry.{Entry}
+use Rattle.nb_entry.specs.declared.entry.Entry.{Entry}
 use Rattle.nb_book.specs.Legal.{Legal}
 use Rattle.nb_book.specs.Laws.{StaysLegal}
 use Rattle.nb_turns.specs.Turns.{Request}

@@ -4,8 +4,8 @@ use Rattle.std.specs.List.{count_by, slice_get, AllByRecursion}
 use Rattle.nb_units.specs.declared.epoid.Epoid.{Epoid}
 use Rattle.nb_units.specs.declared.frames.TheConstants.{STATUS_REQUEST}
 use Rattle.nb_units.specs.Frames.{Frame}
-use Rattle.nb_book.specs.declared.entry.Entry.{Entry}
-use Rattle.nb_book.specs.declared.entry.TheConstants.{CONSUMER, MERCHANT}
+use Rattle.nb_entry.specs.declared.entry.Entry.{Entry}
+use Rattle.nb_entry.specs.declared.entry.TheConstants.{CONSUMER, MERCHANT}
 use Rattle.nb_book.specs.declared.kept.Kept.{Kept}
 use Rattle.nb_book.specs.Legal.{IsOfRate, LegalUnder}
 use Rattle.nb_book.specs.Searches.{order_in, settles}

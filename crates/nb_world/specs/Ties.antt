@@ -3,7 +3,7 @@ use Rattle.std.specs.Prelude.{◌≡◌, ◌≢◌, ◌⊎◌, ℕ, ◌+◌, Boo
 use Rattle.std.specs.Option.{is_some, option_map}
 use Rattle.std.specs.List.{slice_get, filter_map, AllByRecursion}
 use Rattle.nb_units.specs.Frames.{frame}
-use Rattle.nb_book.specs.declared.entry.Entry.{Entry}
+use Rattle.nb_entry.specs.declared.entry.Entry.{Entry}
 use Rattle.nb_turns.specs.Turns.{Request, Ruling, House, State, Outcome, Decides, Fails, Refuses, Answered as Reply, Round, Run, answered_in, last_state, place_of, recorded, with_entry}
 use Rattle.nb_world.specs.declared.event.Event.{Event}
 use Rattle.nb_world.specs.declared.event.Event.TheVariants as on

@@ -2,7 +2,7 @@
 use Rattle.std.specs.Prelude.{◌≡◌, ℕ, ◌+◌, ◌==◌, true, false, List, [], ◌∷◌, ◌++◌, length, take, nat_lt, slice_index_or, None, Some, if◌then◌else◌}
 use Rattle.nb_units.specs.declared.frames.TheConstants.{DONE_REPLY, ENROL_REQUEST, PRICE_REQUEST}
 use Rattle.nb_units.specs.declared.ids.PartyId.{PartyId}
-use Rattle.nb_book.specs.declared.entry.Entry.{Entry}
+use Rattle.nb_entry.specs.declared.entry.Entry.{Entry}
 use Rattle.nb_turns.specs.Turns.{Request}
 use Rattle.nb_turns.specs.Worked.{enrolment, small_rules, small_house, enrol_one, enrol_two}
 use Rattle.nb_world.specs.declared.call.CallPhase.TheVariants.{Answered, Gone}

@@ -2,7 +2,7 @@
 use Rattle.std.specs.Prelude.{ℕ, Bool, true, false, List, ◌++◌, Option, None, Some}
 use Rattle.std.specs.Option.{option_to_list}
 use Rattle.nb_units.specs.declared.ids.PartyId.{PartyId}
-use Rattle.nb_book.specs.declared.entry.Entry.{Entry}
+use Rattle.nb_entry.specs.declared.entry.Entry.{Entry}
 use Rattle.nb_turns.specs.Turns.{Request}
 use Rattle.nb_world.specs.declared.call.Call.{Call}
 use Rattle.nb_world.specs.declared.packet.Packet.{Packet}

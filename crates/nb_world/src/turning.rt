@@ -1,4 +1,4 @@
-use nb_book::Entry;
+use nb_entry::Entry;
 use nb_units::Blob;
 
 /// What the verdict on a request is: the kind and the body of its reply, and what it records.

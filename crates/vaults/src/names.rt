@@ -1,6 +1,6 @@
 // Requests and entries, by the names that they have in the lines.
 
-use nb_book::{Entry, read_entry};
+use nb_entry::{Entry, read_entry};
 use nb_units::{Cut, NoMemory};
 use std::alloc::Global;
 

@@ -1,7 +1,7 @@
 // The vault that is open as a standby, and records of a primary.
 
 use crate::house::House;
-use nb_book::read_entry;
+use nb_entry::read_entry;
 use nb_lines::Told;
 use nb_port::MemDisk;
 use nb_standby::{ACKNOWLEDGED_ROOM, SHIPPED_ROOM, follow, ship};

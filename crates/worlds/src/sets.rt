@@ -1,6 +1,6 @@
 //! Set-ups, as words say them.
 
-use nb_book::Entry;
+use nb_entry::Entry;
 use nb_price::Catalogue;
 use nb_simulator::Setup;
 use nb_stall::Stall;
@@ -15,21 +15,21 @@ const MOST: u64 = 4_000_000;
 static ENTRIES: [Entry; 4] = [
     Entry::Enrol {
         id: PartyId(1),
-        role: nb_book::CONSUMER,
+        role: nb_entry::CONSUMER,
         acct: AcctId(1),
         nonce: 7,
         key: [0x44; 32],
     },
     Entry::Enrol {
         id: PartyId(2),
-        role: nb_book::MERCHANT,
+        role: nb_entry::MERCHANT,
         acct: AcctId(2),
         nonce: 0,
         key: [0x55; 32],
     },
     Entry::Enrol {
         id: PartyId(3),
-        role: nb_book::CONSUMER,
+        role: nb_entry::CONSUMER,
         acct: AcctId(3),
         nonce: 9,
         key: [0x66; 32],

@@ -9,8 +9,9 @@ ghost use Rattle.nb_wallet.specs.Spelling.{StartKeepsRules};
 use crate::trade::WALLET;
 use crate::trade::selling::{STALL, new_merchant};
 use crate::{bytes, shelves, telling};
-use nb_book::{Book, Entry};
+use nb_book::Book;
 use nb_consumer::{Consumer, Phase};
+use nb_entry::Entry;
 use nb_escrow::{Head, decide};
 use nb_merchant::Merchant;
 use nb_msgs::{Message, REPLY_ROOM, Step, To, write_reply};
@@ -59,14 +60,14 @@ pub(crate) struct Parties {
 static ENTRIES: [Entry; 3] = [
     Entry::Enrol {
         id: PartyId(1),
-        role: nb_book::CONSUMER,
+        role: nb_entry::CONSUMER,
         acct: AcctId(1),
         nonce: 7,
         key: [0x44; 32],
     },
     Entry::Enrol {
         id: PartyId(2),
-        role: nb_book::MERCHANT,
+        role: nb_entry::MERCHANT,
         acct: AcctId(2),
         nonce: 0,
         key: [0x55; 32],

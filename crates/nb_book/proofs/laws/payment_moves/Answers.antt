@@ -1,5 +1,5 @@
 use Rattle.std.proofs.Common.{◌≡◌, ◌==◌, ℕ, Bool, true, false, cond, arith, refl}
-use Rattle.nb_book.specs.declared.entry.Entry.TheVariants.{Paid, Charged}
+use Rattle.nb_entry.specs.declared.entry.Entry.TheVariants.{Paid, Charged}
 use Rattle.nb_book.proofs.Summing.{moves}
 use Rattle.nb_book.proofs.laws.payment_moves.Goals as goal
 

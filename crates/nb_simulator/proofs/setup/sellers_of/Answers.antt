@@ -1,7 +1,7 @@
 use Rattle.std.proofs.Common.{◌≡◌, [], ◌∷◌, ◌++◌, None, List, length, map, refl, sym, ap, subst, ◌∙◌, arith, append-nil}
 use Rattle.std.specs.Option.{is_some}
 use Rattle.std.specs.Vec.Iter.{into_iter_items}
-use Rattle.nb_book.specs.declared.entry.TheConstants.{MERCHANT}
+use Rattle.nb_entry.specs.declared.entry.TheConstants.{MERCHANT}
 use Rattle.nb_price.specs.Products.{Product}
 use Rattle.nb_stall.specs.declared.stall.Stall.{Stall}
 use Rattle.nb_merchant.specs.Shop.{Shop}

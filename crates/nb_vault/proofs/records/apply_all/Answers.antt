@@ -1,4 +1,4 @@
-use Rattle.nb_book.specs.declared.entry.Entry.TheVariants.{Enrol}
+use Rattle.nb_entry.specs.declared.entry.Entry.TheVariants.{Enrol}
 use Rattle.std.proofs.Common.{[]}
 use Rattle.nb_vault.proofs.Joining.{legal_next}
 use Rattle.nb_vault.proofs.records.apply_all.Goals as goal

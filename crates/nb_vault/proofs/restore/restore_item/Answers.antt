@@ -5,7 +5,7 @@ use Rattle.std.proofs.lemmas.List.{length-drop, length-append}
 use Rattle.nb_units.specs.Laws.{StandsAt}
 use Rattle.nb_units.specs.Reading.{Reading}
 use Rattle.nb_book.specs.Legal.{IsOfRate, NextUnder}
-use Rattle.nb_book.specs.Spelling.{entry_bytes}
+use Rattle.nb_entry.specs.Spelling.{entry_bytes}
 use Rattle.nb_vault.proofs.Joining.{all_more}
 use Rattle.nb_vault.proofs.Restoring.{bad_unread, bad_full, bad_illegal, bad_long, read_more}
 use Rattle.nb_vault.proofs.restore.restore_item.Goals as goal

@@ -2,7 +2,7 @@ use Rattle.std.proofs.Common.{◌≤◌, List, Option, Some, None, sym, subst}
 use Rattle.std.specs.Option.{IfSome, option_map}
 use Rattle.nb_units.specs.declared.ids.PartyId.{PartyId}
 use Rattle.nb_book.specs.declared.account.Account.{Account}
-use Rattle.nb_book.specs.declared.entry.Entry.{Entry}
+use Rattle.nb_entry.specs.declared.entry.Entry.{Entry}
 use Rattle.nb_book.specs.Ledger.{Ledger}
 use Rattle.nb_book.specs.Searches.{holder_in}
 use Rattle.nb_book.specs.Money.{balance, total}

@@ -1,5 +1,5 @@
 use Rattle.std.proofs.Common.{◌++◌, ◌∷◌, [], sym, ap, ◌∙◌}
-use Rattle.nb_book.specs.declared.entry.Entry.{Entry}
+use Rattle.nb_entry.specs.declared.entry.Entry.{Entry}
 use Rattle.nb_script.specs.declared.line.Line.{Line}
 use Rattle.nb_script.specs.Settings as settings
 use Rattle.nb_script.proofs.scene.Scene.add.Goals as goal

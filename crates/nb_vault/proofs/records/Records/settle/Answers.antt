@@ -1,6 +1,6 @@
 use Rattle.std.proofs.Common.{List, ◌++◌, refl, ap, subst, ◌∙◌, Ok}
-use Rattle.nb_book.specs.declared.entry.Entry.{Entry}
-use Rattle.nb_book.specs.Spelling.{entries_bytes}
+use Rattle.nb_entry.specs.declared.entry.Entry.{Entry}
+use Rattle.nb_entry.specs.Spelling.{entries_bytes}
 use Rattle.nb_journal.specs.declared.journal.Settled.{Settled}
 use Rattle.nb_journal.specs.States.{DoubtBeforeSettle, SettlesAs}
 use Rattle.nb_vault.proofs.Resting.{settle_leaves, grown_rests}

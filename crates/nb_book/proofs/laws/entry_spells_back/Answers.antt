@@ -1,5 +1,0 @@
-use Rattle.nb_book.proofs.Layouts.{entry_spells_back}
-use Rattle.nb_book.proofs.laws.entry_spells_back.Goals as goal
-
-pub returns : goal.returns
-returns c = entry_spells_back

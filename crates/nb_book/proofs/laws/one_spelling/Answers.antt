@@ -1,5 +1,0 @@
-use Rattle.nb_book.proofs.Layouts.{one_spelling}
-use Rattle.nb_book.proofs.laws.one_spelling.Goals as goal
-
-pub returns : goal.returns
-returns c = one_spelling

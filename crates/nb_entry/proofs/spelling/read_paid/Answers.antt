@@ -1,0 +1,20 @@
+use Rattle.std.proofs.Common.{refl}
+use Rattle.nb_units.specs.Fields.{raw_at, u32_at, u64_at}
+use Rattle.nb_entry.specs.Reading.{paid_of}
+use Rattle.nb_entry.proofs.Steps.{stands, went, took}
+use Rattle.nb_entry.proofs.spelling.read_paid.Goals as goal
+
+pub returns : goal.returns
+unfolding paid_of
+returns c =
+    let s69 = went 68 c.in_ok-terms.ensures.moved (stands c.args.cut 1 c.requires) in
+    let s73 = went 4 c.in_ok-cacct.ensures.moved s69 in
+    let s77 = went 4 c.in_ok-macct.ensures.moved s73 in
+    let s85 = went 8 c.in_ok-moment.ensures.moved s77 in
+    rw (
+      c.in_ok-terms.ensures.reads,
+      took u32_at s69 c.in_ok-cacct.ensures.value,
+      took u32_at s73 c.in_ok-macct.ensures.value,
+      took u64_at s77 c.in_ok-moment.ensures.value,
+      took (raw_at 32) s85 c.in_ok-key.ensures.value,
+    ) refl
