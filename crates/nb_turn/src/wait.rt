@@ -10,7 +10,7 @@ use std::sync::atomic::Ordering;
 use std::thread;
 
 // How often a thread that waits for the turn only lets others run, before it sleeps.
-const MOST_YIELDS: u32 = 32;
+const MOST_YIELDS: u32 = 4_096;
 
 impl<T: Chronicle + Drop> Turn<T> {
     /// Takes the turn as [`Turn::try_take`] does, again and again while another pass has it. Between the first tries it lets other threads
