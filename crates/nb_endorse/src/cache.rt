@@ -45,6 +45,12 @@ impl StateCache {
         })
     }
 
+    // Becomes a cache of so many slots, with nothing kept yet.
+    fn take_slots(&mut self, alloc: Global, slots: u32) -> Result<(), NoMemory> {
+        *self = StateCache::new(alloc, slots)?;
+        Ok(())
+    }
+
     /// A cache that keeps nothing but the last state, and takes no memory.
     pub fn none() -> StateCache {
         StateCache {
@@ -117,13 +123,18 @@ pub struct KeptStates {
 impl KeptStates {
     /// With nothing kept yet. It takes the memory for all that will be, and answers [`NoMemory`] where there is none.
     pub fn new(alloc: Global) -> Result<KeptStates, NoMemory> {
-        Ok(KeptStates {
-            house: StateCache::new(alloc, 1)?,
-            operator: StateCache::new(alloc, 1)?,
-            merchants: StateCache::new(alloc, PARTY_SLOTS)?,
-            consumers: StateCache::new(alloc, PARTY_SLOTS)?,
-            askers: StateCache::new(alloc, ASKER_SLOTS)?,
-        })
+        let mut kept = KeptStates::none();
+        kept.take_slots(alloc)?;
+        Ok(kept)
+    }
+
+    // Takes the memory for all that will be kept, in place of none.
+    fn take_slots(&mut self, alloc: Global) -> Result<(), NoMemory> {
+        self.house.take_slots(alloc, 1)?;
+        self.operator.take_slots(alloc, 1)?;
+        self.merchants.take_slots(alloc, PARTY_SLOTS)?;
+        self.consumers.take_slots(alloc, PARTY_SLOTS)?;
+        self.askers.take_slots(alloc, ASKER_SLOTS)
     }
 
     /// Keeps nothing but the last state of each kind, and takes no memory: each state is made when it is asked for.

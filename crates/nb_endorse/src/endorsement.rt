@@ -3,6 +3,7 @@ ghost use Rattle.nb_units.specs.declared.width.TheConstants.{SEAL};
 ghost use Rattle.nb_seal.specs.Seal.{Opens, seal_of};
 ghost use Rattle.nb_units.specs.Room.{spare_of};
 ghost use Rattle.nb_units.specs.Reads.{Reads};
+ghost use Rattle.nb_units.specs.Fields.{◌>>=◌ as ◌and_then◌, bytes_at, raw_at, done_at, or_place};
 ghost use Rattle.nb_units.specs.declared.small.TheConstants.{MAX_SMALL};
 ghost use Rattle.nb_units.specs.declared.limits.TheConstants.{MAX_MEMO, MAX_ORDER};
 ghost use Rattle.nb_endorse.specs.declared.endorsement.TheConstants.{MAX_SEALED};
@@ -277,12 +278,31 @@ impl<'a> EndorsementParts<'a> {
         let mut cut = Cut::new(bytes);
         let order = cut.bytes(MAX_ORDER as u32)?;
         let macct = cut.u32()?;
+        EndorsementParts::behind_account(order, AcctId(macct), cut)
+    }
+
+    // Behind the account: the memo, and the key.
+    fn behind_account(
+        order: &'a [u8],
+        macct: AcctId,
+        mut cut: Cut<'a>,
+    ) -> Result<EndorsementParts<'a>, Malformed>
+        requires place { cut.place ≡ 4 + length order.now + 4 }
+        requires short { length order.now ≤ MAX_ORDER }
+        ensures reads { Reads result (
+            or_place (bytes_at MAX_MEMO cut.entry.bytes (4 + length order.now + 4)) and_then λ memo.
+            or_place (raw_at 32 cut.entry.bytes (4 + length order.now + 4 + 4 + length memo)) and_then λ key.
+            or_place (done_at cut.entry.bytes (4 + length order.now + 4 + 4 + length memo + 32)) and_then λ end.
+            Ok (record { order = order.now; macct = macct; memo = memo; key = key })) }
+        ensures order { IfOk result (λ e. length e.order ≤ MAX_ORDER) }
+        ensures memo { IfOk result (λ e. length e.memo ≤ MAX_MEMO) }
+    {
         let memo = cut.bytes(MAX_MEMO as u32)?;
         let key = cut.fixed32()?;
         cut.done()?;
         Ok(EndorsementParts {
             order,
-            macct: AcctId(macct),
+            macct,
             memo,
             key,
         })

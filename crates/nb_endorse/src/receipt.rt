@@ -1,9 +1,12 @@
-ghost use Rattle.std.specs.Prelude.{◌≡◌, ◌≤◌, ◌↔◌, ◌+◌, ◌++◌, [], length, codes, vec_capacity, vec_len, IfOk, IfSome, IsTrue, None, Ok, ◌<◌, ◌^◌};
+ghost use Rattle.std.specs.Prelude.{◌≡◌, ◌==◌, ◌≤◌, ◌↔◌, ◌+◌, ◌++◌, [], length, codes, vec_capacity, vec_len, IfOk, IfSome, IsTrue, None, Ok, ◌<◌, ◌^◌};
 ghost use Rattle.nb_seal.specs.Seal.{Opens, seal_of};
 ghost use Rattle.nb_units.specs.Room.{spare_of};
 ghost use Rattle.nb_units.specs.Reads.{Reads};
+ghost use Rattle.nb_units.specs.Fields.{◌>>=◌ as ◌and_then◌, u64_at, raw_at, done_at, or_place, allowed};
+ghost use Rattle.std.specs.Bool.{then_some};
+ghost use Rattle.nb_units.specs.Epoid.{epoid_of};
 ghost use Rattle.nb_units.specs.declared.buffer.TheConstants.{MAX_BUFFER};
-ghost use Rattle.nb_endorse.specs.declared.receipt.TheConstants.{UNTAGGED_BYTES, SIGNED_BYTES, RECEIPT_BYTES};
+ghost use Rattle.nb_endorse.specs.declared.receipt.TheConstants.{UNTAGGED_BYTES, SIGNED_BYTES, RECEIPT_BYTES, PRESENT};
 ghost use Rattle.nb_endorse.specs.Spelling as spelling;
 ghost use Rattle.nb_endorse.specs.Reading as reading;
 ghost use Rattle.nb_endorse.specs.Replies.{ReceiptKeepsRules};
@@ -327,14 +330,33 @@ fn read_fields(bytes: &[u8]) -> Result<Signed, Malformed>
     let consumer = cut.u32()?;
     let merchant = cut.u32()?;
     let product = cut.u32()?;
+    read_price(code, PartyId(consumer), PartyId(merchant), product, cut)
+}
+
+// Behind the product: the price, the identifier, the place and the moment, and what follows them.
+fn read_price(
+    code: u8,
+    consumer: PartyId,
+    merchant: PartyId,
+    product: u32,
+    mut cut: Cut,
+) -> Result<Signed, Malformed>
+    requires { cut.place ≡ 13 }
+    ensures { Reads result (
+        or_place (u64_at cut.entry.bytes 13) and_then λ price.
+        or_place (raw_at 16 cut.entry.bytes 21) and_then λ epoid.
+        or_place (u64_at cut.entry.bytes 37) and_then λ at.
+        or_place (u64_at cut.entry.bytes 45) and_then λ moment.
+        reading.behind_moment (record { code = code; consumer = consumer; merchant = merchant; product = product; price = record { 0 = price }; epoid = epoid_of epoid; at = at; moment = moment; key = None; shown = None }) cut.entry.bytes) }
+{
     let price = cut.u64()?;
     let epoid = cut.fixed16()?;
     let at = cut.u64()?;
     let moment = cut.u64()?;
     let front = Receipt {
         code,
-        consumer: PartyId(consumer),
-        merchant: PartyId(merchant),
+        consumer,
+        merchant,
         product,
         price: Price(price),
         epoid: Epoid::read(&epoid),
@@ -343,8 +365,7 @@ fn read_fields(bytes: &[u8]) -> Result<Signed, Malformed>
         key: None,
         shown: None,
     };
-    let signed = read_key(front, cut)?;
-    Ok(signed)
+    read_key(front, cut)
 }
 
 // Behind the moment: the key, and what follows it.
@@ -363,8 +384,7 @@ fn read_key(front: Receipt, mut cut: Cut) -> Result<Signed, Malformed>
         key: (has_key == PRESENT).then_some(key),
         ..front
     };
-    let signed = read_shown(keyed, cut)?;
-    Ok(signed)
+    read_shown(keyed, cut)
 }
 
 // Behind the key: the numbers that are shown, and the tag.
@@ -379,6 +399,19 @@ fn read_shown(front: Receipt, mut cut: Cut) -> Result<Signed, Malformed>
     let place = cut.place();
     let a = cut.u64()?;
     allow(may_hold(has_shown, a == 0), place)?;
+    read_tag(front, has_shown, a, cut)
+}
+
+// Behind the first number that is shown: the second, and the tag.
+fn read_tag(front: Receipt, has_shown: u8, a: u64, mut cut: Cut) -> Result<Signed, Malformed>
+    requires { cut.place ≡ 95 }
+    ensures { Reads result (
+        or_place (u64_at cut.entry.bytes 95) and_then λ b.
+        allowed (reading.may_hold has_shown (b == 0)) 95 and_then λ b_is.
+        or_place (raw_at 32 cut.entry.bytes 103) and_then λ tag.
+        or_place (done_at cut.entry.bytes 135) and_then λ end.
+        Ok (record { receipt = record front { shown = then_some (has_shown == PRESENT) (a, b) }; tag = tag })) }
+{
     let place = cut.place();
     let b = cut.u64()?;
     allow(may_hold(has_shown, b == 0), place)?;
