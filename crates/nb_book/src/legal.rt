@@ -16,30 +16,17 @@ use nb_entry::{CONSUMER, Entry, MERCHANT};
 use nb_units::{AcctId, Epoid, FEE_VERSION, PartyId, Price};
 
 // Whether an entry may come after these in a journal of this version and this rate.
-#[tactic(auto, using(crate::proofs::Summing::total_fits))]
 pub(crate) fn is_next_under(entry: &Entry, book: &Book, version: u8, rate: u16) -> bool
     requires { rate ≤ MAX_RATE }
     ensures { IsTrue result ↔ legal.NextUnder version rate book.now.entries entry.now }
 {
     match *entry {
-        Entry::Enrol { id, role, acct, .. } => {
-            id.0 != 0
-                && acct.0 != 0
-                && (role == CONSUMER || role == MERCHANT)
-                && book.party(id).is_none()
-                && book.holder(acct).is_none()
-        }
+        Entry::Enrol { id, role, acct, .. } => enrol_is_legal(book, id, role, acct),
         Entry::Fund {
             acct,
             amount,
             ref reference,
-        } => {
-            book.holder(acct).is_some()
-                && 1 <= amount
-                && amount <= MAX_TOTAL
-                && book.reference(reference).is_none()
-                && book.total() <= MAX_TOTAL - amount
-        }
+        } => fund_is_legal(book, acct, amount, reference),
         Entry::Paid {
             ref epoid,
             consumer,
@@ -80,6 +67,27 @@ pub(crate) fn is_next_under(entry: &Entry, book: &Book, version: u8, rate: u16) 
 }
 
 // What follows tests the definitions of `specs/Legal.antt`, each by the function of its name.
+
+fn enrol_is_legal(book: &Book, id: PartyId, role: u8, acct: AcctId) -> bool
+    ensures { IsTrue result ↔ legal.EnrolIsLegal book.now.entries id role acct }
+{
+    id.0 != 0
+        && acct.0 != 0
+        && (role == CONSUMER || role == MERCHANT)
+        && book.party(id).is_none()
+        && book.holder(acct).is_none()
+}
+
+#[tactic(auto, using(crate::proofs::Summing::total_fits))]
+fn fund_is_legal(book: &Book, acct: AcctId, amount: u64, reference: &[u8; 16]) -> bool
+    ensures { IsTrue result ↔ legal.FundIsLegal book.now.entries acct amount reference.now }
+{
+    book.holder(acct).is_some()
+        && 1 <= amount
+        && amount <= MAX_TOTAL
+        && book.reference(reference).is_none()
+        && book.total() <= MAX_TOTAL - amount
+}
 
 fn paid_is_legal(
     book: &Book,

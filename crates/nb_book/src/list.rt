@@ -6,7 +6,7 @@ ghost use Rattle.nb_book.specs.Money.{account_in, balance, fees, total};
 ghost use Rattle.nb_book.specs.Legal.{Legal, LegalAfter};
 ghost use Rattle.nb_book.specs.Laws.{opens};
 ghost use Rattle.nb_index.specs.Puts.{IsShaped};
-ghost use Rattle.nb_book.specs.Indexes.{AreEmptyIndexes, IsEmptyIndex, Tied, first_place, slots_for, list_places, list_indexes};
+ghost use Rattle.nb_book.specs.Indexes.{AreEmptyIndexes, Indexes, IsEmptyIndex, KeepsBalances, KeysFit, Tied, account_key, first_place, list_indexes, list_places, order_key, party_key, reference_key, slots_for};
 
 use crate::account::Account;
 use crate::found::{funded_at, holder_at, order_at, party_at};
@@ -62,13 +62,30 @@ fn indexes_for(alloc: Global, cap: u32, key: &[u8; 16]) -> Result<EmptyIndexes, 
     requires { cap ≤ MAX_CAP }
     ensures { IfOk result (AreEmptyIndexes cap key.now) }
 {
+    let enrolments = vec![in alloc; 0; REMAINDERS]?;
+    let (parties, accounts) = two_indexes(alloc, cap, key)?;
+    let (references, orders) = two_indexes(alloc, cap, key)?;
     Ok(EmptyIndexes {
-        parties: index_for(alloc, cap, key)?,
-        accounts: index_for(alloc, cap, key)?,
-        references: index_for(alloc, cap, key)?,
-        orders: index_for(alloc, cap, key)?,
-        enrolments: vec![in alloc; 0; REMAINDERS]?,
+        parties,
+        accounts,
+        references,
+        orders,
+        enrolments,
     })
+}
+
+// Two indexes, each for so many keys.
+fn two_indexes(
+    alloc: Global,
+    cap: u32,
+    key: &[u8; 16],
+) -> Result<(FixedIndex, FixedIndex), NoMemory>
+    requires { cap ≤ MAX_CAP }
+    ensures { IfOk result (λ two. IsEmptyIndex cap key.now two.0 × IsEmptyIndex cap key.now two.1) }
+{
+    let first = index_for(alloc, cap, key)?;
+    let second = index_for(alloc, cap, key)?;
+    Ok((first, second))
 }
 
 // An index for so many keys.
@@ -114,6 +131,8 @@ impl EntryList {
         ensures indexes { IfOk result (λ list. AllByRecursion (IsShaped (slots_for cap) key.now) (list_indexes list)) }
         ensures tied { IfOk result (λ list. Tied list []) }
     {
+        let entries = Vec::with_capacity(alloc, cap as usize)?;
+        let balances = Vec::with_capacity(alloc, cap as usize)?;
         let EmptyIndexes {
             parties,
             accounts,
@@ -122,14 +141,14 @@ impl EntryList {
             enrolments,
         } = indexes_for(alloc, cap, key)?;
         Ok(EntryList {
-            entries: Vec::with_capacity(alloc, cap as usize)?,
+            entries,
             cap,
             parties,
             accounts,
             references,
             orders,
             enrolments,
-            balances: Vec::with_capacity(alloc, cap as usize)?,
+            balances,
             total: 0,
             fees: 0,
         })
@@ -182,27 +201,35 @@ impl EntryList {
         ensures places { list_places self.new ≡ list_places self.old }
         ensures indexes { list_indexes self.new ≡ list_indexes self.old }
     {
-        let at = self.entries.len() as u32;
+        self.post(e);
+        self.balances.push_reserved(0);
+        self.put_keys(e);
+    }
+
+    // Moves the money that the entry moves. The account that it opens, if it opens one, has no number yet.
+    fn post(&mut self, e: &Entry)
+        requires tied { Tied self.old self.old.entries.items }
+        requires legal { Legal self.old.entries.items }
+        requires next { LegalAfter self.old.entries.items e.now }
+        ensures balances { KeepsBalances (self.old.entries.items ++ e.now ∷ []) (self.new.balances.items ++ 0 ∷ []) }
+        ensures long { length self.new.balances.items ≡ length self.old.balances.items }
+        ensures capacity { vec_capacity self.new.balances ≡ vec_capacity self.old.balances }
+        ensures sum { self.new.total ≡ total (self.old.entries.items ++ e.now ∷ []) }
+        ensures fees { self.new.fees ≡ fees (self.old.entries.items ++ e.now ∷ []) }
+        ensures entries { self.new.entries ≡ self.old.entries }
+        ensures cap { self.new.cap ≡ self.old.cap }
+        ensures parties { self.new.parties ≡ self.old.parties }
+        ensures accounts { self.new.accounts ≡ self.old.accounts }
+        ensures references { self.new.references ≡ self.old.references }
+        ensures orders { self.new.orders ≡ self.old.orders }
+    {
         match *e {
-            Entry::Enrol { id, acct, .. } => {
-                self.parties.put(&name_key(id.0), at);
-                self.accounts.put(&name_key(acct.0), at);
-                keep_place(&mut self.enrolments, id, at);
-                self.balances.push_reserved(0);
-            }
-            Entry::Fund {
-                acct,
-                amount,
-                ref reference,
-            } => {
+            Entry::Fund { acct, amount, .. } => {
                 let payee = self.seat(acct);
                 self.balances[payee] += amount;
                 self.total += amount;
-                self.references.put(reference, at);
-                self.balances.push_reserved(0);
             }
             Entry::Paid {
-                ref epoid,
                 consumer,
                 merchant,
                 price,
@@ -213,11 +240,8 @@ impl EntryList {
                 let payer = self.seat_of(consumer, cacct);
                 let payee = self.seat_of(merchant, macct);
                 transfer(&mut self.balances, payer, price.0, payee, price.0);
-                self.orders.put(&epoid.write(), at);
-                self.balances.push_reserved(0);
             }
             Entry::Charged {
-                ref epoid,
                 consumer,
                 merchant,
                 price,
@@ -230,13 +254,45 @@ impl EntryList {
                 let payee = self.seat_of(merchant, macct);
                 transfer(&mut self.balances, payer, price.0, payee, price.0 - fee);
                 self.fees += fee;
-                self.orders.put(&epoid.write(), at);
-                self.balances.push_reserved(0);
             }
-            Entry::Refused { ref epoid, .. } => {
-                self.orders.put(&epoid.write(), at);
-                self.balances.push_reserved(0);
+            Entry::Enrol { .. } => {}
+            Entry::Refused { .. } => {}
+        }
+    }
+
+    // Puts the keys of the entry, with its place behind the entries.
+    fn put_keys(&mut self, e: &Entry)
+        requires most { self.old.cap ≤ MAX_CAP }
+        requires fit { AllByRecursion KeysFit self.old.entries.items }
+        requires next { LegalAfter self.old.entries.items e.now }
+        requires within { length self.old.entries.items < self.old.cap }
+        requires parties { Indexes party_key self.old.cap self.old.parties self.old.entries.items }
+        requires accounts { Indexes account_key self.old.cap self.old.accounts self.old.entries.items }
+        requires references { Indexes reference_key self.old.cap self.old.references self.old.entries.items }
+        requires orders { Indexes order_key self.old.cap self.old.orders self.old.entries.items }
+        ensures fit { KeysFit e.now }
+        ensures parties { Indexes party_key self.new.cap self.new.parties (self.old.entries.items ++ e.now ∷ []) }
+        ensures accounts { Indexes account_key self.new.cap self.new.accounts (self.old.entries.items ++ e.now ∷ []) }
+        ensures references { Indexes reference_key self.new.cap self.new.references (self.old.entries.items ++ e.now ∷ []) }
+        ensures orders { Indexes order_key self.new.cap self.new.orders (self.old.entries.items ++ e.now ∷ []) }
+        ensures entries { self.new.entries ≡ self.old.entries }
+        ensures cap { self.new.cap ≡ self.old.cap }
+        ensures indexes { list_indexes self.new ≡ list_indexes self.old }
+        ensures balances { self.new.balances ≡ self.old.balances }
+        ensures sum { self.new.total ≡ self.old.total }
+        ensures fees { self.new.fees ≡ self.old.fees }
+    {
+        let at = self.entries.len() as u32;
+        match *e {
+            Entry::Enrol { id, acct, .. } => {
+                self.parties.put(&name_key(id.0), at);
+                self.accounts.put(&name_key(acct.0), at);
+                keep_place(&mut self.enrolments, id, at);
             }
+            Entry::Fund { ref reference, .. } => self.references.put(reference, at),
+            Entry::Paid { ref epoid, .. } => self.orders.put(&epoid.write(), at),
+            Entry::Charged { ref epoid, .. } => self.orders.put(&epoid.write(), at),
+            Entry::Refused { ref epoid, .. } => self.orders.put(&epoid.write(), at),
         }
     }
 
@@ -268,25 +324,36 @@ impl EntryList {
         ensures places { list_places self.new ≡ list_places self.old }
         ensures indexes { list_indexes self.new ≡ list_indexes self.old }
     {
+        self.reverse(e);
+        self.take_off_keys(e);
+        let _ = self.balances.pop();
+    }
+
+    // Moves the money back that the last entry moved. The number at its place is still there.
+    fn reverse(&mut self, e: &Entry)
+        requires tied { Tied self.old self.old.entries.items }
+        requires legal { Legal self.old.entries.items }
+        requires some { 0 < length self.old.entries.items }
+        requires last { HoldsAt (λ x. x ≡ e.now) self.old.entries.items (length self.old.entries.items - 1) }
+        ensures balances { KeepsBalances (take (length self.old.entries.items - 1) self.old.entries.items) (take (length self.old.entries.items - 1) self.new.balances.items) }
+        ensures long { length self.new.balances.items ≡ length self.old.balances.items }
+        ensures capacity { vec_capacity self.new.balances ≡ vec_capacity self.old.balances }
+        ensures sum { self.new.total ≡ total (take (length self.old.entries.items - 1) self.old.entries.items) }
+        ensures fees { self.new.fees ≡ fees (take (length self.old.entries.items - 1) self.old.entries.items) }
+        ensures entries { self.new.entries ≡ self.old.entries }
+        ensures cap { self.new.cap ≡ self.old.cap }
+        ensures parties { self.new.parties ≡ self.old.parties }
+        ensures accounts { self.new.accounts ≡ self.old.accounts }
+        ensures references { self.new.references ≡ self.old.references }
+        ensures orders { self.new.orders ≡ self.old.orders }
+    {
         match *e {
-            Entry::Enrol { id, acct, .. } => {
-                self.parties.take_off(&name_key(id.0));
-                self.accounts.take_off(&name_key(acct.0));
-                let _ = self.balances.pop();
-            }
-            Entry::Fund {
-                acct,
-                amount,
-                ref reference,
-            } => {
+            Entry::Fund { acct, amount, .. } => {
                 let payee = self.seat(acct);
                 self.balances[payee] -= amount;
                 self.total -= amount;
-                self.references.take_off(reference);
-                let _ = self.balances.pop();
             }
             Entry::Paid {
-                ref epoid,
                 consumer,
                 merchant,
                 price,
@@ -297,11 +364,8 @@ impl EntryList {
                 let payer = self.seat_of(consumer, cacct);
                 let payee = self.seat_of(merchant, macct);
                 transfer(&mut self.balances, payee, price.0, payer, price.0);
-                self.orders.take_off(&epoid.write());
-                let _ = self.balances.pop();
             }
             Entry::Charged {
-                ref epoid,
                 consumer,
                 merchant,
                 price,
@@ -314,13 +378,41 @@ impl EntryList {
                 let payee = self.seat_of(merchant, macct);
                 transfer(&mut self.balances, payee, price.0 - fee, payer, price.0);
                 self.fees -= fee;
-                self.orders.take_off(&epoid.write());
-                let _ = self.balances.pop();
             }
-            Entry::Refused { ref epoid, .. } => {
-                self.orders.take_off(&epoid.write());
-                let _ = self.balances.pop();
+            Entry::Enrol { .. } => {}
+            Entry::Refused { .. } => {}
+        }
+    }
+
+    // Takes the keys of the last entry off.
+    fn take_off_keys(&mut self, e: &Entry)
+        requires legal { Legal self.old.entries.items }
+        requires some { 0 < length self.old.entries.items }
+        requires last { HoldsAt (λ x. x ≡ e.now) self.old.entries.items (length self.old.entries.items - 1) }
+        requires parties { Indexes party_key self.old.cap self.old.parties self.old.entries.items }
+        requires accounts { Indexes account_key self.old.cap self.old.accounts self.old.entries.items }
+        requires references { Indexes reference_key self.old.cap self.old.references self.old.entries.items }
+        requires orders { Indexes order_key self.old.cap self.old.orders self.old.entries.items }
+        ensures parties { Indexes party_key self.new.cap self.new.parties (take (length self.old.entries.items - 1) self.old.entries.items) }
+        ensures accounts { Indexes account_key self.new.cap self.new.accounts (take (length self.old.entries.items - 1) self.old.entries.items) }
+        ensures references { Indexes reference_key self.new.cap self.new.references (take (length self.old.entries.items - 1) self.old.entries.items) }
+        ensures orders { Indexes order_key self.new.cap self.new.orders (take (length self.old.entries.items - 1) self.old.entries.items) }
+        ensures entries { self.new.entries ≡ self.old.entries }
+        ensures cap { self.new.cap ≡ self.old.cap }
+        ensures indexes { list_indexes self.new ≡ list_indexes self.old }
+        ensures balances { self.new.balances ≡ self.old.balances }
+        ensures sum { self.new.total ≡ self.old.total }
+        ensures fees { self.new.fees ≡ self.old.fees }
+    {
+        match *e {
+            Entry::Enrol { id, acct, .. } => {
+                self.parties.take_off(&name_key(id.0));
+                self.accounts.take_off(&name_key(acct.0));
             }
+            Entry::Fund { ref reference, .. } => self.references.take_off(reference),
+            Entry::Paid { ref epoid, .. } => self.orders.take_off(&epoid.write()),
+            Entry::Charged { ref epoid, .. } => self.orders.take_off(&epoid.write()),
+            Entry::Refused { ref epoid, .. } => self.orders.take_off(&epoid.write()),
         }
     }
 
