@@ -21,6 +21,7 @@ use nb_entry::Entry;
 use nb_escrow::OpenedOrder;
 use nb_msgs::{Draft, write_each};
 use nb_port::Disk;
+use nb_seal::KeyState;
 use nb_turns::Line;
 use nb_units::Secret;
 pub use opening::VaultFault;
@@ -237,6 +238,19 @@ impl<D: Disk> Vault<D> {
         ensures { result ≡ (head_of self.now.origin.charter).house }
     {
         self.parts.head.house
+    }
+
+    /// The state of the house's key, with which codes under it are made: a copy of the one that is kept.
+    pub fn house_state(&mut self) -> KeyState
+        ensures state { result ≡ (head_of self.old.origin.charter).house }
+        ensures same { self.new ≡ self.old }
+    {
+        let Vault {
+            parts,
+            kept,
+            drafts: _,
+        } = self;
+        kept.house(&parts.head.house).copy()
     }
 
     /// The place of the gate behind the items of all entries that are recorded, in bytes from the front of the journal. It is the first that is

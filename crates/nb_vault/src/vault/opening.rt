@@ -128,6 +128,7 @@ fn restored<D: Disk>(
     match restore(&mut room.book, &charter, items.as_slice()) {
         ItemsRead::Whole => {}
         ItemsRead::Bad { item } => {
+            drop(room);
             return Err((VaultFault::BadEntry { item }, journal.into_disk()));
         }
     }
@@ -205,11 +206,20 @@ impl Room {
         requires most { cap ≤ MAX_CAP }
         ensures { IfOk result (IsRoomFor cap) }
     {
-        Ok(Room {
-            book: Book::new(alloc, cap, key)?,
-            turn: TurnRoom::new(alloc)?,
-            replies: ReplyRoom::new(alloc)?,
-            lines: Vec::with_capacity(alloc, cap as usize + MOST_LINES)?,
-        })
+        let lines = Vec::with_capacity(alloc, cap as usize + MOST_LINES)?;
+        let turn = TurnRoom::new(alloc)?;
+        let replies = ReplyRoom::new(alloc)?;
+        match Book::new(alloc, cap, key) {
+            Ok(book) => Ok(Room {
+                book,
+                turn,
+                replies,
+                lines,
+            }),
+            Err(NoMemory) => {
+                drop(replies);
+                Err(NoMemory)
+            }
+        }
     }
 }
