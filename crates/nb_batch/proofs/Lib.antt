@@ -6,3 +6,4 @@ pub mod Serving
 pub mod Recording
 pub mod Staying
 pub mod Stepping
+pub mod Stopping

@@ -22,7 +22,7 @@ use Rattle.nb_batch.specs.declared.answering.Answerer.{Answerer}
 use Rattle.nb_batch.specs.declared.answering.Answerer.TheVariants as answers
 use Rattle.nb_batch.specs.Answering.{Goes, GoesTo}
 use Rattle.nb_batch.specs.Batch.{HoldsState, GoesThrough, last_disk}
-use Rattle.nb_batch.specs.Acknowledged.{StandsForMore, Stays, StaysTaken}
+use Rattle.nb_batch.specs.Acknowledged.{StandsForMore, StandsSpelled, Stays, StaysTold}
 
 -- the entries of a state begin with these
 abbrev Begins : List Entry → State → Type 0
@@ -199,25 +199,23 @@ module _ {D : Type 0} (tells : DiskTells D) (only_now : (d : D) (c : List ℕ) �
         images = turn_stays answers.House asked state disk (last_disk opened disks) t;
       }
 
-  -- a record that a standby told to stand
-  pub taken_in : (first : State) (opened : D) (answered : List Answered) (states : List State) (disks : List D)
+  -- what a standby told
+  pub told : (first : State) (opened : D) (answered : List Answered) (states : List State) (disks : List D)
       → cap < 2 ^ 64 → length (first.entries ++ first.doubt) ≤ cap
       → AcknowledgesAll charter cap first answered states → GoesThrough tells charter cap first opened states disks
       → (turn code n : ℕ) (one : Answered) (state : State) (disk : D)
       → slice_get answered turn ≡ Some one → slice_get states turn ≡ Some state → slice_get disks turn ≡ Some disk
-      → (code ≡ TAKEN) ⊎ (code ≡ SAME) → n < 2 ^ 64 → one.reply ≡ acknowledgement (head_of charter).house code n
-      → StaysTaken tells charter cap one.request n state disk (last_disk opened disks)
-  taken_in first opened answered states disks narrow within run through turn code n one state disk asked is behind stands fits told =
+      → n < 2 ^ 64 → one.reply ≡ acknowledgement (head_of charter).house code n
+      → StaysTold tells charter cap one.request code n state disk (last_disk opened disks)
+  told first opened answered states disks narrow within run through turn code n one state disk asked is behind fits says =
       let t = at_turn answers.Standby first opened answered states disks run through turn one state disk asked is behind in
       let a : Acknowledges charter cap t.old one.request one.mark one.reply state = t.turn in
       let few : IsWithin cap state = there_within cap states turn state (all_within charter cap first answered states within run) is in
-      let same = told_once (head_of charter).house code a.code n (length state.entries) fits (omega (arith, narrow, few, length-append state.entries state.doubt)) (sym told ∙ a.reply_is) in
-      let r = came_there charter cap t.old (record_in one.request) one.mark a.code state a.came (subst (λ (c : ℕ). (c ≡ TAKEN) ⊎ (c ≡ SAME)) same.0 stands) in
+      let same = told_once (head_of charter).house code a.code n (length state.entries) fits (omega (arith, narrow, few, length-append state.entries state.doubt)) (sym says ∙ a.reply_is) in
       record {
-        shipped = r.shipped;
-        spelled = r.spelled;
-        signed = r.signed;
         counted = same.1;
-        stands = r.stands;
+        taken = λ stands.
+            let r = came_there charter cap t.old (record_in one.request) one.mark a.code state a.came (subst (λ (c : ℕ). (c ≡ TAKEN) ⊎ (c ≡ SAME)) same.0 stands) in
+            record { shipped = r.shipped; spelled = r.spelled; signed = r.signed; stands = r.stands };
         images = turn_stays answers.Standby one state disk (last_disk opened disks) t;
       }

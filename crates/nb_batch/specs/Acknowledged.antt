@@ -1,23 +1,27 @@
 -- What stays of a request that was answered, and of a record that was acknowledged.
-use Rattle.std.specs.Prelude.{◌≡◌, ◌⊎◌, ℕ, ◌<◌, ◌≤◌, ◌^◌, List, ◌++◌, Ok, Some, length, take}
+use Rattle.std.specs.Prelude.{◌≡◌, ◌⊎◌, ℕ, ◌<◌, ◌≤◌, ◌^◌, Bool, List, ◌++◌, Ok, Some, length, take}
 use Rattle.std.specs.List.{slice_get}
 use Rattle.std.specs.Option.{option_to_list}
 use Rattle.nb_units.specs.declared.charter.Charter.{Charter}
 use Rattle.nb_port.specs.Tells.{DiskTells}
 use Rattle.nb_entry.specs.declared.entry.Entry.{Entry}
 use Rattle.nb_escrow.specs.Head.{head_of}
+use Rattle.nb_journal.specs.Time.{LeavesOnly}
 use Rattle.nb_vault.specs.Holdings.{StandsFor}
+use Rattle.nb_vault.specs.Vaults.{Chronicled, state_of}
 use Rattle.nb_turns.specs.declared.mark.Mark.TheVariants.{At}
-use Rattle.nb_turns.specs.Turns.{Request, State, Answered}
+use Rattle.nb_turns.specs.Turns.{Request, State, Answered, IsStateOf}
 use Rattle.nb_turns.specs.Laws.{RunOfOnes}
 use Rattle.nb_vault.specs.Rules.{house_of, house_rules}
 use Rattle.nb_standby.specs.declared.code.TheConstants.{TAKEN, SAME}
 use Rattle.nb_standby.specs.declared.shipped.Shipped.{Shipped}
 use Rattle.nb_standby.specs.Answering.{AcknowledgesAll, acknowledgement, record_in}
+use Rattle.nb_standby.specs.Laws.{OpensOver}
 use Rattle.nb_standby.specs.Spelling.{ship_tag}
+use Rattle.nb_standby.specs.World.{restarted}
 use Rattle.nb_batch.specs.declared.answering.Answerer.{Answerer}
 use Rattle.nb_batch.specs.Answering.{Goes}
-use Rattle.nb_batch.specs.Batch.{GoesThrough, last_disk}
+use Rattle.nb_batch.specs.Batch.{GoesThrough, StandsInRun, last_disk}
 
 -- the image stands for a list that begins with these entries
 pub record StandsForMore (charter : Charter) (cap : ℕ) (entries : List Entry) (image : List ℕ) : Type 0 where
@@ -49,23 +53,43 @@ AcknowledgedStays {D} tells =
     → slice_get states turn ≡ Some state → slice_get disks turn ≡ Some disk
     → Stays tells charter cap request place reply state disk (last_disk opened disks)
 
--- a standby told that a record is taken in, or stood there, at so many entries: so many it has then, and the record, which is of its house, is the one at its
--- place. Each image that a stop at a moment since leaves of the last disk stands for a list that begins with all of them
-pub record StaysTaken {D : Type 0} (tells : DiskTells D) (charter : Charter) (cap : ℕ) (request : Request) (n : ℕ) (state : State) (disk last : D) : Type 0 where
+-- a record of the house that the frame spells stands at its place
+pub record StandsSpelled (charter : Charter) (request : Request) (state : State) : Type 0 where
   pub shipped : Shipped
   pub spelled : record_in request ≡ Ok shipped
   pub signed : shipped.tag ≡ ship_tag (head_of charter).house shipped.place shipped.entry
-  pub counted : n ≡ length state.entries
   pub stands : slice_get state.entries shipped.place ≡ Some shipped.entry
+
+-- a standby told this code, and that it has so many entries: so many it has then, and where it told that the record is taken in, or stood there, it stands.
+-- Each image that a stop at a moment since leaves of the last disk stands for a list that begins with all of them
+pub record StaysTold {D : Type 0} (tells : DiskTells D) (charter : Charter) (cap : ℕ) (request : Request) (code n : ℕ) (state : State) (disk last : D) : Type 0 where
+  pub counted : n ≡ length state.entries
+  pub taken : (code ≡ TAKEN) ⊎ (code ≡ SAME) → StandsSpelled charter request state
   pub images : (image : List ℕ) → tells.left last (tells.moment disk) image → StandsForMore charter cap state.entries image
 
--- so it is of each acknowledgement of a standby whose bytes tell one of these codes, where the cap, and a number that is told, have eight bytes
-abbrev pub TakenInStays : {D : Type 0} → DiskTells D → Type 0
-TakenInStays {D} tells =
+-- so it is of each acknowledgement of a standby, by its bytes, where the cap, and a number that is told, have eight bytes
+abbrev pub ToldStays : {D : Type 0} → DiskTells D → Type 0
+ToldStays {D} tells =
     (charter : Charter) (cap : ℕ) (first : State) (opened : D) (answered : List Answered) (states : List State) (disks : List D)
     → cap < 2 ^ 64 → length (first.entries ++ first.doubt) ≤ cap
     → AcknowledgesAll charter cap first answered states → GoesThrough tells charter cap first opened states disks
     → (turn code n : ℕ) (one : Answered) (state : State) (disk : D)
     → slice_get answered turn ≡ Some one → slice_get states turn ≡ Some state → slice_get disks turn ≡ Some disk
-    → (code ≡ TAKEN) ⊎ (code ≡ SAME) → n < 2 ^ 64 → one.reply ≡ acknowledgement (head_of charter).house code n
-    → StaysTaken tells charter cap one.request n state disk (last_disk opened disks)
+    → n < 2 ^ 64 → one.reply ≡ acknowledgement (head_of charter).house code n
+    → StaysTold tells charter cap one.request code n state disk (last_disk opened disks)
+
+-- a vault that was opened is one of the states of a run, behind a stop: what was in doubt in it is there, or it is not
+pub record RestartsInRun {D : Type 0} (charter : Charter) (cap : ℕ) (first : State) (states : List State) (opened : Chronicled D) : Type 0 where
+  pub state : State
+  pub is : IsStateOf first states state
+  pub kept : Bool
+  pub state_is : state_of opened ≡ restarted state kept
+  pub charter_is : opened.origin.charter ≡ charter
+  pub cap_is : opened.origin.cap ≡ cap
+
+-- so it is where a stop at any moment of a batch left the image that it was opened over
+abbrev pub StopInRunIsStep : {D : Type 0} → DiskTells D → Type 0
+StopInRunIsStep {D} tells =
+    (charter : Charter) (cap : ℕ) (first : State) (states : List State) (old new : D) (image : List ℕ) (opened : Chronicled D)
+    → LeavesOnly tells old new (StandsInRun charter cap first states) → tells.left new (tells.moment old) image
+    → OpensOver tells image opened → RestartsInRun charter cap first states opened

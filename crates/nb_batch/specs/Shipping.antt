@@ -1,11 +1,12 @@
 -- The records that are shipped from a place on.
 use Rattle.std.specs.Prelude.{◌≡◌, ℕ, ◌+◌, ◌<◌, ◌≤◌, List, [], ◌∷◌, ◌++◌, drop, length, Option, Result, Ok, Err, ⊤}
+use Rattle.std.specs.List.{flat_map}
 use Rattle.std.specs.Io.KnownBytes.{Appends}
 use Rattle.nb_units.specs.Frames.{frame}
 use Rattle.nb_port.specs.Faults.{Rose}
 use Rattle.nb_entry.specs.declared.entry.Entry.{Entry}
 use Rattle.nb_standby.specs.declared.limits.TheConstants.{SHIPPED_FRAME, SHIPPED_ROOM}
-use Rattle.nb_standby.specs.Spelling.{shipped_bytes, signed}
+use Rattle.nb_standby.specs.Spelling.{shipped_bytes, shipped_frames, signed}
 use Rattle.nb_batch.specs.declared.shipping.ShipFault.{ShipFault}
 use Rattle.nb_batch.specs.declared.shipping.ShipFault.TheVariants.{Beyond, WriteFault, NoMemory}
 use Rattle.nb_batch.specs.declared.shipping.TheConstants.{SHIPPED_PIECE}
@@ -19,8 +20,7 @@ record_frame key place e = frame (record { kind = SHIPPED_FRAME; body = shipped_
 
 -- those of these entries, the first of which stands at this place
 abbrev pub record_frames : List ℕ → ℕ → List Entry → List ℕ
-record_frames key place [] = []
-record_frames key place (e ∷ entries) = record_frame key place e ++ record_frames key (place + 1) entries
+record_frames key place entries = flat_map frame (shipped_frames key place entries)
 
 -- those of a list from a place on
 abbrev pub shipped_from : List ℕ → ℕ → List Entry → List ℕ

@@ -38,7 +38,8 @@ pub(crate) fn moment_for<C: Clock>(by: Answerer, clock: &mut C) -> u64
     }
 }
 
-// Answers one frame.
+// Answers one frame: a request by the house's reply, or by the refusal that says why there is none; a record by the acknowledgement of a standby that takes it
+// in. A frame of another kind spells none.
 pub(crate) fn answer_by<D: Disk>(
     by: Answerer,
     house: &mut Vault<D>,
@@ -60,32 +61,15 @@ pub(crate) fn answer_by<D: Disk>(
     ensures disk { D.tells.faults house.old.disk ≤ D.tells.faults house.new.disk }
 {
     match by {
-        Answerer::House => answer_with(house, kind, body, moment, reply),
-        Answerer::Standby => acknowledge(house, kind, body, moment, reply),
+        Answerer::House => match house.answer(ASKER, kind, body, moment, reply) {
+            Answer::Answered { .. } => {}
+            Answer::DiskFault { before, after } => refuse(DISK_FAULT, before, after, reply),
+            Answer::Worn { faults } => refuse(WORN, u64::from(faults), 0, reply),
+        },
+        Answerer::Standby => {
+            let _code = follow(house, record_of(kind, body), reply);
+        }
     }
-}
-
-// Takes in the record that one frame spells, and acknowledges it. A frame of another kind spells none.
-fn acknowledge<D: Disk>(
-    house: &mut Vault<D>,
-    kind: u8,
-    body: &[u8],
-    _moment: u64,
-    reply: &mut Vec<u8>,
-)
-    requires empty { reply.old.items ≡ [] }
-    requires room { REPLY_ROOM ≤ spare_of reply.old }
-    ensures answers { AnswersWith D.tells answers.Standby house.old house.new (request_of kind body.now _moment) reply.new.items }
-    ensures origin { house.new.origin ≡ house.old.origin }
-    ensures any_moment { LeavesOnly D.tells house.old.disk house.new.disk
-        (λ image. StandsForState house.old image ⊎ StandsForState house.new image) }
-    ensures durable { MayBeSent D.tells answers.Standby house.new reply.new.items }
-    ensures keeps { Keeps D.tells house.new }
-    ensures quiet { state_of house.new ≡ state_of house.old → D.tells.content house.new.disk ≡ D.tells.content house.old.disk }
-    ensures room { vec_capacity reply.new ≡ vec_capacity reply.old }
-    ensures disk { D.tells.faults house.old.disk ≤ D.tells.faults house.new.disk }
-{
-    let _code = follow(house, record_of(kind, body), reply);
 }
 
 // What is read of a frame as a record: nothing of one of another kind.
@@ -93,33 +77,6 @@ fn record_of(kind: u8, body: &[u8]) -> &[u8]
     ensures { result.now ≡ body_of kind body.now }
 {
     if kind == SHIPPED_FRAME { body } else { &[] }
-}
-
-// Answers one request by the house's reply, or by the refusal that says why there is none.
-fn answer_with<D: Disk>(
-    house: &mut Vault<D>,
-    kind: u8,
-    body: &[u8],
-    moment: u64,
-    reply: &mut Vec<u8>,
-)
-    requires empty { reply.old.items ≡ [] }
-    requires room { REPLY_ROOM ≤ spare_of reply.old }
-    ensures answers { AnswersWith D.tells answers.House house.old house.new (request_of kind body.now moment) reply.new.items }
-    ensures origin { house.new.origin ≡ house.old.origin }
-    ensures any_moment { LeavesOnly D.tells house.old.disk house.new.disk
-        (λ image. StandsForState house.old image ⊎ StandsForState house.new image) }
-    ensures durable { MayBeSent D.tells answers.House house.new reply.new.items }
-    ensures keeps { Keeps D.tells house.new }
-    ensures quiet { state_of house.new ≡ state_of house.old → D.tells.content house.new.disk ≡ D.tells.content house.old.disk }
-    ensures room { vec_capacity reply.new ≡ vec_capacity reply.old }
-    ensures disk { D.tells.faults house.old.disk ≤ D.tells.faults house.new.disk }
-{
-    match house.answer(ASKER, kind, body, moment, reply) {
-        Answer::Answered { .. } => {}
-        Answer::DiskFault { before, after } => refuse(DISK_FAULT, before, after, reply),
-        Answer::Worn { faults } => refuse(WORN, u64::from(faults), 0, reply),
-    }
 }
 
 // Appends a refusal that shows two numbers.

@@ -1,6 +1,6 @@
 //! What holds of each batch. Each function here does nothing: its contract is the law.
 
-ghost use Rattle.nb_batch.specs.Acknowledged.{AcknowledgedStays, OpeningStays, TakenInStays};
+ghost use Rattle.nb_batch.specs.Acknowledged.{AcknowledgedStays, OpeningStays, StopInRunIsStep, ToldStays};
 
 use nb_port::Disk;
 
@@ -15,8 +15,13 @@ pub fn acknowledged_stays<D: Disk>()
     ensures { AcknowledgedStays D.tells }
 {}
 
-/// A law: the record that a standby acknowledged as taken in, or as one that stood there, stands at its place in what every stop since leaves, and so does each
-/// entry of the number that was told.
-pub fn taken_in_stays<D: Disk>()
-    ensures { TakenInStays D.tells }
+/// A law: the entries that a standby's acknowledgement counts, whatever its code is, stand in what every stop since leaves; where it tells that the record is
+/// taken in, or stood there, that record is one of them, at its place.
+pub fn told_stays<D: Disk>()
+    ensures { ToldStays D.tells }
+{}
+
+/// A law: a vault that is opened over what a stop at any moment of a batch left is one of the states of its run, behind a stop as `nb_standby` has it.
+pub fn stop_in_run_is_step<D: Disk>()
+    ensures { StopInRunIsStep D.tells }
 {}

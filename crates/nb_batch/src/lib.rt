@@ -9,7 +9,8 @@
 //! answered by a run of turns (`RunOfOnes` of nb_turns; of a standby `AcknowledgesAll` of nb_standby), whose replies are what was sent; a stop at any moment leaves the entries of
 //! one of the states of that run, without what is in doubt in it or with it; and how the batch ended says what is left of the input,
 //! how far it was read, and what failed. The entry of a request that was answered stays, whatever comes behind it
-//! ([`laws::acknowledged_stays`]), and so does that of a record that was acknowledged as taken in ([`laws::taken_in_stays`]).
+//! ([`laws::acknowledged_stays`]), and so do all entries that an acknowledgement counts ([`laws::told_stays`]). What is opened over what a stop in a batch left
+//! is one of the states of its run ([`laws::stop_in_run_is_step`]).
 //!
 //! [`ship_from`] sends the records of a vault's entries, for a standby to follow, in pieces of at most 64 KiB.
 //!

@@ -8,8 +8,8 @@ ghost use Rattle.nb_batch.specs.Shipping.{MakesRoom, Ships, ShipsUnheld};
 
 use crate::send::{Sent, send_all};
 use nb_port::{Disk, Sink};
-use nb_standby::{SHIPPED_ROOM, ship};
-use nb_units::Secret;
+use nb_seal::KeyState;
+use nb_standby::{SHIPPED_ROOM, ship_with};
 use nb_vault::Vault;
 use std::alloc::Global;
 
@@ -49,14 +49,20 @@ pub fn ship_from<D: Disk, K: Sink>(
     let Ok(mut waits) = Vec::with_capacity(alloc, SHIPPED_PIECE) else {
         return Err(ShipFault::NoMemory);
     };
-    ship_all(vault, from as u32, &vault.house(), &mut waits, sink)
+    ship_all(
+        vault,
+        from as u32,
+        &KeyState::new(&vault.house()),
+        &mut waits,
+        sink,
+    )
 }
 
 // Sends the records from a place on that is none beyond the entries, in pieces.
 fn ship_all<D: Disk, K: Sink>(
     vault: &Vault<D>,
     from: u32,
-    house: &Secret,
+    house: &KeyState,
     waits: &mut Vec<u8>,
     sink: &mut K,
 ) -> Result<(), ShipFault>
@@ -74,7 +80,7 @@ fn ship_all<D: Disk, K: Sink>(
     'entries: for at in from..vault.entries() {
         if let Some(entry) = vault.entry(at) {
             match make_room(waits, sink) {
-                Sent::All => ship(u64::from(at), &entry, house, waits),
+                Sent::All => ship_with(u64::from(at), &entry, house, waits),
                 Sent::Failed => return Err(ShipFault::WriteFault),
             }
         }

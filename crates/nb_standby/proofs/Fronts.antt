@@ -11,7 +11,7 @@ use Rattle.nb_turns.proofs.Growth.{turn_grows}
 use Rattle.nb_vault.specs.declared.taking.TakeIn.{TakeIn}
 use Rattle.nb_vault.specs.declared.taking.TakeIn.TheVariants as takes
 use Rattle.nb_vault.specs.Taking.{house_told, nothing_asked}
-use Rattle.nb_standby.specs.World.{TakesTo, restarted, Sent, World, Event, Commits, Ships, Delivers, Stops, Steps, Happens, BeginsWith, IsFront}
+use Rattle.nb_standby.specs.World.{TakesTo, restarted, Sent, World, Event, Commits, Ships, Delivers, Stops, Steps, Happens, BeginsWith, IsFront, Starts}
 use Rattle.nb_standby.specs.Laws.{StaysFront, EntriesStay, TakenStays}
 
 -- ---- lists
@@ -109,9 +109,9 @@ module _ (charter : Charter) (cap : ℕ) (all : List Entry) (old new : State) (p
 -- ---- any event
 
 -- each record that was shipped is of the primary's list, and the standby's is a front of it
-record Holds (w : World) : Type 0 where
-  sent : AllByRecursion (λ (s : Sent). slice_get w.primary s.place ≡ Some s.entry) w.sent
-  front : IsFront w
+pub record Holds (w : World) : Type 0 where
+  pub sent : AllByRecursion (λ (s : Sent). slice_get w.primary s.place ≡ Some s.entry) w.sent
+  pub front : IsFront w
 
 sent_stay : (primary : List Entry) (e : Entry) (ss : List Sent) → AllByRecursion (λ (s : Sent). slice_get primary s.place ≡ Some s.entry) ss
     → AllByRecursion (λ (s : Sent). slice_get (primary ++ e ∷ []) s.place ≡ Some s.entry) ss
@@ -123,7 +123,7 @@ stopped all old true front = (front.1, subst (BeginsWith all) (sym (append-nil (
 stopped all old false front = (front.0, subst (BeginsWith all) (sym (append-nil old.entries)) front.0)
 
 module _ (charter : Charter) (cap : ℕ) where
-  step_holds : (old new : World) (event : Event) → Holds old → Steps charter cap old event new → Holds new
+  pub step_holds : (old new : World) (event : Event) → Holds old → Steps charter cap old event new → Holds new
   step_holds old new (Commits e) h step =
       subst Holds (sym step.1) (record {
         sent = sent_stay old.primary e old.sent h.sent;
@@ -150,10 +150,13 @@ module _ (charter : Charter) (cap : ℕ) where
   all_hold first [] (next ∷ worlds) h happens = absurd happens
   all_hold first (event ∷ more) [] h happens = absurd happens
 
-pub stays_front : StaysFront
-stays_front charter cap first events worlds starts happens =
+pub holds_first : (first : World) → Starts first → Holds first
+holds_first first starts =
     let with_doubt : first.standby.entries ++ first.standby.doubt ≡ first.standby.entries = ap (λ (es : List Entry). first.standby.entries ++ es) starts.none ∙ append-nil first.standby.entries in
-    all_hold charter cap first events worlds (record { sent = starts.sent; front = (starts.front, subst (BeginsWith first.primary) (sym with_doubt) starts.front) }) happens
+    record { sent = starts.sent; front = (starts.front, subst (BeginsWith first.primary) (sym with_doubt) starts.front) }
+
+pub stays_front : StaysFront
+stays_front charter cap first events worlds starts happens = all_hold charter cap first events worlds (holds_first first starts) happens
 
 -- ---- what stays
 

@@ -1,97 +1,97 @@
 -- Whole runs of `follow`.
-use Rattle.std.proofs.Common.{◌≡◌, ◌⊎◌, inl, inr, ⊎_elim, ℕ, ◌<◌, ◌≤◌, List, [], ◌∷◌, ◌++◌, length, None, Some, Result, Ok, Err, refl, sym, ap, subst, ◌∙◌, arith}
+use Rattle.std.proofs.Common.{◌≡◌, ◌⊎◌, inl, inr, ⊎_elim, ℕ, ◌<◌, ◌≤◌, ◌+◌, List, [], ◌∷◌, ◌++◌, length, get_or, append_assoc, None, Some, Result, Ok, Err, refl, sym, ap, subst, ◌∙◌, arith}
 use Rattle.std.specs.Prelude.{◌^◌, map, slice_index, take, drop}
 use Rattle.std.specs.Int.{w64, from_be_bytes}
 use Rattle.std.specs.List.{slice_get, AllByRecursion}
 use Rattle.std.specs.Option.{option_to_list}
 use Rattle.std.proofs.lemmas.List.{append-nil, length-append}
+use Rattle.std.proofs.Math.Seq.{take-append_seam}
 use Rattle.std.proofs.lemmas.Nat.{from_be_bytes-to_be_bytes_8}
 use Rattle.std.proofs.lemmas.Option.{slice_get_within}
 use Rattle.nb_units.specs.declared.charter.Charter.{Charter}
 use Rattle.nb_units.specs.Frames.{Frame}
 use Rattle.nb_escrow.specs.Head.{head_of}
 use Rattle.nb_entry.specs.declared.entry.Entry.{Entry}
+use Rattle.nb_entry.specs.Spelling.{IsEntry}
+use Rattle.nb_book.specs.Legal.{LegalUnder, NextUnder}
+use Rattle.nb_book.proofs.Rates.{legal_under_is_next}
 use Rattle.nb_turns.specs.declared.limits.TheConstants.{MAX_FAULTS}
 use Rattle.nb_turns.specs.declared.mark.Mark.{Mark}
-use Rattle.nb_turns.specs.Turns.{Answered, Decides, Doubts, Request, SettlesInto, State, Turn, Unsettled}
+use Rattle.nb_turns.specs.Turns.{Answered, Decides, Doubts, Request, SettlesInto, State, Turn, Unsettled, last_state}
 use Rattle.nb_vault.specs.declared.taking.TakeIn.{TakeIn}
 use Rattle.nb_vault.specs.declared.taking.TakeIn.TheVariants as takes
-use Rattle.nb_vault.specs.Taking.{IsJudged, entry_taken, house_told, nothing_asked}
+use Rattle.nb_vault.specs.Taking.{IsJudged, MayFollow, entry_taken, house_told, nothing_asked}
 use Rattle.nb_standby.specs.declared.code.TheConstants.{TAKEN, SAME, WORN}
+use Rattle.nb_standby.specs.declared.limits.TheConstants.{SHIPPED_FRAME}
 use Rattle.nb_standby.specs.declared.shipped.Shipped.{Shipped}
 use Rattle.nb_standby.specs.Answering.{Acknowledges, AcknowledgesAll, CameOf, acknowledgement, body_of, mark_of, record_in}
 use Rattle.nb_standby.specs.Following.{code_of}
 use Rattle.nb_standby.specs.Reading.{shipped_of}
-use Rattle.nb_standby.specs.Spelling.{ship_tag, untold_bytes}
-use Rattle.nb_standby.specs.World.{BeginsWith, Delivers, IsFront, Steps, TakesTo, World}
-use Rattle.nb_standby.specs.Laws.{AreDeliveries, FollowIsDeliveries, FollowedStaysFront, IsNoFault, OneAcknowledging, StandsIn, frame_in}
-use Rattle.nb_standby.proofs.Fronts.{AreFront, itself, stays_front, takes_stays}
+use Rattle.nb_standby.specs.Spelling.{ship_tag, shipped_bytes, shipped_frames, signed, untold_bytes}
+use Rattle.nb_standby.specs.World.{BeginsWith, Delivers, TakesTo, World}
+use Rattle.nb_standby.specs.Laws.{AreTaken, FollowIsDeliveries, FollowedStaysFront, Hears, HearsAll, IsDelivered, IsNoFault, IsPassed, OneAcknowledging, TakesAll, frame_in, with_standby}
+use Rattle.nb_seal.proofs.Opening.{length-hmac_of}
+use Rattle.nb_standby.proofs.Layouts.{shipped_reads_back}
+use Rattle.nb_standby.proofs.Fronts.{AreFront, Holds, holds_first, itself, step_holds, takes_stays}
 
 -- ---- deliveries
 
--- the world where the standby is in this state
-abbrev with_standby : World → State → World
-with_standby world state = record { primary = world.primary; sent = world.sent; standby = state }
-
--- what came of a frame is a delivery, or nothing
-came_delivers : (charter : Charter) (cap : ℕ) (world : World) (read : Result Shipped ℕ) (mark : Mark) (code : ℕ) (new : State)
+-- what came of a frame is a delivery, or it is passed over
+came_heard : (charter : Charter) (cap : ℕ) (world : World) (read : Result Shipped ℕ) (mark : Mark) (code : ℕ) (new : State)
     → ((r : Shipped) → read ≡ Ok r → r.tag ≡ ship_tag (head_of charter).house r.place r.entry → (k : ℕ) × (slice_get world.sent k ≡ Some (record { place = r.place; entry = r.entry })))
     → CameOf (head_of charter).house charter cap world.standby read mark code new
-    → (new ≡ world.standby) ⊎ ((k : ℕ) × (how : TakeIn) × Steps charter cap world (Delivers k how) (with_standby world new))
-came_delivers charter cap world (Err place) mark code new shipped came = inl came.2
-came_delivers charter cap world (Ok r) mark code new shipped (inl came) = inl came.3
-came_delivers charter cap world (Ok r) mark code new shipped (inr came) =
-    let sent = shipped r refl came.0 in
-    inr (sent.0, came.1.0, (record { place = r.place; entry = r.entry }, sent.1, new, came.1.3, refl))
-
-stands_still : (world : World) (worlds : List World) (state : State) (states : List State) → state ≡ world.standby → StandsIn world worlds states → StandsIn world worlds (state ∷ states)
-stands_still world [] state states same stands = (same, stands)
-stands_still world (next ∷ worlds) state states same stands = inl (same, stands)
+    → IsPassed (head_of charter).house world read code (with_standby world new) ⊎ IsDelivered charter cap world read code (with_standby world new)
+came_heard charter cap world (Err place) mark code new shipped came = inl (came.1, ap (with_standby world) came.2)
+came_heard charter cap world (Ok r) mark code new shipped (inl came) = inl (came.0, came.2, ap (with_standby world) came.3)
+came_heard charter cap world (Ok r) mark code new shipped (inr came) =
+    let there = shipped r refl came.0 in
+    inr (record {
+      shipped = r;
+      spelled = refl;
+      signed = came.0;
+      number = there.0;
+      sent = there.1;
+      how = came.1.0;
+      code_is = came.1.2;
+      step = (record { place = r.place; entry = r.entry }, there.1, new, came.1.3, refl);
+    })
 
 pub follow_is_deliveries : FollowIsDeliveries
-follow_is_deliveries charter cap world [] [] shipped run = record { events = []; worlds = []; deliveries = tt; happens = tt; stands = tt }
-follow_is_deliveries charter cap world (a ∷ answered) (state ∷ states) shipped run = ⊎_elim
-    (λ (same : state ≡ world.standby).
-    let rest = follow_is_deliveries charter cap world answered states shipped.1 (subst (λ (s : State). AcknowledgesAll charter cap s answered states) same run.1) in
-    let all : AreDeliveries charter cap world (state ∷ states) =
-    record { events = rest.events; worlds = rest.worlds; deliveries = rest.deliveries; happens = rest.happens; stands = stands_still world rest.worlds state states same rest.stands }
-    in
-    all)
-    (λ delivered.
-    let next = with_standby world state in
-    let rest = follow_is_deliveries charter cap next answered states shipped.1 run.1 in
-    let all : AreDeliveries charter cap world (state ∷ states) = record {
-      events = Delivers delivered.0 delivered.1 ∷ rest.events;
-      worlds = next ∷ rest.worlds;
-      deliveries = (tt, rest.deliveries);
-      happens = (delivered.2, rest.happens);
-      stands = inr (refl, rest.stands);
+follow_is_deliveries charter cap world [] [] shipped run = tt
+follow_is_deliveries charter cap world (a ∷ answered) (state ∷ states) shipped run =
+    let here : Hears charter cap world a (with_standby world state) = record {
+      code = run.0.code;
+      reply_is = run.0.reply_is;
+      came = came_heard charter cap world (record_in a.request) a.mark run.0.code state shipped.0 run.0.came;
     } in
-    all)
-    (came_delivers charter cap world (record_in a.request) a.mark run.0.code state shipped.0 run.0.came)
+    (here, follow_is_deliveries charter cap (with_standby world state) answered states shipped.1 run.1)
 follow_is_deliveries charter cap world [] (state ∷ states) shipped run = absurd run
 follow_is_deliveries charter cap world (a ∷ answered) [] shipped run = absurd run
 
 -- ---- fronts
 
-front_here : (all : List Entry) (world : World) (state : State) → world.primary ≡ all → state ≡ world.standby → IsFront world → AreFront all state
-front_here all world state primary same front = subst (λ (es : List Entry). AreFront es state) primary (subst (AreFront world.primary) (sym same) front)
+passed_holds : (key : List ℕ) (world : World) (read : Result Shipped ℕ) (code : ℕ) (next : World) → Holds world → IsPassed key world read code next → Holds next
+passed_holds key world (Err place) code next holds passed = subst Holds (sym passed.1) holds
+passed_holds key world (Ok r) code next holds passed = subst Holds (sym passed.2) holds
 
-all_fronts : (all : List Entry) (world : World) (worlds : List World) (states : List State) → world.primary ≡ all → StandsIn world worlds states → AllByRecursion IsFront (world ∷ worlds)
-    → AllByRecursion (AreFront all) states
-all_fronts all world [] [] primary stands fronts = tt
-all_fronts all world (next ∷ worlds) [] primary stands fronts = tt
-all_fronts all world [] (state ∷ states) primary stands fronts = (front_here all world state primary stands.0 fronts.0, all_fronts all world [] states primary stands.1 fronts)
-all_fronts all world (next ∷ worlds) (state ∷ states) primary (inl stands) fronts =
-    (front_here all world state primary stands.0 fronts.0, all_fronts all world (next ∷ worlds) states primary stands.1 fronts)
-all_fronts all world (next ∷ worlds) (state ∷ states) primary (inr stands) fronts =
-    let same : next.primary ≡ all = ap (λ (w : World). w.primary) stands.0 ∙ primary in
-    (front_here all next state same (sym (ap (λ (w : World). w.standby) stands.0)) fronts.1.0, all_fronts all next worlds states same stands.1 fronts.1)
+heard_holds : (charter : Charter) (cap : ℕ) (world : World) (a : Answered) (next : World) → Holds world → Hears charter cap world a next → Holds next
+heard_holds charter cap world a next holds heard = ⊎_elim
+    (passed_holds (head_of charter).house world (record_in a.request) heard.code next holds)
+    (λ delivered. step_holds charter cap world next (Delivers delivered.number delivered.how) holds delivered.step)
+    heard.came
+
+fronts : (charter : Charter) (cap : ℕ) (world : World) (answered : List Answered) (states : List State) → Holds world → HearsAll charter cap world answered (map (with_standby world) states)
+    → AllByRecursion (AreFront world.primary) states
+fronts charter cap world [] [] holds heard = tt
+fronts charter cap world (a ∷ answered) (state ∷ states) holds heard =
+    let next = heard_holds charter cap world a (with_standby world state) holds heard.0 in
+    (next.front, fronts charter cap (with_standby world state) answered states next heard.1)
+fronts charter cap world [] (state ∷ states) holds heard = absurd heard
+fronts charter cap world (a ∷ answered) [] holds heard = tt
 
 pub followed_stays_front : FollowedStaysFront
 followed_stays_front charter cap world answered states starts shipped run =
-    let d = follow_is_deliveries charter cap world answered states shipped run in
-    all_fronts world.primary world d.worlds states refl d.stands (stays_front charter cap world d.events d.worlds starts d.happens)
+    fronts charter cap world answered states (holds_first world starts) (follow_is_deliveries charter cap world answered states shipped run)
 
 -- ---- what stays
 
@@ -335,3 +335,75 @@ one_acknowledging charter cap first [] (b ∷ others) states ends none same fine
 one_acknowledging charter cap first (a ∷ answered) [] states ends none same fine fine' run run' = absurd (no_frame (frame_in a) (map frame_in answered) (sym same))
 one_acknowledging charter cap first (a ∷ answered) (b ∷ others) [] ends none same fine fine' run run' = absurd run
 one_acknowledging charter cap first (a ∷ answered) (b ∷ others) (s ∷ states) [] none same fine fine' run run' = absurd run'
+
+-- ---- all are taken in
+
+module _ (charter : Charter) (cap : ℕ) (first : State) (e : Entry) (more : List Entry) (none : first.doubt ≡ []) (few : first.faults < MAX_FAULTS)
+    (legal : LegalUnder charter.version charter.rate (first.entries ++ e ∷ more)) (short : length (first.entries ++ e ∷ more) ≤ cap) where
+  -- the next entry may come
+  may_follow : MayFollow charter cap first.entries e
+  may_follow =
+      let inside : length first.entries < length (first.entries ++ e ∷ more) = omega (arith, length-append first.entries (e ∷ more)) in
+      let at = (legal_under_is_next charter.version charter.rate (first.entries ++ e ∷ more)).0 legal (length first.entries) inside e in (
+        subst (λ (H : List Entry). NextUnder charter.version charter.rate H e) (take-append_seam first.entries (e ∷ more))
+            (subst (NextUnder charter.version charter.rate (take (length first.entries) (first.entries ++ e ∷ more))) (seam first.entries e more) at),
+        omega (arith, inside, short),
+      )
+    where
+      seam : (over : List Entry) (d : Entry) (rest : List Entry) → get_or (over ++ d ∷ rest) (length over) d ≡ d
+      seam [] d rest = refl
+      seam (x ∷ over) d rest = seam over d rest
+
+  -- where a record of it was read it is taken in
+  next_taken : (code : ℕ) (mark : Mark) (new : State) → IsNoFault mark → CameOf (head_of charter).house charter cap first (Ok (signed (head_of charter).house (length first.entries) e)) mark code new
+      → (code ≡ TAKEN) × (new ≡ at_rest_over (first.entries ++ e ∷ []) first.faults)
+  next_taken code mark new fine (inl other) = absurd (other.0 refl)
+  next_taken code mark new fine (inr came) = ⊎_elim
+      (λ w.
+      let same : w.0 ≡ takes.Taken = judged_once charter cap first.entries (length first.entries) e w.0 takes.Taken w.3 (refl, may_follow) in
+      let both : (code ≡ TAKEN) × (new ≡ at_rest_over (first.entries ++ e ∷ []) first.faults) =
+      (w.1 ∙ ap code_of same, w.4 ∙ ap (left_by charter cap first (length first.entries) e none) same) in
+      both)
+      (λ w. absurd (omega (arith, few, w.0)))
+      (went charter cap first (length first.entries) e none came.1.0 code new (subst IsNoFault came.1.1 fine) came.1.2 came.1.3)
+
+-- the record that is read of its frame
+own_record : (key : List ℕ) (place : ℕ) (e : Entry) → place < 2 ^ 64 → IsEntry e → shipped_of (shipped_bytes (signed key place e)) ≡ Ok (signed key place e)
+own_record key place e small is = shipped_reads_back (signed key place e) (record { place = small; entry = is; tag = length-hmac_of key _ })
+
+pub takes_all : TakesAll
+takes_all charter cap first [] [] [] none few are legal short narrow spelled fine run = (tt, rest)
+  where
+    rest : first ≡ record { entries = first.entries ++ []; doubt = []; faults = first.faults }
+    rest = rw (append-nil first.entries, ← none) refl
+takes_all charter cap first (e ∷ entries) (a ∷ answered) (state ∷ states) none few are legal short narrow spelled fine run =
+    let key = (head_of charter).house in
+    let place = length first.entries in
+    let frames = first_frame (frame_in a) (record { kind = SHIPPED_FRAME; body = shipped_bytes (signed key place e) }) (map frame_in answered) (shipped_frames key (place + 1) entries) spelled in
+    let small : place < 2 ^ 64 = omega (arith, short, narrow, length-append first.entries (e ∷ entries)) in
+    let read : record_in a.request ≡ Ok (signed key place e) = ap read_of frames.0 ∙ own_record key place e small are.0 in
+    let here = next_taken charter cap first e entries none few legal short run.0.code a.mark state fine.0
+    (subst (λ (r : Result Shipped ℕ). CameOf key charter cap first r a.mark run.0.code state) read run.0.came) in
+    let next : State = at_rest_over (first.entries ++ e ∷ []) first.faults in
+    let joined : (first.entries ++ e ∷ []) ++ entries ≡ first.entries ++ e ∷ entries = append_assoc first.entries (e ∷ []) entries in
+    let long : length (first.entries ++ e ∷ []) ≡ place + 1 = length-append first.entries (e ∷ []) in
+    let rest = takes_all charter cap next entries answered states refl few are.1
+    (subst (LegalUnder charter.version charter.rate) (sym joined) legal)
+    (subst (λ (es : List Entry). length es ≤ cap) (sym joined) short)
+    narrow
+    (frames.1 ∙ ap (λ (n : ℕ). shipped_frames key n entries) (sym long))
+    fine.1
+    (subst (λ (s : State). AcknowledgesAll charter cap s answered states) here.1 run.1)
+    in
+    let reply : a.reply ≡ acknowledgement key TAKEN (place + 1) =
+    run.0.reply_is ∙ ap (λ (n : ℕ). acknowledgement key n (length state.entries)) here.0
+    ∙ ap (λ (s : State). acknowledgement key TAKEN (length s.entries)) here.1 ∙ ap (acknowledgement key TAKEN) long
+    in (
+      (reply, subst (λ (n : ℕ). AreTaken key n answered) long rest.0),
+      ap (λ (s : State). last_state s states) here.1 ∙ rest.1 ∙ ap (λ (es : List Entry). at_rest_over es first.faults) joined,
+    )
+takes_all charter cap first [] (a ∷ answered) states none few are legal short narrow spelled fine run = absurd (no_frame (frame_in a) (map frame_in answered) (sym spelled))
+takes_all charter cap first (e ∷ entries) [] states none few are legal short narrow spelled fine run =
+    absurd (no_frame (record { kind = SHIPPED_FRAME; body = shipped_bytes (signed (head_of charter).house (length first.entries) e) }) (shipped_frames (head_of charter).house (length first.entries + 1) entries) spelled)
+takes_all charter cap first [] [] (state ∷ states) none few are legal short narrow spelled fine run = absurd run
+takes_all charter cap first (e ∷ entries) (a ∷ answered) [] none few are legal short narrow spelled fine run = absurd run

@@ -1,5 +1,5 @@
 -- What `follow` does is a step of the world.
-use Rattle.std.proofs.Common.{◌≡◌, inl, inr, ℕ, true, false, List, [], ◌++◌, Ok, Result, refl, sym, subst}
+use Rattle.std.proofs.Common.{◌≡◌, inl, inr, ⊎_elim, ℕ, true, false, List, [], ◌++◌, Ok, Result, refl, sym, subst}
 use Rattle.std.proofs.lemmas.List.{append-nil}
 use Rattle.nb_seal.proofs.Opening.{length-hmac_of}
 use Rattle.nb_port.specs.Tells.{DiskTells}
@@ -14,7 +14,7 @@ use Rattle.nb_standby.specs.declared.shipped.Shipped.{Shipped}
 use Rattle.nb_standby.specs.Spelling.{IsShipped, ship_tag, signed}
 use Rattle.nb_standby.specs.Following.{FollowsAs, code_of, house_key}
 use Rattle.nb_standby.specs.World.{TakesTo}
-use Rattle.nb_standby.specs.Laws.{FollowIsStep, StopIsStep}
+use Rattle.nb_standby.specs.Laws.{FollowIsStep, OpensOver, Restarts, StopInFollowIsStep, StopIsStep}
 use Rattle.nb_standby.proofs.Layouts.{shipped_reads_back}
 
 module _ {D : Type 0} (tells : DiskTells D) (old new : Chronicled D) where
@@ -43,14 +43,20 @@ follow_is_step tells world k old new place e code small is at was follows =
     (how, step.1, (record { place = place; entry = e }, at, state_of new, taken, refl))
 
 -- a vault that was opened is in such a state
-at_start : {D : Type 0} (v : Chronicled D) (entries : List Entry) → v.lines ≡ [] → v.origin.entries ≡ entries → v.stale ≡ false
+pub at_start : {D : Type 0} (v : Chronicled D) (entries : List Entry) → v.lines ≡ [] → v.origin.entries ≡ entries → v.stale ≡ false
     → state_of v ≡ record { entries = entries; doubt = []; faults = 0 }
 at_start v entries none is fresh = rw (none, fresh, is, append-nil entries) refl
 
 pub stop_is_step : {D : Type 0} (tells : DiskTells D) → StopIsStep tells
-stop_is_step tells old opened disk image (inl stands) content opens whole =
-    let is = whole image old.origin.charter old.origin.cap (entries_in old) content stands in
-    (false, at_start opened (entries_in old) opens.lines is.2 opens.durable.fresh)
-stop_is_step tells old opened disk image (inr stands) content opens whole =
-    let is = whole image old.origin.charter old.origin.cap (entries_in old ++ doubt_in old) content stands in
-    (true, at_start opened (entries_in old ++ doubt_in old) opens.lines is.2 opens.durable.fresh)
+stop_is_step tells old opened image (inl stands) over =
+    let is = over.whole image old.origin.charter old.origin.cap (entries_in old) over.content stands in
+    record { kept = false; state_is = at_start opened (entries_in old) over.opens.lines is.2 over.opens.durable.fresh; charter = is.0; cap = is.1 }
+stop_is_step tells old opened image (inr stands) over =
+    let is = over.whole image old.origin.charter old.origin.cap (entries_in old ++ doubt_in old) over.content stands in
+    record { kept = true; state_is = at_start opened (entries_in old ++ doubt_in old) over.opens.lines is.2 over.opens.durable.fresh; charter = is.0; cap = is.1 }
+
+pub stop_in_follow_is_step : {D : Type 0} (tells : DiskTells D) → StopInFollowIsStep tells
+stop_in_follow_is_step tells old new opened image only left over = ⊎_elim
+    (λ stands. inl (stop_is_step tells old opened image stands over))
+    (λ stands. inr (stop_is_step tells new opened image stands over))
+    (only.each image left)

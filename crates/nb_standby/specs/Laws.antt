@@ -1,15 +1,18 @@
 -- What holds of every record and acknowledgement, of every list of events, and of what `follow` does.
-use Rattle.std.specs.Prelude.{◌≡◌, ◌⊎◌, ℕ, ◌<◌, ◌≤◌, ◌^◌, Bool, List, [], ◌∷◌, ◌++◌, length, map, codes, Some, Ok, slice_get}
+use Rattle.std.specs.Prelude.{◌≡◌, ◌≢◌, ◌⊎◌, ℕ, ◌+◌, ◌<◌, ◌≤◌, ◌^◌, Result, Err, Bool, List, [], ◌∷◌, ◌++◌, length, map, codes, Some, Ok, slice_get}
 use Rattle.std.specs.List.{AllByRecursion}
 use Rattle.nb_units.specs.Frames.{AreBytes, Frame}
 use Rattle.nb_units.specs.declared.charter.Charter.{Charter}
 use Rattle.nb_port.specs.Tells.{DiskTells}
 use Rattle.nb_entry.specs.declared.entry.Entry.{Entry}
 use Rattle.nb_entry.specs.Spelling.{IsEntry}
+use Rattle.nb_book.specs.Legal.{LegalUnder}
+use Rattle.nb_journal.specs.Time.{LeavesOnly}
 use Rattle.nb_escrow.specs.Head.{head_of}
 use Rattle.nb_turns.specs.declared.mark.Mark.{Mark}
 use Rattle.nb_turns.specs.declared.mark.Mark.TheVariants.{Fault}
-use Rattle.nb_turns.specs.Turns.{Answered, Request, State}
+use Rattle.nb_turns.specs.declared.limits.TheConstants.{MAX_FAULTS}
+use Rattle.nb_turns.specs.Turns.{Answered, Request, State, last_state}
 use Rattle.nb_vault.specs.declared.taking.TakeIn.{TakeIn}
 use Rattle.nb_vault.specs.declared.taking.TakeIn.TheVariants as takes
 use Rattle.nb_vault.specs.Opens.{VaultOpensAs, WholeOpens}
@@ -20,10 +23,10 @@ use Rattle.nb_standby.specs.declared.code.TheConstants.{TAKEN, SAME, OTHER, AHEA
 use Rattle.nb_standby.specs.declared.limits.TheConstants.{SHIPPED_FRAME, ACKNOWLEDGED_FRAME, PRIMARY, SHIPPED_ROOM, ACKNOWLEDGED_ROOM}
 use Rattle.nb_standby.specs.declared.shipped.Shipped.{Shipped}
 use Rattle.nb_standby.specs.declared.shipped.TheConstants.{SHIP_LABEL}
-use Rattle.nb_standby.specs.Answering.{AcknowledgesAll, record_in}
+use Rattle.nb_standby.specs.Answering.{AcknowledgesAll, acknowledgement, record_in}
 use Rattle.nb_standby.specs.Following.{FollowsAs, code_of, house_key}
 use Rattle.nb_standby.specs.Reading.{shipped_of, acknowledged_of}
-use Rattle.nb_standby.specs.Spelling.{IsShipped, ship_tag, shipped_bytes, signed, IsAcknowledged, acknowledged_bytes}
+use Rattle.nb_standby.specs.Spelling.{IsShipped, ship_tag, shipped_bytes, shipped_frames, signed, IsAcknowledged, acknowledged_bytes}
 use Rattle.nb_standby.specs.World.{BeginsWith, Delivers, Event, Happens, IsFront, Starts, Steps, World, restarted}
 
 -- ---- layouts
@@ -82,11 +85,29 @@ FollowIsStep {D} tells = (world : World) (k : ℕ) (old new : Chronicled D) (pla
     → (how : TakeIn) × (code ≡ code_of how)
     × Steps old.origin.charter old.origin.cap world (Delivers k how) (record { primary = world.primary; sent = world.sent; standby = state_of new })
 
--- a vault that is opened over what a stop left of another one is that one behind a stop: what was in doubt is there, or it is not
+-- a vault was opened over a disk with this image
+pub record OpensOver {D : Type 0} (tells : DiskTells D) (image : List ℕ) (opened : Chronicled D) : Type 0 where
+  pub disk : D
+  pub content : tells.content disk ≡ Some image
+  pub opens : VaultOpensAs tells disk opened
+  pub whole : WholeOpens (tells.content disk) (Ok opened)
+
+-- it is the other one behind a stop, with the same charter and cap: what was in doubt is there, or it is not
+pub record Restarts {D : Type 0} (old opened : Chronicled D) : Type 0 where
+  pub kept : Bool
+  pub state_is : state_of opened ≡ restarted (state_of old) kept
+  pub charter : opened.origin.charter ≡ old.origin.charter
+  pub cap : opened.origin.cap ≡ old.origin.cap
+
+-- so it is where a vault is opened over an image that stands for the other one
 abbrev pub StopIsStep : {D : Type 0} → DiskTells D → Type 0
-StopIsStep {D} tells = (old opened : Chronicled D) (disk : D) (image : List ℕ) → StandsForState old image → tells.content disk ≡ Some image
-    → VaultOpensAs tells disk opened → WholeOpens (tells.content disk) (Ok opened)
-    → (kept : Bool) × (state_of opened ≡ restarted (state_of old) kept)
+StopIsStep {D} tells = (old opened : Chronicled D) (image : List ℕ) → StandsForState old image → OpensOver tells image opened → Restarts old opened
+
+-- a stop within a call of `follow`, or behind it, leaves an image over which a vault opens as the one before the call behind a stop, or as the one behind it
+abbrev pub StopInFollowIsStep : {D : Type 0} → DiskTells D → Type 0
+StopInFollowIsStep {D} tells = (old new opened : Chronicled D) (image : List ℕ)
+    → LeavesOnly tells old.disk new.disk (λ c. StandsForState old c ⊎ StandsForState new c)
+    → tells.left new.disk (tells.moment old.disk) image → OpensOver tells image opened → Restarts old opened ⊎ Restarts new opened
 
 -- ---- whole runs of follow
 
@@ -99,33 +120,44 @@ IsShippedIn key world request = (r : Shipped) → record_in request ≡ Ok r →
 abbrev pub AreShippedIn : Charter → World → List Answered → Type 0
 AreShippedIn charter world answered = AllByRecursion (λ (a : Answered). IsShippedIn (head_of charter).house world a.request) answered
 
--- the event is a delivery
-abbrev pub IsDelivery : Event → Type 0
-IsDelivery (Delivers k how) = Unit {0}
-IsDelivery other = ⊥
+-- what was read of a frame is no record of the house, which its code tells, and nothing changes
+abbrev pub IsPassed : List ℕ → World → Result Shipped ℕ → ℕ → World → Type 0
+IsPassed key world (Err place) code next = (code ≡ BAD_RECORD) × (next ≡ world)
+IsPassed key world (Ok r) code next = (r.tag ≢ ship_tag key r.place r.entry) × (code ≡ BAD_TAG) × (next ≡ world)
 
--- the standby comes to these states one after another: each is the one before it, or that of the next of these worlds, where nothing else changed. There
--- are no other worlds
-abbrev pub StandsIn : World → List World → List State → Type 0
-StandsIn world [] [] = Unit {0}
-StandsIn world (next ∷ worlds) [] = ⊥
-StandsIn world [] (state ∷ states) = (state ≡ world.standby) × StandsIn world [] states
-StandsIn world (next ∷ worlds) (state ∷ states) =
-    ((state ≡ world.standby) × StandsIn world (next ∷ worlds) states)
-    ⊎ ((next ≡ record { primary = world.primary; sent = world.sent; standby = state }) × StandsIn next worlds states)
+-- it is a record that the world has shipped, which is delivered, and its code tells how it was taken in
+pub record IsDelivered (charter : Charter) (cap : ℕ) (world : World) (read : Result Shipped ℕ) (code : ℕ) (next : World) : Type 0 where
+  pub shipped : Shipped
+  pub spelled : read ≡ Ok shipped
+  pub signed : shipped.tag ≡ ship_tag (head_of charter).house shipped.place shipped.entry
+  pub number : ℕ
+  pub sent : slice_get world.sent number ≡ Some (record { place = shipped.place; entry = shipped.entry })
+  pub how : TakeIn
+  pub code_is : code ≡ code_of how
+  pub step : Steps charter cap world (Delivers number how) next
 
--- deliveries happen one after another, at most one for each of these states, and the standby comes to these
-pub record AreDeliveries (charter : Charter) (cap : ℕ) (world : World) (states : List State) : Type 0 where
-  pub events : List Event
-  pub worlds : List World
-  pub deliveries : AllByRecursion IsDelivery events
-  pub happens : Happens charter cap world events worlds
-  pub stands : StandsIn world worlds states
+-- the standby of the world heard the frame and acknowledged it: the code, and how many entries stand then
+pub record Hears (charter : Charter) (cap : ℕ) (world : World) (a : Answered) (next : World) : Type 0 where
+  pub code : ℕ
+  pub reply_is : a.reply ≡ acknowledgement (head_of charter).house code (length next.standby.entries)
+  pub came : IsPassed (head_of charter).house world (record_in a.request) code next ⊎ IsDelivered charter cap world (record_in a.request) code next
 
--- a whole run of `follow` is a run of each world that has shipped its records: all of its events are deliveries
+-- it heard these frames, one after another, and the world came to these
+abbrev pub HearsAll : Charter → ℕ → World → List Answered → List World → Type 0
+HearsAll charter cap world [] [] = Unit {0}
+HearsAll charter cap world (a ∷ answered) (next ∷ worlds) = Hears charter cap world a next × HearsAll charter cap next answered worlds
+HearsAll charter cap world [] (next ∷ worlds) = ⊥
+HearsAll charter cap world (a ∷ answered) [] = ⊥
+
+-- the world where the standby is in this state
+abbrev pub with_standby : World → State → World
+with_standby world state = record { primary = world.primary; sent = world.sent; standby = state }
+
+-- a whole run of `follow` is one of each world that has shipped its records: each frame is a delivery of the record that it spells, or is passed over
 abbrev pub FollowIsDeliveries : Type 0
 FollowIsDeliveries = (charter : Charter) (cap : ℕ) (world : World) (answered : List Answered) (states : List State)
-    → AreShippedIn charter world answered → AcknowledgesAll charter cap world.standby answered states → AreDeliveries charter cap world states
+    → AreShippedIn charter world answered → AcknowledgesAll charter cap world.standby answered states
+    → HearsAll charter cap world answered (map (with_standby world) states)
 
 -- where the standby began as a front of the primary, it is one in each state of the run, and so it is with what is in doubt
 abbrev pub FollowedStaysFront : Type 0
@@ -150,3 +182,19 @@ OneAcknowledging = (charter : Charter) (cap : ℕ) (first : State) (answered oth
     → AllByRecursion (λ (a : Answered). IsNoFault a.mark) answered → AllByRecursion (λ (a : Answered). IsNoFault a.mark) others
     → AcknowledgesAll charter cap first answered states → AcknowledgesAll charter cap first others ends
     → (states ≡ ends) × (map (λ (a : Answered). a.reply) answered ≡ map (λ (a : Answered). a.reply) others)
+
+-- each was acknowledged as taken in, the first of them at this place
+abbrev pub AreTaken : List ℕ → ℕ → List Answered → Type 0
+AreTaken key place [] = Unit {0}
+AreTaken key place (a ∷ answered) = (a.reply ≡ acknowledgement key TAKEN (place + 1)) × AreTaken key (place + 1) answered
+
+-- a standby with nothing in doubt, whose disk never fails, takes in every entry that comes next in a list which its journal may have, where they reach it in the
+-- frames that a house with its key ships, and then has all
+abbrev pub TakesAll : Type 0
+TakesAll = (charter : Charter) (cap : ℕ) (first : State) (entries : List Entry) (answered : List Answered) (states : List State)
+    → first.doubt ≡ [] → first.faults < MAX_FAULTS → AllByRecursion IsEntry entries
+    → LegalUnder charter.version charter.rate (first.entries ++ entries) → length (first.entries ++ entries) ≤ cap → cap < 2 ^ 64
+    → map frame_in answered ≡ shipped_frames (head_of charter).house (length first.entries) entries
+    → AllByRecursion (λ (a : Answered). IsNoFault a.mark) answered → AcknowledgesAll charter cap first answered states
+    → AreTaken (head_of charter).house (length first.entries) answered
+    × (last_state first states ≡ record { entries = first.entries ++ entries; doubt = []; faults = first.faults })

@@ -1,9 +1,11 @@
 -- The one spelling of a record and of an acknowledgement, and their tags (HMAC-SHA-256, RFC 2104, section 2). Numbers are big-endian.
-use Rattle.std.specs.Prelude.{◌≡◌, ℕ, ◌<◌, ◌^◌, List, [], ◌∷◌, ◌++◌, length, codes}
+use Rattle.std.specs.Prelude.{◌≡◌, ℕ, ◌+◌, ◌<◌, ◌^◌, List, [], ◌∷◌, ◌++◌, length, codes}
 use Rattle.nb_units.specs.Fields.{be8}
+use Rattle.nb_units.specs.Frames.{Frame}
 use Rattle.nb_seal.specs.Hmac.{hmac_of}
 use Rattle.nb_entry.specs.declared.entry.Entry.{Entry}
 use Rattle.nb_entry.specs.Spelling.{IsEntry, entry_bytes}
+use Rattle.nb_standby.specs.declared.limits.TheConstants.{SHIPPED_FRAME}
 use Rattle.nb_standby.specs.declared.shipped.Shipped.{Shipped}
 use Rattle.nb_standby.specs.declared.acknowledged.Acknowledged.{Acknowledged}
 
@@ -22,6 +24,11 @@ signed house place entry = record { place = place; entry = entry; tag = ship_tag
 -- a record: what is signed, and the tag 32
 abbrev pub shipped_bytes : Shipped → List ℕ
 shipped_bytes r = unsigned_bytes r.place r.entry ++ r.tag
+
+-- the frames of the records of these entries, the first of which stands at this place, as a house with this key signs them
+abbrev pub shipped_frames : List ℕ → ℕ → List Entry → List Frame
+shipped_frames key place [] = []
+shipped_frames key place (e ∷ entries) = record { kind = SHIPPED_FRAME; body = shipped_bytes (signed key place e) } ∷ shipped_frames key (place + 1) entries
 
 -- each field of a record is within its limits
 pub record IsShipped (r : Shipped) : Type 0 where

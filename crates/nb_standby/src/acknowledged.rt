@@ -8,7 +8,7 @@ ghost use Rattle.nb_standby.specs.declared.limits.TheConstants.{ACKNOWLEDGED_FRA
 
 use crate::limits::ACKNOWLEDGED_FRAME;
 use nb_frame::write_frame;
-use nb_seal::{hmac, same};
+use nb_seal::{KeyState, hmac, same};
 use nb_units::{Buffer, Cut, Malformed, Secret, Tag};
 
 // What the tag of an acknowledgement is over begins with this.
@@ -26,17 +26,6 @@ pub struct Acknowledged {
 }
 
 impl Acknowledged {
-    /// This code and this number of entries, signed under the house's key.
-    pub fn sign(code: u8, entries: u64, house: &Secret) -> Acknowledged
-        ensures { result ≡ told house.now code entries }
-    {
-        Acknowledged {
-            code,
-            entries,
-            tag: tag_of(code, entries, house),
-        }
-    }
-
     /// Whether the tag is the one that it has under the house's key. All 32 bytes are compared.
     pub fn is_signed(&self, house: &Secret) -> bool
         // true exactly where it is that tag
@@ -58,26 +47,17 @@ impl Acknowledged {
     {
         read_fields(bytes)
     }
-
-    /// Its bytes: code 1, the number of entries 8, tag 32.
-    pub fn spelled(&self) -> Buffer
-        ensures bytes { result ≡ acknowledged_bytes self.now }
-        ensures fits { IsAcknowledged self.now }
-        ensures long { length result ≡ 41 }
-    {
-        let mut bytes = untold(self.code, self.entries);
-        bytes.raw(&self.tag);
-        bytes
-    }
 }
 
 // Appends the frame of an acknowledgement.
-pub(crate) fn acknowledge(code: u8, entries: u64, house: &Secret, out: &mut Vec<u8>)
+pub(crate) fn acknowledge(code: u8, entries: u64, house: &KeyState, out: &mut Vec<u8>)
     requires { ACKNOWLEDGED_ROOM ≤ spare_of out.old }
     ensures bytes { out.new.items ≡ out.old.items ++ frame (record { kind = ACKNOWLEDGED_FRAME; body = acknowledged_bytes (told house.now code entries) }) }
     ensures room { vec_capacity out.new ≡ vec_capacity out.old }
 {
-    let body = Acknowledged::sign(code, entries, house).spelled();
+    let mut body = untold(code, entries);
+    let tag = house.code(&ACKNOWLEDGE_LABEL, body.as_slice());
+    body.raw(&tag);
     write_frame(ACKNOWLEDGED_FRAME, body.as_slice(), out);
 }
 

@@ -14,7 +14,7 @@ use crate::code::{BAD_RECORD, BAD_TAG, of};
 use crate::limits::PRIMARY;
 use crate::shipped::Shipped;
 use nb_port::Disk;
-use nb_units::Secret;
+use nb_seal::KeyState;
 use nb_vault::Vault;
 
 /// Takes the record in that this body spells, appends the frame of an acknowledgement, and answers its [`code`](crate::code). The acknowledgement
@@ -36,14 +36,14 @@ pub fn follow<D: Disk>(vault: &mut Vault<D>, body: &[u8], out: &mut Vec<u8>) -> 
     ensures count { D.tells.faults vault.old.disk ≤ D.tells.faults vault.new.disk }
     ensures room { vec_capacity out.new ≡ vec_capacity out.old }
 {
-    let house = vault.house();
+    let house = vault.house_state();
     let code = taken_as(vault, &house, body);
     acknowledge(code, u64::from(vault.entries()), &house, out);
     code
 }
 
 // Takes in what the body spells, and gives the code.
-fn taken_as<D: Disk>(vault: &mut Vault<D>, house: &Secret, body: &[u8]) -> u8
+fn taken_as<D: Disk>(vault: &mut Vault<D>, house: &KeyState, body: &[u8]) -> u8
     requires { house.now ≡ house_key vault.old }
     ensures follows { FollowsAs D.tells vault.old vault.new (shipped_of body.now) result }
     ensures origin { vault.new.origin ≡ vault.old.origin }
@@ -55,7 +55,7 @@ fn taken_as<D: Disk>(vault: &mut Vault<D>, house: &Secret, body: &[u8]) -> u8
 {
     match Shipped::read(body) {
         Ok(shipped) => {
-            if !shipped.is_signed(house) {
+            if !shipped.is_signed(body, house) {
                 vault.witness();
                 return BAD_TAG;
             }

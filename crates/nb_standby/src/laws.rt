@@ -45,8 +45,8 @@ pub fn follow_is_step<D: Disk>()
     ensures { law.FollowIsStep D.tells }
 {}
 
-/// A whole run of `follow`, over frames each of which spells a record that the world has shipped, or none of its house, is a run of that world, of
-/// deliveries alone.
+/// A whole run of `follow`, over frames each of which spells a record that the world has shipped, or none of its house, is a run of that world: each
+/// of the first is the delivery of its record, told by its code, and the others are passed over.
 pub fn follow_is_deliveries()
     ensures { law.FollowIsDeliveries }
 {}
@@ -61,9 +61,19 @@ pub fn one_acknowledging()
     ensures { law.OneAcknowledging }
 {}
 
+/// Where nothing is in doubt at first and the disk never fails, the frames that a house ships of the entries behind those of a standby are all taken in.
+pub fn takes_all()
+    ensures { law.TakesAll }
+{}
+
 /// A vault that is opened over what a stop left of a standby is that standby behind the world's stop.
 pub fn stop_is_step<D: Disk>()
     ensures { law.StopIsStep D.tells }
+{}
+
+/// One that is opened over what a stop within `follow` left is the standby before the call, behind the world's stop, or the one after it.
+pub fn stop_in_follow_is_step<D: Disk>()
+    ensures { law.StopInFollowIsStep D.tells }
 {}
 
 /// The kinds of frames, the limits and the codes in numbers, and the labels in texts.

@@ -25,4 +25,4 @@ pub use acknowledged::Acknowledged;
 pub use following::follow;
 pub use limits::{ACKNOWLEDGED_FRAME, ACKNOWLEDGED_ROOM, PRIMARY, SHIPPED_FRAME, SHIPPED_ROOM};
 pub use nb_units::Malformed;
-pub use shipped::{Shipped, ship};
+pub use shipped::{Shipped, ship, ship_with};

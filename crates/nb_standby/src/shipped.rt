@@ -12,7 +12,8 @@ ghost use Rattle.nb_standby.specs.declared.limits.TheConstants.{SHIPPED_FRAME, S
 use crate::limits::SHIPPED_FRAME;
 use nb_entry::{Entry, EntryFault, read_entry};
 use nb_frame::write_frame;
-use nb_seal::{hmac, same};
+use nb_seal::{KeyState, same};
+use nb_units::width::TAG;
 use nb_units::{Buffer, Cut, Malformed, Secret, Tag};
 
 // What the tag of a record is over begins with this.
@@ -29,28 +30,6 @@ pub struct Shipped {
 }
 
 impl Shipped {
-    /// The entry at this place, signed under the house's key. The role of an enrolment must be one of the two, and the code of a refusal one
-    /// of [`reason`](nb_book::reason), as they are of every entry that is legal.
-    pub fn sign(place: u64, entry: &Entry, house: &Secret) -> Shipped
-        requires { EntryKeepsRules entry.now }
-        ensures { result ≡ signed house.now place entry.now }
-    {
-        Shipped {
-            place,
-            entry: *entry,
-            tag: tag_of(place, entry, house),
-        }
-    }
-
-    /// Whether the tag is the one that the record has under the house's key. All 32 bytes are compared. The entry is as [`Shipped::sign`] asks.
-    pub fn is_signed(&self, house: &Secret) -> bool
-        requires { EntryKeepsRules self.now.entry }
-        // true exactly where it is that tag
-        ensures { IsTrue result ↔ (self.now.tag ≡ ship_tag house.now self.now.place self.now.entry) }
-    {
-        same(&self.tag, &tag_of(self.place, &self.entry, house))
-    }
-
     /// The record that the bytes spell, or the place of the first field that fails, in bytes from their front: a field of which bytes are
     /// missing, a value in an entry that none has, or the first byte behind the tag.
     pub fn read(bytes: &[u8]) -> Result<Shipped, Malformed>
@@ -65,21 +44,21 @@ impl Shipped {
         read_fields(bytes)
     }
 
-    /// The bytes of the record: place 8, the entry, tag 32. The entry is as [`Shipped::sign`] asks.
-    pub fn spelled(&self) -> Buffer
-        requires { EntryKeepsRules self.now.entry }
-        ensures bytes { result ≡ shipped_bytes self.now }
-        ensures fits { IsShipped self.now }
-        ensures long { length result ≤ 165 }
+    // Whether the tag is the one that the record has under the house's key, where it was read of these bytes. All 32 bytes are compared.
+    pub(crate) fn is_signed(&self, bytes: &[u8], house: &KeyState) -> bool
+        requires fits { IsShipped self.now }
+        requires spelled { bytes.now ≡ shipped_bytes self.now }
+        // true exactly where it is that tag
+        ensures { IsTrue result ↔ (self.now.tag ≡ ship_tag house.now self.now.place self.now.entry) }
     {
-        let mut bytes = unsigned(self.place, &self.entry);
-        bytes.raw(&self.tag);
-        bytes
+        let (unsigned, _tag) = bytes.split_at(bytes.len() - TAG);
+        same(&self.tag, &house.code(&SHIP_LABEL, unsigned))
     }
 }
 
 /// Appends the frame of the record of an entry at this place, signed under the house's key. It needs room for
-/// [`SHIPPED_ROOM`](crate::SHIPPED_ROOM) bytes, also for a shorter entry, and takes no memory. The entry is as [`Shipped::sign`] asks.
+/// [`SHIPPED_ROOM`](crate::SHIPPED_ROOM) bytes, also for a shorter entry, and takes no memory. The role of an enrolment must be one of the two, and the
+/// code of a refusal one of [`reason`](nb_book::reason), as they are of every entry that is legal.
 pub fn ship(place: u64, e: &Entry, house: &Secret, out: &mut Vec<u8>)
     requires lawful { EntryKeepsRules e.now }
     requires room { SHIPPED_ROOM ≤ spare_of out.old }
@@ -88,16 +67,22 @@ pub fn ship(place: u64, e: &Entry, house: &Secret, out: &mut Vec<u8>)
     ensures fits { IsShipped (signed house.now place e.now) }
     ensures room { vec_capacity out.new ≡ vec_capacity out.old }
 {
-    let record = Shipped::sign(place, e, house).spelled();
-    write_frame(SHIPPED_FRAME, record.as_slice(), out);
+    ship_with(place, e, &KeyState::new(house), out);
 }
 
-// The tag of a record.
-fn tag_of(place: u64, entry: &Entry, house: &Secret) -> Tag
-    requires { EntryKeepsRules entry.now }
-    ensures { result ≡ ship_tag house.now place entry.now }
+/// Does what [`ship`] does, over the state of the house's key.
+pub fn ship_with(place: u64, e: &Entry, house: &KeyState, out: &mut Vec<u8>)
+    requires lawful { EntryKeepsRules e.now }
+    requires room { SHIPPED_ROOM ≤ spare_of out.old }
+    // As of `ship`.
+    ensures bytes { out.new.items ≡ out.old.items ++ frame (record { kind = SHIPPED_FRAME; body = shipped_bytes (signed house.now place e.now) }) }
+    ensures fits { IsShipped (signed house.now place e.now) }
+    ensures room { vec_capacity out.new ≡ vec_capacity out.old }
 {
-    hmac(house, &SHIP_LABEL, unsigned(place, entry).as_slice())
+    let mut record = unsigned(place, e);
+    let tag = house.code(&SHIP_LABEL, record.as_slice());
+    record.raw(&tag);
+    write_frame(SHIPPED_FRAME, record.as_slice(), out);
 }
 
 // The bytes of a record before its tag.

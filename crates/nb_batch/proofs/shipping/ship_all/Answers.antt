@@ -32,10 +32,10 @@ entries-preserved g c =
       | in-Some+in-All w ↦
           rw (w.sink-is, w.waits-is) (record {
             sent = one_more key c.args.from c.entries.at (entries_in c.args.vault.now) w.in-Some.entry (g.K.Sink.sent c.args.sink.now) (g.K.Sink.sent c.entries.sink) (g.K.Sink.sent w.make_room.new.sink)
-                c.entries.waits.items w.make_room.new.waits.items w.ship.new.out.items c.entries.invariant.low within (sym w.in-Some.ensures) c.entries.invariant.sent w.in-All.ensures.made.0
-                (put_is key c.args.house.now _ c.entries.at w.in-Some.entry w.make_room.new.waits.items w.ship.new.out.items w.ship.ensures.bytes c.requires.key w.from.ensures);
+                c.entries.waits.items w.make_room.new.waits.items w.ship_with.new.out.items c.entries.invariant.low within (sym w.in-Some.ensures) c.entries.invariant.sent w.in-All.ensures.made.0
+                (put_is key c.args.house.now _ c.entries.at w.in-Some.entry w.make_room.new.waits.items w.ship_with.new.out.items w.ship_with.ensures.bytes c.requires.key w.from.ensures);
             count = omega (arith, c.entries.invariant.count, w.in-All.ensures.count);
-            room = omega (arith, c.entries.invariant.room, w.ship.ensures.room, w.in-All.ensures.room);
+            room = omega (arith, c.entries.invariant.room, w.ship_with.ensures.room, w.in-All.ensures.room);
             low = omega (arith, c.entries.invariant.low);
           })
       | in_default w ↦ absurd (stands_there (entries_in c.args.vault.now) c.entries.at within (sym c.entry.ensures ∙ w.in_default.is))
