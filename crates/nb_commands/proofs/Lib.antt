@@ -6,4 +6,3 @@ pub mod Stating
 pub mod Ships
 pub mod Promotions
 pub mod Rulings
-pub mod Plays

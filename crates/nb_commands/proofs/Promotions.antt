@@ -2,46 +2,37 @@
 use Rattle.std.proofs.Common.{◌≡◌, ◌≢◌, ◌⊎◌, ℕ, List, [], Option, IfSome, length, refl, ap, subst, ◌∙◌, append-nil, arith, inl, inr}
 use Rattle.nb_port.specs.Tells.{DiskTells}
 use Rattle.nb_port.specs.Faults.{Rose}
-use Rattle.nb_turns.specs.Lines.{entries_of}
-use Rattle.nb_vault.specs.Holdings.{StandsFor}
+use Rattle.nb_vault.specs.Opens.{VaultOpensAs}
 use Rattle.nb_vault.specs.Vaults.{Chronicled, entries_in}
 use Rattle.nb_commands.specs.declared.ending.TheConstants.{CLEAN, SINK_FAILED, OUT_OF_MEMORY}
 use Rattle.nb_commands.specs.declared.promoting.Promotion.{Promotion}
 use Rattle.nb_commands.specs.declared.promoting.Promotion.TheVariants.{Told, WriteFault, NoMemory}
 use Rattle.nb_commands.specs.Promote.{Promoted, TellsLength, promotion_ending}
+use Rattle.nb_commands.proofs.Opening.{all_at_start, opened_as}
 
 -- what was told of the entries of a vault that was opened, and has done nothing since
-pub promoted : {D K : Type 0} (tells : DiskTells D) (old : D) (v : Chronicled D) (told : Promotion) (sink sink' : K) (entries before after : ℕ) (sent sent' : Option (List ℕ))
-    → IfSome (tells.content old) (StandsFor v.origin.charter v.origin.cap v.origin.entries) → v.lines ≡ [] → entries ≡ length (entries_in v)
-    → TellsLength sink sink' sent sent' before after entries told → Promoted tells old sent sent' (promotion_ending told)
-promoted tells old v told sink sink' entries before after sent sent' stands none count tells_it =
-    let all : entries ≡ length v.origin.entries = count ∙ ap length (ap (entries_of v.origin.entries) none ∙ append-nil v.origin.entries) in
+pub promoted : {D K : Type 0} (tells : DiskTells D) (old new : D) (v : Chronicled D) (told : Promotion) (sink sink' : K) (entries before after : ℕ) (sent sent' : Option (List ℕ))
+    → VaultOpensAs tells old v → new ≡ v.disk → entries ≡ length (entries_in v)
+    → TellsLength sink sink' sent sent' before after entries told → Promoted tells old new sent sent' (promotion_ending told)
+promoted tells old new v told sink sink' entries before after sent sent' opens handed count tells_it =
+    let all : entries ≡ length v.origin.entries = count ∙ ap length (all_at_start v opens.lines) in
     over told (subst (λ (n : ℕ). TellsLength sink sink' sent sent' before after n told) all tells_it)
   where
-    over : (told : Promotion) → TellsLength sink sink' sent sent' before after (length v.origin.entries) told → Promoted tells old sent sent' (promotion_ending told)
+    over : (told : Promotion) → TellsLength sink sink' sent sent' before after (length v.origin.entries) told → Promoted tells old new sent sent' (promotion_ending told)
     over Told is = record {
-      charter = v.origin.charter;
-      cap = v.origin.cap;
-      entries = v.origin.entries;
-      stands = stands;
+      opened = opened_as tells old new v opens handed;
       whole = λ e. is;
       part = λ e. absurd (omega (arith, e));
       ends = inl refl;
     }
     over WriteFault is = record {
-      charter = v.origin.charter;
-      cap = v.origin.cap;
-      entries = v.origin.entries;
-      stands = stands;
+      opened = opened_as tells old new v opens handed;
       whole = λ e. absurd (omega (arith, e));
       part = λ e. is.1;
       ends = inr (inl refl);
     }
     over NoMemory is = record {
-      charter = v.origin.charter;
-      cap = v.origin.cap;
-      entries = v.origin.entries;
-      stands = stands;
+      opened = opened_as tells old new v opens handed;
       whole = λ e. absurd (omega (arith, e));
       part = λ e. absurd (omega (arith, e));
       ends = inr (inr refl);

@@ -3,8 +3,7 @@ use Rattle.std.proofs.Common.{◌≡◌, ◌≢◌, ◌⊎◌, ◌↔◌, ℕ, �
 use Rattle.nb_port.specs.Tells.{DiskTells}
 use Rattle.nb_port.specs.Faults.{Rose}
 use Rattle.nb_entry.specs.declared.entry.Entry.{Entry}
-use Rattle.nb_turns.specs.Lines.{entries_of}
-use Rattle.nb_vault.specs.Holdings.{StandsFor}
+use Rattle.nb_vault.specs.Opens.{VaultOpensAs}
 use Rattle.nb_vault.specs.Vaults.{Chronicled, entries_in}
 use Rattle.nb_standby.specs.Following.{house_key}
 use Rattle.nb_batch.specs.declared.shipping.ShipFault.{ShipFault}
@@ -12,51 +11,40 @@ use Rattle.nb_batch.specs.declared.shipping.ShipFault.TheVariants.{Beyond, Write
 use Rattle.nb_batch.specs.Shipping.{Ships, ShipsUnheld}
 use Rattle.nb_commands.specs.declared.ending.TheConstants.{CLEAN, SINK_FAILED, OUT_OF_MEMORY, NO_PLACE}
 use Rattle.nb_commands.specs.Ship.{Shipped, shipped_ending}
+use Rattle.nb_commands.proofs.Opening.{all_at_start, opened_as}
 
 -- what was sent of the entries of a vault that was opened, and has done nothing since
-pub shipped : {D : Type 0} (tells : DiskTells D) (old : D) (v : Chronicled D) (told : Result (Unit {0}) ShipFault) (from before after : ℕ) (sent sent' : Option (List ℕ))
-    → IfSome (tells.content old) (StandsFor v.origin.charter v.origin.cap v.origin.entries) → v.lines ≡ []
-    → Ships before after sent sent' (house_key v) from (entries_in v) told → Shipped tells old sent sent' from (shipped_ending told)
-shipped tells old v told from before after sent sent' stands none ships =
-    let all : entries_in v ≡ v.origin.entries = ap (entries_of v.origin.entries) none ∙ append-nil v.origin.entries in
+pub shipped : {D : Type 0} (tells : DiskTells D) (old new : D) (v : Chronicled D) (told : Result (Unit {0}) ShipFault) (from before after : ℕ) (sent sent' : Option (List ℕ))
+    → VaultOpensAs tells old v → new ≡ v.disk
+    → Ships before after sent sent' (house_key v) from (entries_in v) told → Shipped tells old new sent sent' from (shipped_ending told)
+shipped tells old new v told from before after sent sent' opens handed ships =
+    let all : entries_in v ≡ v.origin.entries = all_at_start v opens.lines in
     over told (subst (λ (H : List Entry). Ships before after sent sent' (house_key v) from H told) all ships)
   where
-    over : (told : Result (Unit {0}) ShipFault) → Ships before after sent sent' (house_key v) from v.origin.entries told → Shipped tells old sent sent' from (shipped_ending told)
+    over : (told : Result (Unit {0}) ShipFault) → Ships before after sent sent' (house_key v) from v.origin.entries told → Shipped tells old new sent sent' from (shipped_ending told)
     over (Ok u) ships = record {
-      charter = v.origin.charter;
-      cap = v.origin.cap;
-      entries = v.origin.entries;
-      stands = stands;
+      opened = opened_as tells old new v opens handed;
       whole = λ e. ships.1;
       part = λ e. absurd (omega (arith, e));
       refused = (λ e. absurd (omega (arith, e)), λ above. absurd (omega (arith, above, ships.0)));
       ends = inl refl;
     }
     over (Err (Beyond n)) ships = record {
-      charter = v.origin.charter;
-      cap = v.origin.cap;
-      entries = v.origin.entries;
-      stands = stands;
+      opened = opened_as tells old new v opens handed;
       whole = λ e. absurd (omega (arith, e));
       part = λ e. absurd (omega (arith, e));
       refused = (λ e. ships.1, λ above. refl);
       ends = inr (inr (inl (ap (λ (k : ℕ). record { status = NO_PLACE; place = k }) ships.0)));
     }
     over (Err WriteFault) ships = record {
-      charter = v.origin.charter;
-      cap = v.origin.cap;
-      entries = v.origin.entries;
-      stands = stands;
+      opened = opened_as tells old new v opens handed;
       whole = λ e. absurd (omega (arith, e));
       part = λ e. ships.2;
       refused = (λ e. absurd (omega (arith, e)), λ above. absurd (omega (arith, above, ships.0)));
       ends = inr (inl refl);
     }
     over (Err NoMemory) ships = record {
-      charter = v.origin.charter;
-      cap = v.origin.cap;
-      entries = v.origin.entries;
-      stands = stands;
+      opened = opened_as tells old new v opens handed;
       whole = λ e. absurd (omega (arith, e));
       part = λ e. absurd (omega (arith, e));
       refused = (λ e. absurd (omega (arith, e)), λ above. absurd (omega (arith, above, ships)));

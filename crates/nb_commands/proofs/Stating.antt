@@ -3,15 +3,15 @@ use Rattle.std.proofs.Common.{◌≡◌, ◌≢◌, ◌⊎◌, ◌↔◌, ℕ, L
 use Rattle.nb_port.specs.Tells.{DiskTells}
 use Rattle.nb_port.specs.Faults.{Rose}
 use Rattle.nb_entry.specs.declared.entry.Entry.{Entry}
-use Rattle.nb_turns.specs.Lines.{entries_of}
 use Rattle.nb_units.specs.declared.ids.AcctId.{AcctId}
-use Rattle.nb_vault.specs.Holdings.{StandsFor}
+use Rattle.nb_vault.specs.Opens.{VaultOpensAs}
 use Rattle.nb_vault.specs.Vaults.{Chronicled, entries_in}
 use Rattle.nb_statement.specs.declared.fault.StatementFault.{StatementFault}
 use Rattle.nb_statement.specs.declared.fault.StatementFault.TheVariants.{NoAccount, WriteFault, NoMemory}
 use Rattle.nb_statement.specs.Statement.{IsHeldByNobody, Untouched, Wrote}
 use Rattle.nb_commands.specs.declared.ending.TheConstants.{CLEAN, SINK_FAILED, OUT_OF_MEMORY, NO_ACCOUNT}
 use Rattle.nb_commands.specs.Statement.{Stated, told_ending}
+use Rattle.nb_commands.proofs.Opening.{all_at_start, opened_as}
 
 same_fault : (r : Result (Unit {0}) StatementFault) (e f : StatementFault) → r ≡ Err e → r ≡ Err f → e ≡ f
 same_fault r e f is same = cc
@@ -25,53 +25,41 @@ refused_by (Err WriteFault) H a before after sent sent' wrote is = (λ e. absurd
 refused_by (Err NoMemory) H a before after sent sent' wrote is = (λ e. absurd (omega (arith, e)), λ nobody. let e = same_fault (Err NoMemory) NoMemory (NoAccount a) refl (is.1 nobody) in absurd cc)
 
 -- what was written of the entries of a vault that was opened, and has done nothing since
-pub stated : {D : Type 0} (tells : DiskTells D) (old : D) (v : Chronicled D) (told : Result (Unit {0}) StatementFault) (a : AcctId) (before after : ℕ) (sent sent' : Option (List ℕ))
-    → IfSome (tells.content old) (StandsFor v.origin.charter v.origin.cap v.origin.entries) → v.lines ≡ []
-    → Wrote before after sent sent' a (entries_in v) told → (told ≡ Err (NoAccount a)) ↔ IsHeldByNobody (entries_in v) a → Stated tells old sent sent' a (told_ending told)
-stated tells old v told a before after sent sent' stands none wrote refused =
-    let all : entries_in v ≡ v.origin.entries = ap (entries_of v.origin.entries) none ∙ append-nil v.origin.entries in
-    over told v.origin.entries (subst (λ (H : List Entry). Wrote before after sent sent' a H told) all wrote) (subst (λ (H : List Entry). (told ≡ Err (NoAccount a)) ↔ IsHeldByNobody H a) all refused) stands
+pub stated : {D : Type 0} (tells : DiskTells D) (old new : D) (v : Chronicled D) (told : Result (Unit {0}) StatementFault) (a : AcctId) (before after : ℕ) (sent sent' : Option (List ℕ))
+    → VaultOpensAs tells old v → new ≡ v.disk
+    → Wrote before after sent sent' a (entries_in v) told → (told ≡ Err (NoAccount a)) ↔ IsHeldByNobody (entries_in v) a → Stated tells old new sent sent' a (told_ending told)
+stated tells old new v told a before after sent sent' opens handed wrote refused =
+    let all : entries_in v ≡ v.origin.entries = all_at_start v opens.lines in
+    over told (subst (λ (H : List Entry). Wrote before after sent sent' a H told) all wrote) (subst (λ (H : List Entry). (told ≡ Err (NoAccount a)) ↔ IsHeldByNobody H a) all refused)
   where
-    over : (told : Result (Unit {0}) StatementFault) (H : List Entry) → Wrote before after sent sent' a H told → (told ≡ Err (NoAccount a)) ↔ IsHeldByNobody H a → IfSome (tells.content old) (StandsFor v.origin.charter v.origin.cap H)
-        → Stated tells old sent sent' a (told_ending told)
-    over (Ok u) H wrote refused stands = record {
-      charter = v.origin.charter;
-      cap = v.origin.cap;
-      entries = H;
-      stands = stands;
+    over : (told : Result (Unit {0}) StatementFault) → Wrote before after sent sent' a v.origin.entries told → (told ≡ Err (NoAccount a)) ↔ IsHeldByNobody v.origin.entries a
+        → Stated tells old new sent sent' a (told_ending told)
+    over (Ok u) wrote refused = record {
+      opened = opened_as tells old new v opens handed;
       whole = λ e. wrote;
       part = λ e. absurd (omega (arith, e));
-      refused = refused_by (Ok u) H a before after sent sent' wrote refused;
+      refused = refused_by (Ok u) v.origin.entries a before after sent sent' wrote refused;
       ends = inl refl;
     }
-    over (Err (NoAccount acct)) H wrote refused stands = record {
-      charter = v.origin.charter;
-      cap = v.origin.cap;
-      entries = H;
-      stands = stands;
+    over (Err (NoAccount acct)) wrote refused = record {
+      opened = opened_as tells old new v opens handed;
       whole = λ e. absurd (omega (arith, e));
       part = λ e. absurd (omega (arith, e));
-      refused = refused_by (Err (NoAccount acct)) H a before after sent sent' wrote refused;
+      refused = refused_by (Err (NoAccount acct)) v.origin.entries a before after sent sent' wrote refused;
       ends = inr (inr (inl refl));
     }
-    over (Err WriteFault) H wrote refused stands = record {
-      charter = v.origin.charter;
-      cap = v.origin.cap;
-      entries = H;
-      stands = stands;
+    over (Err WriteFault) wrote refused = record {
+      opened = opened_as tells old new v opens handed;
       whole = λ e. absurd (omega (arith, e));
       part = λ e. wrote.1;
-      refused = refused_by (Err WriteFault) H a before after sent sent' wrote refused;
+      refused = refused_by (Err WriteFault) v.origin.entries a before after sent sent' wrote refused;
       ends = inr (inl refl);
     }
-    over (Err NoMemory) H wrote refused stands = record {
-      charter = v.origin.charter;
-      cap = v.origin.cap;
-      entries = H;
-      stands = stands;
+    over (Err NoMemory) wrote refused = record {
+      opened = opened_as tells old new v opens handed;
       whole = λ e. absurd (omega (arith, e));
       part = λ e. absurd (omega (arith, e));
-      refused = refused_by (Err NoMemory) H a before after sent sent' wrote refused;
+      refused = refused_by (Err NoMemory) v.origin.entries a before after sent sent' wrote refused;
       ends = inr (inr (inr refl));
     }
 

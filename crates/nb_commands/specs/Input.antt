@@ -23,7 +23,7 @@ pub record TookUpTo (left left' : Option (List ℕ)) (limit : ℕ) : Type 0 wher
   pub few : length taken ≤ limit + 1
   pub took : Consumes left left' taken
 
--- for the contract of a private function alone: by cases on what was read, for the counts of faults and what was left
+-- by cases on what was read, for the counts of faults and what was left
 abbrev pub InputGives : ℕ → ℕ → Option (List ℕ) → Option (List ℕ) → ℕ → InputRead → Type 0
 InputGives before after left left' limit (reads.All bytes) = TookAll left left' limit bytes.items
 InputGives before after left left' limit reads.Longer = TookMore left left' limit

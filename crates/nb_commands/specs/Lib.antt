@@ -8,7 +8,6 @@ pub mod Statement
 pub mod Ship
 pub mod Promote
 pub mod Judge
-pub mod Play
 pub mod Granting
 pub mod Asking
 pub mod Selling

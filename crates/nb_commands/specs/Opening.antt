@@ -1,5 +1,5 @@
 -- What opening the journal of a command comes to.
-use Rattle.std.specs.Prelude.{◌≡◌, ℕ, List, Option, Some}
+use Rattle.std.specs.Prelude.{◌≡◌, ℕ, List, Option, Some, IfSome}
 use Rattle.nb_port.specs.Tells.{DiskTells}
 use Rattle.nb_units.specs.declared.charter.Charter.{Charter}
 use Rattle.nb_entry.specs.declared.entry.Entry.{Entry}
@@ -24,6 +24,15 @@ pub record Unopened {D : Type 0} (tells : DiskTells D) (old new : D) (ending : E
   pub fault : VaultFault
   pub ends : ending ≡ unopened fault
   pub why : VaultOpenFails tells old new fault
+
+-- The journal was opened: its content stands for these entries of a house of this charter and cap, and so does each image that a stop may leave of the disk
+-- that is handed back
+pub record Opened {D : Type 0} (tells : DiskTells D) (old new : D) : Type 0 where
+  pub charter : Charter
+  pub cap : ℕ
+  pub entries : List Entry
+  pub stands : IfSome (tells.content old) (StandsFor charter cap entries)
+  pub images : (image : List ℕ) → tells.allowed new image → StandsFor charter cap entries image
 
 -- the content stands for a list of entries
 pub record IsJournal (content : Option (List ℕ)) : Type 0 where

@@ -13,27 +13,23 @@ use Rattle.nb_commands.specs.declared.ending.TheConstants.{CLEAN, SINK_FAILED, O
 use Rattle.nb_commands.specs.declared.promoting.Promotion.{Promotion}
 use Rattle.nb_commands.specs.declared.promoting.Promotion.TheVariants as ends
 use Rattle.nb_commands.specs.Ending.{at_no_place}
-use Rattle.nb_commands.specs.Opening.{Unopened}
+use Rattle.nb_commands.specs.Opening.{Opened, Unopened}
 
 -- the line that tells how many entries stand
 abbrev pub promoted_line : ℕ → List ℕ
 promoted_line entries = codes "promoted " ++ decimal entries ++ codes "\n"
 
 -- The journal was opened, and its entries are these: the line was sent, by the status that the run ended with, for what the sink told before and tells after
-pub record Promoted {D : Type 0} (tells : DiskTells D) (old : D) (sent sent' : Option (List ℕ)) (ending : Ending) : Type 0 where
-  pub charter : Charter
-  pub cap : ℕ
-  pub entries : List Entry
-  -- the content at entry stands for these entries
-  pub stands : IfSome (tells.content old) (StandsFor charter cap entries)
+pub record Promoted {D : Type 0} (tells : DiskTells D) (old new : D) (sent sent' : Option (List ℕ)) (ending : Ending) : Type 0 where
+  pub opened : Opened tells old new
   -- after status 0 the line of their number was sent, and after 4 a part of it, from its front and not all of it
-  pub whole : ending.status ≡ CLEAN → Appends sent sent' (promoted_line (length entries))
-  pub part : ending.status ≡ SINK_FAILED → SentPart sent sent' (promoted_line (length entries))
+  pub whole : ending.status ≡ CLEAN → Appends sent sent' (promoted_line (length opened.entries))
+  pub part : ending.status ≡ SINK_FAILED → SentPart sent sent' (promoted_line (length opened.entries))
   pub ends : (ending ≡ at_no_place CLEAN) ⊎ (ending ≡ at_no_place SINK_FAILED) ⊎ (ending ≡ at_no_place OUT_OF_MEMORY)
 
 -- what it comes to
 abbrev pub PromoteIs : {D : Type 0} → DiskTells D → D → D → Option (List ℕ) → Option (List ℕ) → Ending → Type 0
-PromoteIs tells old new sent sent' ending = Unopened tells old new ending ⊎ Promoted tells old sent sent' ending
+PromoteIs tells old new sent sent' ending = Unopened tells old new ending ⊎ Promoted tells old new sent sent' ending
 
 -- ---- for the contracts of private functions alone
 

@@ -13,26 +13,22 @@ use Rattle.nb_batch.specs.Shipping.{shipped_from}
 use Rattle.nb_commands.specs.declared.ending.Ending.{Ending}
 use Rattle.nb_commands.specs.declared.ending.TheConstants.{CLEAN, SINK_FAILED, OUT_OF_MEMORY, NO_PLACE}
 use Rattle.nb_commands.specs.Ending.{at_no_place}
-use Rattle.nb_commands.specs.Opening.{Unopened}
+use Rattle.nb_commands.specs.Opening.{Opened, Unopened}
 
 -- The journal was opened, and its entries are these: their records were sent from a place on, by the status that the run ended with, for what the sink
 -- told before and tells after
-pub record Shipped {D : Type 0} (tells : DiskTells D) (old : D) (sent sent' : Option (List ℕ)) (from : ℕ) (ending : Ending) : Type 0 where
-  pub charter : Charter
-  pub cap : ℕ
-  pub entries : List Entry
-  -- the content at entry stands for these entries
-  pub stands : IfSome (tells.content old) (StandsFor charter cap entries)
+pub record Shipped {D : Type 0} (tells : DiskTells D) (old new : D) (sent sent' : Option (List ℕ)) (from : ℕ) (ending : Ending) : Type 0 where
+  pub opened : Opened tells old new
   -- after status 0 the records from the place on were sent, and after 4 a part of them, from their front and not all of them
-  pub whole : ending.status ≡ CLEAN → Appends sent sent' (shipped_from (head_of charter).house from entries)
-  pub part : ending.status ≡ SINK_FAILED → SentPart sent sent' (shipped_from (head_of charter).house from entries)
+  pub whole : ending.status ≡ CLEAN → Appends sent sent' (shipped_from (head_of opened.charter).house from opened.entries)
+  pub part : ending.status ≡ SINK_FAILED → SentPart sent sent' (shipped_from (head_of opened.charter).house from opened.entries)
   -- the status is 16 exactly where the place is above the number of entries, which is shown
-  pub refused : ending.status ≡ NO_PLACE ↔ length entries < from
-  pub ends : (ending ≡ at_no_place CLEAN) ⊎ (ending ≡ at_no_place SINK_FAILED) ⊎ (ending ≡ record { status = NO_PLACE; place = length entries }) ⊎ (ending ≡ at_no_place OUT_OF_MEMORY)
+  pub refused : ending.status ≡ NO_PLACE ↔ length opened.entries < from
+  pub ends : (ending ≡ at_no_place CLEAN) ⊎ (ending ≡ at_no_place SINK_FAILED) ⊎ (ending ≡ record { status = NO_PLACE; place = length opened.entries }) ⊎ (ending ≡ at_no_place OUT_OF_MEMORY)
 
 -- what it comes to
 abbrev pub ShipIs : {D : Type 0} → DiskTells D → D → D → Option (List ℕ) → Option (List ℕ) → ℕ → Ending → Type 0
-ShipIs tells old new sent sent' from ending = Unopened tells old new ending ⊎ Shipped tells old sent sent' from ending
+ShipIs tells old new sent sent' from ending = Unopened tells old new ending ⊎ Shipped tells old new sent sent' from ending
 
 -- ---- for the contracts of private functions alone
 

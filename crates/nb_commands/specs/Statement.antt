@@ -12,26 +12,22 @@ use Rattle.nb_statement.specs.Statement.{IsHeldByNobody, SentPart, statement}
 use Rattle.nb_commands.specs.declared.ending.Ending.{Ending}
 use Rattle.nb_commands.specs.declared.ending.TheConstants.{CLEAN, SINK_FAILED, OUT_OF_MEMORY, NO_ACCOUNT}
 use Rattle.nb_commands.specs.Ending.{at_no_place}
-use Rattle.nb_commands.specs.Opening.{Unopened}
+use Rattle.nb_commands.specs.Opening.{Opened, Unopened}
 
 -- The journal was opened, and its entries are these: the account was told of them, by the status that the run ended with, for what the sink told
 -- before and tells after
-pub record Stated {D : Type 0} (tells : DiskTells D) (old : D) (sent sent' : Option (List ℕ)) (a : AcctId) (ending : Ending) : Type 0 where
-  pub charter : Charter
-  pub cap : ℕ
-  pub entries : List Entry
-  -- the content at entry stands for these entries
-  pub stands : IfSome (tells.content old) (StandsFor charter cap entries)
+pub record Stated {D : Type 0} (tells : DiskTells D) (old new : D) (sent sent' : Option (List ℕ)) (a : AcctId) (ending : Ending) : Type 0 where
+  pub opened : Opened tells old new
   -- after status 0 their statement was sent, and after 4 a part of it, from its front and not all of it
-  pub whole : ending.status ≡ CLEAN → Appends sent sent' (statement a entries)
-  pub part : ending.status ≡ SINK_FAILED → SentPart sent sent' (statement a entries)
+  pub whole : ending.status ≡ CLEAN → Appends sent sent' (statement a opened.entries)
+  pub part : ending.status ≡ SINK_FAILED → SentPart sent sent' (statement a opened.entries)
   -- the status is 15 exactly where the account is not the house's and no party holds it
-  pub refused : ending.status ≡ NO_ACCOUNT ↔ IsHeldByNobody entries a
+  pub refused : ending.status ≡ NO_ACCOUNT ↔ IsHeldByNobody opened.entries a
   pub ends : (ending ≡ at_no_place CLEAN) ⊎ (ending ≡ at_no_place SINK_FAILED) ⊎ (ending ≡ at_no_place NO_ACCOUNT) ⊎ (ending ≡ at_no_place OUT_OF_MEMORY)
 
 -- what it comes to
 abbrev pub StatementIs : {D : Type 0} → DiskTells D → D → D → Option (List ℕ) → Option (List ℕ) → AcctId → Ending → Type 0
-StatementIs tells old new sent sent' a ending = Unopened tells old new ending ⊎ Stated tells old sent sent' a ending
+StatementIs tells old new sent sent' a ending = Unopened tells old new ending ⊎ Stated tells old new sent sent' a ending
 
 -- ---- for the contracts of private functions alone
 

@@ -1,5 +1,3 @@
-// Reading a whole input.
-
 ghost use Rattle.std.specs.Prelude.{◌≤◌, ◌<◌, ◌^◌};
 ghost use Rattle.nb_commands.specs.Input.{InputGives};
 
@@ -9,19 +7,21 @@ use std::alloc::Global;
 // The most bytes that one read asks for.
 const PIECE: usize = 65_536;
 
-// What a source gave.
+/// What a source gave.
 #[derive(Drop)]
-pub(crate) enum InputRead {
-    // All of it.
+pub enum InputRead {
+    /// All of it.
     All(Vec<u8>),
-    // It is longer than the limit.
+    /// It is longer than the limit. Of these bytes, and in the two cases below, nothing is kept.
     Longer,
+    /// The source failed.
     Failed,
+    /// There was no memory for it.
     NoMemory,
 }
 
-// Reads the source up to its end, or up to one byte more than the limit.
-pub(crate) fn read_most<S: Source>(alloc: Global, source: &mut S, limit: usize) -> InputRead
+/// Reads the source up to its end, or up to one byte more than the limit, in bytes.
+pub fn read_most<S: Source>(alloc: Global, source: &mut S, limit: usize) -> InputRead
     requires { limit < 2 ^ 63 }
     ensures gives { InputGives (S.faults source.old) (S.faults source.new) (S.left source.old) (S.left source.new) limit result }
     ensures count { S.faults source.old ≤ S.faults source.new }

@@ -1,13 +1,13 @@
-//! What each command comes to over a source, a sink and a disk, but for those that answer requests. The words are read already, and an [`Ending`] says
+//! What each command comes to over a source, a sink and a disk, but for those that answer requests, and playing a script. The words are read already, and an [`Ending`] says
 //! how the program ends.
 //!
 //! [`make_journal`] and [`move_journal`] make a journal, [`write_statement`], [`ship_records`] and [`promote`] open the house that one holds and tell of
-//! its entries. Of the input [`rule_on`] reads a case, as a [`nb_judge::CaseBytes`], which rules, [`play_input`] a script, which [`nb_player::play`] plays,
+//! its entries. Of the input [`rule_on`] reads a case, as a [`nb_judge::CaseBytes`], which rules,
 //! and [`grant`] the key of [`nb_groups::credential`]. A [`Job`] over links is told, and not done: [`take_stock`] reads the shelf of one who sells, as a
-//! [`nb_price::Catalogue`], [`take_offers`] offers as well, as [`nb_groups::Offers`], [`ask_with`] the request of one who buys. Each has a module of
+//! [`nb_price::Catalogue`], [`take_offers`] offers as well, as [`nb_groups::Offers`], [`ask_with`] the request of one who buys. [`read_most`] reads a whole input, up to a limit. Each has a module of
 //! `specs`, which says what it comes to: what is read, what is written, byte for byte, and why it ends so.
 //!
-//! Left to others: the words (`nb_words`), which of these is done at which, and answering frames (`nb_run`), the jobs (`nb_work`), the real terminal, file
+//! Left to others: the words (`nb_words`), which of these is done at which, answering frames and playing (`nb_run`), the jobs (`nb_work`), the real terminal, file
 //! and clock.
 //!
 //! Not said: what [`make_journal`] leaves on a disk without a journal where the disk failed, and
@@ -24,7 +24,6 @@ mod input;
 mod judging;
 mod migrate;
 mod offering;
-mod playing;
 mod promoting;
 mod selling;
 mod shipping;
@@ -38,10 +37,10 @@ pub use ending::{
 };
 pub use granting::{GrantEnd, grant};
 pub use init::{InitEnd, make_journal};
+pub use input::{InputRead, read_most};
 pub use judging::{JudgeEnd, rule_on};
 pub use migrate::{MigrateEnd, move_journal};
 pub use offering::take_offers;
-pub use playing::{PlayEnd, play_input};
 pub use promoting::promote;
 pub use selling::take_stock;
 pub use shipping::ship_records;

@@ -7,3 +7,4 @@ pub mod Stocking
 pub mod Requests
 pub mod Wares
 pub mod Grants
+pub mod Plays

@@ -1,3 +1,4 @@
 pub mod Ending
 pub mod Run
 pub mod Drill
+pub mod Play

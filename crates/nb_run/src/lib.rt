@@ -6,9 +6,9 @@
 //! [`Job`], too, `sell` with the shelf that is the input, and so are `buywith`, with the request that is the input, and `selloffers`, with offers and a shelf.
 //!
 //! [`nb_words::command_of`] reads the words, and `nb_commands` has what each comes to. What answers requests stands here: for `batch` and `follow` the vault is
-//! opened, and [`nb_batch::answer_frames`] answers; for `drill` a journal is made first, and the frames come of a source of its own. [`run`] is all of it over any
+//! opened, and [`nb_batch::answer_frames`] answers; for `drill` a journal is made first, and the frames come of a source of its own. A script is played here too, by [`nb_player::play`]. [`run`] is all of it over any
 //! source, sink, disk and clock. Its contract says how it ends and why
-//! (`specs/Run.antt`, `specs/Drill.antt`, and a module of `nb_commands` for each other command), what is written to the output, byte for byte, and what a stop at any moment of a batch
+//! (`specs/Run.antt`, `specs/Drill.antt`, and `specs/Play.antt`, and a module of `nb_commands` for each other command), what is written to the output, byte for byte, and what a stop at any moment of a batch
 //! leaves of the disk.
 //!
 //! Left to others: the real terminal, file and clock, and the lock on the file.
@@ -22,6 +22,7 @@
 #![tactic(auto)]
 
 mod drill;
+mod playing;
 mod program;
 mod tally;
 

@@ -24,19 +24,20 @@ ghost use Rattle.nb_groups.specs.Offers.{Tariff};
 ghost use Rattle.nb_commands.specs.Asking as asks;
 ghost use Rattle.nb_commands.specs.Granting as grants;
 ghost use Rattle.nb_commands.specs.Offering as wares;
-ghost use Rattle.nb_commands.specs.Play as plays;
 ghost use Rattle.nb_commands.specs.Promote as promotes;
+ghost use Rattle.nb_run.specs.Play as plays;
 ghost use Rattle.nb_run.specs.Run as runs;
 ghost use Rattle.nb_commands.specs.Selling as sales;
 ghost use Rattle.nb_commands.specs.Ship as ships;
 ghost use Rattle.nb_commands.specs.Statement as states;
 
 use crate::drill::drill;
+use crate::playing::play_input;
 use nb_batch::{Answerer, BatchEnd, answer_frames};
 use nb_commands::{
     BAD_INPUT, BAD_WORDS, CLEAN, Ending, FRAME_LIMIT, Job, OUT_OF_MEMORY, Outcome, SINK_FAILED,
-    SOURCE_FAILED, ask_with, grant, make_journal, move_journal, play_input, promote, rule_on,
-    ship_records, take_offers, take_stock, write_statement,
+    SOURCE_FAILED, ask_with, grant, make_journal, move_journal, promote, rule_on, ship_records,
+    take_offers, take_stock, write_statement,
 };
 use nb_port::{Clock, Disk, Sink, Source};
 use nb_turns::Line;

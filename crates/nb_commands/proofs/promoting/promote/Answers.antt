@@ -17,9 +17,9 @@ pub returns-clause-promotes : goal.returns-clause-promotes
 returns-clause-promotes g c =
     let told = c.tell_length-told in
     inr
-    (subst (λ (e : Ending). Promoted g.D.Disk.tells c.args.disk (g.K.Sink.sent c.args.sink.now) (g.K.Sink.sent told.new.sink) e) (sym c.ending.ensures)
-    (promoted g.D.Disk.tells c.args.disk c.in-Ok.house told.result c.args.sink.now told.new.sink c.entries.result (g.K.Sink.faults c.args.sink.now) (g.K.Sink.faults told.new.sink) (g.K.Sink.sent c.args.sink.now) (g.K.Sink.sent told.new.sink)
-    c.in-Ok.ensures.gives.stands c.in-Ok.ensures.gives.lines c.entries.ensures.count told.ensures.tells))
+    (subst (λ (e : Ending). Promoted g.D.Disk.tells c.args.disk c.into_disk.result (g.K.Sink.sent c.args.sink.now) (g.K.Sink.sent told.new.sink) e) (sym c.ending.ensures)
+    (promoted g.D.Disk.tells c.args.disk c.into_disk.result c.in-Ok.house told.result c.args.sink.now told.new.sink c.entries.result (g.K.Sink.faults c.args.sink.now) (g.K.Sink.faults told.new.sink) (g.K.Sink.sent c.args.sink.now) (g.K.Sink.sent told.new.sink)
+    c.in-Ok.ensures.gives c.into_disk.ensures c.entries.ensures.count told.ensures.tells))
 
 pub returns-clause-sink : goal.returns-clause-sink
 returns-clause-sink g c = λ failed.

@@ -19,9 +19,9 @@ pub returns-clause-ships : goal.returns-clause-ships
 returns-clause-ships g c =
     let told = c.ship_from-shipped in
     inr
-    (subst (λ (e : Ending). Shipped g.D.Disk.tells c.args.disk (g.K.Sink.sent c.args.sink.now) (g.K.Sink.sent told.new.sink) c.args.from e) (sym c.shipped_as.ensures)
-    (shipped g.D.Disk.tells c.args.disk c.in-Ok.house told.result c.args.from (g.K.Sink.faults c.args.sink.now) (g.K.Sink.faults told.new.sink) (g.K.Sink.sent c.args.sink.now) (g.K.Sink.sent told.new.sink)
-    c.in-Ok.ensures.gives.stands c.in-Ok.ensures.gives.lines told.ensures.ships))
+    (subst (λ (e : Ending). Shipped g.D.Disk.tells c.args.disk c.into_disk.result (g.K.Sink.sent c.args.sink.now) (g.K.Sink.sent told.new.sink) c.args.from e) (sym c.shipped_as.ensures)
+    (shipped g.D.Disk.tells c.args.disk c.into_disk.result c.in-Ok.house told.result c.args.from (g.K.Sink.faults c.args.sink.now) (g.K.Sink.faults told.new.sink) (g.K.Sink.sent c.args.sink.now) (g.K.Sink.sent told.new.sink)
+    c.in-Ok.ensures.gives c.into_disk.ensures told.ensures.ships))
 
 pub returns-clause-sink : goal.returns-clause-sink
 returns-clause-sink g c = λ failed.

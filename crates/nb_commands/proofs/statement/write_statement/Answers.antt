@@ -18,9 +18,9 @@ pub returns-clause-statement : goal.returns-clause-statement
 returns-clause-statement g c =
     let told = c.write-told in
     inr
-    (subst (λ (e : Ending). Stated g.D.Disk.tells c.args.disk (g.K.Sink.sent c.args.sink.now) (g.K.Sink.sent told.new.sink) c.args.acct e) (sym c.told_as.ensures)
-    (stated g.D.Disk.tells c.args.disk c.in-Ok.house told.result c.args.acct (g.K.Sink.faults c.args.sink.now) (g.K.Sink.faults told.new.sink) (g.K.Sink.sent c.args.sink.now) (g.K.Sink.sent told.new.sink)
-    c.in-Ok.ensures.gives.stands c.in-Ok.ensures.gives.lines told.ensures.wrote told.ensures.refused))
+    (subst (λ (e : Ending). Stated g.D.Disk.tells c.args.disk c.into_disk.result (g.K.Sink.sent c.args.sink.now) (g.K.Sink.sent told.new.sink) c.args.acct e) (sym c.told_as.ensures)
+    (stated g.D.Disk.tells c.args.disk c.into_disk.result c.in-Ok.house told.result c.args.acct (g.K.Sink.faults c.args.sink.now) (g.K.Sink.faults told.new.sink) (g.K.Sink.sent c.args.sink.now) (g.K.Sink.sent told.new.sink)
+    c.in-Ok.ensures.gives c.into_disk.ensures told.ensures.wrote told.ensures.refused))
 
 pub returns-clause-sink : goal.returns-clause-sink
 returns-clause-sink g c = λ failed.

@@ -16,7 +16,7 @@ use Rattle.nb_run.proofs.Numerals.{one_init, one_drill, one_job, one_purchase, o
 use Rattle.nb_commands.proofs.Making.{makes_clean}
 use Rattle.nb_commands.proofs.Moving.{moves_clean}
 use Rattle.nb_commands.proofs.Rulings.{rules_clean}
-use Rattle.nb_commands.proofs.Plays.{plays_clean}
+use Rattle.nb_run.proofs.Plays.{plays_clean}
 use Rattle.nb_run.proofs.Stocking.{stocks_clean, sold_by, not_unread}
 use Rattle.nb_run.proofs.Requests.{bought_plain, asks_clean, asked_by, not_unasked}
 use Rattle.nb_run.proofs.Wares.{offers_clean, offered_by, not_unoffered}

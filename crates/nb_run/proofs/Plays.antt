@@ -9,10 +9,10 @@ use Rattle.nb_script.specs.Reads.{ScriptSays, lines_of}
 use Rattle.nb_script.proofs.OneReading.{one_reading}
 use Rattle.nb_player.specs.Playing.{Plays, TellsOf}
 use Rattle.nb_commands.specs.declared.ending.TheConstants.{CLEAN, OUT_OF_MEMORY}
-use Rattle.nb_commands.specs.declared.playing.PlayEnd.{PlayEnd}
-use Rattle.nb_commands.specs.declared.playing.PlayEnd.TheVariants.{Played, ReadFault, TooLong, BadLine, WriteFault, NoMemory}
+use Rattle.nb_run.specs.declared.playing.PlayEnd.{PlayEnd}
+use Rattle.nb_run.specs.declared.playing.PlayEnd.TheVariants.{Played, ReadFault, TooLong, BadLine, WriteFault, NoMemory}
 use Rattle.nb_commands.specs.Input.{TookAll}
-use Rattle.nb_commands.specs.Play.{IsReportOf, IsScriptInput, PlaysAs, play_ending}
+use Rattle.nb_run.specs.Play.{IsReportOf, IsScriptInput, PlaysAs, play_ending}
 use Rattle.nb_commands.proofs.Moving.{same_input, not_longer}
 
 -- what was appended to nothing is the report

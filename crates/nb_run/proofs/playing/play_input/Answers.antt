@@ -1,8 +1,8 @@
 use Rattle.std.proofs.Common.{List, ℕ, subst}
 use Rattle.std.specs.Io.KnownBytes.{Appends}
 use Rattle.nb_player.specs.Playing.{Plays}
-use Rattle.nb_commands.proofs.Plays.{reported}
-use Rattle.nb_commands.proofs.playing.play_input.Goals as goal
+use Rattle.nb_run.proofs.Plays.{reported}
+use Rattle.nb_run.proofs.playing.play_input.Goals as goal
 
 pub returns-in-All-send_all-clause-played : goal.returns-in-All-send_all-clause-played
 returns-in-All-send_all-clause-played g c =

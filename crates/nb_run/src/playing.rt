@@ -1,11 +1,12 @@
 ghost use Rattle.std.specs.Prelude.{◌≡◌, ◌≢◌, ◌≤◌};
 ghost use Rattle.nb_script.specs.declared.limits.TheConstants.{MAX_SCRIPT};
-ghost use Rattle.nb_commands.specs.declared.playing.PlayEnd.TheVariants as ends;
-ghost use Rattle.nb_commands.specs.Play.{PlaysAs, play_ending};
+ghost use Rattle.nb_run.specs.declared.playing.PlayEnd.TheVariants as ends;
+ghost use Rattle.nb_run.specs.Play.{PlaysAs, play_ending};
 
-use crate::ending::{BAD_INPUT, CLEAN, Ending, OUT_OF_MEMORY, SINK_FAILED, SOURCE_FAILED};
-use crate::input::{InputRead, read_most};
 use nb_batch::{Sent, send_all};
+use nb_commands::{
+    BAD_INPUT, CLEAN, Ending, InputRead, OUT_OF_MEMORY, SINK_FAILED, SOURCE_FAILED, read_most,
+};
 use nb_player::play;
 use nb_port::{Sink, Source};
 use nb_script::{MAX_SCRIPT, PlayFault};

@@ -9,8 +9,8 @@ use Rattle.nb_script.specs.Reads.{ScriptSays, lines_of}
 use Rattle.nb_player.specs.Playing.{TellsOf}
 use Rattle.nb_commands.specs.declared.ending.Ending.{Ending}
 use Rattle.nb_commands.specs.declared.ending.TheConstants.{CLEAN, SOURCE_FAILED, SINK_FAILED, BAD_INPUT, OUT_OF_MEMORY}
-use Rattle.nb_commands.specs.declared.playing.PlayEnd.{PlayEnd}
-use Rattle.nb_commands.specs.declared.playing.PlayEnd.TheVariants as ends
+use Rattle.nb_run.specs.declared.playing.PlayEnd.{PlayEnd}
+use Rattle.nb_run.specs.declared.playing.PlayEnd.TheVariants as ends
 use Rattle.nb_commands.specs.Ending.{at_no_place}
 use Rattle.nb_commands.specs.Input.{TookAll, TookMore, TookUpTo}
 
