@@ -1,4 +1,4 @@
-ghost use Rattle.std.specs.Prelude.{◌≡◌, ◌≤◌, ◌↔◌, [], map, IfOk, IfSome, IsTrue};
+ghost use Rattle.std.specs.Prelude.{◌≡◌, ◌≤◌, ◌↔◌, ◌&&◌, ◌++◌, ◌∷◌, [], map, IfOk, IfSome, IsTrue};
 ghost use Rattle.nb_units.specs.Charter.{MayRule};
 ghost use Rattle.nb_units.specs.declared.limits.TheConstants.{MAX_CAP};
 ghost use Rattle.nb_escrow.specs.Head.{IsRuling};
@@ -11,7 +11,7 @@ use nb_escrow::Head;
 use nb_nodes::{Buyers, Sellers};
 use nb_price::Catalogue;
 use nb_stall::Stall;
-use nb_units::{AcctId, FEE_VERSION, FIRST_VERSION, HEAD, MAX_RATE, NoMemory, Secret};
+use nb_units::{AcctId, FEE_VERSION, FIRST_VERSION, HEAD, MAX_CAP, MAX_RATE, NoMemory, Secret};
 use nb_wallet::Wallet;
 use std::alloc::Global;
 
@@ -55,10 +55,17 @@ impl From<NoMemory> for SetupFault {
 }
 
 // Whether a house may decide under a version and a rate.
-pub(crate) fn may_rule(version: u8, rate: u16) -> bool
+fn may_rule(version: u8, rate: u16) -> bool
     ensures { IsTrue result ↔ MayRule version rate }
 {
     (version == FIRST_VERSION || version == FEE_VERSION) && rate <= MAX_RATE
+}
+
+// Whether a house of this cap may start under a version and a rate.
+pub(crate) fn may_start(version: u8, rate: u16, cap: u32) -> bool
+    ensures { IsTrue result ↔ MayRule version rate × (1 ≤ cap) × (cap ≤ MAX_CAP) }
+{
+    may_rule(version, rate) && cap >= 1 && cap <= MAX_CAP
 }
 
 // A book of the entries, for as many as the cap; none where they are more, or not Legal under the version and the rate.
@@ -77,9 +84,11 @@ pub(crate) fn book_of(
     let mut book = Book::new(alloc, cap, &head.index)?;
     for entry in entries {
         if book.len() == cap {
+            drop(book);
             return Ok(None);
         }
         if !book.legal(entry, head.version, head.rate) {
+            drop(book);
             return Ok(None);
         }
         book.apply(entry);
@@ -111,23 +120,49 @@ fn is_enrolled(
     }
 }
 
-// The consumers; none where one is listed twice, or not enrolled as it is here.
-pub(crate) fn buyers_of(
+// Adds a consumer; false where it is listed already, or not enrolled as it is here.
+fn add_buyer(
     alloc: Global,
     book: &Book,
-    wallets: &[Wallet],
-) -> Result<Option<Buyers>, NoMemory>
+    buyers: &mut Buyers,
+    wallet: &Wallet,
+) -> Result<bool, NoMemory>
+    ensures may { IfOk result (λ added. added ≡ setups.wallets_may book.now.entries buyers.old (wallet.now ∷ [])) }
+    ensures added { IfOk result (λ added. IsTrue added → buyers.new ≡ buyers.old ++ new_buyer wallet.now ∷ []) }
+{
+    if !is_enrolled(
+        book.party(wallet.id),
+        CONSUMER,
+        wallet.acct,
+        Some(wallet.nonce),
+        &wallet.key,
+    ) {
+        return Ok(false);
+    }
+    if buyers.find(wallet.id).is_some() {
+        return Ok(false);
+    }
+    buyers.add(alloc, *wallet)?;
+    Ok(true)
+}
+
+// The consumers; none where one is listed twice, or not enrolled as it is here.
+fn buyers_of(alloc: Global, book: &Book, wallets: &[Wallet]) -> Result<Option<Buyers>, NoMemory>
     ensures { IfOk result (setups.Makes (setups.wallets_may book.now.entries [] wallets.now) (map new_buyer wallets.now)) }
 {
     let mut buyers = Buyers::new(alloc);
-    for w in wallets {
-        if !is_enrolled(book.party(w.id), CONSUMER, w.acct, Some(w.nonce), &w.key) {
-            return Ok(None);
+    for wallet in wallets {
+        match add_buyer(alloc, book, &mut buyers, wallet) {
+            Ok(true) => {}
+            Ok(false) => {
+                drop(buyers);
+                return Ok(None);
+            }
+            Err(none) => {
+                drop(buyers);
+                return Err(none);
+            }
         }
-        if buyers.find(w.id).is_some() {
-            return Ok(None);
-        }
-        buyers.add(alloc, *w)?;
     }
     Ok(Some(buyers))
 }
@@ -140,8 +175,33 @@ fn stall_fits(stall: &Stall)
     let _acct = stall.acct.0;
 }
 
+// Adds a merchant; false where it is listed already, or not enrolled as it is here.
+fn add_seller(
+    alloc: Global,
+    book: &Book,
+    sellers: &mut Sellers,
+    seller: (Stall, Catalogue),
+) -> Result<bool, NoMemory>
+    ensures may { IfOk result (λ added. added ≡ setups.stalls_may book.now.entries sellers.old (seller ∷ [])) }
+    ensures added { IfOk result (λ added. IsTrue added → sellers.new ≡ sellers.old ++ setups.shop_of seller ∷ []) }
+    ensures fits { setups.StallFits seller.0 }
+{
+    let (stall, catalogue) = seller;
+    stall_fits(&stall);
+    if !is_enrolled(book.party(stall.id), MERCHANT, stall.acct, None, &stall.key) {
+        drop(catalogue);
+        return Ok(false);
+    }
+    if sellers.find(stall.id).is_some() {
+        drop(catalogue);
+        return Ok(false);
+    }
+    sellers.add(alloc, stall, catalogue)?;
+    Ok(true)
+}
+
 // The merchants; none where one is listed twice, or not enrolled as it is here.
-pub(crate) fn sellers_of(
+fn sellers_of(
     alloc: Global,
     book: &Book,
     merchants: Vec<(Stall, Catalogue)>,
@@ -151,15 +211,62 @@ pub(crate) fn sellers_of(
 {
     let mut sellers = Sellers::new(alloc);
     for seller in merchants {
-        let (stall, catalogue) = seller;
-        stall_fits(&stall);
-        if !is_enrolled(book.party(stall.id), MERCHANT, stall.acct, None, &stall.key) {
-            return Ok(None);
+        match add_seller(alloc, book, &mut sellers, seller) {
+            Ok(true) => {}
+            Ok(false) => {
+                drop(sellers);
+                return Ok(None);
+            }
+            Err(none) => {
+                drop(sellers);
+                return Err(none);
+            }
         }
-        if sellers.find(stall.id).is_some() {
-            return Ok(None);
-        }
-        sellers.add(alloc, stall, catalogue)?;
     }
     Ok(Some(sellers))
+}
+
+// Who buys and who sells.
+#[derive(Drop)]
+pub(crate) struct Parties {
+    pub(crate) consumers: Buyers,
+    pub(crate) merchants: Sellers,
+}
+
+// The consumers and the merchants; none where one is listed twice, or not enrolled as it is here.
+pub(crate) fn parties_of(
+    alloc: Global,
+    book: &Book,
+    wallets: &[Wallet],
+    merchants: Vec<(Stall, Catalogue)>,
+) -> Result<Option<Parties>, NoMemory>
+    ensures makes { IfOk result (setups.Makes (setups.wallets_may book.now.entries [] wallets.now && setups.stalls_may book.now.entries [] merchants.items)
+        (record { consumers = map new_buyer wallets.now; merchants = map setups.shop_of merchants.items })) }
+    ensures fit { IfOk result (λ made. IfSome made (λ _. setups.SellersFit merchants.items)) }
+{
+    let consumers = match buyers_of(alloc, book, wallets) {
+        Ok(Some(consumers)) => consumers,
+        Ok(None) => {
+            drop(merchants);
+            return Ok(None);
+        }
+        Err(none) => {
+            drop(merchants);
+            return Err(none);
+        }
+    };
+    match sellers_of(alloc, book, merchants) {
+        Ok(Some(merchants)) => Ok(Some(Parties {
+            consumers,
+            merchants,
+        })),
+        Ok(None) => {
+            drop(consumers);
+            Ok(None)
+        }
+        Err(none) => {
+            drop(consumers);
+            Err(none)
+        }
+    }
 }

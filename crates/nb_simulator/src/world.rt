@@ -1,12 +1,18 @@
-ghost use Rattle.std.specs.Prelude.{◌≡◌, ◌<◌, ◌^◌, ◌-◌, ◌∷◌, ◌++◌, [], List, length, slice_get, option_map, Some, OnErr, IfOk};
+ghost use Rattle.std.specs.Prelude.{◌≡◌, ◌≤◌, ◌<◌, ◌^◌, ◌-◌, ◌∷◌, ◌++◌, [], List, length, slice_get, option_map, None, Some, OnErr, IfOk};
+ghost use Rattle.nb_units.specs.Charter.{MayRule};
+ghost use Rattle.nb_units.specs.declared.limits.TheConstants.{MAX_CAP, MAX_MEMO};
+ghost use Rattle.nb_body.specs.declared.limits.TheConstants.{MAX_REQUEST};
+ghost use Rattle.nb_escrow.specs.Head.{IsRuling, head_of};
 ghost use Rattle.nb_msgs.specs.declared.node.To.TheVariants as to;
+ghost use Rattle.nb_world.specs.declared.call.CallPhase.TheVariants as phase;
 ghost use Rattle.nb_world.specs.Steps as steps;
+ghost use Rattle.nb_world.specs.World.{entry_written};
 ghost use Rattle.nb_simulator.specs.Laws.{IsBehind};
-ghost use Rattle.nb_simulator.specs.Setups.{IsLawful, SellersFit, Sets, world_of};
+ghost use Rattle.nb_simulator.specs.Setups.{Fills, IsLawful, SellersFit, Sets, world_of};
 ghost use Rattle.nb_nodes.specs.Nodes.{phase_of_first, told_of, knows_of};
 ghost use Rattle.nb_simulator.specs.Worlds.{Tells, SameHouse, rules_of};
 
-use crate::setup::{Setup, SetupFault, book_of, buyers_of, may_rule, sellers_of};
+use crate::setup::{Parties, Setup, SetupFault, book_of, may_start, parties_of};
 use crate::turns::{
     acknowledge, addressee, asker_of, call_at, come_to, hand_out, left, let_go, may_answer,
     verdict_on,
@@ -14,11 +20,12 @@ use crate::turns::{
 use nb_body::MAX_REQUEST;
 use nb_book::Book;
 use nb_consumer::Phase;
+use nb_entry::Entry;
 use nb_escrow::Head;
 use nb_msgs::To;
 use nb_nodes::{Buyers, Content, Parcel, Sellers, send};
 use nb_units::frames::{LAST_KIND, MAX_BODY};
-use nb_units::{Blob, MAX_CAP, MAX_MEMO, NoMemory, PartyId};
+use nb_units::{Blob, MAX_MEMO, NoMemory, PartyId};
 use nb_wallet::Start;
 use nb_world::{Acknowledged, Call, CallPhase, Event, Maker, Origin, Stage, Turning};
 use std::alloc::Global;
@@ -94,29 +101,81 @@ impl World {
         // The numbers of its merchants have their widths, as laws over them premise.
         ensures fit { IfOk result (λ _. SellersFit setup.merchants.items) }
     {
+        if !may_start(setup.version, setup.rate, setup.cap) {
+            drop(setup);
+            return Err(SetupFault::Unlawful);
+        }
+        let head = Head::read(&setup.head, setup.version, setup.rate);
+        match book_of(alloc, &head, setup.cap, setup.entries.as_slice()) {
+            Ok(Some(book)) => World::of_book(alloc, head, book, setup),
+            Ok(None) => {
+                drop(setup);
+                Err(SetupFault::Unlawful)
+            }
+            Err(_) => {
+                drop(setup);
+                Err(SetupFault::NoMemory)
+            }
+        }
+    }
+
+    // The world of a set-up of which a house is made.
+    fn of_book(alloc: Global, head: Head, book: Book, setup: Setup) -> Result<World, SetupFault>
+        requires ruling { MayRule setup.version setup.rate }
+        requires some { 1 ≤ setup.cap }
+        requires most { setup.cap ≤ MAX_CAP }
+        requires head { head ≡ head_of (record { head = setup.head; version = setup.version; rate = setup.rate }) }
+        requires filled { Fills head setup.cap setup.entries.items (Some book) }
+        ensures sets { Sets setup result }
+        ensures fit { IfOk result (λ _. SellersFit setup.merchants.items) }
+    {
         let Setup {
-            head,
-            version,
-            rate,
-            cap,
             consumers,
             merchants,
             entries,
+            ..
         } = setup;
-        if !may_rule(version, rate) || cap < 1 || cap > MAX_CAP {
-            return Err(SetupFault::Unlawful);
+        drop(entries);
+        let made = parties_of(alloc, &book, consumers.as_slice(), merchants);
+        drop(consumers);
+        match made {
+            Ok(Some(parties)) => Ok(World::at_first(alloc, head, book, parties)),
+            Ok(None) => {
+                drop(book);
+                Err(SetupFault::Unlawful)
+            }
+            Err(_) => {
+                drop(book);
+                Err(SetupFault::NoMemory)
+            }
         }
-        let head = Head::read(&head, version, rate);
-        let Some(book) = book_of(alloc, &head, cap, entries.as_slice())? else {
-            return Err(SetupFault::Unlawful);
-        };
-        let Some(consumers) = buyers_of(alloc, &book, consumers.as_slice())? else {
-            return Err(SetupFault::Unlawful);
-        };
-        let Some(merchants) = sellers_of(alloc, &book, merchants)? else {
-            return Err(SetupFault::Unlawful);
-        };
-        Ok(World {
+    }
+
+    // The world of a house and of those who buy and sell, before anything happened in it.
+    fn at_first(alloc: Global, head: Head, book: Book, parties: Parties) -> World
+        requires { IsRuling head }
+        ensures { result ≡ record {
+          head = head;
+          cap = book.cap;
+          world = record {
+            consumers = parties.consumers;
+            merchants = parties.merchants;
+            packets = [];
+            calls = [];
+            turn = None;
+            durable = book.entries;
+            server = book.entries;
+            origins = [];
+            acknowledged = [];
+            moment = 0;
+          };
+        } }
+    {
+        let Parties {
+            consumers,
+            merchants,
+        } = parties;
+        World {
             alloc,
             head,
             book,
@@ -128,7 +187,7 @@ impl World {
             origins: Vec::new(alloc),
             acknowledged: Vec::new(alloc),
             moment: 0,
-        })
+        }
     }
 
     /// The world of a set-up that is as it must be ([`try_new`](World::try_new)).
@@ -206,6 +265,19 @@ impl World {
         if !matches!(call.phase, CallPhase::Waiting) {
             return Ok(Stepped::Unfit);
         }
+        self.take_turn(c, call)
+    }
+
+    // A call that waits takes the turn, which is free.
+    #[tactic(auto, unfolding(nb_world::specs::Steps::turn_of))]
+    fn take_turn(&mut self, c: u32, call: Call) -> Result<Stepped, NoMemory>
+        requires free { self.old.world.turn ≡ None }
+        requires call { slice_get self.old.world.calls c ≡ Some call }
+        requires waits { call.phase ≡ phase.Waiting }
+        ensures world { IfOk result (λ stepped. Tells (steps.turn_of (rules_of self.old) self.old.world c) self.old.world self.new.world stepped) }
+        ensures err { OnErr result (self.new ≡ self.old) }
+        ensures house { SameHouse self.old self.new }
+    {
         let Some(packet) = self.packets.get(call.packet as usize) else {
             return Ok(Stepped::Unfit);
         };
@@ -246,7 +318,7 @@ impl World {
         ensures err { OnErr result (self.new ≡ self.old) }
         ensures house { SameHouse self.old self.new }
     {
-        let Some(turn) = &mut self.turn else {
+        let Some(turn) = &self.turn else {
             return Ok(Stepped::Unfit);
         };
         if turn.call != c || !matches!(turn.stage, Stage::Written) {
@@ -255,13 +327,28 @@ impl World {
         let Some(entry) = turn.verdict.entry else {
             return Ok(Stepped::Unfit);
         };
+        self.open_entry(c, &entry)
+    }
+
+    // The entry of the turn of this call, which is written, is opened.
+    #[tactic(auto, unfolding(nb_world::specs::Steps::open_of))]
+    fn open_entry(&mut self, c: u32, entry: &Entry) -> Result<Stepped, NoMemory>
+        requires call { option_map (λ t. t.call) self.old.world.turn ≡ Some c }
+        requires written { entry_written self.old.world.turn ≡ Some entry.now }
+        ensures world { IfOk result (λ stepped. Tells (steps.open_of self.old.world c) self.old.world self.new.world stepped) }
+        ensures err { OnErr result (self.new ≡ self.old) }
+        ensures house { SameHouse self.old self.new }
+    {
         self.origins.reserve(1)?;
+        let Some(turn) = &mut self.turn else {
+            unreachable!()
+        };
+        turn.stage = Stage::Opened;
         self.origins.push_reserved(Origin {
             place: self.book.len(),
             call: c,
         });
-        self.book.apply(&entry);
-        turn.stage = Stage::Opened;
+        self.book.apply(entry);
         Ok(Stepped::Moved)
     }
 
@@ -446,9 +533,24 @@ impl World {
         if start.memo.as_slice().len() > MAX_MEMO {
             return Ok(Stepped::Unfit);
         }
+        self.start_purchase(i, id, start)
+    }
+
+    // The consumer at a place starts a purchase whose request and memo are short enough.
+    fn start_purchase(&mut self, i: usize, id: PartyId, start: &Start) -> Result<Stepped, NoMemory>
+        requires packets { length self.old.world.packets < 2 ^ 32 - 1 }
+        requires within { i < length self.old.world.consumers }
+        requires place { steps.consumer_at (rules_of self.old) self.old.world id ≡ Some i }
+        requires request { length start.now.request ≤ MAX_REQUEST }
+        requires memo { length start.now.memo ≤ MAX_MEMO }
+        ensures world { IfOk result (λ stepped. Tells (steps.buy_of (rules_of self.old) self.old.world id start.now) self.old.world self.new.world stepped) }
+        ensures err { OnErr result (self.new ≡ self.old) }
+        ensures house { SameHouse self.old self.new }
+    {
         self.packets.reserve(1)?;
         let did = self.consumers.start(i, start)?;
         if did.is_nothing() {
+            drop(did);
             return Ok(Stepped::Unfit);
         }
         send(&mut self.packets, Maker::Consumer(id), did);
