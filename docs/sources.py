@@ -26,7 +26,7 @@ GROUPS = {
     "The house": "nb_entry nb_book nb_escrow nb_turns nb_journal nb_vault nb_standby nb_statement nb_turn nb_desk nb_session nb_server nb_batch",
     "The parties": "nb_price nb_groups nb_stall nb_merchant nb_wallet nb_consumer nb_trade nb_buy nb_sell nb_judge",
     "The world": "nb_world nb_parties nb_nodes nb_script nb_simulator nb_player nb_headline",
-    "Programs": "nb_play nb_words nb_commands nb_run nb_work netbill nb_cases nb_lines layouts books trades worlds vaults runs houses bench bench_nodes",
+    "Programs": "nb_play nb_words nb_commands nb_run nb_work netbill nb_cases nb_lines layouts books trades deals worlds vaults runs houses bench bench_nodes",
 }
 
 

@@ -18,7 +18,7 @@
 //! Left to others: the opening of the wallet, links and how long they wait, what is told outside of an end. A step of another purchase of the same wallet is carried
 //! out as any.
 //!
-//! Not said: that there is no want of memory where there is memory. The stored run of `trades` shows it.
+//! Not said: that there is no want of memory where there is memory. The stored run of `deals` shows it.
 #![tactic(auto)]
 
 mod acting;

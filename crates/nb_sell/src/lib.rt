@@ -24,7 +24,7 @@
 //!
 //! Not said: that links which bring the frames of a sale bring it to its end, which takes that two lists of acts over the same links begin alike; at which moment of
 //! the disk a message was sent, since links and disks tell no time that they share; and that there is no want of memory where there is memory. The stored run of
-//! `trades` shows sales to their end.
+//! `deals` shows sales to their end.
 #![tactic(auto)]
 
 mod acting;

@@ -2,14 +2,13 @@
 //! and of `nb_merchant`, as data, of the heads of `nb_wallet` and `nb_stall`, of the shelves of `nb_price`, and of whole purchases. Each line is a word
 //! and what it is about. [`Trade`] says what those of a consumer do, which are `kept`, `again`, `start`, `hear`, `quiet`, `phase`, `goods`, `seal` and
 //! `part`, and those of a merchant, which are `shelf`, `offers`, `stall`, `anew`, `consumer`, `house`, `silent`, `stage` and `asker`; `item` and `bytes` are of
-//! both. [`Deal`](crate::deal::Deal) has the lines `wallet`, `comes`, `fails` and `buy`, of purchases over links, and `journal`, `moments`, `sell` and `cuts`, of what a merchant does there. [`heads`] and [`whole`] have the lines of that name, `head` and `whole`, and [`shelves`] has `catalogue`, `puts` and `shortage`. A line that
-//! begins with `#` is printed as it is.
+//! both. [`heads`] and [`whole`] have the lines of that name, `head` and `whole`, and [`shelves`] has `catalogue`, `puts` and `shortage`. A line that
+//! begins with `#` is printed as it is. Purchases over links are the program `deals`'s.
 //!
 //! It claims nothing: what it prints is compared with what another program wrote.
 #![tactic(auto)]
 
 mod bytes;
-mod deal;
 mod heads;
 mod shelves;
 mod telling;
@@ -77,26 +76,6 @@ fn done_by_word(
         "shortage" => shelves::shortage(told),
         "whole" => whole::purchase(told, words),
         "head" => heads::head(told, words),
-        _ => done_by_deal(trade, told, word, words),
-    }
-}
-
-// What is done at a line of a purchase over links.
-fn done_by_deal(
-    trade: &mut Trade,
-    told: &mut Told,
-    word: &str,
-    words: &[&str],
-) -> Result<(), NoMemory> {
-    match word {
-        "wallet" => trade.deal.wallet(told, words),
-        "comes" => trade.deal.comes(told, words),
-        "fails" => trade.deal.fails(told, words),
-        "buy" => trade.deal.buy(told, words),
-        "journal" => trade.deal.journal(told, words),
-        "moments" => trade.deal.moments(words),
-        "sell" => trade.sell(told, words),
-        "cuts" => trade.cuts(told, words),
         _ => done_by_consumer(trade, told, word, words),
     }
 }

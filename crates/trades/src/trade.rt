@@ -4,7 +4,6 @@ ghost use Rattle.nb_msgs.specs.Bodies.{MessageKeepsRules};
 
 pub(crate) mod selling;
 
-use crate::deal::Deal;
 use crate::{bytes, telling};
 use nb_consumer::Consumer;
 use nb_lines::Told;
@@ -40,8 +39,6 @@ pub struct Trade {
     kept: Vec<u8>,
     sent: Vec<u8>,
     goods: Blob,
-    // What the next purchase over links is made with.
-    pub deal: Deal,
 }
 
 impl Trade {
@@ -58,7 +55,6 @@ impl Trade {
             kept: Vec::new(alloc),
             sent: Vec::new(alloc),
             goods: Blob::from_vec(Vec::new(alloc)),
-            deal: Deal::new(alloc),
         })
     }
 

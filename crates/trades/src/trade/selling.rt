@@ -59,16 +59,6 @@ impl Trade {
         }
     }
 
-    /// `sell STEP`: as [`Deal::sell`](crate::deal::Deal::sell), with what is on the shelf.
-    pub fn sell(&mut self, told: &mut Told, words: &[&str]) -> Result<(), NoMemory> {
-        self.deal.sell(told, self.shelf.as_slice(), words)
-    }
-
-    /// `cuts STEP`: as [`Deal::cuts`](crate::deal::Deal::cuts), with what is on the shelf.
-    pub fn cuts(&mut self, told: &mut Told, words: &[&str]) -> Result<(), NoMemory> {
-        self.deal.cuts(told, self.shelf.as_slice(), words)
-    }
-
     /// `anew ITEM..`: the merchant that is there starts again with these items, and sells what it sold.
     pub fn anew(&mut self, told: &mut Told, words: &[&str]) -> Result<(), NoMemory> {
         let items = self.items_of(words)?;

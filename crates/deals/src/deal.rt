@@ -1,16 +1,18 @@
 // Purchases over links in memory, with a wallet's or a stall's journal on a disk in memory.
 
 ghost use Rattle.std.specs.Prelude.{◌<◌};
+ghost use Rattle.nb_wallet.specs.Spelling.{StartKeepsRules};
 
 mod making;
 mod selling;
 
-use crate::bytes;
 use nb_journal::{Journal, MAX_ITEM, Opened};
 use nb_lines::Told;
 use nb_link::MemLink;
+use nb_msgs::RestartFault;
 use nb_port::MemDisk;
-use nb_units::NoMemory;
+use nb_units::{NoMemory, PartyId, Price, Small};
+use nb_wallet::Start;
 use std::alloc::Global;
 
 // The most bytes that a line adds to what comes over a link.
@@ -42,7 +44,7 @@ impl Side {
     }
 }
 
-/// What a purchase is made with: the content of the wallet's disk, or of the stall's, what comes over the links of the house, the seller and the consumer, which
+/// What a purchase is made with: the content of the wallet's disk, or of the stall's and its shelf, what comes over the links of the house, the seller and the consumer, which
 /// calls of the disk, the links and the output fail, and what the clock gives.
 #[derive(Drop)]
 pub struct Deal {
@@ -53,6 +55,7 @@ pub struct Deal {
     house: Side,
     seller: Side,
     stall: Vec<u8>,
+    shelf: Vec<u8>,
     moments: Vec<u64>,
     consumer: Side,
 }
@@ -68,6 +71,7 @@ impl Deal {
             house: Side::new(alloc),
             seller: Side::new(alloc),
             stall: Vec::new(alloc),
+            shelf: Vec::new(alloc),
             moments: Vec::new(alloc),
             consumer: Side::new(alloc),
         }
@@ -121,7 +125,7 @@ impl Deal {
         let [number, limit, step] = words else {
             return told.unclear();
         };
-        let wish = bytes::wish(nb_lines::number(*number), nb_lines::number(*limit));
+        let wish = wish(nb_lines::number(*number), nb_lines::number(*limit));
         let step = step.parse::<usize>().unwrap_or(1).max(1);
         let calls = opening_calls(self.alloc, self.wallet.as_slice())?;
         let fails = behind(self.alloc, calls, self.disk.as_slice())?;
@@ -131,6 +135,29 @@ impl Deal {
             Ok(opened) => self.with(told, opened, &wish, step),
             Err(_) => told.unclear(),
         }
+    }
+}
+
+// A wish for product 7 of merchant 2.
+fn wish(transaction: u64, limit: u64) -> Start
+    ensures { StartKeepsRules result }
+{
+    let none = Small::of(&[]).unwrap();
+    Start {
+        transaction,
+        merchant: PartyId(2),
+        product: 7,
+        limit: Price(limit),
+        request: none,
+        memo: none,
+    }
+}
+
+// Why a journal's items are not started with.
+fn tell_fault(told: &mut Told, fault: RestartFault) -> Result<(), NoMemory> {
+    match fault {
+        RestartFault::BadItem { item } => told.show("bad item ", &item).done(),
+        RestartFault::NoMemory => Err(NoMemory),
     }
 }
 

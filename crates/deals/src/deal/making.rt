@@ -7,8 +7,7 @@ ghost use Rattle.nb_journal.specs.Opening.{OpensJournal};
 ghost use Rattle.nb_port.specs.Tells.{DiskTells};
 ghost use Rattle.nb_wallet.specs.Spelling.{StartKeepsRules};
 
-use crate::deal::Deal;
-use crate::telling;
+use crate::deal::{Deal, tell_fault};
 use nb_buy::{BuyEnd, Lost, Over, Peer, buy};
 use nb_consumer::Consumer;
 use nb_journal::{Journal, Opened};
@@ -47,7 +46,7 @@ impl Deal {
         }
         match Consumer::restart(self.alloc, Wallet::of_head(&head), items.as_slice()) {
             Ok(consumer) => self.made(told, journal, consumer, wish, step),
-            Err(fault) => telling::fault(told, fault),
+            Err(fault) => tell_fault(told, fault),
         }
     }
 

@@ -4,14 +4,13 @@ ghost use Rattle.std.specs.Prelude.{◌≡◌, ◌<◌};
 ghost use Rattle.nb_journal.specs.Growing.{IsAtRest};
 ghost use Rattle.nb_journal.specs.declared.limits.TheConstants.{MAX_ITEM};
 
-use crate::deal::{Deal, behind, opening_calls};
-use crate::{shelves, telling};
+use crate::deal::{Deal, behind, opening_calls, tell_fault};
 use nb_journal::{Journal, MAX_ITEM, Opened};
 use nb_lines::Told;
 use nb_link::MemLink;
 use nb_merchant::Merchant;
 use nb_port::{Disk, MemClock, MemDisk};
-use nb_price::Catalogue;
+use nb_price::{Catalogue, MAX_SHELF};
 use nb_sell::{SellEnd, sell_link};
 use nb_stall::Stall;
 use nb_units::NoMemory;
@@ -36,22 +35,38 @@ impl Deal {
         Ok(())
     }
 
-    /// `sell STEP`: a merchant that is opened on the stall's disk, and sells what is on this shelf, does what it does on the consumer's link, where one read
+    /// `shelf LINE..`: what the merchant sells, which are these lines, with a line feed between two.
+    pub fn shelf(&mut self, words: &[&str]) -> Result<(), NoMemory> {
+        let mut shelf = Vec::new(self.alloc);
+        for line in words {
+            if !shelf.is_empty() {
+                shelf.push(0x0A)?;
+            }
+            shelf.extend_from_slice(line.as_bytes())?;
+        }
+        self.shelf = shelf;
+        Ok(())
+    }
+
+    /// `sell STEP`: a merchant that is opened on the stall's disk, and sells what is on the shelf, does what it does on the consumer's link, where one read
     /// gives at most so many bytes. It prints how that ended, what the disk has then, and what was sent to the house and to the consumer.
-    pub fn sell(&mut self, told: &mut Told, shelf: &[u8], words: &[&str]) -> Result<(), NoMemory> {
+    pub fn sell(&mut self, told: &mut Told, words: &[&str]) -> Result<(), NoMemory> {
         let [step] = words else {
             return told.unclear();
         };
         let step = step.parse::<usize>().unwrap_or(1).max(1);
-        match shelves::read(self.alloc, shelf) {
+        if self.shelf.len() > MAX_SHELF {
+            return told.unclear();
+        }
+        match Catalogue::read(self.alloc, self.shelf.as_slice()) {
             Ok(catalogue) => self.sell_from(told, catalogue, step),
-            Err(fault) => shelves::fault(told, fault),
+            Err(fault) => told.show("", &fault).done(),
         }
     }
 
     /// `cuts STEP`: the same over the first bytes that come over the consumer's link, for each number of them, with what the disk has and what comes over the
     /// house's. It prints from which number to which it comes to the same, and what that is.
-    pub fn cuts(&mut self, told: &mut Told, shelf: &[u8], words: &[&str]) -> Result<(), NoMemory> {
+    pub fn cuts(&mut self, told: &mut Told, words: &[&str]) -> Result<(), NoMemory> {
         let comes = mem::replace(&mut self.consumer.comes, Vec::new(self.alloc));
         let house = mem::replace(&mut self.house.comes, Vec::new(self.alloc));
         let stall = mem::replace(&mut self.stall, Vec::new(self.alloc));
@@ -62,7 +77,7 @@ impl Deal {
             self.house.comes = Vec::from_slice(self.alloc, house.as_slice())?;
             self.consumer.comes = Vec::from_slice(self.alloc, comes.split_at(count).0)?;
             let mut one = Told::new(self.alloc);
-            self.sell(&mut one, shelf, words)?;
+            self.sell(&mut one, words)?;
             if count > 0 && one.as_str() != before.as_str() {
                 tell_cut(told, began, count - 1, before.as_str());
                 told.text("\n");
@@ -119,7 +134,7 @@ impl Deal {
             items.as_slice(),
         ) {
             Ok(merchant) => self.sold(told, journal, merchant, step),
-            Err(fault) => telling::fault(told, fault),
+            Err(fault) => tell_fault(told, fault),
         }
     }
 
