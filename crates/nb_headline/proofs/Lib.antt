@@ -1,3 +1,4 @@
 pub mod Fronts
 pub mod Along
 pub mod Sentences
+pub mod Standbys

@@ -1,7 +1,8 @@
-//! The law of the house and its parties. The function here does nothing but to cite laws of the crates below: its contract is the law.
+//! The law of the house and its parties. Each function here does nothing but to cite laws of the crates below: its contract is the law.
 
 ghost use Rattle.nb_headline.specs.Headline as law;
 ghost use Rattle.nb_headline.specs.Served as served;
+ghost use Rattle.nb_headline.specs.Standby as standby;
 
 use nb_port::Disk;
 
@@ -22,3 +23,19 @@ pub fn headline<D: Disk>()
     nb_escrow::laws::status_tells_key();
     nb_escrow::laws::status_tells_the_order();
 }
+
+/// What `ship` writes of a primary's list from a place on are the frames of a world that has shipped those entries, in which laws of `nb_standby` speak of their standby.
+pub fn ships_are_shipped()
+    ensures { standby.ShipsAreShipped }
+{}
+
+/// A standby whose list began as a front of its primary's tells code 2 of none of the primary's records.
+pub fn other_is_never_told()
+    ensures { standby.OtherIsNeverTold }
+{}
+
+/// Where a standby stopped at some moment since an acknowledgement, and what was left is promoted with status 0, that tells of at least as many entries as were acknowledged, and a
+/// record that was told as taken in, or to stand, is one of them.
+pub fn promoted_has_told<D: Disk>()
+    ensures { standby.PromotedHasTold D.tells }
+{}
