@@ -5,3 +5,4 @@ pub mod Buying
 pub mod Selling
 pub mod Granting
 pub mod Whole
+pub mod Once

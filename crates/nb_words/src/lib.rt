@@ -11,6 +11,7 @@
 //! Left to others: which file the words name, and what is done.
 #![tactic(auto)]
 
+pub mod laws;
 mod table;
 mod words;
 
