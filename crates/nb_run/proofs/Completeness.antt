@@ -19,7 +19,7 @@ use Rattle.nb_batch.specs.declared.answering.Answerer.{Answerer}
 use Rattle.nb_batch.specs.Batch.{frame_of, Outside, Served, FaultOf}
 use Rattle.nb_run.specs.Ending.{EndsEarly, ended}
 use Rattle.nb_commands.specs.Opening.{unopened}
-use Rattle.nb_run.specs.Run.{EndsWhole, IsWholeInput}
+use Rattle.nb_run.specs.Batch.{EndsWhole, IsWholeInput}
 use Rattle.nb_batch.proofs.Serving.{nothing_whole}
 
 nothing_partial : front_of [] ≡ Partial → ⊥

@@ -28,7 +28,7 @@ use Rattle.nb_commands.specs.declared.ending.Ending.{Ending}
 use Rattle.nb_commands.specs.declared.ending.TheConstants.{CLEAN, SOURCE_FAILED, SINK_FAILED, BAD_INPUT, OUT_OF_MEMORY, FRAME_LIMIT}
 use Rattle.nb_commands.specs.Ending.{at_no_place}
 use Rattle.nb_commands.specs.Opening.{unopened}
-use Rattle.nb_run.specs.Run.{Batch, BatchLines, EndsWhole, IsWholeInput}
+use Rattle.nb_run.specs.Batch.{Batch, BatchLines, EndsWhole, IsWholeInput}
 use Rattle.nb_run.specs.Drill.{Answers, Drilled, IsFresh, TellsLine, fed, held, line_of, line_with, recorded, requests_of, tally}
 use Rattle.nb_run.proofs.Completeness.{parts}
 

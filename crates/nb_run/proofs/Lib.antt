@@ -1,5 +1,6 @@
 pub mod Running
 pub mod Completeness
+pub mod Frames
 pub mod Numerals
 pub mod Tallying
 pub mod Drilling

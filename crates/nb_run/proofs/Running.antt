@@ -45,7 +45,7 @@ use Rattle.nb_batch.specs.Answering.{Goes, failure_in_mark}
 use Rattle.nb_batch.specs.Batch.{at_rest, AllDecided, IsDecided, failures_told, Outside, frame_of, CountsAs, AnswersAll, Wrote, WroteShort, Served, StandsInRun, GoesThrough}
 use Rattle.nb_batch.specs.Fetch.{AheadAs, EndsAs}
 use Rattle.nb_run.specs.Ending.{ended, status_of}
-use Rattle.nb_run.specs.Run.{EndsBadly, Batch, BatchLines}
+use Rattle.nb_run.specs.Batch.{EndsBadly, Batch, BatchLines}
 
 -- ---- where each turn decides
 

@@ -10,20 +10,16 @@ use Rattle.nb_price.specs.Shelf.{Item, IsItem, item_bytes, shelf_bytes, ids, Beg
 use Rattle.nb_price.specs.Products.{Product, products_of}
 use Rattle.nb_price.specs.Reads.{FailsAt, RepeatsAt, IsCatalogue}
 use Rattle.nb_price.proofs.Once.{one_item}
-use Rattle.nb_groups.specs.Offers.{Tariff}
 use Rattle.nb_price.proofs.Reading.{smaller}
-use Rattle.nb_words.specs.Words.{IsSell}
 use Rattle.nb_commands.specs.declared.ending.Outcome.{Outcome}
 use Rattle.nb_commands.specs.declared.ending.Outcome.TheVariants.{Work}
-use Rattle.nb_commands.specs.declared.ending.Job.{Job}
-use Rattle.nb_commands.specs.declared.ending.Job.TheVariants.{Serve, Buy, Sell}
+use Rattle.nb_commands.specs.declared.ending.Job.TheVariants.{Sell}
 use Rattle.nb_commands.specs.declared.ending.TheConstants.{OUT_OF_MEMORY}
 use Rattle.nb_commands.specs.declared.selling.ShelfEnd.{ShelfEnd}
 use Rattle.nb_commands.specs.declared.selling.ShelfEnd.TheVariants as ends
 use Rattle.nb_commands.specs.Ending.{EndsWith}
 use Rattle.nb_commands.specs.Input.{TookAll}
-use Rattle.nb_commands.specs.Selling.{IsShelfInput, ReadsAs, StocksAs, StocksOnly, stocked}
-use Rattle.nb_run.specs.Run.{IsSoldBy, IsUnread}
+use Rattle.nb_commands.specs.Selling.{IsShelfInput, ReadsAs, StocksAs, stocked}
 use Rattle.nb_commands.proofs.Moving.{same_input, not_longer}
 
 -- ---- one shelf
@@ -134,20 +130,3 @@ stocks_clean left left' source source' links products outcome stocks input no_so
       | inr repeats ↦ not_repeating input.input products input.shelf item repeats.0 repeats.1
     ])
     by (Err ends.NoMemory) is reads = inr (subst (λ (o : Outcome). EndsWith o OUT_OF_MEMORY) (sym is) refl)
-
--- a job that is left is that of these words, and took something of the input
-module _ (words : List (List ℕ)) (left left' : Option (List ℕ)) (source source' links : ℕ) (outcome : Outcome) (only : StocksOnly left left' source source' links outcome) where
-  pub sold_by : IsSell words links → (many : ℕ) (products : List Product) (offers : Option Tariff) → outcome ≡ Work (Sell many products offers) → IsSoldBy words left left' many products offers
-  sold_by are many products offers is = by offers (subst (StocksOnly left left' source source' links) is only)
-    where
-      by : (o : Option Tariff) → StocksOnly left left' source source' links (Work (Sell many products o)) → IsSoldBy words left left' many products o
-      by None so = (subst (IsSell words) (sym so.0) are, so.1)
-      by (Some tariff) so = absurd so
-
-  pub not_unread : (job : Job) → outcome ≡ Work job → IsUnread words job → ⊥
-  not_unread job is unread = by job (subst (StocksOnly left left' source source' links) is only) unread
-    where
-      by : (other : Job) → StocksOnly left left' source source' links (Work other) → IsUnread words other → ⊥
-      by (Serve workers sessions) so never = so
-      by (Buy merchant product limit transaction request) so never = so
-      by (Sell many products offers) so never = never

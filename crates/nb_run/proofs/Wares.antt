@@ -9,9 +9,7 @@ use Rattle.nb_groups.specs.declared.fault.OffersFault.TheVariants as faults
 use Rattle.nb_groups.specs.Offers.{Tariff}
 use Rattle.nb_groups.specs.Reads.{FaultIs, IsEmptyLine}
 use Rattle.nb_groups.proofs.OneReading.{one_offered, none_bad}
-use Rattle.nb_words.specs.Words.{IsSellOffers}
-use Rattle.nb_commands.specs.declared.ending.Job.{Job}
-use Rattle.nb_commands.specs.declared.ending.Job.TheVariants.{Serve, Buy, Sell}
+use Rattle.nb_commands.specs.declared.ending.Job.TheVariants.{Sell}
 use Rattle.nb_commands.specs.declared.ending.Outcome.{Outcome}
 use Rattle.nb_commands.specs.declared.ending.Outcome.TheVariants.{Work}
 use Rattle.nb_commands.specs.declared.ending.TheConstants.{OUT_OF_MEMORY}
@@ -19,8 +17,7 @@ use Rattle.nb_commands.specs.declared.offering.WaresEnd.{WaresEnd}
 use Rattle.nb_commands.specs.declared.offering.WaresEnd.TheVariants as ends
 use Rattle.nb_commands.specs.Ending.{EndsWith}
 use Rattle.nb_commands.specs.Input.{TookAll}
-use Rattle.nb_commands.specs.Offering.{BeginsWithOffers, IsWaresInput, OffersAs, OffersOnly, WaresAre, offered}
-use Rattle.nb_run.specs.Run.{IsSoldBy, IsUnread}
+use Rattle.nb_commands.specs.Offering.{BeginsWithOffers, IsWaresInput, OffersAs, WaresAre, offered}
 use Rattle.nb_commands.proofs.Moving.{same_input, not_longer}
 use Rattle.nb_run.proofs.Stocking.{not_failing, not_repeating, same_products}
 
@@ -57,21 +54,3 @@ module _ (left left' : Option (List ℕ)) (source source' links : ℕ) (outcome 
             | inr repeats ↦ not_repeating input.goods products input.shelf item repeats.0 repeats.1
           ])
       by (Err ends.NoMemory) is reads = inr (subst (λ (o : Outcome). EndsWith o OUT_OF_MEMORY) (sym is) refl)
-
-  module _ (words : List (List ℕ)) (only : OffersOnly left left' source source' links outcome) where
-    -- a job that is left is that of these words
-    pub offered_by : IsSellOffers words links → (many : ℕ) (products : List Product) (offers : Option Tariff) → outcome ≡ Work (Sell many products offers) → IsSoldBy words left left' many products offers
-    offered_by are many products offers is = by offers (subst (OffersOnly left left' source source' links) is only)
-      where
-        by : (o : Option Tariff) → OffersOnly left left' source source' links (Work (Sell many products o)) → IsSoldBy words left left' many products o
-        by None so = absurd so
-        by (Some tariff) so = (subst (IsSellOffers words) (sym so.0) are, so.1)
-
-    -- and took something of the input
-    pub not_unoffered : (job : Job) → outcome ≡ Work job → IsUnread words job → ⊥
-    not_unoffered job is unread = by job (subst (OffersOnly left left' source source' links) is only) unread
-      where
-        by : (other : Job) → OffersOnly left left' source source' links (Work other) → IsUnread words other → ⊥
-        by (Serve workers sessions) so never = so
-        by (Buy merchant product limit transaction request) so never = so
-        by (Sell many products offers) so never = never

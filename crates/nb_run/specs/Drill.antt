@@ -26,7 +26,7 @@ use Rattle.nb_commands.specs.declared.ending.TheConstants.{CLEAN, SINK_FAILED, O
 use Rattle.nb_run.specs.declared.tally.Tally.{Tally}
 use Rattle.nb_commands.specs.Ending.{at_no_place}
 use Rattle.nb_commands.specs.Init.{IsMade}
-use Rattle.nb_run.specs.Run.{Batch, NotOpened}
+use Rattle.nb_run.specs.Batch.{Batch, NotOpened}
 
 -- ---- the line
 

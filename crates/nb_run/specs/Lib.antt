@@ -1,4 +1,5 @@
 pub mod Ending
-pub mod Run
+pub mod Batch
 pub mod Drill
 pub mod Play
+pub mod Run

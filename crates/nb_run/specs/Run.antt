@@ -1,219 +1,203 @@
--- What a run of the program does.
-use Rattle.std.specs.Prelude.{◌≡◌, ◌≢◌, ℕ, ◌+◌, ◌≤◌, ◌<◌, ◌⊎◌, List, [], ◌++◌, Option, Some, None, length, map, IfSome}
-use Rattle.std.specs.List.{flat_map, AllByRecursion}
-use Rattle.std.specs.Io.KnownBytes.{Consumes, Appends, IsAtEnd}
+-- What a run of the program comes to: command by command what is left to do, or how the run ends and why, and what stands after it.
+use Rattle.std.specs.Prelude.{◌≡◌, ℕ, ◌⊎◌, List, [], Option, Some, None}
 use Rattle.nb_port.specs.Tells.{DiskTells}
-use Rattle.nb_port.specs.Faults.{Rose, Backed}
-use Rattle.nb_units.specs.declared.charter.Charter.{Charter}
-use Rattle.nb_units.specs.Frames.{Frame, frame, IsFrame, HeaderFault, Partial, Bad, front_of, IsBad, Splits}
-use Rattle.nb_frame.specs.Faults.{placed, place_of}
-use Rattle.nb_frame.specs.Looks.{IsShort}
-use Rattle.nb_frame.specs.declared.stream.TheConstants.{MAX_PIECE}
-use Rattle.nb_units.specs.declared.frames.TheConstants.{HEADER}
-use Rattle.nb_entry.specs.declared.entry.Entry.{Entry}
-use Rattle.nb_book.specs.Legal.{LegalUnder}
-use Rattle.nb_escrow.specs.Head.{head_of}
-use Rattle.nb_journal.specs.Time.{Unwritten}
-use Rattle.nb_vault.specs.declared.vault.opening.VaultFault.{VaultFault}
-use Rattle.nb_vault.specs.Holdings.{StandsFor, StandsForEither}
-use Rattle.nb_vault.specs.Opens.{VaultOpenFails}
-use Rattle.nb_turns.specs.declared.line.Line.{Line}
-use Rattle.nb_turns.specs.Lines.{entries_of}
-use Rattle.nb_turns.specs.Turns.{State, Answered, decided, last_state, replies}
-use Rattle.nb_turns.specs.Laws.{IsBalanced}
-use Rattle.nb_vault.specs.Rules.{house_of}
-use Rattle.nb_batch.specs.declared.batch.TheConstants.{MOST_FRAMES}
-use Rattle.nb_units.specs.declared.ids.AcctId.{AcctId}
+use Rattle.nb_port.specs.Faults.{Rose}
 use Rattle.nb_units.specs.declared.ids.PartyId.{PartyId}
 use Rattle.nb_units.specs.declared.ids.Price.{Price}
-use Rattle.nb_body.specs.declared.limits.TheConstants.{MAX_REQUEST}
 use Rattle.nb_price.specs.Products.{Product}
 use Rattle.nb_groups.specs.Offers.{Tariff}
-use Rattle.nb_words.specs.Words.{IsBatch, IsBuy, IsBuyWith, IsFollow, IsPromote, IsSell, IsSellOffers, IsShip, IsStatement}
-use Rattle.nb_commands.specs.declared.ending.Ending.{Ending}
-use Rattle.nb_commands.specs.declared.ending.Job.{Job}
-use Rattle.nb_commands.specs.declared.ending.Job.TheVariants.{Serve, Buy, Sell}
-use Rattle.nb_commands.specs.declared.ending.Outcome.{Outcome}
-use Rattle.nb_commands.specs.declared.ending.Outcome.TheVariants.{Done}
-use Rattle.nb_commands.specs.declared.ending.TheConstants.{CLEAN, BAD_WORDS, SOURCE_FAILED, SINK_FAILED, BAD_INPUT, OUT_OF_MEMORY, DISK_FAILED, NO_JOURNAL, NOT_MADE, FRAME_LIMIT, NO_ACCOUNT, NO_PLACE}
-use Rattle.nb_commands.specs.declared.init.InitEnd.{InitEnd}
-use Rattle.nb_commands.specs.Ending.{at_no_place}
-use Rattle.nb_commands.specs.Init.{MakesAs, ending_of}
-use Rattle.nb_commands.specs.Input.{TookAll}
-use Rattle.nb_commands.specs.Offering.{AreWares}
-use Rattle.nb_commands.specs.Opening.{unopened}
-use Rattle.nb_commands.specs.Selling.{IsStock}
+use Rattle.nb_journal.specs.Making.{IsCap, SparesJournal}
+use Rattle.nb_journal.specs.Time.{Unwritten}
 use Rattle.nb_batch.specs.declared.answering.Answerer.{Answerer}
 use Rattle.nb_batch.specs.declared.answering.Answerer.TheVariants as answers
-use Rattle.nb_batch.specs.Answering.{Asked, Goes}
-use Rattle.nb_batch.specs.Batch.{at_rest, frame_of, moment_of, AllDecided, failures_told, Outside, WroteShort, StandsInRun, GoesThrough, last_disk}
+use Rattle.nb_batch.specs.Batch.{Outside}
+use Rattle.nb_words.specs.declared.words.Command.{Command}
+use Rattle.nb_words.specs.declared.words.Command.TheVariants.{Init, Batch, Drill, Serve, Migrate, Statement, Judge, Buy, BuyWith, Sell, SellOffers, Credential, Play, Ship, Follow, Promote}
+use Rattle.nb_words.specs.Words.{Are, IsCommand, MayBeRead}
+use Rattle.nb_commands.specs.declared.ending.Ending.{Ending}
+use Rattle.nb_commands.specs.declared.ending.Job.{Job}
+use Rattle.nb_commands.specs.declared.ending.Job.TheVariants as jobs
+use Rattle.nb_commands.specs.declared.ending.Outcome.{Outcome}
+use Rattle.nb_commands.specs.declared.ending.Outcome.TheVariants.{Done, Work}
+use Rattle.nb_commands.specs.declared.ending.TheConstants.{CLEAN, BAD_WORDS, SOURCE_FAILED, SINK_FAILED, BAD_INPUT, OUT_OF_MEMORY, DISK_FAILED, NO_JOURNAL, NOT_MADE, FRAME_LIMIT, NO_ACCOUNT, NO_PLACE}
+use Rattle.nb_commands.specs.declared.init.InitEnd.{InitEnd}
+use Rattle.nb_commands.specs.Asking.{AsksAs, IsRequestInput}
+use Rattle.nb_commands.specs.Ending.{Ends, EndsWith, at_no_place}
+use Rattle.nb_commands.specs.Granting.{GrantIs, IsKeyInput, credential_for}
+use Rattle.nb_commands.specs.Init.{HasNoJournal, IsHeadInput, MakesAs, ending_of}
+use Rattle.nb_commands.specs.Judge.{IsCaseInput, JudgeIs}
+use Rattle.nb_commands.specs.Migrate.{IsFirstInput, MigrateIs}
+use Rattle.nb_commands.specs.Offering.{IsWaresInput, OffersAs}
+use Rattle.nb_commands.specs.Opening.{IsJournal}
+use Rattle.nb_commands.specs.Promote.{PromoteIs}
+use Rattle.nb_commands.specs.Selling.{IsShelfInput, StocksAs}
+use Rattle.nb_commands.specs.Ship.{ShipIs}
+use Rattle.nb_commands.specs.Statement.{StatementIs}
+use Rattle.nb_run.specs.Batch.{BatchIs, IsWholeInput}
+use Rattle.nb_run.specs.Drill.{DrillIs}
+use Rattle.nb_run.specs.Ending.{EndsEarly}
+use Rattle.nb_run.specs.Play.{IsScriptInput, PlayIs}
 
 -- the statuses that a run can end with
 abbrev pub IsStatus : ℕ → Type 0
 IsStatus n =
     (n ≡ CLEAN) ⊎ (n ≡ BAD_WORDS) ⊎ (n ≡ SOURCE_FAILED) ⊎ (n ≡ SINK_FAILED) ⊎ (n ≡ BAD_INPUT) ⊎ (n ≡ OUT_OF_MEMORY) ⊎ (n ≡ DISK_FAILED) ⊎ (n ≡ NO_JOURNAL) ⊎ (n ≡ NOT_MADE) ⊎ (n ≡ FRAME_LIMIT) ⊎ (n ≡ NO_ACCOUNT) ⊎ (n ≡ NO_PLACE)
 
--- there was no memory to read the words: the run ends with 6 at place 0, and nothing was touched
-abbrev pub Unbegun : {S K D C : Type 0} → Outcome → S → S → K → K → D → D → C → C → Type 0
-Unbegun outcome source source' sink sink' disk disk' clock clock' =
-    (outcome ≡ Done (at_no_place OUT_OF_MEMORY)) × (source' ≡ source) × (sink' ≡ sink) × (disk' ≡ disk) × (clock' ≡ clock)
+-- what a run has before it, or after it
+pub record Around (S K D C : Type 0) : Type 0 where
+  -- the input, what is left of it, and how often it failed
+  pub source : S
+  pub left : Option (List ℕ)
+  pub source_faults : ℕ
+  -- the output, what was sent, and how often it failed
+  pub sink : K
+  pub sent : Option (List ℕ)
+  pub sink_faults : ℕ
+  -- the journal's disk, which tells of its faults itself
+  pub disk : D
+  -- the clock, and the moments that it gave
+  pub clock : C
+  pub moments : Option (List ℕ)
 
--- ---- init
+-- what of it a batch has
+abbrev pub outside : {S K D C : Type 0} → Around S K D C → Outside
+outside around = record { left = around.left; sent = around.sent; moments = around.moments }
+
+-- nothing was touched
+pub record IsUntouched {S K D C : Type 0} (before after : Around S K D C) : Type 0 where
+  pub source : after.source ≡ before.source
+  pub sink : after.sink ≡ before.sink
+  pub disk : after.disk ≡ before.disk
+  pub clock : after.clock ≡ before.clock
+
+-- the command is that of some words
+abbrev pub HasWords : Command → Type 0
+HasWords command = (words : List (List ℕ)) × Are words command
+
+-- the input is this purchase's request, and the job is to buy with it
+abbrev pub IsRequest : Option (List ℕ) → PartyId → ℕ → Price → ℕ → Job → Type 0
+IsRequest left merchant product limit transaction job = (request : List ℕ) × (job ≡ jobs.Buy merchant product limit transaction request) × IsRequestInput left request
+
+-- the input is the shelf of these products, and the job is to sell them
+abbrev pub IsShelf : Option (List ℕ) → ℕ → Job → Type 0
+IsShelf left links job = (products : List Product) × (job ≡ jobs.Sell links products None) × IsShelfInput left products
+
+-- the input is offers and a shelf, and the job is to sell with them
+abbrev pub AreOffers : Option (List ℕ) → ℕ → Job → Type 0
+AreOffers left links job = (tariff : Tariff) × (products : List Product) × (job ≡ jobs.Sell links products (Some tariff)) × IsWaresInput left tariff products
 
 -- making a journal came to one of its ends, which says how the run ends
 abbrev pub InitIs : {D : Type 0} → DiskTells D → Option (List ℕ) → Option (List ℕ) → ℕ → ℕ → D → D → ℕ → Option ℕ → Ending → Type 0
 InitIs tells rest rest' source source' old new cap rate ending = (end : InitEnd) × (ending ≡ ending_of end) × MakesAs tells rest rest' source source' old new cap rate end
 
--- ---- batch, over a journal that was not opened
+module _ {S K D C : Type 0} (tells : DiskTells D) (before after : Around S K D C) (outcome : Outcome) where
+  -- ---- what failed, and what stays
 
--- it was not opened, and nothing was taken, sent, asked for or written
-pub record NotOpened {D : Type 0} (tells : DiskTells D) (old new : D) (before after : Outside) (ending : Ending) : Type 0 where
-  pub fault : VaultFault
-  pub ends : ending ≡ unopened fault
-  pub why : VaultOpenFails tells old new fault
-  pub nothing : after ≡ before
-  pub unwritten : Unwritten tells old new
+  abbrev pub SourceFailed : Type 0
+  SourceFailed = Rose before.source_faults after.source_faults
 
--- ---- words
+  abbrev pub SinkFailed : Type 0
+  SinkFailed = Rose before.sink_faults after.sink_faults
 
--- the words of frames that are answered, by a house or by a standby
-abbrev pub IsAnswered : List (List ℕ) → Answerer → Type 0
-IsAnswered words answers.House = IsBatch words
-IsAnswered words answers.Standby = IsFollow words
+  abbrev pub DiskFailed : Type 0
+  DiskFailed = Rose (tells.faults before.disk) (tells.faults after.disk)
 
--- those of a command that opens a journal and reads it alone
-abbrev pub IsReader : List (List ℕ) → Type 0
-IsReader words = ((acct : AcctId) × IsStatement words acct.0) ⊎ ((from : ℕ) × IsShip words from) ⊎ IsPromote words
+  -- but after 0 and 4 the output is as before
+  abbrev pub IsSilent : Type 0
+  IsSilent = (EndsWith outcome CLEAN → ⊥) → (EndsWith outcome SINK_FAILED → ⊥) → after.sink ≡ before.sink
 
--- ---- the words of a job that is left to do
+  -- all was done, or memory was wanting
+  abbrev pub IsComplete : Type 0
+  IsComplete = EndsWith outcome CLEAN ⊎ EndsWith outcome OUT_OF_MEMORY
 
--- a job takes nothing of the input: a server's, and a purchase's whose words are without a request
-abbrev pub IsUnread : List (List ℕ) → Job → Type 0
-IsUnread words (Serve workers sessions) = Unit {0}
-IsUnread words (Buy merchant product limit transaction request) = IsBuy words merchant.0 product limit.0 transaction
-IsUnread words (Sell links shelf offers) = ⊥
+  -- ---- each kind of command, for what it came to
 
--- the words are those of this purchase, without a request, or with one that is all that was read
-abbrev pub IsAskedBy : List (List ℕ) → Option (List ℕ) → Option (List ℕ) → PartyId → ℕ → Price → ℕ → List ℕ → Type 0
-IsAskedBy words left left' merchant product limit transaction request =
-    (IsBuy words merchant.0 product limit.0 transaction × (request ≡ []))
-    ⊎ (IsBuyWith words merchant.0 product limit.0 transaction × TookAll left left' MAX_REQUEST request)
+  -- The input becomes a journal. It sends nothing and asks for no moment, and nothing is written over a journal that is there. A good input alone, a
+  -- disk without a journal, and nothing that fails: it ends so.
+  pub record MakesJournal (Came : Ending → Type 0) (IsGood EndsSo : Type 0) : Type 0 where
+    pub came : Ends outcome Came
+    pub sink : after.sink ≡ before.sink
+    pub clock : after.clock ≡ before.clock
+    pub spares : SparesJournal tells before.disk after.disk
+    pub complete : IsGood → HasNoJournal (tells.content before.disk) → (SourceFailed → ⊥) → (DiskFailed → ⊥) → EndsSo
 
--- the words are those of one who sells this shelf without offers, or with these, and what was read is that
-abbrev pub IsSoldBy : List (List ℕ) → Option (List ℕ) → Option (List ℕ) → ℕ → List Product → Option Tariff → Type 0
-IsSoldBy words left left' links products None = IsSell words links × IsStock left left' products
-IsSoldBy words left left' links products (Some tariff) = IsSellOffers words links × AreWares left left' tariff products
+  -- The journal is read. It takes nothing of the input, asks for no moment and writes nothing to the disk. A journal, and nothing that fails: it ends so.
+  pub record ReadsJournal (Came : Ending → Type 0) (EndsSo : Type 0) : Type 0 where
+    pub came : Ends outcome Came
+    pub source : after.source ≡ before.source
+    pub clock : after.clock ≡ before.clock
+    pub unwritten : Unwritten tells before.disk after.disk
+    pub silent : IsSilent
+    pub complete : IsJournal (tells.content before.disk) → (SinkFailed → ⊥) → (DiskFailed → ⊥) → EndsSo
 
--- ---- batch, over a journal that was opened
+  -- The frames of the input are answered. Where it ends early nothing was taken, sent, asked for or written. Whole frames alone over a journal, and nothing
+  -- that fails: all is done, unless memory is wanting.
+  pub record AnswersFrames (by : Answerer) : Type 0 where
+    pub came : Ends outcome (BatchIs tells by before.disk after.disk (outside before) (outside after))
+    pub source : Ends outcome EndsEarly → after.source ≡ before.source
+    pub sink : Ends outcome EndsEarly → after.sink ≡ before.sink
+    pub clock : Ends outcome EndsEarly → after.clock ≡ before.clock
+    pub unwritten : Ends outcome EndsEarly → Unwritten tells before.disk after.disk
+    pub complete : IsJournal (tells.content before.disk) → IsWholeInput before.left → (SourceFailed → ⊥) → (SinkFailed → ⊥) → (DiskFailed → ⊥) → IsComplete
 
--- how the input ended badly, by the bytes that were read, the frames that were answered, the rest of these bytes, what is left of the
--- source, and the place that is shown: within a frame, where nothing is left, at the number of the bytes that were read; or with what
--- no frame is, at the place of its first fault among these bytes
-abbrev pub EndsBadly : List ℕ → List Frame → List ℕ → Option (List ℕ) → ℕ → Type 0
-EndsBadly read frames rest left place =
-    ((front_of rest ≡ Partial) × IsAtEnd left × (place ≡ length read))
-    ⊎ ((h : HeaderFault) × (front_of rest ≡ Bad h) × (place ≡ place_of (placed (length (flat_map frame frames)) h)))
+  -- The frames that a seed gives are answered over a journal that is made for them. It takes nothing of the input and asks for no moment, and nothing is
+  -- written over a journal that is there. A disk without one, and nothing that fails: all is done, unless memory is wanting.
+  pub record Drills (seed orders : ℕ) : Type 0 where
+    pub came : Ends outcome (DrillIs tells before.disk after.disk before.sent after.sent seed orders)
+    pub source : after.source ≡ before.source
+    pub clock : after.clock ≡ before.clock
+    pub spares : SparesJournal tells before.disk after.disk
+    pub silent : IsSilent
+    pub complete : HasNoJournal (tells.content before.disk) → (SinkFailed → ⊥) → (DiskFailed → ⊥) → IsComplete
 
--- What a batch did, by the status that it ended with, where a house answered it or a standby.
-pub record Batch {D : Type 0} (tells : DiskTells D) (by : Answerer) (old new : D) (before after : Outside) (ending : Ending) : Type 0 where
-  -- what the journal was made with, its cap and its entries; the requests that were answered, and the states that the house came to; the disk
-  -- behind opening, and behind each turn; the bytes read from the source are the frames of these requests, further frames, and a rest
-  -- that begins with none
-  pub charter : Charter
-  pub cap : ℕ
-  pub opening : List Entry
-  pub answered : List Answered
-  pub states : List State
-  pub last : State
-  pub opened : D
-  pub disks : List D
-  pub read : List ℕ
-  pub unanswered : List Frame
-  pub rest : List ℕ
-  -- the content at entry stands for these entries
-  pub stands : IfSome (tells.content old) (StandsFor charter cap opening)
-  -- the requests that were answered are the first frames of the bytes read
-  pub took : Consumes before.left after.left read
-  pub frames : Splits read (map frame_of answered ++ unanswered) rest
-  -- they are all of them where the input ended, held what is no frame, or failed
-  pub all : (ending.status ≡ CLEAN) ⊎ (ending.status ≡ BAD_INPUT) ⊎ (ending.status ≡ SOURCE_FAILED) → unanswered ≡ []
-  -- where a write failed or the limit of frames was reached less than a piece was read ahead of the last answer, and where the input
-  -- held what is no frame at most a header more. Elsewhere the rest is less than a frame, as is said below
-  pub ahead : (ending.status ≡ SINK_FAILED) ⊎ (ending.status ≡ FRAME_LIMIT) → length (flat_map frame unanswered ++ rest) < MAX_PIECE
-  pub ahead_bad : ending.status ≡ BAD_INPUT → IsBad (front_of rest) → length rest < MAX_PIECE + HEADER
-  -- one answer of the clock for each; a standby asks none
-  pub asked : Asked by before.moments after.moments (map moment_of answered)
-  -- there is a run of turns over them, or of what a standby makes of records, from the entries with nothing in doubt
-  pub turns : Goes by charter cap (at_rest opening) answered states
-  pub last_is : last ≡ last_state (at_rest opening) states
-  -- their replies are what was written
-  pub wrote : ending.status ≢ SINK_FAILED → Appends before.sent after.sent (replies answered)
-  -- after a failed write: all replies before the last one, and a part of that
-  pub wrote_short : ending.status ≡ SINK_FAILED → WroteShort before after answered
-  -- the faults of turns lie one after another between the disk's counts; where these did not rise, each turn decided
-  pub backed : Backed (tells.faults old) (failures_told answered) (tells.faults new)
-  pub steady : (Rose (tells.faults old) (tells.faults new) → ⊥) → AllDecided answered
-  -- where each turn of a house decides, the replies are a function of the entries, the head, the cap and the requests alone
-  pub alone : by ≡ answers.House → AllDecided answered → replies answered ≡ replies (decided (house_of (head_of charter) cap) opening (map (λ (a : Answered). a.request) answered))
-  -- the disk is at rest in the last state: its content, and all that a stop now leaves, stands for its entries, without what is in
-  -- doubt or with it
-  pub content_rests : IfSome (tells.content new) (StandsForEither charter cap last.entries last.doubt)
-  pub images_rest : (image : List ℕ) → tells.allowed new image → StandsForEither charter cap last.entries last.doubt image
-  -- opening wrote nothing. The disk holds the entries of the state behind opening and behind each turn, and a stop since one of these
-  -- and up to the next leaves those of the one state or of the other; the last of these disks is the one that is handed back
-  pub opened_so : Unwritten tells old opened
-  pub through : GoesThrough tells charter cap (at_rest opening) opened states disks
-  pub handed_back : new ≡ last_disk opened disks
-  -- where the house never left the state that it was opened in, the content is as before
-  pub quiet : AllByRecursion (λ state. state ≡ at_rest opening) states → tells.content new ≡ tells.content old
-  -- a stop at any moment since the start left what might have been left at the start, or what stands so for one of the states
-  pub later : tells.moment old ≤ tells.moment new
-  pub stops : (image : List ℕ) → tells.left new (tells.moment old) image → tells.allowed old image ⊎ StandsInRun charter cap (at_rest opening) states image
-  -- what is recorded is legal under the version and the rate of the journal, with what is in doubt too; each order is settled at most once,
-  -- and money is neither made nor lost
-  pub legal : LegalUnder charter.version charter.rate (last.entries ++ last.doubt)
-  pub within : length (last.entries ++ last.doubt) ≤ cap
-  pub money : IsBalanced last.entries
-  -- after status 0 no byte is over and nothing is left of the source
-  pub clean : ending.status ≡ CLEAN → (rest ≡ []) × IsAtEnd after.left
-  -- after status 5 the rest is a cut frame and nothing is left, or no frame begins so; the place is the number of the bytes read, or
-  -- that of the fault
-  pub bad : ending.status ≡ BAD_INPUT → EndsBadly read (map frame_of answered) rest after.left ending.place
-  -- after status 3 the rest is nothing or a part of a frame, and after status 6 nothing was read
-  pub failed : ending.status ≡ SOURCE_FAILED → IsShort (front_of rest)
-  pub starved : ending.status ≡ OUT_OF_MEMORY → (answered ≡ []) × (read ≡ [])
-  -- where no frame begins like the rest, the status is 5, or 4 or 11, where frames before it may wait; where there is a rest at all it is
-  -- one of these, or 3
-  pub bad_frame : IsBad (front_of rest) → (ending.status ≡ BAD_INPUT) ⊎ (ending.status ≡ SINK_FAILED) ⊎ (ending.status ≡ FRAME_LIMIT)
-  pub any_rest : rest ≢ [] → (ending.status ≡ BAD_INPUT) ⊎ (ending.status ≡ SINK_FAILED) ⊎ (ending.status ≡ FRAME_LIMIT) ⊎ (ending.status ≡ SOURCE_FAILED)
-  -- at most so many frames are answered
-  pub few : length answered ≤ MOST_FRAMES
-  pub spent : ending.status ≡ FRAME_LIMIT → length answered ≡ MOST_FRAMES
-  pub most : length answered ≡ MOST_FRAMES → (ending.status ≡ FRAME_LIMIT) ⊎ (ending.status ≡ SINK_FAILED)
-  -- no place is shown but after status 5
-  pub nowhere : ending.status ≢ BAD_INPUT → ending.place ≡ 0
-  pub ends : (ending.status ≡ CLEAN) ⊎ (ending.status ≡ SOURCE_FAILED) ⊎ (ending.status ≡ SINK_FAILED) ⊎ (ending.status ≡ BAD_INPUT) ⊎ (ending.status ≡ OUT_OF_MEMORY) ⊎ (ending.status ≡ FRAME_LIMIT)
+  -- What the input comes to is written. Neither the disk nor the clock is touched. A good input alone, and nothing that fails: it is written, unless memory
+  -- is wanting.
+  pub record WritesOut (Came : Ending → Type 0) (IsGood : Type 0) : Type 0 where
+    pub came : Ends outcome Came
+    pub disk : after.disk ≡ before.disk
+    pub clock : after.clock ≡ before.clock
+    pub silent : IsSilent
+    pub complete : IsGood → (SourceFailed → ⊥) → (SinkFailed → ⊥) → IsComplete
 
--- the journal was not opened, or the frames were answered
-abbrev pub BatchIs : {D : Type 0} → DiskTells D → Answerer → D → D → Outside → Outside → Ending → Type 0
-BatchIs tells by old new before after ending =
-    NotOpened tells old new before after ending ⊎ Batch tells by old new before after ending
+  -- A job is left to do with what the input says. Nothing but the input is touched. An input that is good for a job alone, and a source that does not fail:
+  -- that job is left, unless memory is wanting.
+  pub record TakesInput (Came : Outcome → Type 0) (IsGood : Job → Type 0) : Type 0 where
+    pub came : Came outcome
+    pub sink : after.sink ≡ before.sink
+    pub disk : after.disk ≡ before.disk
+    pub clock : after.clock ≡ before.clock
+    pub complete : (job : Job) → IsGood job → (SourceFailed → ⊥) → (outcome ≡ Work job) ⊎ EndsWith outcome OUT_OF_MEMORY
 
--- and these are the lines of what was done: the last entries are those at opening and then those that the lines record. Without a journal
--- that was opened there are none
-abbrev pub BatchLines : {D : Type 0} → DiskTells D → Answerer → D → D → Outside → Outside → List Line → Ending → Type 0
-BatchLines tells by old new before after lines ending =
-    (NotOpened tells old new before after ending × (lines ≡ []))
-    ⊎ ((batch : Batch tells by old new before after ending) × (batch.last.entries ≡ entries_of batch.opening lines))
+  -- ---- each command
 
--- how a batch ends over whole frames alone, where the sink did not fail
-abbrev pub EndsWhole : Ending → Type 0
-EndsWhole ending =
-    (ending.status ≡ CLEAN) ⊎ (ending.status ≡ OUT_OF_MEMORY) ⊎ (ending.status ≡ SOURCE_FAILED) ⊎ (ending.status ≡ NO_JOURNAL) ⊎ (ending.status ≡ DISK_FAILED)
+  abbrev pub Does : Command → Type 0
+  Does (Init cap rate) =
+      MakesJournal (InitIs tells before.left after.left before.source_faults after.source_faults before.disk after.disk cap rate) (IsCap cap × IsHeadInput before.left) (EndsWith outcome CLEAN)
+  Does (Migrate rate) = MakesJournal (MigrateIs tells before.left after.left before.source_faults after.source_faults before.disk after.disk rate) (IsFirstInput before.left) IsComplete
+  Does (Statement acct) =
+      ReadsJournal (StatementIs tells before.disk after.disk before.sent after.sent acct) (EndsWith outcome CLEAN ⊎ EndsWith outcome NO_ACCOUNT ⊎ EndsWith outcome OUT_OF_MEMORY)
+  Does (Ship from) = ReadsJournal (ShipIs tells before.disk after.disk before.sent after.sent from) (EndsWith outcome CLEAN ⊎ EndsWith outcome NO_PLACE ⊎ EndsWith outcome OUT_OF_MEMORY)
+  Does Promote = ReadsJournal (PromoteIs tells before.disk after.disk before.sent after.sent) IsComplete
+  Does Batch = AnswersFrames answers.House
+  Does Follow = AnswersFrames answers.Standby
+  Does (Drill seed orders) = Drills seed orders
+  Does Judge = WritesOut (JudgeIs before.left after.left before.source_faults after.source_faults before.sent after.sent before.sink_faults after.sink_faults) (IsCaseInput before.left)
+  Does Play = WritesOut (PlayIs before.left after.left before.source_faults after.source_faults before.sent after.sent before.sink_faults after.sink_faults) (IsScriptInput before.left)
+  Does (Credential consumer until groups) =
+      WritesOut (GrantIs before.left after.left before.source_faults after.source_faults before.sent after.sent before.sink_faults after.sink_faults (credential_for consumer until groups)) (IsKeyInput before.left)
+  Does (Serve workers sessions) = (outcome ≡ Work (jobs.Serve workers sessions)) × IsUntouched before after
+  Does (Buy merchant product limit transaction) = (outcome ≡ Work (jobs.Buy merchant product limit transaction [])) × IsUntouched before after
+  Does (BuyWith merchant product limit transaction) =
+      TakesInput (AsksAs before.left after.left before.source_faults after.source_faults merchant product limit transaction)
+      (IsRequest before.left merchant product limit transaction)
+  Does (Sell links) = TakesInput (StocksAs before.left after.left before.source_faults after.source_faults links) (IsShelf before.left links)
+  Does (SellOffers links) = TakesInput (OffersAs before.left after.left before.source_faults after.source_faults links) (AreOffers before.left links)
 
--- the input is fewer than so many whole frames and nothing else
-pub record IsWholeInput (left : Option (List ℕ)) : Type 0 where
-  pub frames : List Frame
-  pub lawful : AllByRecursion IsFrame frames
-  pub few : length frames < MOST_FRAMES
-  pub is : left ≡ Some (flat_map frame frames)
+  -- ---- a run
+
+  -- the words are a command, and this is what it did; or they are none, which is told; or there was no memory to read them. In the last two nothing was touched
+  abbrev pub Ran : List (List ℕ) → Type 0
+  Ran words =
+      ((command : Command) × Are words command × Does command)
+      ⊎ ((IsCommand words → ⊥) × (outcome ≡ Done (at_no_place BAD_WORDS)) × IsUntouched before after)
+      ⊎ (MayBeRead words × (outcome ≡ Done (at_no_place OUT_OF_MEMORY)) × IsUntouched before after)

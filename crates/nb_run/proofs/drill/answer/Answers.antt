@@ -10,7 +10,7 @@ use Rattle.nb_play.specs.Feed.{Feed, cap_of, told_by, whole}
 use Rattle.nb_commands.specs.declared.ending.Ending.{Ending}
 use Rattle.nb_commands.specs.declared.ending.TheConstants.{CLEAN, SOURCE_FAILED, OUT_OF_MEMORY, NO_JOURNAL, DISK_FAILED}
 use Rattle.nb_commands.specs.Opening.{IsJournal}
-use Rattle.nb_run.specs.Run.{BatchLines, EndsWhole, IsWholeInput}
+use Rattle.nb_run.specs.Batch.{BatchLines, EndsWhole, IsWholeInput}
 use Rattle.nb_run.specs.Drill.{Answers, TellsLine, fed, line_with, recorded, tally}
 use Rattle.nb_run.proofs.Drilling.{fits, other, told, wanting, whole_input}
 use Rattle.nb_run.proofs.drill.answer.Goals.{then-ending-eq-CLEAN-2-via-then-ending-eq-CLEAN-2, then-ending-eq-CLEAN-2-via-else-ending-eq-CLEAN-2+then-ending-eq-SOURCE_FAILED}

@@ -5,7 +5,7 @@ use Rattle.nb_commands.specs.declared.ending.TheConstants.{DISK_FAILED, NO_JOURN
 use Rattle.nb_batch.specs.Batch.{Outside}
 use Rattle.nb_journal.specs.Time.{Unwritten}
 use Rattle.nb_run.specs.Ending.{EndsEarly, ended}
-use Rattle.nb_run.specs.Run.{BatchLines, EndsWhole}
+use Rattle.nb_run.specs.Batch.{BatchLines, EndsWhole}
 use Rattle.nb_commands.proofs.Opening.{unopened_end}
 use Rattle.nb_run.proofs.Completeness.{early_end, opened_end, unopened_whole, whole_end}
 use Rattle.nb_run.proofs.Running.{batch_lines}

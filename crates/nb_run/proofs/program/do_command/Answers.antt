@@ -1,0 +1,142 @@
+use Rattle.std.proofs.Common.{rules, refl, ap, sym, subst, ◌∙◌, inl, inr, ⊎_elim}
+use Rattle.nb_batch.specs.declared.answering.Answerer.TheVariants as answers
+use Rattle.nb_commands.specs.declared.ending.Ending.{Ending}
+use Rattle.nb_commands.specs.declared.ending.Job.{Job}
+use Rattle.nb_commands.specs.declared.ending.Outcome.TheVariants.{Done, Work}
+use Rattle.nb_commands.proofs.Moving.{moves_clean}
+use Rattle.nb_run.specs.Run.{AnswersFrames, Around, Does}
+use Rattle.nb_run.proofs.Frames.{answers_frames}
+use Rattle.nb_run.proofs.Plays.{plays_clean}
+use Rattle.nb_run.proofs.Stocking.{stocks_clean}
+use Rattle.nb_run.proofs.Wares.{offers_clean}
+use Rattle.nb_run.proofs.program.do_command.Goals as goal
+
+pub returns-in-Migrate-clause-does : goal.returns-in-Migrate-clause-does
+returns-in-Migrate-clause-does g c =
+    let m = c.move_journal-end in
+    let ending = c.ending-in-Migrate in
+    subst (Does g.D.Disk.tells _ _ _) (sym c.in-Migrate.is)
+    (record {
+      came = (m.result, ending.ensures, m.ensures.moved);
+      sink = refl;
+      clock = refl;
+      spares = m.ensures.spares;
+      complete = λ input none no_source no_disk.
+          ⊎_elim
+          (λ clean. inl (ap (λ e. e.status) ending.ensures ∙ clean))
+          (λ starved. inr (ap (λ e. e.status) ending.ensures ∙ starved))
+          (moves_clean g.D.Disk.tells (g.S.Source.left c.args.source.now) (g.S.Source.left m.new.source) (g.S.Source.faults c.args.source.now) (g.S.Source.faults m.new.source) c.args.disk m.new.disk
+          c.in-Migrate.rate input m.result m.ensures.moved none no_source no_disk);
+    })
+
+pub returns-in-Play-clause-does : goal.returns-in-Play-clause-does
+returns-in-Play-clause-does g c =
+    let p = c.play_input in
+    let ending = c.ending-in-Play in
+    subst (Does g.D.Disk.tells _ _ _) (sym c.in-Play.is)
+    (record {
+      came = (p.result, ending.ensures, p.ensures.played);
+      disk = refl;
+      clock = refl;
+      silent = search rules;
+      complete = λ input no_source no_sink.
+          ⊎_elim
+          (λ clean. inl (ap (λ e. e.status) ending.ensures ∙ clean))
+          (λ starved. inr (ap (λ e. e.status) ending.ensures ∙ starved))
+          (plays_clean (g.S.Source.left c.args.source.now) (g.S.Source.left p.new.source) (g.S.Source.faults c.args.source.now) (g.S.Source.faults p.new.source) (g.K.Sink.sent c.args.sink.now)
+          (g.K.Sink.sent p.new.sink) (g.K.Sink.faults c.args.sink.now) (g.K.Sink.faults p.new.sink) input p.result p.ensures.played no_source no_sink);
+    })
+
+pub returns-in-Sell-clause-does : goal.returns-in-Sell-clause-does
+returns-in-Sell-clause-does g c =
+    let t = c.take_stock in
+    subst (Does g.D.Disk.tells _ _ _) (sym c.in-Sell.is)
+    (record {
+      came = t.ensures.stocks;
+      sink = refl;
+      disk = refl;
+      clock = refl;
+      complete = λ job input no_source.
+          ⊎_elim
+          (λ sold. inl (sold ∙ ap (λ (j : Job). Work j) (sym input.1)))
+          (λ starved. inr starved)
+          (stocks_clean (g.S.Source.left c.args.source.now) (g.S.Source.left t.new.source) (g.S.Source.faults c.args.source.now) (g.S.Source.faults t.new.source) c.in-Sell.links input.0 t.result t.ensures.stocks
+          input.2 no_source);
+    })
+
+pub returns-in-SellOffers-clause-does : goal.returns-in-SellOffers-clause-does
+returns-in-SellOffers-clause-does g c =
+    let t = c.take_offers in
+    subst (Does g.D.Disk.tells _ _ _) (sym c.in-SellOffers.is)
+    (record {
+      came = t.ensures.offers;
+      sink = refl;
+      disk = refl;
+      clock = refl;
+      complete = λ job input no_source.
+          ⊎_elim
+          (λ sold. inl (sold ∙ ap (λ (j : Job). Work j) (sym input.2)))
+          (λ starved. inr starved)
+          (offers_clean (g.S.Source.left c.args.source.now) (g.S.Source.left t.new.source) (g.S.Source.faults c.args.source.now) (g.S.Source.faults t.new.source) c.in-SellOffers.links t.result input.0 input.1
+          t.ensures.offers input.3 no_source);
+    })
+
+pub returns-in-Batch-clause-does : goal.returns-in-Batch-clause-does
+returns-in-Batch-clause-does g c =
+    let b = c.answer_batch in
+    let before : Around g.row.S.Denot g.row.K.Denot g.row.D.Denot g.row.C.Denot = record {
+      source = c.args.source.now;
+      left = g.S.Source.left c.args.source.now;
+      source_faults = g.S.Source.faults c.args.source.now;
+      sink = c.args.sink.now;
+      sent = g.K.Sink.sent c.args.sink.now;
+      sink_faults = g.K.Sink.faults c.args.sink.now;
+      disk = c.args.disk;
+      clock = c.args.clock.now;
+      moments = g.C.Clock.moments c.args.clock.now;
+    } in
+    let after : g.row.D.Denot → Around g.row.S.Denot g.row.K.Denot g.row.D.Denot g.row.C.Denot = λ disk. record {
+      source = b.new.source;
+      left = g.S.Source.left b.new.source;
+      source_faults = g.S.Source.faults b.new.source;
+      sink = b.new.sink;
+      sent = g.K.Sink.sent b.new.sink;
+      sink_faults = g.K.Sink.faults b.new.sink;
+      disk = disk;
+      clock = b.new.clock;
+      moments = g.C.Clock.moments b.new.clock;
+    } in
+    subst (Does g.D.Disk.tells _ _ _) (sym c.in-Batch.is)
+    (subst (λ (end : Ending × g.row.D.Denot). AnswersFrames g.D.Disk.tells before (after end.1) (Done end.0) answers.House) (sym c.without_lines-disk.ensures)
+    (answers_frames g.D.Disk.tells answers.House before (after b.result.disk) b.result.ending b.result.lines.items b.ensures.batch b.ensures.closed b.ensures.unwritten b.ensures.source b.ensures.whole
+    b.ensures.opens))
+
+pub returns-in-Follow-clause-does : goal.returns-in-Follow-clause-does
+returns-in-Follow-clause-does g c =
+    let b = c.answer_batch-in-Follow in
+    let before : Around g.row.S.Denot g.row.K.Denot g.row.D.Denot g.row.C.Denot = record {
+      source = c.args.source.now;
+      left = g.S.Source.left c.args.source.now;
+      source_faults = g.S.Source.faults c.args.source.now;
+      sink = c.args.sink.now;
+      sent = g.K.Sink.sent c.args.sink.now;
+      sink_faults = g.K.Sink.faults c.args.sink.now;
+      disk = c.args.disk;
+      clock = c.args.clock.now;
+      moments = g.C.Clock.moments c.args.clock.now;
+    } in
+    let after : g.row.D.Denot → Around g.row.S.Denot g.row.K.Denot g.row.D.Denot g.row.C.Denot = λ disk. record {
+      source = b.new.source;
+      left = g.S.Source.left b.new.source;
+      source_faults = g.S.Source.faults b.new.source;
+      sink = b.new.sink;
+      sent = g.K.Sink.sent b.new.sink;
+      sink_faults = g.K.Sink.faults b.new.sink;
+      disk = disk;
+      clock = b.new.clock;
+      moments = g.C.Clock.moments b.new.clock;
+    } in
+    subst (Does g.D.Disk.tells _ _ _) (sym c.in-Follow.is)
+    (subst (λ (end : Ending × g.row.D.Denot). AnswersFrames g.D.Disk.tells before (after end.1) (Done end.0) answers.Standby) (sym c.without_lines-disk-in-Follow.ensures)
+    (answers_frames g.D.Disk.tells answers.Standby before (after b.result.disk) b.result.ending b.result.lines.items b.ensures.batch b.ensures.closed b.ensures.unwritten b.ensures.source b.ensures.whole
+    b.ensures.opens))
