@@ -28,23 +28,25 @@ last p byte small all =
 len_stays : (had len byte : ℕ) → 8 ≤ had → len_with (here had len) byte ≡ len
 len_stays had len byte far = rw (lt-ltb 3 had (omega (arith, far)), le-ltb had 8 far) refl
 
+-- a byte of a body before its last one is only counted
+pub in_body : (had len byte : ℕ) → 8 ≤ had → had + 1 < 8 + len → len < 2 ^ 32 → place_with (here had len) byte ≡ here (had + 1) len
+in_body had len byte far within few =
+    let same = len_stays had len byte far in
+    on (here had len) byte (omega (arith, within, few)) (omega (arith, within, same)) ∙ ap (λ (n : ℕ). here (had + 1) n) same
+
 body_part : (bytes : List ℕ) (had len : ℕ) → 8 ≤ had → had + length bytes < 8 + len → len < 2 ^ 32 → place_after (here had len) bytes ≡ here (had + length bytes) len
 body_part [] had len far within few = ap (λ (n : ℕ). here n len) (omega arith)
 body_part (byte ∷ bytes) had len far within few =
-    let same = len_stays had len byte far in
-    let step : place_with (here had len) byte ≡ here (had + 1) len =
-    on (here had len) byte (omega (arith, within, few)) (omega (arith, within, same)) ∙ ap (λ (n : ℕ). here (had + 1) n) same in
-    ap (λ (p : Place). place_after p bytes) step ∙ body_part bytes (had + 1) len (omega (arith, far)) (omega (arith, within)) few
+    ap (λ (p : Place). place_after p bytes) (in_body had len byte far (omega (arith, within)) few)
+    ∙ body_part bytes (had + 1) len (omega (arith, far)) (omega (arith, within)) few
     ∙ ap (λ (n : ℕ). here n len) (omega arith)
 
 body_all : (byte : ℕ) (bytes : List ℕ) (had len : ℕ) → 8 ≤ had → had + (1 + length bytes) ≡ 8 + len → len < 2 ^ 32 → place_after (here had len) (byte ∷ bytes) ≡ here 0 0
 body_all byte [] had len far all few =
     last (here had len) byte (omega (arith, all, few)) (omega (arith, all, len_stays had len byte far))
 body_all byte (next ∷ bytes) had len far all few =
-    let same = len_stays had len byte far in
-    let step : place_with (here had len) byte ≡ here (had + 1) len =
-    on (here had len) byte (omega (arith, all, few)) (omega (arith, all, same)) ∙ ap (λ (n : ℕ). here (had + 1) n) same in
-    ap (λ (p : Place). place_after p (next ∷ bytes)) step ∙ body_all next bytes (had + 1) len (omega (arith, far)) (omega (arith, all)) few
+    ap (λ (p : Place). place_after p (next ∷ bytes)) (in_body had len byte far (omega (arith, all)) few)
+    ∙ body_all next bytes (had + 1) len (omega (arith, far)) (omega (arith, all)) few
 
 small : (n : ℕ) → n < 2 ^ 24 → n % (2 ^ 24) ≡ n
 small n few = mod-eq_of_lt few

@@ -1,5 +1,5 @@
 -- Where in a frame a link is, by the bytes that it gave so far, and until when it waits for the next ones.
-use Rattle.std.specs.Prelude.{ℕ, ◌+◌, ◌*◌, ◌/◌, ◌%◌, ◌^◌, ◌==◌, ◌&&◌, Bool, true, List, [], ◌∷◌, Option, None, Some, min, take, nat_lt, if◌then◌else◌}
+use Rattle.std.specs.Prelude.{ℕ, ◌+◌, ◌-◌, ◌*◌, ◌/◌, ◌%◌, ◌^◌, ◌==◌, ◌&&◌, Bool, true, List, [], ◌∷◌, Option, None, Some, min, take, nat_lt, if◌then◌else◌}
 use Rattle.nb_port.specs.Faults.{last_count, one_more}
 use Rattle.nb_units.specs.declared.frames.TheConstants.{HEADER, MAX_BODY}
 use Rattle.nb_port.specs.declared.source.ReadOut.{ReadOut}
@@ -29,6 +29,10 @@ place_with p byte = place_at (one_more p.had) (len_with p byte)
 abbrev pub place_after : Place → List ℕ → Place
 place_after p [] = p
 place_after p (byte ∷ bytes) = place_after (place_with p byte) bytes
+
+-- how many of the next bytes come before the last one of the body: none while the header is not there
+abbrev pub before_last : Place → ℕ
+before_last p = if nat_lt p.had HEADER then 0 else HEADER + p.len - (p.had + 1)
 
 -- how long a link waits there: for its first byte; between two frames; or for the rest of a frame that has begun, the longer the longer
 -- it is

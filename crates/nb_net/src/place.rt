@@ -1,5 +1,5 @@
 ghost use Rattle.std.specs.Prelude.{◌≡◌};
-ghost use Rattle.nb_net.specs.Waits.{place_with, place_after, span};
+ghost use Rattle.nb_net.specs.Waits.{place_with, place_after, before_last, span};
 
 use crate::limits::{Limits, SPAN};
 use nb_units::frames::{HEADER, MAX_BODY};
@@ -23,13 +23,18 @@ pub(crate) const START: Place = Place {
 };
 
 impl Place {
-    // Behind these bytes.
+    // Behind these bytes. Those of a header are looked at one by one; those of a body that come before its last one are passed over at once.
+    #[tactic(auto, using(crate::proofs::Passing::passed))]
     pub(crate) fn after(self, bytes: &[u8]) -> Place
         ensures { result ≡ place_after self bytes.now }
     {
         let mut place = self;
-        for byte in bytes {
+        let mut rest = bytes;
+        while let Some((byte, more)) = rest.split_first() {
             place = place.with(*byte);
+            let passed = place.before_last().min(more.len() as u64);
+            place.had += passed;
+            rest = more.split_at(passed as usize).1;
         }
         place
     }
@@ -56,6 +61,17 @@ impl Place {
                 had: 0,
                 len: 0,
             }
+        }
+    }
+
+    // How many of the next bytes come before the last one of its body: none while its header is not there.
+    fn before_last(self) -> u64
+        ensures { result ≡ before_last self }
+    {
+        if self.had < HEADER as u64 {
+            0
+        } else {
+            (HEADER as u64 - 1 + u64::from(self.len)).saturating_sub(self.had)
         }
     }
 
