@@ -1,5 +1,5 @@
 -- What answering the frames of the input comes to.
-use Rattle.std.specs.Prelude.{◌≡◌, ◌≢◌, ℕ, ◌+◌, ◌≤◌, ◌<◌, ◌⊎◌, List, [], ◌++◌, Option, Some, None, length, map, IfSome}
+use Rattle.std.specs.Prelude.{◌≡◌, ◌≢◌, ℕ, ◌+◌, ◌≤◌, ◌<◌, ◌⊎◌, List, [], ◌++◌, Option, Some, length, map, IfSome}
 use Rattle.std.specs.List.{flat_map, AllByRecursion}
 use Rattle.std.specs.Io.KnownBytes.{Consumes, Appends, IsAtEnd}
 use Rattle.nb_port.specs.Tells.{DiskTells}
@@ -23,26 +23,9 @@ use Rattle.nb_turns.specs.Turns.{State, Answered, decided, last_state, replies}
 use Rattle.nb_turns.specs.Laws.{IsBalanced}
 use Rattle.nb_vault.specs.Rules.{house_of}
 use Rattle.nb_batch.specs.declared.batch.TheConstants.{MOST_FRAMES}
-use Rattle.nb_units.specs.declared.ids.AcctId.{AcctId}
-use Rattle.nb_units.specs.declared.ids.PartyId.{PartyId}
-use Rattle.nb_units.specs.declared.ids.Price.{Price}
-use Rattle.nb_body.specs.declared.limits.TheConstants.{MAX_REQUEST}
-use Rattle.nb_price.specs.Products.{Product}
-use Rattle.nb_groups.specs.Offers.{Tariff}
-use Rattle.nb_words.specs.Words.{IsBatch, IsBuy, IsBuyWith, IsFollow, IsPromote, IsSell, IsSellOffers, IsShip, IsStatement}
 use Rattle.nb_commands.specs.declared.ending.Ending.{Ending}
-use Rattle.nb_commands.specs.declared.ending.Job.{Job}
-use Rattle.nb_commands.specs.declared.ending.Job.TheVariants.{Serve, Buy, Sell}
-use Rattle.nb_commands.specs.declared.ending.Outcome.{Outcome}
-use Rattle.nb_commands.specs.declared.ending.Outcome.TheVariants.{Done}
-use Rattle.nb_commands.specs.declared.ending.TheConstants.{CLEAN, BAD_WORDS, SOURCE_FAILED, SINK_FAILED, BAD_INPUT, OUT_OF_MEMORY, DISK_FAILED, NO_JOURNAL, NOT_MADE, FRAME_LIMIT, NO_ACCOUNT, NO_PLACE}
-use Rattle.nb_commands.specs.declared.init.InitEnd.{InitEnd}
-use Rattle.nb_commands.specs.Ending.{at_no_place}
-use Rattle.nb_commands.specs.Init.{MakesAs, ending_of}
-use Rattle.nb_commands.specs.Input.{TookAll}
-use Rattle.nb_commands.specs.Offering.{AreWares}
+use Rattle.nb_commands.specs.declared.ending.TheConstants.{CLEAN, SOURCE_FAILED, SINK_FAILED, BAD_INPUT, OUT_OF_MEMORY, DISK_FAILED, NO_JOURNAL, FRAME_LIMIT}
 use Rattle.nb_commands.specs.Opening.{unopened}
-use Rattle.nb_commands.specs.Selling.{IsStock}
 use Rattle.nb_batch.specs.declared.answering.Answerer.{Answerer}
 use Rattle.nb_batch.specs.declared.answering.Answerer.TheVariants as answers
 use Rattle.nb_batch.specs.Answering.{Asked, Goes}
@@ -153,6 +136,15 @@ abbrev pub BatchIs : {D : Type 0} → DiskTells D → Answerer → D → D → O
 BatchIs tells by old new before after ending =
     NotOpened tells old new before after ending ⊎ Batch tells by old new before after ending
 
+-- the input is fewer than so many whole frames and nothing else
+pub record IsWholeInput (left : Option (List ℕ)) : Type 0 where
+  pub frames : List Frame
+  pub lawful : AllByRecursion IsFrame frames
+  pub few : length frames < MOST_FRAMES
+  pub is : left ≡ Some (flat_map frame frames)
+
+-- ---- for the contracts of private functions alone
+
 -- and these are the lines of what was done: the last entries are those at opening and then those that the lines record. Without a journal
 -- that was opened there are none
 abbrev pub BatchLines : {D : Type 0} → DiskTells D → Answerer → D → D → Outside → Outside → List Line → Ending → Type 0
@@ -164,10 +156,3 @@ BatchLines tells by old new before after lines ending =
 abbrev pub EndsWhole : Ending → Type 0
 EndsWhole ending =
     (ending.status ≡ CLEAN) ⊎ (ending.status ≡ OUT_OF_MEMORY) ⊎ (ending.status ≡ SOURCE_FAILED) ⊎ (ending.status ≡ NO_JOURNAL) ⊎ (ending.status ≡ DISK_FAILED)
-
--- the input is fewer than so many whole frames and nothing else
-pub record IsWholeInput (left : Option (List ℕ)) : Type 0 where
-  pub frames : List Frame
-  pub lawful : AllByRecursion IsFrame frames
-  pub few : length frames < MOST_FRAMES
-  pub is : left ≡ Some (flat_map frame frames)

@@ -43,7 +43,7 @@ abbrev pub IsStatus : ℕ → Type 0
 IsStatus n =
     (n ≡ CLEAN) ⊎ (n ≡ BAD_WORDS) ⊎ (n ≡ SOURCE_FAILED) ⊎ (n ≡ SINK_FAILED) ⊎ (n ≡ BAD_INPUT) ⊎ (n ≡ OUT_OF_MEMORY) ⊎ (n ≡ DISK_FAILED) ⊎ (n ≡ NO_JOURNAL) ⊎ (n ≡ NOT_MADE) ⊎ (n ≡ FRAME_LIMIT) ⊎ (n ≡ NO_ACCOUNT) ⊎ (n ≡ NO_PLACE)
 
--- what a run has before it, or after it
+-- What a run has before it, or after it: input, output, disk and clock, and beside them what input, output and clock tell.
 pub record Around (S K D C : Type 0) : Type 0 where
   -- the input, what is left of it, and how often it failed
   pub source : S
@@ -53,7 +53,7 @@ pub record Around (S K D C : Type 0) : Type 0 where
   pub sink : K
   pub sent : Option (List ℕ)
   pub sink_faults : ℕ
-  -- the journal's disk, which tells of its faults itself
+  -- the journal's disk, of which `tells` speaks where it is given
   pub disk : D
   -- the clock, and the moments that it gave
   pub clock : C
@@ -70,50 +70,51 @@ pub record IsUntouched {S K D C : Type 0} (before after : Around S K D C) : Type
   pub disk : after.disk ≡ before.disk
   pub clock : after.clock ≡ before.clock
 
--- the command is that of some words
-abbrev pub HasWords : Command → Type 0
-HasWords command = (words : List (List ℕ)) × Are words command
+-- the job is to buy with a request, which is the input
+abbrev pub BuysAsked : Option (List ℕ) → PartyId → ℕ → Price → ℕ → Job → Type 0
+BuysAsked left merchant product limit transaction job = (request : List ℕ) × (job ≡ jobs.Buy merchant product limit transaction request) × IsRequestInput left request
 
--- the input is this purchase's request, and the job is to buy with it
-abbrev pub IsRequest : Option (List ℕ) → PartyId → ℕ → Price → ℕ → Job → Type 0
-IsRequest left merchant product limit transaction job = (request : List ℕ) × (job ≡ jobs.Buy merchant product limit transaction request) × IsRequestInput left request
+-- the job is to sell what a shelf has, which is the input
+abbrev pub SellsShelf : Option (List ℕ) → ℕ → Job → Type 0
+SellsShelf left links job = (products : List Product) × (job ≡ jobs.Sell links products None) × IsShelfInput left products
 
--- the input is the shelf of these products, and the job is to sell them
-abbrev pub IsShelf : Option (List ℕ) → ℕ → Job → Type 0
-IsShelf left links job = (products : List Product) × (job ≡ jobs.Sell links products None) × IsShelfInput left products
-
--- the input is offers and a shelf, and the job is to sell with them
-abbrev pub AreOffers : Option (List ℕ) → ℕ → Job → Type 0
-AreOffers left links job = (tariff : Tariff) × (products : List Product) × (job ≡ jobs.Sell links products (Some tariff)) × IsWaresInput left tariff products
+-- the job is to sell with offers what a shelf has, which are the input
+abbrev pub SellsWares : Option (List ℕ) → ℕ → Job → Type 0
+SellsWares left links job = (tariff : Tariff) × (products : List Product) × (job ≡ jobs.Sell links products (Some tariff)) × IsWaresInput left tariff products
 
 -- making a journal came to one of its ends, which says how the run ends
 abbrev pub InitIs : {D : Type 0} → DiskTells D → Option (List ℕ) → Option (List ℕ) → ℕ → ℕ → D → D → ℕ → Option ℕ → Ending → Type 0
-InitIs tells rest rest' source source' old new cap rate ending = (end : InitEnd) × (ending ≡ ending_of end) × MakesAs tells rest rest' source source' old new cap rate end
+InitIs tells left left' faults faults' old new cap rate ending = (end : InitEnd) × (ending ≡ ending_of end) × MakesAs tells left left' faults faults' old new cap rate end
 
 module _ {S K D C : Type 0} (tells : DiskTells D) (before after : Around S K D C) (outcome : Outcome) where
   -- ---- what failed, and what stays
 
+  -- the count of the input's faults rose
   abbrev pub SourceFailed : Type 0
   SourceFailed = Rose before.source_faults after.source_faults
 
+  -- that of the output did
   abbrev pub SinkFailed : Type 0
   SinkFailed = Rose before.sink_faults after.sink_faults
 
+  -- that of the disk did
   abbrev pub DiskFailed : Type 0
   DiskFailed = Rose (tells.faults before.disk) (tells.faults after.disk)
 
   -- but after 0 and 4 the output is as before
-  abbrev pub IsSilent : Type 0
-  IsSilent = (EndsWith outcome CLEAN → ⊥) → (EndsWith outcome SINK_FAILED → ⊥) → after.sink ≡ before.sink
+  abbrev pub KeepsOutput : Type 0
+  KeepsOutput = (EndsWith outcome CLEAN → ⊥) → (EndsWith outcome SINK_FAILED → ⊥) → after.sink ≡ before.sink
 
   -- all was done, or memory was wanting
-  abbrev pub IsComplete : Type 0
-  IsComplete = EndsWith outcome CLEAN ⊎ EndsWith outcome OUT_OF_MEMORY
+  abbrev pub DoneOrStarved : Type 0
+  DoneOrStarved = EndsWith outcome CLEAN ⊎ EndsWith outcome OUT_OF_MEMORY
 
-  -- ---- each kind of command, for what it came to
+  -- ---- each kind of command
+  -- `Came` says what it came to, by how the run ends: it was done, or why it was not. Where its input is good, which `IsGood` says, and nothing fails, it
+  -- ends as the field `complete` says
 
-  -- The input becomes a journal. It sends nothing and asks for no moment, and nothing is written over a journal that is there. A good input alone, a
-  -- disk without a journal, and nothing that fails: it ends so.
+  -- A journal is made of the input. It sends nothing and asks for no moment, and nothing is written over a journal that is there; `complete` where there
+  -- is none.
   pub record MakesJournal (Came : Ending → Type 0) (IsGood EndsSo : Type 0) : Type 0 where
     pub came : Ends outcome Came
     pub sink : after.sink ≡ before.sink
@@ -121,46 +122,45 @@ module _ {S K D C : Type 0} (tells : DiskTells D) (before after : Around S K D C
     pub spares : SparesJournal tells before.disk after.disk
     pub complete : IsGood → HasNoJournal (tells.content before.disk) → (SourceFailed → ⊥) → (DiskFailed → ⊥) → EndsSo
 
-  -- The journal is read. It takes nothing of the input, asks for no moment and writes nothing to the disk. A journal, and nothing that fails: it ends so.
+  -- The journal is read. It takes nothing of the input, asks for no moment and writes nothing to the disk; `complete` where there is a journal.
   pub record ReadsJournal (Came : Ending → Type 0) (EndsSo : Type 0) : Type 0 where
     pub came : Ends outcome Came
     pub source : after.source ≡ before.source
     pub clock : after.clock ≡ before.clock
     pub unwritten : Unwritten tells before.disk after.disk
-    pub silent : IsSilent
+    pub silent : KeepsOutput
     pub complete : IsJournal (tells.content before.disk) → (SinkFailed → ⊥) → (DiskFailed → ⊥) → EndsSo
 
-  -- The frames of the input are answered. Where it ends early nothing was taken, sent, asked for or written. Whole frames alone over a journal, and nothing
-  -- that fails: all is done, unless memory is wanting.
+  -- The frames of the input are answered. Where the journal was not opened, or memory was wanting, nothing was taken, sent, asked for or written; `complete`
+  -- where there is a journal, and the input is whole frames alone, fewer than are answered at most.
   pub record AnswersFrames (by : Answerer) : Type 0 where
     pub came : Ends outcome (BatchIs tells by before.disk after.disk (outside before) (outside after))
     pub source : Ends outcome EndsEarly → after.source ≡ before.source
     pub sink : Ends outcome EndsEarly → after.sink ≡ before.sink
     pub clock : Ends outcome EndsEarly → after.clock ≡ before.clock
     pub unwritten : Ends outcome EndsEarly → Unwritten tells before.disk after.disk
-    pub complete : IsJournal (tells.content before.disk) → IsWholeInput before.left → (SourceFailed → ⊥) → (SinkFailed → ⊥) → (DiskFailed → ⊥) → IsComplete
+    pub complete : IsJournal (tells.content before.disk) → IsWholeInput before.left → (SourceFailed → ⊥) → (SinkFailed → ⊥) → (DiskFailed → ⊥) → DoneOrStarved
 
   -- The frames that a seed gives are answered over a journal that is made for them. It takes nothing of the input and asks for no moment, and nothing is
-  -- written over a journal that is there. A disk without one, and nothing that fails: all is done, unless memory is wanting.
+  -- written over a journal that is there; `complete` where there is none.
   pub record Drills (seed orders : ℕ) : Type 0 where
     pub came : Ends outcome (DrillIs tells before.disk after.disk before.sent after.sent seed orders)
     pub source : after.source ≡ before.source
     pub clock : after.clock ≡ before.clock
     pub spares : SparesJournal tells before.disk after.disk
-    pub silent : IsSilent
-    pub complete : HasNoJournal (tells.content before.disk) → (SinkFailed → ⊥) → (DiskFailed → ⊥) → IsComplete
+    pub silent : KeepsOutput
+    pub complete : HasNoJournal (tells.content before.disk) → (SinkFailed → ⊥) → (DiskFailed → ⊥) → DoneOrStarved
 
-  -- What the input comes to is written. Neither the disk nor the clock is touched. A good input alone, and nothing that fails: it is written, unless memory
-  -- is wanting.
+  -- What the input comes to is written. Neither the disk nor the clock is touched.
   pub record WritesOut (Came : Ending → Type 0) (IsGood : Type 0) : Type 0 where
     pub came : Ends outcome Came
     pub disk : after.disk ≡ before.disk
     pub clock : after.clock ≡ before.clock
-    pub silent : IsSilent
-    pub complete : IsGood → (SourceFailed → ⊥) → (SinkFailed → ⊥) → IsComplete
+    pub silent : KeepsOutput
+    pub complete : IsGood → (SourceFailed → ⊥) → (SinkFailed → ⊥) → DoneOrStarved
 
-  -- A job is left to do with what the input says. Nothing but the input is touched. An input that is good for a job alone, and a source that does not fail:
-  -- that job is left, unless memory is wanting.
+  -- The input is taken for a job, which is left to do, or it is told why it is not. Nothing but the input is touched; `complete` for each job that the
+  -- input is good for.
   pub record TakesInput (Came : Outcome → Type 0) (IsGood : Job → Type 0) : Type 0 where
     pub came : Came outcome
     pub sink : after.sink ≡ before.sink
@@ -170,14 +170,15 @@ module _ {S K D C : Type 0} (tells : DiskTells D) (before after : Around S K D C
 
   -- ---- each command
 
+  -- what this command did
   abbrev pub Does : Command → Type 0
   Does (Init cap rate) =
       MakesJournal (InitIs tells before.left after.left before.source_faults after.source_faults before.disk after.disk cap rate) (IsCap cap × IsHeadInput before.left) (EndsWith outcome CLEAN)
-  Does (Migrate rate) = MakesJournal (MigrateIs tells before.left after.left before.source_faults after.source_faults before.disk after.disk rate) (IsFirstInput before.left) IsComplete
+  Does (Migrate rate) = MakesJournal (MigrateIs tells before.left after.left before.source_faults after.source_faults before.disk after.disk rate) (IsFirstInput before.left) DoneOrStarved
   Does (Statement acct) =
       ReadsJournal (StatementIs tells before.disk after.disk before.sent after.sent acct) (EndsWith outcome CLEAN ⊎ EndsWith outcome NO_ACCOUNT ⊎ EndsWith outcome OUT_OF_MEMORY)
   Does (Ship from) = ReadsJournal (ShipIs tells before.disk after.disk before.sent after.sent from) (EndsWith outcome CLEAN ⊎ EndsWith outcome NO_PLACE ⊎ EndsWith outcome OUT_OF_MEMORY)
-  Does Promote = ReadsJournal (PromoteIs tells before.disk after.disk before.sent after.sent) IsComplete
+  Does Promote = ReadsJournal (PromoteIs tells before.disk after.disk before.sent after.sent) DoneOrStarved
   Does Batch = AnswersFrames answers.House
   Does Follow = AnswersFrames answers.Standby
   Does (Drill seed orders) = Drills seed orders
@@ -189,15 +190,22 @@ module _ {S K D C : Type 0} (tells : DiskTells D) (before after : Around S K D C
   Does (Buy merchant product limit transaction) = (outcome ≡ Work (jobs.Buy merchant product limit transaction [])) × IsUntouched before after
   Does (BuyWith merchant product limit transaction) =
       TakesInput (AsksAs before.left after.left before.source_faults after.source_faults merchant product limit transaction)
-      (IsRequest before.left merchant product limit transaction)
-  Does (Sell links) = TakesInput (StocksAs before.left after.left before.source_faults after.source_faults links) (IsShelf before.left links)
-  Does (SellOffers links) = TakesInput (OffersAs before.left after.left before.source_faults after.source_faults links) (AreOffers before.left links)
+      (BuysAsked before.left merchant product limit transaction)
+  Does (Sell links) = TakesInput (StocksAs before.left after.left before.source_faults after.source_faults links) (SellsShelf before.left links)
+  Does (SellOffers links) = TakesInput (OffersAs before.left after.left before.source_faults after.source_faults links) (SellsWares before.left links)
 
   -- ---- a run
 
-  -- the words are a command, and this is what it did; or they are none, which is told; or there was no memory to read them. In the last two nothing was touched
+  -- The words are a command, and this is what it did. Or they are none, which is told. Or there was no memory to read them, which is told of words that
+  -- are names alone and call for no help. In the last two nothing was touched, and no place is shown.
   abbrev pub Ran : List (List ℕ) → Type 0
   Ran words =
       ((command : Command) × Are words command × Does command)
       ⊎ ((IsCommand words → ⊥) × (outcome ≡ Done (at_no_place BAD_WORDS)) × IsUntouched before after)
       ⊎ (MayBeRead words × (outcome ≡ Done (at_no_place OUT_OF_MEMORY)) × IsUntouched before after)
+
+-- ---- for the contracts of private functions alone
+
+-- the command is that of some words: its numbers are within their limits
+abbrev pub HasWords : Command → Type 0
+HasWords command = (words : List (List ℕ)) × Are words command

@@ -1,4 +1,4 @@
-ghost use Rattle.std.specs.Prelude.{◌≡◌, ◌≢◌, ◌≤◌, ◌⊎◌, ℕ, map, string_bytes};
+ghost use Rattle.std.specs.Prelude.{◌≡◌, ◌≢◌, ◌≤◌, ℕ, map, string_bytes};
 ghost use Rattle.nb_port.specs.Faults.{Rose};
 ghost use Rattle.nb_journal.specs.Time.{Unwritten};
 ghost use Rattle.nb_commands.specs.declared.ending.TheConstants.{SOURCE_FAILED, SINK_FAILED, DISK_FAILED, NO_JOURNAL};
@@ -27,7 +27,7 @@ use std::alloc::Global;
 /// Runs the program on its words, over the input, the output, the journal's disk and the clock. The disk is handed
 /// back. `init JOURNAL CAP` makes a journal without entries, whose head is the input, and `init JOURNAL CAP PERMILLE` one whose house keeps a fee
 /// of that rate; `batch JOURNAL` answers the frames of the
-/// input in order; `serve JOURNAL ADDRESS WORKERS SESSIONS` is work over links, which is left to do; `migrate JOURNAL PERMILLE` makes a journal
+/// input in order; `drill SEED ORDERS` answers those that a seed gives over a journal that it makes, and tells in one line what came of them; `serve JOURNAL ADDRESS WORKERS SESSIONS` is work over links, which is left to do; `migrate JOURNAL PERMILLE` makes a journal
 /// whose house keeps a fee of that rate, with the cap, the head and the entries of the input, which is a journal without fees;
 /// `statement JOURNAL ACCT` writes the statement of the account, 0 being the house's own, to the output; `ship JOURNAL FROM` writes the records of the entries
 /// from a place on, `follow JOURNAL` takes records of the input in and writes acknowledgements, and `promote JOURNAL` tells how many entries stand; `judge` writes what is ruled of the case that is
@@ -74,7 +74,9 @@ pub fn run<S: Source, K: Sink, D: Disk, C: Clock>(
     ensures counts { (S.faults source.old ≤ S.faults source.new) × (K.faults sink.old ≤ K.faults sink.new) × (D.tells.faults disk ≤ D.tells.faults result.1) }
     // A fault is answered only where the count of that object rose.
     ensures source { EndsWith result.0 SOURCE_FAILED → Rose (S.faults source.old) (S.faults source.new) }
+    // Of the sink.
     ensures sink { EndsWith result.0 SINK_FAILED → Rose (K.faults sink.old) (K.faults sink.new) }
+    // Of the disk.
     ensures fault { EndsWith result.0 DISK_FAILED → Rose (D.tells.faults disk) (D.tells.faults result.1) }
 {
     match command_of(alloc, words) {
@@ -93,6 +95,7 @@ fn do_command<S: Source, K: Sink, D: Disk, C: Clock>(
     disk: D,
     clock: &mut C,
 ) -> (Outcome, D)
+    // Its numbers are within their limits.
     requires { runs.HasWords command }
     ensures does { runs.Does D.tells
         (record {
