@@ -152,12 +152,20 @@ fn do_command<S: Source, K: Sink, D: Disk, C: Clock>(
         }
         Command::Batch => {
             let by = Answerer::House;
-            let (ending, disk) = answer_batch(alloc, by, source, sink, disk, clock).without_lines();
+            let Batched {
+                ending,
+                disk,
+                lines: _lines,
+            } = answer_batch(alloc, by, source, sink, disk, clock);
             (Outcome::Done(ending), disk)
         }
         Command::Follow => {
             let by = Answerer::Standby;
-            let (ending, disk) = answer_batch(alloc, by, source, sink, disk, clock).without_lines();
+            let Batched {
+                ending,
+                disk,
+                lines: _lines,
+            } = answer_batch(alloc, by, source, sink, disk, clock);
             (Outcome::Done(ending), disk)
         }
         Command::Drill { seed, orders } => {
@@ -214,20 +222,6 @@ pub(crate) struct Batched<D> {
     pub(crate) ending: Ending,
     pub(crate) disk: D,
     pub(crate) lines: Vec<Line>,
-}
-
-impl<D> Batched<D> {
-    // How it ended, and the disk.
-    fn without_lines(self) -> (Ending, D)
-        ensures { result ≡ (self.ending, self.disk) }
-    {
-        let Batched {
-            ending,
-            disk,
-            lines: _lines,
-        } = self;
-        (ending, disk)
-    }
 }
 
 // Opens the house on the disk, or the standby, which answers the frames of the source.

@@ -1,10 +1,9 @@
 use Rattle.std.proofs.Common.{rules, refl, ap, sym, subst, ◌∙◌, inl, inr, ⊎_elim}
 use Rattle.nb_batch.specs.declared.answering.Answerer.TheVariants as answers
-use Rattle.nb_commands.specs.declared.ending.Ending.{Ending}
 use Rattle.nb_commands.specs.declared.ending.Job.{Job}
-use Rattle.nb_commands.specs.declared.ending.Outcome.TheVariants.{Done, Work}
+use Rattle.nb_commands.specs.declared.ending.Outcome.TheVariants.{Work}
 use Rattle.nb_commands.proofs.Moving.{moves_clean}
-use Rattle.nb_run.specs.Run.{AnswersFrames, Around, Does}
+use Rattle.nb_run.specs.Run.{Does}
 use Rattle.nb_run.proofs.Frames.{answers_frames}
 use Rattle.nb_run.proofs.Plays.{plays_clean}
 use Rattle.nb_run.proofs.Stocking.{stocks_clean}
@@ -83,60 +82,12 @@ returns-in-SellOffers-clause-does g c =
 
 pub returns-in-Batch-clause-does : goal.returns-in-Batch-clause-does
 returns-in-Batch-clause-does g c =
-    let b = c.answer_batch in
-    let before : Around g.row.S.Denot g.row.K.Denot g.row.D.Denot g.row.C.Denot = record {
-      source = c.args.source.now;
-      left = g.S.Source.left c.args.source.now;
-      source_faults = g.S.Source.faults c.args.source.now;
-      sink = c.args.sink.now;
-      sent = g.K.Sink.sent c.args.sink.now;
-      sink_faults = g.K.Sink.faults c.args.sink.now;
-      disk = c.args.disk;
-      clock = c.args.clock.now;
-      moments = g.C.Clock.moments c.args.clock.now;
-    } in
-    let after : g.row.D.Denot → Around g.row.S.Denot g.row.K.Denot g.row.D.Denot g.row.C.Denot = λ disk. record {
-      source = b.new.source;
-      left = g.S.Source.left b.new.source;
-      source_faults = g.S.Source.faults b.new.source;
-      sink = b.new.sink;
-      sent = g.K.Sink.sent b.new.sink;
-      sink_faults = g.K.Sink.faults b.new.sink;
-      disk = disk;
-      clock = b.new.clock;
-      moments = g.C.Clock.moments b.new.clock;
-    } in
+    let b = c.answer_batch-disk in
     subst (Does g.D.Disk.tells _ _ _) (sym c.in-Batch.is)
-    (subst (λ (end : Ending × g.row.D.Denot). AnswersFrames g.D.Disk.tells before (after end.1) (Done end.0) answers.House) (sym c.without_lines-disk.ensures)
-    (answers_frames g.D.Disk.tells answers.House before (after b.result.disk) b.result.ending b.result.lines.items b.ensures.batch b.ensures.closed b.ensures.unwritten b.ensures.source b.ensures.whole
-    b.ensures.opens))
+    (answers_frames g.D.Disk.tells answers.House _ _ b.result.ending b.result.lines.items b.ensures.batch b.ensures.closed b.ensures.unwritten b.ensures.source b.ensures.whole b.ensures.opens)
 
 pub returns-in-Follow-clause-does : goal.returns-in-Follow-clause-does
 returns-in-Follow-clause-does g c =
-    let b = c.answer_batch-in-Follow in
-    let before : Around g.row.S.Denot g.row.K.Denot g.row.D.Denot g.row.C.Denot = record {
-      source = c.args.source.now;
-      left = g.S.Source.left c.args.source.now;
-      source_faults = g.S.Source.faults c.args.source.now;
-      sink = c.args.sink.now;
-      sent = g.K.Sink.sent c.args.sink.now;
-      sink_faults = g.K.Sink.faults c.args.sink.now;
-      disk = c.args.disk;
-      clock = c.args.clock.now;
-      moments = g.C.Clock.moments c.args.clock.now;
-    } in
-    let after : g.row.D.Denot → Around g.row.S.Denot g.row.K.Denot g.row.D.Denot g.row.C.Denot = λ disk. record {
-      source = b.new.source;
-      left = g.S.Source.left b.new.source;
-      source_faults = g.S.Source.faults b.new.source;
-      sink = b.new.sink;
-      sent = g.K.Sink.sent b.new.sink;
-      sink_faults = g.K.Sink.faults b.new.sink;
-      disk = disk;
-      clock = b.new.clock;
-      moments = g.C.Clock.moments b.new.clock;
-    } in
+    let b = c.answer_batch-disk-in-Follow in
     subst (Does g.D.Disk.tells _ _ _) (sym c.in-Follow.is)
-    (subst (λ (end : Ending × g.row.D.Denot). AnswersFrames g.D.Disk.tells before (after end.1) (Done end.0) answers.Standby) (sym c.without_lines-disk-in-Follow.ensures)
-    (answers_frames g.D.Disk.tells answers.Standby before (after b.result.disk) b.result.ending b.result.lines.items b.ensures.batch b.ensures.closed b.ensures.unwritten b.ensures.source b.ensures.whole
-    b.ensures.opens))
+    (answers_frames g.D.Disk.tells answers.Standby _ _ b.result.ending b.result.lines.items b.ensures.batch b.ensures.closed b.ensures.unwritten b.ensures.source b.ensures.whole b.ensures.opens)
