@@ -1,6 +1,5 @@
 -- What was recorded stays in all that a stop leaves behind it.
-use Rattle.std.proofs.Common.{◌≡◌, ◌⊎◌, ⊎_elim, ℕ, ◌<◌, ◌≤◌, zero, suc, List, [], ◌∷◌, ◌++◌, length, take, Some, refl, sym, ap, subst, ◌∙◌, append_assoc, append-nil, arith}
-use Rattle.std.specs.Prelude.{◌^◌}
+use Rattle.std.proofs.Common.{◌≡◌, ◌⊎◌, ⊎_elim, ℕ, ◌≤◌, zero, suc, List, [], ◌∷◌, ◌++◌, length, take, Some, refl, sym, ap, subst, ◌∙◌, append_assoc, append-nil, arith}
 use Rattle.std.specs.List.{slice_get, AllByRecursion}
 use Rattle.std.proofs.lemmas.List.{length-append}
 use Rattle.std.specs.Option.{option_to_list}
@@ -14,15 +13,15 @@ use Rattle.nb_vault.specs.Rules.{house_of}
 use Rattle.nb_turns.specs.declared.mark.Mark.{Mark}
 use Rattle.nb_turns.specs.declared.mark.Mark.TheVariants.{At, Fault, Worn}
 use Rattle.nb_turns.specs.Turns.{Request, House, State, Answered}
-use Rattle.nb_turns.specs.Laws.{DecidesOne, TurnOfOne, RunOfOnes}
+use Rattle.nb_turns.specs.Laws.{DecidesOne, TurnOfOne}
 use Rattle.nb_standby.specs.declared.code.TheConstants.{TAKEN, SAME}
-use Rattle.nb_standby.specs.Answering.{Acknowledges, AcknowledgesAll, acknowledgement, record_in}
+use Rattle.nb_standby.specs.Answering.{Acknowledges, record_in}
 use Rattle.nb_standby.proofs.Runs.{IsWithin, acknowledged_grows, all_within, came_there, told_once}
 use Rattle.nb_batch.specs.declared.answering.Answerer.{Answerer}
 use Rattle.nb_batch.specs.declared.answering.Answerer.TheVariants as answers
 use Rattle.nb_batch.specs.Answering.{Goes, GoesTo}
 use Rattle.nb_batch.specs.Batch.{HoldsState, GoesThrough, last_disk}
-use Rattle.nb_batch.specs.Acknowledged.{StandsForMore, StandsSpelled, Stays, StaysTold}
+use Rattle.nb_batch.specs.Acknowledged.{AcknowledgedStays, OpeningStays, StandsForMore, ToldStays}
 
 -- the entries of a state begin with these
 abbrev Begins : List Entry → State → Type 0
@@ -147,11 +146,6 @@ module _ {D : Type 0} (tells : DiskTells D) (only_now : (d : D) (c : List ℕ) �
       stays_on (tells.moment disk) first.entries first disk states disks grow through (itself first) (omega arith)
       (λ c now. more_in charter cap first.entries first c (itself first) (holds_first first disk states disks through c (only_now disk c now))) image left
 
-  -- what was there at the start
-  pub opening_stays : (by : Answerer) (first : State) (opened : D) (answered : List Answered) (states : List State) (disks : List D) → Goes by charter cap first answered states → GoesThrough tells charter cap first opened states disks
-      → (image : List ℕ) → tells.left (last_disk opened disks) (tells.moment opened) image → StandsForMore charter cap first.entries image
-  opening_stays by first opened answered states disks goes through = stays_since first opened states disks (goes_grow by charter cap first answered states goes) through
-
   -- one turn of all
   at_turn : (by : Answerer) (first : State) (opened : D) (answered : List Answered) (states : List State) (disks : List D) → Goes by charter cap first answered states → GoesThrough tells charter cap first opened states disks
       → (turn : ℕ) (one : Answered) (state : State) (disk : D) → slice_get answered turn ≡ Some one → slice_get states turn ≡ Some state → slice_get disks turn ≡ Some disk
@@ -179,43 +173,38 @@ module _ {D : Type 0} (tells : DiskTells D) (only_now : (d : D) (c : List ℕ) �
   turn_stays by one state disk last t image left =
       stays_since state disk t.states t.disks t.grow t.through image (subst (λ (d : D). tells.left d (tells.moment disk) image) t.last_is left)
 
+module _ {D : Type 0} (tells : DiskTells D) (only_now : (d : D) (c : List ℕ) → tells.left d (tells.moment d) c → tells.allowed d c) where
+  -- what was there at the start
+  pub opening_stays : OpeningStays tells
+  opening_stays by charter cap first opened answered states disks goes through =
+      stays_since tells only_now charter cap first opened states disks (goes_grow by charter cap first answered states goes) through
+
   -- a request that a house decided
-  pub acknowledged : (first : State) (opened : D) (answered : List Answered) (states : List State) (disks : List D)
-      → RunOfOnes (house_of (head_of charter) cap) first answered states → GoesThrough tells charter cap first opened states disks
-      → (turn place : ℕ) (request : Request) (reply : List ℕ) (state : State) (disk : D)
-      → slice_get answered turn ≡ Some (record { request = request; mark = At place; reply = reply })
-      → slice_get states turn ≡ Some state → slice_get disks turn ≡ Some disk
-      → Stays tells charter cap request place reply state disk (last_disk opened disks)
-  acknowledged first opened answered states disks run through turn place request reply state disk one is behind =
+  pub acknowledged : AcknowledgedStays tells
+  acknowledged charter cap first opened answered states disks run through turn place request reply state disk one is behind =
       let house = house_of (head_of charter) cap in
       let asked : Answered = record { request = request; mark = At place; reply = reply } in
-      let t = at_turn answers.House first opened answered states disks run through turn asked state disk one is behind in
+      let t = at_turn tells only_now charter cap answers.House first opened answered states disks run through turn asked state disk one is behind in
       let d : DecidesOne house t.old request place reply state = t.turn.1 in
       let entries : state.entries ≡ d.over ++ option_to_list (house.rules d.over request).entry = ap (λ (s : State). s.entries) d.left in
       let front : take place state.entries ≡ d.over = ap (take place) entries ∙ ap (λ (n : ℕ). take n (d.over ++ option_to_list (house.rules d.over request).entry)) d.at ∙ take-append_seam d.over (option_to_list (house.rules d.over request).entry) in
       record {
         told = d.told ∙ ap (λ (over : List Entry). (house.rules over request).reply) (sym front);
         recorded = entries ∙ ap (λ (over : List Entry). over ++ option_to_list (house.rules over request).entry) (sym front);
-        images = turn_stays answers.House asked state disk (last_disk opened disks) t;
+        images = turn_stays tells only_now charter cap answers.House asked state disk (last_disk opened disks) t;
       }
 
   -- what a standby told
-  pub told : (first : State) (opened : D) (answered : List Answered) (states : List State) (disks : List D)
-      → cap < 2 ^ 64 → length (first.entries ++ first.doubt) ≤ cap
-      → AcknowledgesAll charter cap first answered states → GoesThrough tells charter cap first opened states disks
-      → (turn code n : ℕ) (one : Answered) (state : State) (disk : D)
-      → slice_get answered turn ≡ Some one → slice_get states turn ≡ Some state → slice_get disks turn ≡ Some disk
-      → n < 2 ^ 64 → one.reply ≡ acknowledgement (head_of charter).house code n
-      → StaysTold tells charter cap one.request code n state disk (last_disk opened disks)
-  told first opened answered states disks narrow within run through turn code n one state disk asked is behind fits says =
-      let t = at_turn answers.Standby first opened answered states disks run through turn one state disk asked is behind in
-      let a : Acknowledges charter cap t.old one.request one.mark one.reply state = t.turn in
-      let few : IsWithin cap state = there_within cap states turn state (all_within charter cap first answered states within run) is in
-      let same = told_once (head_of charter).house code a.code n (length state.entries) fits (omega (arith, narrow, few, length-append state.entries state.doubt)) (sym says ∙ a.reply_is) in
+  pub told : ToldStays tells
+  told t =
+      let at = at_turn tells only_now t.charter t.cap answers.Standby t.first t.opened t.answered t.states t.disks t.acknowledges t.through t.turn t.one t.state t.disk t.one_is t.state_is t.disk_is in
+      let a : Acknowledges t.charter t.cap at.old t.one.request t.one.mark t.one.reply t.state = at.turn in
+      let few : IsWithin t.cap t.state = there_within t.cap t.states t.turn t.state (all_within t.charter t.cap t.first t.answered t.states t.within t.acknowledges) t.state_is in
+      let same = told_once (head_of t.charter).house t.code a.code t.n (length t.state.entries) t.fits (omega (arith, t.narrow, few, length-append t.state.entries t.state.doubt)) (sym t.reply_is ∙ a.reply_is) in
       record {
         counted = same.1;
         taken = λ stands.
-            let r = came_there charter cap t.old (record_in one.request) one.mark a.code state a.came (subst (λ (c : ℕ). (c ≡ TAKEN) ⊎ (c ≡ SAME)) same.0 stands) in
+            let r = came_there t.charter t.cap at.old (record_in t.one.request) t.one.mark a.code t.state a.came (subst (λ (c : ℕ). (c ≡ TAKEN) ⊎ (c ≡ SAME)) same.0 stands) in
             record { shipped = r.shipped; spelled = r.spelled; signed = r.signed; stands = r.stands };
-        images = turn_stays answers.Standby one state disk (last_disk opened disks) t;
+        images = turn_stays tells only_now t.charter t.cap answers.Standby t.one t.state t.disk (last_disk t.opened t.disks) at;
       }

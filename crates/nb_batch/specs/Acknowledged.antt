@@ -67,16 +67,38 @@ pub record StaysTold {D : Type 0} (tells : DiskTells D) (charter : Charter) (cap
   pub taken : (code ≡ TAKEN) ⊎ (code ≡ SAME) → StandsSpelled charter request state
   pub images : (image : List ℕ) → tells.left last (tells.moment disk) image → StandsForMore charter cap state.entries image
 
--- so it is of each acknowledgement of a standby, by its bytes, where the cap, and a number that is told, have eight bytes
+-- a standby told this in a run: the bytes of one of its acknowledgements are of this code and this number, where the cap and the number have eight bytes
+pub record ToldInRun {D : Type 0} (tells : DiskTells D) : Type 0 where
+  pub charter : Charter
+  pub cap : ℕ
+  pub narrow : cap < 2 ^ 64
+  -- the state and the disk at the start; the cap has room for its entries, also with those in doubt
+  pub first : State
+  pub opened : D
+  pub within : length (first.entries ++ first.doubt) ≤ cap
+  -- the frames that were acknowledged, and the state and the disk behind each of them
+  pub answered : List Answered
+  pub states : List State
+  pub disks : List D
+  pub acknowledges : AcknowledgesAll charter cap first answered states
+  pub through : GoesThrough tells charter cap first opened states disks
+  -- one of these frames, at this place among them, and the state and the disk behind it
+  pub turn : ℕ
+  pub one : Answered
+  pub state : State
+  pub disk : D
+  pub one_is : slice_get answered turn ≡ Some one
+  pub state_is : slice_get states turn ≡ Some state
+  pub disk_is : slice_get disks turn ≡ Some disk
+  -- what its reply tells: the code, and how many entries there are
+  pub code : ℕ
+  pub n : ℕ
+  pub fits : n < 2 ^ 64
+  pub reply_is : one.reply ≡ acknowledgement (head_of charter).house code n
+
+-- so it is of all that a standby told in a run
 abbrev pub ToldStays : {D : Type 0} → DiskTells D → Type 0
-ToldStays {D} tells =
-    (charter : Charter) (cap : ℕ) (first : State) (opened : D) (answered : List Answered) (states : List State) (disks : List D)
-    → cap < 2 ^ 64 → length (first.entries ++ first.doubt) ≤ cap
-    → AcknowledgesAll charter cap first answered states → GoesThrough tells charter cap first opened states disks
-    → (turn code n : ℕ) (one : Answered) (state : State) (disk : D)
-    → slice_get answered turn ≡ Some one → slice_get states turn ≡ Some state → slice_get disks turn ≡ Some disk
-    → n < 2 ^ 64 → one.reply ≡ acknowledgement (head_of charter).house code n
-    → StaysTold tells charter cap one.request code n state disk (last_disk opened disks)
+ToldStays {D} tells = (t : ToldInRun tells) → StaysTold tells t.charter t.cap t.one.request t.code t.n t.state t.disk (last_disk t.opened t.disks)
 
 -- a vault that was opened is one of the states of a run, behind a stop: what was in doubt in it is there, or it is not
 pub record RestartsInRun {D : Type 0} (charter : Charter) (cap : ℕ) (first : State) (states : List State) (opened : Chronicled D) : Type 0 where

@@ -31,7 +31,6 @@ use Rattle.nb_standby.specs.World.{BeginsWith, Happens, Sent, Starts, TakesTo, W
 use Rattle.nb_standby.proofs.Layouts.{shipped_reads_back}
 use Rattle.nb_standby.proofs.Runs.{IsWithin, all_within, followed_stays_front, told_once}
 use Rattle.nb_batch.specs.Acknowledged.{StandsForMore}
-use Rattle.nb_batch.specs.Batch.{GoesThrough, last_disk}
 use Rattle.nb_batch.proofs.Staying.{told}
 use Rattle.nb_commands.specs.declared.ending.Ending.{Ending}
 use Rattle.nb_commands.specs.declared.ending.TheConstants.{CLEAN}
@@ -266,18 +265,18 @@ some_has P None image is has = absurd cc
 
 module _ {D : Type 0} (tells : DiskTells D) (only_now : (d : D) (c : List ℕ) → tells.left d (tells.moment d) c → tells.allowed d c) where
   pub promoted_has_told : PromotedHasTold tells
-  promoted_has_told charter cap first opened answered states disks narrow within run through turn code n one state disk asked is behind_it fits says image left old new sent sent' ending content (inl u) clean =
+  promoted_has_told t image left old new sent sent' ending content (inl u) clean =
       absurd (not_clean u.fault (sym (ap (λ (e : Ending). e.status) u.ends) ∙ clean))
-  promoted_has_told charter cap first opened answered states disks narrow within run through turn code n one state disk asked is behind_it fits says image left old new sent sent' ending content (inr p) clean =
-      let stays = told tells only_now charter cap first opened answered states disks narrow within run through turn code n one state disk asked is behind_it fits says in
-      let more : StandsForMore charter cap state.entries image = stays.images image left in
+  promoted_has_told t image left old new sent sent' ending content (inr p) clean =
+      let stays = told tells only_now t in
+      let more : StandsForMore t.charter t.cap t.state.entries image = stays.images image left in
       let opens : StandsFor p.opened.charter p.opened.cap p.opened.entries image = some_has (StandsFor p.opened.charter p.opened.cap p.opened.entries) (tells.content old) image content p.opened.stands in
-      let same = one_list image p.opened.charter charter p.opened.cap cap p.opened.entries (state.entries ++ more.later) opens more.stands in
+      let same = one_list image p.opened.charter t.charter p.opened.cap t.cap p.opened.entries (t.state.entries ++ more.later) opens more.stands in
       record {
         entries = p.opened.entries;
         line = p.whole clean;
-        least = omega (arith, stays.counted, ap length same.2, length-append state.entries more.later);
+        least = omega (arith, stays.counted, ap length same.2, length-append t.state.entries more.later);
         taken = λ stands.
             let r = stays.taken stands in
-            (r.shipped, r.spelled, ap (λ (es : List Entry). slice_get es r.shipped.place) same.2 ∙ stays_there state.entries more.later r.shipped.place r.shipped.entry r.stands);
+            (r.shipped, r.spelled, ap (λ (es : List Entry). slice_get es r.shipped.place) same.2 ∙ stays_there t.state.entries more.later r.shipped.place r.shipped.entry r.stands);
       }

@@ -1,5 +1,5 @@
 -- What a primary, its standby and the commands over both come to together.
-use Rattle.std.specs.Prelude.{◌≡◌, ◌⊎◌, ℕ, ◌+◌, ◌<◌, ◌≤◌, ◌^◌, List, [], ◌∷◌, ◌++◌, length, map, drop, Option, Some, Ok, slice_get}
+use Rattle.std.specs.Prelude.{◌≡◌, ◌⊎◌, ℕ, ◌+◌, ◌<◌, ◌≤◌, ◌^◌, List, [], ◌∷◌, length, map, drop, Option, Some, Ok, slice_get}
 use Rattle.std.specs.List.{AllByRecursion}
 use Rattle.std.specs.Io.KnownBytes.{Appends}
 use Rattle.nb_units.specs.declared.charter.Charter.{Charter}
@@ -14,7 +14,8 @@ use Rattle.nb_standby.specs.Answering.{AcknowledgesAll, acknowledgement, record_
 use Rattle.nb_standby.specs.Laws.{AreShippedIn, frame_in}
 use Rattle.nb_standby.specs.Spelling.{shipped_frames}
 use Rattle.nb_standby.specs.World.{Event, Happens, Ships, Starts, World}
-use Rattle.nb_batch.specs.Batch.{GoesThrough, last_disk}
+use Rattle.nb_batch.specs.Acknowledged.{ToldInRun}
+use Rattle.nb_batch.specs.Batch.{last_disk}
 use Rattle.nb_commands.specs.declared.ending.Ending.{Ending}
 use Rattle.nb_commands.specs.declared.ending.TheConstants.{CLEAN}
 use Rattle.nb_commands.specs.Promote.{PromoteIs, promoted_line}
@@ -67,12 +68,6 @@ pub record TellsOf (sent sent' : Option (List ℕ)) (request : Request) (code n 
 -- a standby acknowledged a frame; at some moment since it stopped, and a disk with what was left is promoted with status 0. That tells of all that was acknowledged
 abbrev pub PromotedHasTold : {D : Type 0} → DiskTells D → Type 0
 PromotedHasTold {D} tells =
-    (charter : Charter) (cap : ℕ) (first : State) (opened : D) (answered : List Answered) (states : List State) (disks : List D)
-    → cap < 2 ^ 64 → length (first.entries ++ first.doubt) ≤ cap
-    → AcknowledgesAll charter cap first answered states → GoesThrough tells charter cap first opened states disks
-    → (turn code n : ℕ) (one : Answered) (state : State) (disk : D)
-    → slice_get answered turn ≡ Some one → slice_get states turn ≡ Some state → slice_get disks turn ≡ Some disk
-    → n < 2 ^ 64 → one.reply ≡ acknowledgement (head_of charter).house code n
-    → (image : List ℕ) → tells.left (last_disk opened disks) (tells.moment disk) image
+    (t : ToldInRun tells) (image : List ℕ) → tells.left (last_disk t.opened t.disks) (tells.moment t.disk) image
     → (old new : D) (sent sent' : Option (List ℕ)) (ending : Ending) → tells.content old ≡ Some image → PromoteIs tells old new sent sent' ending → ending.status ≡ CLEAN
-    → TellsOf sent sent' one.request code n
+    → TellsOf sent sent' t.one.request t.code t.n
