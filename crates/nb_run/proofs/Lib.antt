@@ -9,3 +9,4 @@ pub mod Requests
 pub mod Wares
 pub mod Grants
 pub mod Plays
+pub mod Asked

@@ -3,3 +3,4 @@ pub mod Batch
 pub mod Drill
 pub mod Play
 pub mod Run
+pub mod Laws

@@ -70,6 +70,10 @@ pub record IsUntouched {S K D C : Type 0} (before after : Around S K D C) : Type
   pub disk : after.disk ≡ before.disk
   pub clock : after.clock ≡ before.clock
 
+-- there was no memory to read the words: nothing was touched
+abbrev pub IsUnbegun : {S K D C : Type 0} → Around S K D C → Around S K D C → Outcome → Type 0
+IsUnbegun before after outcome = (outcome ≡ Done (at_no_place OUT_OF_MEMORY)) × IsUntouched before after
+
 -- the job is to buy with a request, which is the input
 abbrev pub BuysAsked : Option (List ℕ) → PartyId → ℕ → Price → ℕ → Job → Type 0
 BuysAsked left merchant product limit transaction job = (request : List ℕ) × (job ≡ jobs.Buy merchant product limit transaction request) × IsRequestInput left request
@@ -202,7 +206,7 @@ module _ {S K D C : Type 0} (tells : DiskTells D) (before after : Around S K D C
   Ran words =
       ((command : Command) × Are words command × Does command)
       ⊎ ((IsCommand words → ⊥) × (outcome ≡ Done (at_no_place BAD_WORDS)) × IsUntouched before after)
-      ⊎ (MayBeRead words × (outcome ≡ Done (at_no_place OUT_OF_MEMORY)) × IsUntouched before after)
+      ⊎ (MayBeRead words × IsUnbegun before after outcome)
 
 -- ---- for the contracts of private functions alone
 

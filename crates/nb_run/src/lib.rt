@@ -22,6 +22,7 @@
 #![tactic(auto)]
 
 mod drill;
+pub mod laws;
 mod playing;
 mod program;
 mod tally;
