@@ -1,5 +1,6 @@
 -- A Legal list is made by one legal entry after another.
 use Rattle.std.proofs.Common.{◌≡◌, ℕ, zero, suc, ◌<◌, ◌≤◌, List, [], ◌∷◌, ◌++◌, length, take, get_or, sym, subst, arith, add-one, length-take}
+use Rattle.std.proofs.lemmas.Grind.{common_steps}
 use Rattle.std.proofs.lemmas.List.{take_more, take_all, take-take, get_or-take}
 use Rattle.nb_entry.specs.declared.entry.Entry.{Entry}
 use Rattle.nb_entry.specs.declared.entry.Entry.TheVariants.{Fund}
@@ -14,6 +15,10 @@ front_legal H n legal = record {
       let within : k ≤ n = omega arith in
       rw (take-take k n H within, get_or-take n H k d front) (legal.each k inside d);
 }
+
+-- a Legal list and an entry that may come next make one
+pub legal_push : (H : List Entry) (e : Entry) → Legal H → LegalAfter H e → Legal (H ++ e ∷ [])
+legal_push H e legal next = grind (arith, common_steps)
 
 -- what holds of the empty list, and still holds when a legal entry comes after a Legal list, holds of each Legal list
 pub along : (P : List Entry → Type 0) → P []

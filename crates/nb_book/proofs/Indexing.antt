@@ -1,12 +1,11 @@
 -- What an index of places finds: the first entry of a key, as a search of the list does.
-use Rattle.std.proofs.Common.{◌≡◌, ℕ, suc, ◌+◌, ◌-◌, ◌*◌, ◌<◌, ◌≤◌, Bool, true, false, cond, List, [], ◌∷◌, ◌++◌, Option, Some, None, length, take, get_or, arith, refl, sym, ap, subst, ◌∙◌, append_assoc, append-nil}
-use Rattle.std.proofs.lemmas.List.{take_at, length_push, get_or_push}
+use Rattle.std.proofs.Common.{◌≡◌, ℕ, suc, ◌+◌, ◌*◌, ◌<◌, ◌≤◌, Bool, true, false, cond, List, [], ◌∷◌, ◌++◌, Option, Some, None, length, get_or, arith, refl, sym, ap, subst, ◌∙◌, append_assoc, append-nil}
 use Rattle.std.proofs.lemmas.Option.{same_Some}
 use Rattle.std.specs.List.{AllByRecursion}
 use Rattle.std.specs.Option.{option_or, is_some, IsNone, IfSome}
 use Rattle.std.specs.Str.{bytes_eq}
 use Rattle.nb_index.specs.declared.put.Put.{Put}
-use Rattle.nb_index.specs.Puts.{Indexed, Shape, value_in, IsLast}
+use Rattle.nb_index.specs.Puts.{Indexed, Shape, value_in}
 use Rattle.nb_entry.specs.declared.entry.Entry.{Entry}
 use Rattle.nb_entry.specs.declared.entry.Entry.TheVariants.{Fund}
 use Rattle.nb_book.specs.Searches.{first_from}
@@ -175,69 +174,39 @@ pub has_room : (key : Entry → Option (List ℕ)) (cap : ℕ) (index : Indexed)
     → 2 * length index.puts < index.shape.slots
 has_room key cap index H indexes within = rw (indexes.puts, indexes.slots) (omega (arith, puts_le key 0 H, within))
 
--- an index behind one entry more
-pub index_put : (key : Entry → Option (List ℕ)) (cap : ℕ) (old new : Indexed) (H : List Entry) (e : Entry) (k : List ℕ) (at : ℕ)
-    → Indexes key cap old H → key e ≡ Some k → at ≡ length H → new.puts ≡ old.puts ++ record { key = k; value = at } ∷ [] → new.shape ≡ old.shape
+-- an index behind one entry more, whose place is put under its key, if it has one
+pub index_put : (key : Entry → Option (List ℕ)) (cap : ℕ) (old new : Indexed) (H : List Entry) (e : Entry) (k : Option (List ℕ)) (at : ℕ)
+    → Indexes key cap old H → k ≡ key e → at ≡ length H → new.puts ≡ old.puts ++ puts_at k at → new.shape ≡ old.shape
     → Indexes key cap new (H ++ e ∷ [])
 index_put key cap old new H e k at indexes has here puts shape =
     let place : at ≡ 0 + length H = omega (arith, here) in
-    let grown : puts_from key 0 H ++ record { key = k; value = at } ∷ [] ≡ puts_from key 0 (H ++ e ∷ []) = rw (puts_push key 0 H e, has, place) refl in
+    let grown : old.puts ++ puts_at k at ≡ puts_from key 0 (H ++ e ∷ []) = rw (indexes.puts, has, place, puts_push key 0 H e) refl in
     record {
-      puts = puts ∙ ap (λ (ps : List Put). ps ++ record { key = k; value = at } ∷ []) indexes.puts ∙ grown;
+      puts = puts ∙ grown;
       slots = ap (λ (s : Shape). s.slots) shape ∙ indexes.slots;
     }
 
--- an index that has no key of the entry stays
-pub index_same : (key : Entry → Option (List ℕ)) (cap : ℕ) (index : Indexed) (H : List Entry) (e : Entry)
-    → Indexes key cap index H → key e ≡ None → Indexes key cap index (H ++ e ∷ [])
-index_same key cap index H e indexes has =
-    let same : puts_from key 0 H ≡ puts_from key 0 (H ++ e ∷ []) = rw (puts_push key 0 H e, has) (sym (append-nil (puts_from key 0 H))) in
-    record {
-      puts = indexes.puts ∙ same;
-      slots = indexes.slots;
-    }
+-- the last put of an index is that of the last entry, if it has a key
+last_put : (key : Entry → Option (List ℕ)) (cap : ℕ) (index : Indexed) (H front : List Entry) (e : Entry) (k : Option (List ℕ))
+    → Indexes key cap index H → H ≡ front ++ e ∷ [] → k ≡ key e → index.puts ≡ puts_from key 0 front ++ puts_at k (0 + length front)
+last_put key cap index H front e k indexes whole has =
+    let grown : puts_from key 0 (front ++ e ∷ []) ≡ puts_from key 0 front ++ puts_at k (0 + length front) = rw (puts_push key 0 front e, has) refl in
+    indexes.puts ∙ ap (λ (xs : List Entry). puts_from key 0 xs) whole ∙ grown
 
--- the last put of an index whose last entry has a key
-pub last_put : (key : Entry → Option (List ℕ)) (cap : ℕ) (index : Indexed) (H : List Entry) (e : Entry) (k : List ℕ)
-    → Indexes key cap index (H ++ e ∷ []) → key e ≡ Some k → index.puts ≡ puts_from key 0 H ++ record { key = k; value = 0 + length H } ∷ []
-last_put key cap index H e k indexes has =
-    let grown : puts_from key 0 (H ++ e ∷ []) ≡ puts_from key 0 H ++ record { key = k; value = 0 + length H } ∷ [] = rw (puts_push key 0 H e, has) refl in
-    indexes.puts ∙ grown
-
--- so there is one, and it is of that key
-pub is_last : (key : Entry → Option (List ℕ)) (cap : ℕ) (index : Indexed) (H : List Entry) (e : Entry) (k : List ℕ)
-    → Indexes key cap index (H ++ e ∷ []) → key e ≡ Some k → (0 < length index.puts) × IsLast index.puts k
-is_last key cap index H e k indexes has =
-    let last : Put = record { key = k; value = 0 + length H } in
-    rw (last_put key cap index H e k indexes has) (
-      omega (arith, length_push (puts_from key 0 H) last),
-      λ d.
-          let here : length (puts_from key 0 H) ≡ length (puts_from key 0 H ++ last ∷ []) - 1 = omega (arith, length_push (puts_from key 0 H) last) in
-          ap (λ (p : Put). p.key) (get_or_push (puts_from key 0 H) last d (length (puts_from key 0 H ++ last ∷ []) - 1) here),
-    )
+-- so the puts end with it
+pub index_ends : (key : Entry → Option (List ℕ)) (cap : ℕ) (index : Indexed) (H front : List Entry) (e : Entry) (k : Option (List ℕ))
+    → Indexes key cap index H → H ≡ front ++ e ∷ [] → k ≡ key e → (before : List Put) × (at : ℕ) × (index.puts ≡ before ++ puts_at k at)
+index_ends key cap index H front e k indexes whole has = (puts_from key 0 front, 0 + length front, last_put key cap index H front e k indexes whole has)
 
 -- an index without its last entry
-pub index_off : (key : Entry → Option (List ℕ)) (cap : ℕ) (old new : Indexed) (H : List Entry) (e : Entry) (k : List ℕ)
-    → Indexes key cap old (H ++ e ∷ []) → key e ≡ Some k → new.puts ≡ take (length old.puts - 1) old.puts → new.shape ≡ old.shape
-    → Indexes key cap new H
-index_off key cap old new H e k indexes has puts shape =
-    let last : Put = record { key = k; value = 0 + length H } in
-    let here : length (puts_from key 0 H) ≡ length (puts_from key 0 H ++ last ∷ []) - 1 = omega (arith, length_push (puts_from key 0 H) last) in
-    let front : take (length old.puts - 1) old.puts ≡ puts_from key 0 H =
-    rw (last_put key cap old H e k indexes has) (take_at (puts_from key 0 H) (last ∷ []) (length (puts_from key 0 H ++ last ∷ []) - 1) here) in
-    record {
-      puts = puts ∙ front;
-      slots = ap (λ (s : Shape). s.slots) shape ∙ indexes.slots;
-    }
-
-pub index_less : (key : Entry → Option (List ℕ)) (cap : ℕ) (index : Indexed) (H : List Entry) (e : Entry)
-    → Indexes key cap index (H ++ e ∷ []) → key e ≡ None → Indexes key cap index H
-index_less key cap index H e indexes has =
-    let same : puts_from key 0 (H ++ e ∷ []) ≡ puts_from key 0 H = rw (puts_push key 0 H e, has) (append-nil (puts_from key 0 H)) in
-    record {
-      puts = indexes.puts ∙ same;
-      slots = indexes.slots;
-    }
+pub index_off : (key : Entry → Option (List ℕ)) (cap : ℕ) (old new : Indexed) (H front : List Entry) (e : Entry) (k : Option (List ℕ))
+    → Indexes key cap old H → H ≡ front ++ e ∷ [] → k ≡ key e
+    → ((before : List Put) (at : ℕ) → old.puts ≡ before ++ puts_at k at → new.puts ≡ before) → new.shape ≡ old.shape
+    → Indexes key cap new front
+index_off key cap old new H front e k indexes whole has puts shape = record {
+  puts = puts (puts_from key 0 front) (0 + length front) (last_put key cap old H front e k indexes whole has);
+  slots = ap (λ (s : Shape). s.slots) shape ∙ indexes.slots;
+}
 
 -- what holds of each entry of a list, with one entry more and one less
 pub each_push : (P : Entry → Type 0) (H : List Entry) (e : Entry) → AllByRecursion P H → P e → AllByRecursion P (H ++ e ∷ [])

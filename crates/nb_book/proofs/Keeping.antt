@@ -1,25 +1,23 @@
--- Balances that are kept, behind one entry more and without the last one.
-use Rattle.std.proofs.Common.{◌≡◌, ℕ, ◌+◌, ◌-◌, ◌<◌, ◌≤◌, ◌^◌, Bool, true, false, cond, List, [], ◌∷◌, ◌++◌, Option, Some, None, length, take, set, get_or, arith, refl, sym, ap, subst, ◌∙◌, eq-eqb}
+-- Balances that are kept, behind one entry more and without the last one, and the money that an entry moves.
+use Rattle.std.proofs.Common.{◌≡◌, ℕ, ◌+◌, ◌-◌, ◌<◌, ◌≤◌, ◌^◌, Bool, true, false, cond, List, [], ◌∷◌, ◌++◌, Option, Some, None, length, take, get_or, arith, refl, sym, ap, subst, ◌∙◌, eq-eqb}
 use Rattle.std.proofs.lemmas.Bool.{eqb-true, eqb-false, false_from_ne_true, lt-ltb}
-use Rattle.std.proofs.lemmas.List.{take_more, take_all, get_or-take, get_or-set_same, get_or-set_other, get_or_push, get_or_append_left, length_push, length-take-le}
+use Rattle.std.proofs.lemmas.List.{take_more, take_all, get_or-take, get_or_push, get_or_append_left, length_push, length-take-le}
+use Rattle.std.proofs.lemmas.List.Sums.{sum_by-take-drop}
 use Rattle.std.proofs.lemmas.Option.{same_Some}
 use Rattle.std.specs.Prelude.{◌==◌}
 use Rattle.std.specs.List.{count_by}
 use Rattle.std.specs.Option.{option_or, is_some, IsSome}
 use Rattle.nb_units.specs.declared.ids.PartyId.{PartyId}
 use Rattle.nb_units.specs.declared.ids.AcctId.{AcctId}
-use Rattle.nb_units.specs.declared.ids.Price.{Price}
-use Rattle.nb_units.specs.declared.epoid.Epoid.{Epoid}
 use Rattle.nb_entry.specs.declared.entry.Entry.{Entry}
 use Rattle.nb_entry.specs.declared.entry.Entry.TheVariants.{Enrol, Fund}
 use Rattle.nb_book.specs.declared.party.Party.{Party}
 use Rattle.nb_book.specs.Searches.{party_at, party_in, holder_at, holder_in}
 use Rattle.nb_book.specs.Money.{brought, taken, balance}
-use Rattle.nb_book.specs.Legal.{LegalAfter, Legal, PaidIsLegal, PriceIsLegal}
+use Rattle.nb_book.specs.Legal.{LegalAfter, Legal, AccountsAre}
 use Rattle.nb_book.specs.Laws.{opens}
-use Rattle.nb_book.specs.declared.list.EntryList.{EntryList}
-use Rattle.nb_book.specs.Indexes.{place_if, first_place, KeepsBalances, Tied}
-use Rattle.nb_book.proofs.Growing.{front_legal, along}
+use Rattle.nb_book.specs.Indexes.{place_if, first_place, KeepsBalances}
+use Rattle.nb_book.proofs.Growing.{front_legal, legal_push, along}
 use Rattle.nb_book.proofs.Counting.{found-count, count_by-some, tests_holder, opened-account_of, opening_party, opened_party}
 use Rattle.nb_book.proofs.Summing.{party_after, taken_within, total_fits}
 use Rattle.nb_book.proofs.Balances.{balance-none, balance_le_total}
@@ -118,21 +116,44 @@ kept_push H e before after legal next kept long moves = record {
   part a at None is placed =
       opened_now a at is (opens a e) refl (sym (ap (λ (x : Option ℕ). option_or x (place_if (opens a) (0 + length H) e)) is) ∙ placed)
 
--- balances without the last entry, which was taken back
-pub kept_pop : (H : List Entry) (e : Entry) (before after : List ℕ) → Legal H → LegalAfter H e → KeepsBalances (H ++ e ∷ []) before → length after ≡ length before
-    → ((a : AcctId) (at : ℕ) → first_place (opens a) H ≡ Some at → get_or after at 0 + brought a e ≡ get_or before at 0 + taken a e)
-    → KeepsBalances H (take (length H) after)
-kept_pop H e before after legal next kept long moves = record {
-  long = length-take-le (length H) after (omega (arith, length_push H e, long, kept.long));
-  each = λ a at placed.
-      let inside : at < length H = (found (opens a) (holder_at a) (tests_holder a) H at e placed).within in
-      let longer : first_place (opens a) (H ++ e ∷ []) ≡ Some at =
-      first_push (place_if (opens a)) 0 H e ∙ ap (λ (x : Option ℕ). option_or x (place_if (opens a) (0 + length H) e)) placed in
-      let value : get_or after at 0 ≡ balance H a = omega (arith, moves a at placed, kept.each a at longer, party_after H e legal next a (placed_party H legal a at placed)) in
-      get_or-take (length H) after at 0 inside ∙ value;
-}
+-- ---- the last entry
 
--- ---- what a write at the place of one account does to the place of another
+-- H is a Legal front, and an entry that was legal behind it
+pub record Behind (front : List Entry) (e : Entry) (H : List Entry) : Type 0 where
+  pub whole : H ≡ front ++ e ∷ []
+  pub legal : Legal front
+  pub next : LegalAfter front e
+
+pub last_entry : (H : List Entry) (e : Entry) → Legal H → 0 < length H → ((d : Entry) → get_or H (length H - 1) d ≡ e) → Behind (take (length H - 1) H) e H
+last_entry H e legal some last =
+    let n : ℕ = length H - 1 in
+    let inside : n < length H = omega (arith, some) in
+    let all : length H ≤ n + 1 = omega (arith, some) in
+    record {
+      whole = sym (take_all (n + 1) H all) ∙ take_more H n e inside ∙ ap (λ (x : Entry). take n H ++ x ∷ []) (last e);
+      legal = front_legal H n legal;
+      next = subst (λ (x : Entry). LegalAfter (take n H) x) (last e) (legal.each n inside e);
+    }
+
+-- balances without the last entry, which was taken back
+pub kept_pop : (front : List Entry) (e : Entry) (H : List Entry) (before after : List ℕ) → Behind front e H → KeepsBalances H before → length after ≡ length before
+    → ((a : AcctId) (at : ℕ) → first_place (opens a) H ≡ Some at → get_or after at 0 + brought a e ≡ get_or before at 0 + taken a e)
+    → KeepsBalances front (take (length H - 1) after)
+kept_pop front e H before after behind kept long moves =
+    let count : length H - 1 ≡ length front = omega (arith, length_push front e, ap length behind.whole) in
+    record {
+      long = length-take-le (length H - 1) after (omega (arith, long, kept.long)) ∙ count;
+      each = λ a at placed.
+          let inside : at < length front = (found (opens a) (holder_at a) (tests_holder a) front at e placed).within in
+          let longer : first_place (opens a) H ≡ Some at =
+          ap (λ (xs : List Entry). first_place (opens a) xs) behind.whole ∙ first_push (place_if (opens a)) 0 front e ∙ ap (λ (x : Option ℕ). option_or x (place_if (opens a) (0 + length front) e)) placed in
+          let whole : balance H a ≡ balance (front ++ e ∷ []) a = ap (λ (xs : List Entry). balance xs a) behind.whole in
+          let value : get_or after at 0 ≡ balance front a =
+          omega (arith, moves a at longer, kept.each a at longer, whole, party_after front e behind.legal behind.next a (placed_party front behind.legal a at placed)) in
+          get_or-take (length H - 1) after at 0 (omega (arith, count, inside)) ∙ value;
+    }
+
+-- ---- the places of two accounts
 
 -- one account has one place
 same_place : (H : List Entry) (b a : AcctId) (p at : ℕ) → (b.0 == a.0) ≡ true → first_place (opens b) H ≡ Some p → first_place (opens a) H ≡ Some at → p ≡ at
@@ -153,118 +174,99 @@ other_place H b a p at other first second same =
     one_account x f s = cc
 
 -- so two places are one exactly where the accounts are
-pub one_place : (H : List Entry) (b a : AcctId) (p at : ℕ) → first_place (opens b) H ≡ Some p → first_place (opens a) H ≡ Some at → (p == at) ≡ (b.0 == a.0)
+one_place : (H : List Entry) (b a : AcctId) (p at : ℕ) → first_place (opens b) H ≡ Some p → first_place (opens a) H ≡ Some at → (p == at) ≡ (b.0 == a.0)
 one_place H b a p at first second = part (b.0 == a.0) refl where
   part : (t : Bool) → (b.0 == a.0) ≡ t → (p == at) ≡ t
   part true same = eq-eqb p at (same_place H b a p at same first second)
   part false other = false_from_ne_true (p == at) (λ here. other_place H b a p at other first second (sym (eqb-true p at here)))
 
--- an amount brought to a place is brought to that place alone
-pub gave_at : (before : List ℕ) (p at amount v : ℕ) → p < length before → v ≡ get_or before p 0 + amount → get_or (set before p v) at 0 ≡ get_or before at 0 + cond (p == at) amount 0
-gave_at before p at amount v within is = part (p == at) refl where
-  part : (t : Bool) → (p == at) ≡ t → get_or (set before p v) at 0 ≡ get_or before at 0 + cond t amount 0
-  part true same = subst (λ (n : ℕ). get_or (set before p v) n 0 ≡ get_or before n 0 + amount) (eqb-true p at same) (get_or-set_same before p v 0 within ∙ is)
-  part false other = omega (arith, get_or-set_other before p at v 0 (λ same. eqb-false p at other (sym same)))
+-- ---- the money that an entry moves
 
--- and so with one that is taken
-pub took_at : (before : List ℕ) (p at amount v : ℕ) → p < length before → v + amount ≡ get_or before p 0 → get_or (set before p v) at 0 + cond (p == at) amount 0 ≡ get_or before at 0
-took_at before p at amount v within is = part (p == at) refl where
-  part : (t : Bool) → (p == at) ≡ t → get_or (set before p v) at 0 + cond t amount 0 ≡ get_or before at 0
-  part true same =
-      subst (λ (n : ℕ). get_or (set before p v) n 0 + amount ≡ get_or before n 0) (eqb-true p at same) (ap (λ (x : ℕ). x + amount) (get_or-set_same before p v 0 within) ∙ is)
-  part false other = omega (arith, get_or-set_other before p at v 0 (λ same. eqb-false p at other (sym same)))
+-- an account that one of the first entries opened is held
+pub held_since : (H : List Entry) (n : ℕ) (a : AcctId) → 1 ≤ count_by (opens a) (take n H) → IsSome (holder_in H a)
+held_since H n a some = held_opened H a (omega (arith, some, sum_by-take-drop (λ x. cond (opens a x) 1 0) H n))
 
--- so one brought to the place of an account is brought to that account alone
-pub gave : (H : List Entry) (b a : AcctId) (p at : ℕ) (before : List ℕ) (amount v : ℕ) → first_place (opens b) H ≡ Some p → first_place (opens a) H ≡ Some at
-    → p < length before → v ≡ get_or before p 0 + amount → get_or (set before p v) at 0 ≡ get_or before at 0 + cond (b.0 == a.0) amount 0
-gave H b a p at before amount v first second within is = rw (sym (one_place H b a p at first second)) (gave_at before p at amount v within is)
+-- so are the two of a payment
+pub accounts_held : (H : List Entry) (n : ℕ) (consumer merchant : PartyId) (cacct macct : AcctId) → AccountsAre (take n H) consumer merchant cacct macct
+    → IsSome (holder_in H cacct) × IsSome (holder_in H macct)
+accounts_held H n consumer merchant cacct macct are =
+    (held_since H n cacct (opened-account_of (take n H) consumer cacct are.0), held_since H n macct (opened-account_of (take n H) merchant macct are.1))
 
--- and one that is taken is taken from it alone
-pub took : (H : List Entry) (b a : AcctId) (p at : ℕ) (before : List ℕ) (amount v : ℕ) → first_place (opens b) H ≡ Some p → first_place (opens a) H ≡ Some at
-    → p < length before → v + amount ≡ get_or before p 0 → get_or (set before p v) at 0 + cond (b.0 == a.0) amount 0 ≡ get_or before at 0
-took H b a p at before amount v first second within is = rw (sym (one_place H b a p at first second)) (took_at before p at amount v within is)
+-- what an entry takes from a party's account was there, what it brings into it is there behind it, and each fits 8 bytes with what is there before it is moved,
+-- or moved back
+record Amounts (H : List Entry) (e : Entry) (a : AcctId) : Type 0 where
+  taken_there : taken a e ≤ balance H a
+  brought_there : brought a e ≤ balance (H ++ e ∷ []) a
+  bring_fits : balance H a + brought a e < 2 ^ 64
+  take_fits : balance (H ++ e ∷ []) a + taken a e < 2 ^ 64
 
--- what is taken at the place of an account and brought to that of another is so with these accounts
-pub transferred : (H : List Entry) (b d a : AcctId) (p q at : ℕ) (before after : List ℕ) (less more : ℕ) → first_place (opens b) H ≡ Some p → first_place (opens d) H ≡ Some q
-    → first_place (opens a) H ≡ Some at → get_or after at 0 + cond (p == at) less 0 ≡ get_or before at 0 + cond (q == at) more 0
-    → get_or after at 0 + cond (b.0 == a.0) less 0 ≡ get_or before at 0 + cond (d.0 == a.0) more 0
-transferred H b d a p q at before after less more first second third each =
-    rw (sym (one_place H b a p at first third), sym (one_place H d a q at second third)) each
-
--- ---- a payment
-
--- both accounts are held
-pub both_held : (H : List Entry) (epoid : Epoid) (consumer merchant : PartyId) (price : Price) (cacct macct : AcctId) (moment : ℕ)
-    → PaidIsLegal H epoid consumer merchant price cacct macct moment → IsSome (holder_in H cacct) × IsSome (holder_in H macct)
-both_held H epoid consumer merchant price cacct macct moment paid =
-    (held_opened H cacct (opened-account_of H consumer cacct paid.2.0), held_opened H macct (opened-account_of H merchant macct paid.2.1))
-
--- what is in an account and a price fit 8 bytes
-pub price_fits : (H : List Entry) (balances : List ℕ) (a : AcctId) (at : ℕ) (price : Price) (more : ℕ) → Legal H → KeepsBalances H balances → first_place (opens a) H ≡ Some at
-    → PriceIsLegal price → more ≤ price.0 → get_or balances at 0 + more < 2 ^ 64
-price_fits H balances a at price more legal kept place is low = omega (arith, kept.each a at place, balance_le_total H legal a, total_fits H legal, is.1, low)
-
--- the place of an account among entries, of which the last opens none
-pub place_front : (H : List Entry) (e : Entry) (a : AcctId) → opens a e ≡ false → first_place (opens a) (H ++ e ∷ []) ≡ first_place (opens a) H
-place_front H e a opens_none = first_push (place_if (opens a)) 0 H e ∙ rw opens_none (alone (first_place (opens a) H)) where
-  alone : (x : Option ℕ) → option_or x None ≡ x
-  alone None = refl
-  alone (Some n) = refl
-
--- ---- the last entry
-
--- H is a Legal front, and an entry that was legal behind it
-pub record Behind (front : List Entry) (e : Entry) (H : List Entry) : Type 0 where
-  pub whole : H ≡ front ++ e ∷ []
-  pub legal : Legal front
-  pub next : LegalAfter front e
-
-pub last_entry : (H : List Entry) (e : Entry) → Legal H → 0 < length H → ((d : Entry) → get_or H (length H - 1) d ≡ e) → Behind (take (length H - 1) H) e H
-last_entry H e legal some last =
-    let n : ℕ = length H - 1 in
-    let inside : n < length H = omega (arith, some) in
-    let all : length H ≤ n + 1 = omega (arith, some) in
+amounts : (H : List Entry) (e : Entry) → Legal H → LegalAfter H e → (a : AcctId) → (a.0 == 0) ≡ false → Amounts H e a
+amounts H e legal next a party =
+    let longer : Legal (H ++ e ∷ []) = legal_push H e legal next in
+    let after : balance (H ++ e ∷ []) a + taken a e ≡ balance H a + brought a e = party_after H e legal next a party in
+    let there : taken a e ≤ balance H a = taken_within H e next a in
+    let fits : balance H a + brought a e < 2 ^ 64 =
+    omega (arith, after, there, balance_le_total H legal a, total_fits H legal, balance_le_total (H ++ e ∷ []) longer a, total_fits (H ++ e ∷ []) longer) in
     record {
-      whole = sym (take_all (n + 1) H all) ∙ take_more H n e inside ∙ ap (λ (x : Entry). take n H ++ x ∷ []) (last e);
-      legal = front_legal H n legal;
-      next = subst (λ (x : Entry). LegalAfter (take n H) x) (last e) (legal.each n inside e);
+      taken_there = there;
+      brought_there = omega (arith, after, there);
+      bring_fits = fits;
+      take_fits = omega (arith, after, fits);
     }
 
--- what a list keeps is that of its front and its last entry
-pub record BeforeLast (list : EntryList) (front : List Entry) (e : Entry) : Type 0 where
-  pub behind : Behind front e list.entries.items
-  pub tied : Tied list (front ++ e ∷ [])
+-- of all accounts one alone has an amount, and that account has its place here
+abbrev pub OfOne : List Entry → ℕ → ℕ → (AcctId → ℕ) → Type 0
+OfOne H p amount each = (b : AcctId) × (first_place (opens b) H ≡ Some p) × ((a : AcctId) → each a ≡ cond (b.0 == a.0) amount 0)
 
-pub before_last : (list : EntryList) (e : Entry) → Tied list list.entries.items → Legal list.entries.items → 0 < length list.entries.items
-    → ((d : Entry) → get_or list.entries.items (length list.entries.items - 1) d ≡ e) → BeforeLast list (take (length list.entries.items - 1) list.entries.items) e
-before_last list e tied legal some last =
-    let it : Behind (take (length list.entries.items - 1) list.entries.items) e list.entries.items = last_entry list.entries.items e legal some last in
-    record {
-      behind = it;
-      tied = subst (λ (xs : List Entry). Tied list xs) it.whole tied;
-    }
+module _ (H : List Entry) (p amount : ℕ) (each : AcctId → ℕ) (one : OfOne H p amount each) where
+  -- its place is one of the entries
+  inside : p < length H
+  inside = (found (opens one.0) (holder_at one.0) (tests_holder one.0) H p (Fund (record { 0 = 0 }) 0 []) one.1).within
 
--- an account that is held is held behind one entry more
-pub held_behind : (front : List Entry) (e : Entry) (a : AcctId) → IsSome (holder_in front a) → IsSome (holder_in (front ++ e ∷ []) a)
-held_behind front e a held = rw (first_push (holder_at a) 0 front e) (kept_some (holder_in front a) held) where
-  kept_some : (x : Option PartyId) → is_some x ≡ true → is_some (option_or x (holder_at a (0 + length front) e)) ≡ true
-  kept_some None some = absurd cc
-  kept_some (Some who) some = refl
+  -- the amount is that of this account
+  own_amount : each one.0 ≡ amount
+  own_amount = one.2 one.0 ∙ rw (eq-eqb one.0.0 one.0.0 refl) refl
 
--- the place of an account among entries is its place in front of one that opens none
-pub place_before : (front : List Entry) (e : Entry) (H : List Entry) (a : AcctId) (p : ℕ) → Behind front e H → opens a e ≡ false
-    → first_place (opens a) H ≡ Some p → first_place (opens a) front ≡ Some p
-place_before front e H a p behind none place =
-    sym (place_front front e a none) ∙ ap (λ (xs : List Entry). first_place (opens a) xs) (sym behind.whole) ∙ place
+  -- and an account at a place has it exactly where that is its place
+  at_place : (a : AcctId) (at : ℕ) → first_place (opens a) H ≡ Some at → each a ≡ cond (p == at) amount 0
+  at_place a at placed = rw (one_place H one.0 a p at one.1 placed) (one.2 a)
 
--- what the last entry brought is there
-pub was_brought : (front : List Entry) (e : Entry) (H : List Entry) (balances : List ℕ) (a : AcctId) (at : ℕ) → Behind front e H → KeepsBalances H balances → opens a e ≡ false
-    → first_place (opens a) H ≡ Some at → brought a e ≤ get_or balances at 0
-was_brought front e H balances a at behind kept none place =
-    let party : (a.0 == 0) ≡ false = placed_party front behind.legal a at (place_before front e H a at behind none place) in
-    let same : balance H a ≡ balance (front ++ e ∷ []) a = ap (λ (xs : List Entry). balance xs a) behind.whole in
-    omega (arith, kept.each a at place, same, party_after front e behind.legal behind.next a party, taken_within front e behind.next a)
+-- what may be taken at one place of balances and brought at another
+pub record MayTransfer (balances : List ℕ) (p less q more : ℕ) : Type 0 where
+  pub payer : p < length balances
+  pub payee : q < length balances
+  pub held : less ≤ get_or balances p 0
+  pub fits : get_or balances q 0 + more < 2 ^ 64
 
--- an amount for an account itself
-pub own_amount : (a : AcctId) (amount : ℕ) → cond (a.0 == a.0) amount 0 ≡ amount
-own_amount a amount = rw (eq-eqb a.0 a.0 refl) refl
+module _ (H : List Entry) (p less q more : ℕ) (f g : AcctId → ℕ) (payer : OfOne H p less f) (payee : OfOne H q more g) where
+  -- a transfer may take what is in the one account, and bring what fits beside what is in the other
+  may_transfer : (balances : List ℕ) → KeepsBalances H balances → f payer.0 ≤ balance H payer.0 → balance H payee.0 + g payee.0 < 2 ^ 64 → MayTransfer balances p less q more
+  may_transfer balances kept held fits = record {
+    payer = omega (arith, inside H p less f payer, kept.long);
+    payee = omega (arith, inside H q more g payee, kept.long);
+    held = omega (arith, kept.each payer.0 p payer.1, own_amount H p less f payer, held);
+    fits = omega (arith, kept.each payee.0 q payee.1, own_amount H q more g payee, fits);
+  }
+
+  -- it takes from each account and brings into each what the entry does
+  pub transferred : (before after : List ℕ) → ((at : ℕ) → get_or after at 0 + cond (p == at) less 0 ≡ get_or before at 0 + cond (q == at) more 0)
+      → (a : AcctId) (at : ℕ) → first_place (opens a) H ≡ Some at → get_or after at 0 + f a ≡ get_or before at 0 + g a
+  transferred before after each a at placed = omega (arith, each at, at_place H p less f payer a at placed, at_place H q more g payee a at placed)
+
+-- the amounts of an entry that may come next may be transferred
+pub may_post : (H : List Entry) (e : Entry) (balances : List ℕ) (p less q more : ℕ) → Legal H → LegalAfter H e → KeepsBalances H balances
+    → OfOne H p less (λ a. taken a e) → OfOne H q more (λ a. brought a e) → MayTransfer balances p less q more
+may_post H e balances p less q more legal next kept payer payee =
+    may_transfer H p less q more (λ a. taken a e) (λ a. brought a e) payer payee balances kept
+    (amounts H e legal next payer.0 (placed_party H legal payer.0 p payer.1)).taken_there
+    (amounts H e legal next payee.0 (placed_party H legal payee.0 q payee.1)).bring_fits
+
+-- and those of the last entry back
+pub may_reverse : (front : List Entry) (e : Entry) (H : List Entry) (balances : List ℕ) (p less q more : ℕ) → Behind front e H → Legal H → KeepsBalances H balances
+    → OfOne H p less (λ a. taken a e) → OfOne H q more (λ a. brought a e) → MayTransfer balances q more p less
+may_reverse front e H balances p less q more behind legal kept payer payee =
+    let whole : (a : AcctId) → balance H a ≡ balance (front ++ e ∷ []) a = λ a. ap (λ (xs : List Entry). balance xs a) behind.whole in
+    let from : Amounts front e payee.0 = amounts front e behind.legal behind.next payee.0 (placed_party H legal payee.0 q payee.1) in
+    let to : Amounts front e payer.0 = amounts front e behind.legal behind.next payer.0 (placed_party H legal payer.0 p payer.1) in
+    may_transfer H q more p less (λ a. brought a e) (λ a. taken a e) payee payer balances kept
+    (omega (arith, whole payee.0, from.brought_there)) (omega (arith, whole payer.0, to.take_fits))

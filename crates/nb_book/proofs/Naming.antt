@@ -5,18 +5,23 @@ use Rattle.std.proofs.lemmas.Nat.{from_be_bytes-to_be_bytes_4}
 use Rattle.std.proofs.lemmas.Slice.Eq.{bytes_eq-Decides}
 use Rattle.std.specs.Prelude.{◌==◌}
 use Rattle.std.specs.Int.{w32, from_be_bytes}
+use Rattle.std.specs.List.{AllByRecursion}
+use Rattle.std.specs.Option.{IfSome, IsNone}
 use Rattle.std.specs.Str.{bytes_eq}
 use Rattle.nb_units.specs.declared.ids.PartyId.{PartyId}
 use Rattle.nb_units.specs.declared.ids.AcctId.{AcctId}
 use Rattle.nb_units.specs.declared.epoid.Epoid.{Epoid}
 use Rattle.nb_units.specs.Epoid.{IsEpoid, epoid_bytes, epoid_of}
 use Rattle.nb_units.proofs.EpoidLaws.{reads_back}
+use Rattle.nb_index.specs.Puts.{Indexed, value_in}
+use Rattle.nb_entry.specs.declared.entry.Entry.{Entry}
 use Rattle.nb_entry.specs.declared.entry.Entry.TheVariants.{Enrol, Fund, Paid, Charged, Refused}
-use Rattle.nb_book.specs.Searches.{same_epoid, settles}
+use Rattle.nb_book.specs.Searches.{party_at, holder_at, funded_at, same_epoid, settles, order_at, order_in}
+use Rattle.nb_book.specs.Legal.{LegalAfter}
 use Rattle.nb_book.specs.Laws.{enrols, opens, cites}
-use Rattle.nb_book.specs.Indexes.{name_key, party_key, account_key, reference_key, order_key}
-use Rattle.nb_book.proofs.Counting.{same_epoid-true}
-use Rattle.nb_book.proofs.Indexing.{StandsFor}
+use Rattle.nb_book.specs.Indexes.{Indexes, KeysFit, name_key, party_key, account_key, reference_key, order_key}
+use Rattle.nb_book.proofs.Counting.{same_epoid-true, tests_party, tests_holder, tests_funded, tests_order}
+use Rattle.nb_book.proofs.Indexing.{StandsFor, absent}
 
 -- numbers of 4 bytes with one key are one
 one_name : (m n : ℕ) → m < 2 ^ 32 → n < 2 ^ 32 → name_key m ≡ name_key n → m ≡ n
@@ -68,3 +73,30 @@ order_stands p fits (Paid digest epoid consumer merchant product price cacct mac
 order_stands p fits (Charged digest epoid consumer merchant product price fee cacct macct moment key) fit = tests_epoid epoid p fit fits
 order_stands p fits (Refused digest epoid consumer merchant product price code a b moment) fit = tests_epoid epoid p fit fits
 order_stands p fits other fit = refl
+
+-- ---- a key of an entry that may come next was not put
+
+module _ (H : List Entry) (cap : ℕ) (index : Indexed) (fit : AllByRecursion KeysFit H) where
+  pub party_new : Indexes party_key cap index H → (e : Entry) → LegalAfter H e → KeysFit e → IfSome (party_key e) (λ k. IsNone (value_in index.puts k))
+  party_new indexes (Enrol id role acct nonce key) next fits =
+      absent party_key cap index H (name_key id.0) (enrols id) (party_at id) indexes fit (party_stands id fits.0) (tests_party id) next.3
+  party_new indexes other next fits = tt
+
+  pub account_new : Indexes account_key cap index H → (e : Entry) → LegalAfter H e → KeysFit e → IfSome (account_key e) (λ k. IsNone (value_in index.puts k))
+  account_new indexes (Enrol id role acct nonce key) next fits =
+      absent account_key cap index H (name_key acct.0) (opens acct) (holder_at acct) indexes fit (account_stands acct fits.1) (tests_holder acct) next.4
+  account_new indexes other next fits = tt
+
+  pub reference_new : Indexes reference_key cap index H → (e : Entry) → LegalAfter H e → IfSome (reference_key e) (λ k. IsNone (value_in index.puts k))
+  reference_new indexes (Fund acct amount reference) next =
+      absent reference_key cap index H reference (cites reference) (funded_at reference) indexes fit (reference_stands reference) (tests_funded reference) next.3
+  reference_new indexes other next = tt
+
+  unsettled : Indexes order_key cap index H → (p : Epoid) → IsEpoid p → IsNone (order_in H p) → IsNone (value_in index.puts (epoid_bytes p))
+  unsettled indexes p fits none = absent order_key cap index H (epoid_bytes p) (settles p) (order_at p) indexes fit (order_stands p fits) (tests_order p) none
+
+  pub order_new : Indexes order_key cap index H → (e : Entry) → LegalAfter H e → KeysFit e → IfSome (order_key e) (λ k. IsNone (value_in index.puts k))
+  order_new indexes (Paid digest epoid consumer merchant product price cacct macct moment key) next fits = unsettled indexes epoid fits next.0.0
+  order_new indexes (Charged digest epoid consumer merchant product price fee cacct macct moment key) next fits = unsettled indexes epoid fits next.0.0.0
+  order_new indexes (Refused digest epoid consumer merchant product price code a b moment) next fits = unsettled indexes epoid fits next.0.0
+  order_new indexes other next fits = tt

@@ -1,18 +1,20 @@
-ghost use Rattle.std.specs.Prelude.{◌≡◌, ◌≤◌, ◌<◌, ◌==◌, ◌+◌, ◌*◌, ◌-◌, ◌^◌, ◌++◌, ◌∷◌, [], ℕ, Some, IfOk, IfSome, length, slice_get, slice_index, take, vec_len, vec_capacity, IsSome, if◌then◌else◌};
+ghost use Rattle.std.specs.Prelude.{◌≡◌, ◌≤◌, ◌<◌, ◌==◌, ◌+◌, ◌*◌, ◌-◌, ◌^◌, ◌++◌, ◌∷◌, [], ℕ, List, Some, IfOk, IfSome, length, slice_get, slice_index, take, vec_len, vec_capacity, IsNone, IsSome, if◌then◌else◌};
 ghost use Rattle.std.specs.List.{HoldsAt, AllByRecursion};
 ghost use Rattle.nb_units.specs.declared.limits.TheConstants.{MAX_CAP};
 ghost use Rattle.nb_book.specs.Searches.{party_in, holder_in, funded_in, order_in};
-ghost use Rattle.nb_book.specs.Money.{account_in, balance, fees, total};
+ghost use Rattle.nb_book.specs.Money.{account_in, balance, brought, fee_in, fees, fund, taken, total};
 ghost use Rattle.nb_book.specs.Legal.{Legal, LegalAfter};
 ghost use Rattle.nb_book.specs.Laws.{opens};
-ghost use Rattle.nb_index.specs.Puts.{IsShaped};
-ghost use Rattle.nb_book.specs.Indexes.{AreEmptyIndexes, Indexes, IsEmptyIndex, KeepsBalances, KeysFit, Tied, account_key, first_place, list_indexes, list_places, order_key, party_key, reference_key, slots_for};
+ghost use Rattle.nb_units.specs.declared.ids.AcctId.{AcctId};
+ghost use Rattle.nb_index.specs.declared.put.Put.{Put};
+ghost use Rattle.nb_index.specs.Puts.{IsShaped, value_in};
+ghost use Rattle.nb_book.specs.Indexes.{AreEmptyIndexes, Indexes, IsEmptyIndex, KeepsBalances, KeysFit, Tied, account_key, first_place, list_indexes, list_places, order_key, party_key, puts_at, reference_key, slots_for};
 
 use crate::account::Account;
 use crate::found::{funded_at, holder_at, order_at, party_at};
 use crate::funded::Funded;
 use crate::kept::Kept;
-use crate::keys::name_key;
+use crate::keys::{keys_of, name_key};
 use crate::party::Party;
 use nb_entry::Entry;
 use nb_index::FixedIndex;
@@ -99,11 +101,48 @@ fn index_for(alloc: Global, cap: u32, key: &[u8; 16]) -> Result<FixedIndex, NoMe
     }
 }
 
-// Keeps the place of this number's enrolment.
-fn keep_place(places: &mut Vec<u32>, id: PartyId, at: u32) {
-    if let Some(place) = places.get_mut(id.0 as usize % REMAINDERS) {
-        *place = at;
+// Keeps the place of the entry, if it is an enrolment, for the number that it enrols.
+fn keep_place(places: &mut Vec<u32>, e: &Entry, at: u32) {
+    if let Entry::Enrol { id, .. } = *e {
+        if let Some(place) = places.get_mut(id.0 as usize % REMAINDERS) {
+            *place = at;
+        }
     }
+}
+
+// Puts the place of an entry under its key, if it has one.
+fn put_key(index: &mut FixedIndex, key: Option<[u8; 16]>, at: u32)
+    requires absent { IfSome key (λ k. IsNone (value_in index.old.puts k)) }
+    requires room { 2 * length index.old.puts < index.old.shape.slots }
+    ensures puts { index.new.puts ≡ index.old.puts ++ puts_at key at }
+    ensures shape { index.new.shape ≡ index.old.shape }
+{
+    if let Some(key) = key {
+        index.put(&key, at);
+    }
+}
+
+// Takes the key of the last entry off, if it has one: the puts are those before it.
+fn take_off_key(index: &mut FixedIndex, key: Option<[u8; 16]>)
+    requires last { (before : List Put) × (at : ℕ) × (index.old.puts ≡ before ++ puts_at key at) }
+    ensures puts { (before : List Put) (at : ℕ) → index.old.puts ≡ before ++ puts_at key at → index.new.puts ≡ before }
+    ensures shape { index.new.shape ≡ index.old.shape }
+{
+    if let Some(key) = key {
+        index.take_off(&key);
+    }
+}
+
+// The money that an entry moves: what it takes at the place of one balance, what it brings at that of another, what comes into the house by it, and what the
+// house keeps of it.
+#[derive(Clone, Copy)]
+struct Moved {
+    payer: usize,
+    taken: u64,
+    payee: usize,
+    brought: u64,
+    fund: u64,
+    fee: u64,
 }
 
 // Takes an amount from the one number, and then adds an amount to the other.
@@ -206,28 +245,29 @@ impl EntryList {
         self.put_keys(e);
     }
 
-    // Moves the money that the entry moves. The account that it opens, if it opens one, has no number yet.
-    fn post(&mut self, e: &Entry)
-        requires tied { Tied self.old self.old.entries.items }
-        requires legal { Legal self.old.entries.items }
-        requires next { LegalAfter self.old.entries.items e.now }
-        ensures balances { KeepsBalances (self.old.entries.items ++ e.now ∷ []) (self.new.balances.items ++ 0 ∷ []) }
-        ensures long { length self.new.balances.items ≡ length self.old.balances.items }
-        ensures capacity { vec_capacity self.new.balances ≡ vec_capacity self.old.balances }
-        ensures sum { self.new.total ≡ total (self.old.entries.items ++ e.now ∷ []) }
-        ensures fees { self.new.fees ≡ fees (self.old.entries.items ++ e.now ∷ []) }
-        ensures entries { self.new.entries ≡ self.old.entries }
-        ensures cap { self.new.cap ≡ self.old.cap }
-        ensures parties { self.new.parties ≡ self.old.parties }
-        ensures accounts { self.new.accounts ≡ self.old.accounts }
-        ensures references { self.new.references ≡ self.old.references }
-        ensures orders { self.new.orders ≡ self.old.orders }
+    // The money that the entry moves, if it moves some. It takes from one account alone and brings into one alone, and these have their places there.
+    // The entry may come behind some of the entries, the first n: behind all of them where it is to be appended, behind all but one where it is the last.
+    fn moved(&self, e: &Entry) -> Option<Moved>
+        requires tied { Tied self.now self.now.entries.items }
+        requires legal { Legal self.now.entries.items }
+        requires next { (n : ℕ) × LegalAfter (take n self.now.entries.items) e.now }
+        ensures payer { IfSome result (λ m. (b : AcctId) × (first_place (opens b) self.now.entries.items ≡ Some m.payer) × ((a : AcctId) → taken a e.now ≡ (if b.0 == a.0 then m.taken else 0))) }
+        ensures payee { IfSome result (λ m. (b : AcctId) × (first_place (opens b) self.now.entries.items ≡ Some m.payee) × ((a : AcctId) → brought a e.now ≡ (if b.0 == a.0 then m.brought else 0))) }
+        ensures fund { IfSome result (λ m. m.fund ≡ fund e.now) }
+        ensures fee { IfSome result (λ m. m.fee ≡ fee_in e.now) }
+        ensures none { IsNone result → ((a : AcctId) → (taken a e.now ≡ 0) × (brought a e.now ≡ 0)) × (fund e.now ≡ 0) × (fee_in e.now ≡ 0) }
     {
         match *e {
             Entry::Fund { acct, amount, .. } => {
                 let payee = self.seat(acct);
-                self.balances[payee] += amount;
-                self.total += amount;
+                Some(Moved {
+                    payer: payee,
+                    taken: 0,
+                    payee,
+                    brought: amount,
+                    fund: amount,
+                    fee: 0,
+                })
             }
             Entry::Paid {
                 consumer,
@@ -239,7 +279,14 @@ impl EntryList {
             } => {
                 let payer = self.seat_of(consumer, cacct);
                 let payee = self.seat_of(merchant, macct);
-                transfer(&mut self.balances, payer, price.0, payee, price.0);
+                Some(Moved {
+                    payer,
+                    taken: price.0,
+                    payee,
+                    brought: price.0,
+                    fund: 0,
+                    fee: 0,
+                })
             }
             Entry::Charged {
                 consumer,
@@ -252,11 +299,34 @@ impl EntryList {
             } => {
                 let payer = self.seat_of(consumer, cacct);
                 let payee = self.seat_of(merchant, macct);
-                transfer(&mut self.balances, payer, price.0, payee, price.0 - fee);
-                self.fees += fee;
+                Some(Moved {
+                    payer,
+                    taken: price.0,
+                    payee,
+                    brought: price.0 - fee,
+                    fund: 0,
+                    fee,
+                })
             }
-            Entry::Enrol { .. } => {}
-            Entry::Refused { .. } => {}
+            Entry::Enrol { .. } | Entry::Refused { .. } => None,
+        }
+    }
+
+    // Moves this money. The account that the entry opens, if it opens one, has no number yet.
+    fn post(&mut self, e: &Entry)
+        requires tied { Tied self.old self.old.entries.items }
+        requires legal { Legal self.old.entries.items }
+        requires next { LegalAfter self.old.entries.items e.now }
+        ensures balances { KeepsBalances (self.old.entries.items ++ e.now ∷ []) (self.new.balances.items ++ 0 ∷ []) }
+        ensures capacity { vec_capacity self.new.balances ≡ vec_capacity self.old.balances }
+        ensures sum { self.new.total ≡ total (self.old.entries.items ++ e.now ∷ []) }
+        ensures fees { self.new.fees ≡ fees (self.old.entries.items ++ e.now ∷ []) }
+        ensures rest { self.new ≡ record self.old { balances = self.new.balances; total = self.new.total; fees = self.new.fees } }
+    {
+        if let Some(m) = self.moved(e) {
+            transfer(&mut self.balances, m.payer, m.taken, m.payee, m.brought);
+            self.total += m.fund;
+            self.fees += m.fee;
         }
     }
 
@@ -275,25 +345,16 @@ impl EntryList {
         ensures accounts { Indexes account_key self.new.cap self.new.accounts (self.old.entries.items ++ e.now ∷ []) }
         ensures references { Indexes reference_key self.new.cap self.new.references (self.old.entries.items ++ e.now ∷ []) }
         ensures orders { Indexes order_key self.new.cap self.new.orders (self.old.entries.items ++ e.now ∷ []) }
-        ensures entries { self.new.entries ≡ self.old.entries }
-        ensures cap { self.new.cap ≡ self.old.cap }
         ensures indexes { list_indexes self.new ≡ list_indexes self.old }
-        ensures balances { self.new.balances ≡ self.old.balances }
-        ensures sum { self.new.total ≡ self.old.total }
-        ensures fees { self.new.fees ≡ self.old.fees }
+        ensures rest { self.new ≡ record self.old { parties = self.new.parties; accounts = self.new.accounts; references = self.new.references; orders = self.new.orders; enrolments = self.new.enrolments } }
     {
         let at = self.entries.len() as u32;
-        match *e {
-            Entry::Enrol { id, acct, .. } => {
-                self.parties.put(&name_key(id.0), at);
-                self.accounts.put(&name_key(acct.0), at);
-                keep_place(&mut self.enrolments, id, at);
-            }
-            Entry::Fund { ref reference, .. } => self.references.put(reference, at),
-            Entry::Paid { ref epoid, .. } => self.orders.put(&epoid.write(), at),
-            Entry::Charged { ref epoid, .. } => self.orders.put(&epoid.write(), at),
-            Entry::Refused { ref epoid, .. } => self.orders.put(&epoid.write(), at),
-        }
+        let keys = keys_of(e);
+        put_key(&mut self.parties, keys.party, at);
+        put_key(&mut self.accounts, keys.account, at);
+        put_key(&mut self.references, keys.reference, at);
+        put_key(&mut self.orders, keys.order, at);
+        keep_place(&mut self.enrolments, e, at);
     }
 
     // Takes the last entry off: all is as it was before it.
@@ -329,7 +390,7 @@ impl EntryList {
         let _ = self.balances.pop();
     }
 
-    // Moves the money back that the last entry moved. The number at its place is still there.
+    // Moves it back, of the last entry. The number at its place is still there.
     fn reverse(&mut self, e: &Entry)
         requires tied { Tied self.old self.old.entries.items }
         requires legal { Legal self.old.entries.items }
@@ -340,55 +401,18 @@ impl EntryList {
         ensures capacity { vec_capacity self.new.balances ≡ vec_capacity self.old.balances }
         ensures sum { self.new.total ≡ total (take (length self.old.entries.items - 1) self.old.entries.items) }
         ensures fees { self.new.fees ≡ fees (take (length self.old.entries.items - 1) self.old.entries.items) }
-        ensures entries { self.new.entries ≡ self.old.entries }
-        ensures cap { self.new.cap ≡ self.old.cap }
-        ensures parties { self.new.parties ≡ self.old.parties }
-        ensures accounts { self.new.accounts ≡ self.old.accounts }
-        ensures references { self.new.references ≡ self.old.references }
-        ensures orders { self.new.orders ≡ self.old.orders }
+        ensures rest { self.new ≡ record self.old { balances = self.new.balances; total = self.new.total; fees = self.new.fees } }
     {
-        match *e {
-            Entry::Fund { acct, amount, .. } => {
-                let payee = self.seat(acct);
-                self.balances[payee] -= amount;
-                self.total -= amount;
-            }
-            Entry::Paid {
-                consumer,
-                merchant,
-                price,
-                cacct,
-                macct,
-                ..
-            } => {
-                let payer = self.seat_of(consumer, cacct);
-                let payee = self.seat_of(merchant, macct);
-                transfer(&mut self.balances, payee, price.0, payer, price.0);
-            }
-            Entry::Charged {
-                consumer,
-                merchant,
-                price,
-                fee,
-                cacct,
-                macct,
-                ..
-            } => {
-                let payer = self.seat_of(consumer, cacct);
-                let payee = self.seat_of(merchant, macct);
-                transfer(&mut self.balances, payee, price.0 - fee, payer, price.0);
-                self.fees -= fee;
-            }
-            Entry::Enrol { .. } => {}
-            Entry::Refused { .. } => {}
+        if let Some(m) = self.moved(e) {
+            transfer(&mut self.balances, m.payee, m.brought, m.payer, m.taken);
+            self.total -= m.fund;
+            self.fees -= m.fee;
         }
     }
 
     // Takes the keys of the last entry off.
     fn take_off_keys(&mut self, e: &Entry)
-        requires legal { Legal self.old.entries.items }
-        requires some { 0 < length self.old.entries.items }
-        requires last { HoldsAt (λ x. x ≡ e.now) self.old.entries.items (length self.old.entries.items - 1) }
+        requires last { self.old.entries.items ≡ take (length self.old.entries.items - 1) self.old.entries.items ++ e.now ∷ [] }
         requires parties { Indexes party_key self.old.cap self.old.parties self.old.entries.items }
         requires accounts { Indexes account_key self.old.cap self.old.accounts self.old.entries.items }
         requires references { Indexes reference_key self.old.cap self.old.references self.old.entries.items }
@@ -397,23 +421,14 @@ impl EntryList {
         ensures accounts { Indexes account_key self.new.cap self.new.accounts (take (length self.old.entries.items - 1) self.old.entries.items) }
         ensures references { Indexes reference_key self.new.cap self.new.references (take (length self.old.entries.items - 1) self.old.entries.items) }
         ensures orders { Indexes order_key self.new.cap self.new.orders (take (length self.old.entries.items - 1) self.old.entries.items) }
-        ensures entries { self.new.entries ≡ self.old.entries }
-        ensures cap { self.new.cap ≡ self.old.cap }
         ensures indexes { list_indexes self.new ≡ list_indexes self.old }
-        ensures balances { self.new.balances ≡ self.old.balances }
-        ensures sum { self.new.total ≡ self.old.total }
-        ensures fees { self.new.fees ≡ self.old.fees }
+        ensures rest { self.new ≡ record self.old { parties = self.new.parties; accounts = self.new.accounts; references = self.new.references; orders = self.new.orders } }
     {
-        match *e {
-            Entry::Enrol { id, acct, .. } => {
-                self.parties.take_off(&name_key(id.0));
-                self.accounts.take_off(&name_key(acct.0));
-            }
-            Entry::Fund { ref reference, .. } => self.references.take_off(reference),
-            Entry::Paid { ref epoid, .. } => self.orders.take_off(&epoid.write()),
-            Entry::Charged { ref epoid, .. } => self.orders.take_off(&epoid.write()),
-            Entry::Refused { ref epoid, .. } => self.orders.take_off(&epoid.write()),
-        }
+        let keys = keys_of(e);
+        take_off_key(&mut self.parties, keys.party);
+        take_off_key(&mut self.accounts, keys.account);
+        take_off_key(&mut self.references, keys.reference);
+        take_off_key(&mut self.orders, keys.order);
     }
 
     // The place of the enrolment that opens the account of this number, at which its balance stands.
