@@ -1,6 +1,7 @@
 /* Sends the frames of standard input over links on the loopback, shared out among them one after another, so many in a write, and reads what comes
    beside that, to the end. It prints the seconds from the first byte that is sent to the last that comes, and how many bytes came over each link:
-   asker TOGETHER PORT ... */
+   asker TOGETHER PORT ...
+   It ends with 2 where the words or the frames are none. */
 #include <arpa/inet.h>
 #include <errno.h>
 #include <fcntl.h>
@@ -14,7 +15,7 @@
 #include <time.h>
 #include <unistd.h>
 
-enum { HEADER = 8, MOST_LINKS = 64 };
+enum { HEADER = 8, LENGTH_AT = 4, MOST_LINKS = 64, PIECE = 1 << 20 };
 
 /* What is sent over a link, whose writes end at these places, and how far it is; and how much came. */
 struct link {
@@ -40,9 +41,11 @@ static void *grown(void *old, size_t bytes)
 static unsigned char *input(size_t *length)
 {
     unsigned char *bytes = NULL;
-    for (size_t room = 1 << 20;; room *= 2) {
+    for (size_t room = PIECE;; room *= 2) {
         bytes = grown(bytes, room);
         *length += fread(bytes + *length, 1, room - *length, stdin);
+        if (ferror(stdin))
+            failed("read");
         if (*length < room)
             return bytes;
     }
@@ -54,8 +57,8 @@ static void dial(struct link *link, int port)
     int file = socket(AF_INET, SOCK_STREAM, 0), one = 1;
     if (file < 0 || connect(file, (struct sockaddr *)&to, sizeof to) != 0)
         failed("connect");
-    setsockopt(file, IPPROTO_TCP, TCP_NODELAY, &one, sizeof one);
-    fcntl(file, F_SETFL, O_NONBLOCK);
+    if (setsockopt(file, IPPROTO_TCP, TCP_NODELAY, &one, sizeof one) != 0 || fcntl(file, F_SETFL, O_NONBLOCK) != 0)
+        failed("set");
     link->polled = (struct pollfd){file, POLLIN | POLLOUT, 0};
 }
 
@@ -78,7 +81,7 @@ static void send_on(struct link *link)
 /* Reads what is there; whether the link ended. */
 static int receive_on(struct link *link)
 {
-    static unsigned char piece[1 << 20];
+    static unsigned char piece[PIECE];
     ssize_t got = recv(link->polled.fd, piece, sizeof piece, 0);
     if (got < 0 && errno != EAGAIN)
         failed("recv");
@@ -102,7 +105,9 @@ int main(int count, char **words)
     size_t length = 0, together = atoi(words[1]), number = 0;
     unsigned char *bytes = input(&length);
     for (size_t at = 0; at < length; number++) {
-        const unsigned char *body = bytes + at + 4;
+        const unsigned char *body = bytes + at + LENGTH_AT;
+        if (length - at < HEADER)
+            return 2;
         size_t whole = HEADER + ((size_t)body[0] << 24 | body[1] << 16 | body[2] << 8 | body[3]);
         struct link *link = &links[number % many];
         if (whole > length - at)

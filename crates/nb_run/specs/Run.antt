@@ -59,6 +59,20 @@ pub record Around (S K D C : Type 0) : Type 0 where
   pub clock : C
   pub moments : Option (List ℕ)
 
+-- these objects now, by what they tell of themselves
+abbrev pub around : {S K D C : Type 0} → (S → Option (List ℕ)) → (S → ℕ) → (K → Option (List ℕ)) → (K → ℕ) → (C → Option (List ℕ)) → S → K → D → C → Around S K D C
+around left source_faults sent sink_faults moments source sink disk clock = record {
+  source = source;
+  left = left source;
+  source_faults = source_faults source;
+  sink = sink;
+  sent = sent sink;
+  sink_faults = sink_faults sink;
+  disk = disk;
+  clock = clock;
+  moments = moments clock;
+}
+
 -- what of it a batch has
 abbrev pub outside : {S K D C : Type 0} → Around S K D C → Outside
 outside around = record { left = around.left; sent = around.sent; moments = around.moments }

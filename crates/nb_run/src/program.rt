@@ -45,28 +45,8 @@ pub fn run<S: Source, K: Sink, D: Disk, C: Clock>(
 ) -> (Outcome, D)
     // The words are a command, and this is what it did; or they are none, or there was no memory to read them.
     ensures ran { runs.Ran D.tells
-        (record {
-          source = source.old;
-          left = S.left source.old;
-          source_faults = S.faults source.old;
-          sink = sink.old;
-          sent = K.sent sink.old;
-          sink_faults = K.faults sink.old;
-          disk = disk;
-          clock = clock.old;
-          moments = C.moments clock.old;
-        })
-        (record {
-          source = source.new;
-          left = S.left source.new;
-          source_faults = S.faults source.new;
-          sink = sink.new;
-          sent = K.sent sink.new;
-          sink_faults = K.faults sink.new;
-          disk = result.1;
-          clock = clock.new;
-          moments = C.moments clock.new;
-        })
+        (runs.around S.left S.faults K.sent K.faults C.moments source.old sink.old disk clock.old)
+        (runs.around S.left S.faults K.sent K.faults C.moments source.new sink.new result.1 clock.new)
         result.0 (map string_bytes words.now) }
     // A run that is over ended with one of these statuses.
     ensures status { (status : ℕ) → EndsWith result.0 status → runs.IsStatus status }
@@ -98,28 +78,8 @@ fn do_command<S: Source, K: Sink, D: Disk, C: Clock>(
     // Its numbers are within their limits.
     requires { runs.HasWords command }
     ensures does { runs.Does D.tells
-        (record {
-          source = source.old;
-          left = S.left source.old;
-          source_faults = S.faults source.old;
-          sink = sink.old;
-          sent = K.sent sink.old;
-          sink_faults = K.faults sink.old;
-          disk = disk;
-          clock = clock.old;
-          moments = C.moments clock.old;
-        })
-        (record {
-          source = source.new;
-          left = S.left source.new;
-          source_faults = S.faults source.new;
-          sink = sink.new;
-          sent = K.sent sink.new;
-          sink_faults = K.faults sink.new;
-          disk = result.1;
-          clock = clock.new;
-          moments = C.moments clock.new;
-        })
+        (runs.around S.left S.faults K.sent K.faults C.moments source.old sink.old disk clock.old)
+        (runs.around S.left S.faults K.sent K.faults C.moments source.new sink.new result.1 clock.new)
         result.0 command }
     ensures status { (status : ℕ) → EndsWith result.0 status → runs.IsStatus status }
     ensures counts { (S.faults source.old ≤ S.faults source.new) × (K.faults sink.old ≤ K.faults sink.new) × (D.tells.faults disk ≤ D.tells.faults result.1) }

@@ -1,7 +1,10 @@
-use Rattle.std.proofs.Common.{rules, refl, ap, sym, subst, ◌∙◌, inl, inr, ⊎_elim}
+use Rattle.std.proofs.Common.{rules, ◌≡◌, ◌⊎◌, refl, sym, subst}
 use Rattle.nb_batch.specs.declared.answering.Answerer.TheVariants as answers
+use Rattle.nb_commands.specs.declared.ending.Ending.{Ending}
 use Rattle.nb_commands.specs.declared.ending.Job.{Job}
 use Rattle.nb_commands.specs.declared.ending.Outcome.TheVariants.{Work}
+use Rattle.nb_commands.specs.declared.ending.TheConstants.{CLEAN, OUT_OF_MEMORY}
+use Rattle.nb_commands.specs.Ending.{EndsWith}
 use Rattle.nb_commands.proofs.Moving.{moves_clean}
 use Rattle.nb_run.specs.Run.{Does}
 use Rattle.nb_run.proofs.Frames.{answers_frames}
@@ -21,9 +24,7 @@ returns-in-Migrate-clause-does g c =
       clock = refl;
       spares = m.ensures.spares;
       complete = λ input none no_source no_disk.
-          ⊎_elim
-          (λ clean. inl (ap (λ e. e.status) ending.ensures ∙ clean))
-          (λ starved. inr (ap (λ e. e.status) ending.ensures ∙ starved))
+          subst (λ (e : Ending). (e.status ≡ CLEAN) ⊎ (e.status ≡ OUT_OF_MEMORY)) (sym ending.ensures)
           (moves_clean g.D.Disk.tells (g.S.Source.left c.args.source.now) (g.S.Source.left m.new.source) (g.S.Source.faults c.args.source.now) (g.S.Source.faults m.new.source) c.args.disk m.new.disk
           c.in-Migrate.rate input m.result m.ensures.moved none no_source no_disk);
     })
@@ -39,9 +40,7 @@ returns-in-Play-clause-does g c =
       clock = refl;
       silent = search rules;
       complete = λ input no_source no_sink.
-          ⊎_elim
-          (λ clean. inl (ap (λ e. e.status) ending.ensures ∙ clean))
-          (λ starved. inr (ap (λ e. e.status) ending.ensures ∙ starved))
+          subst (λ (e : Ending). (e.status ≡ CLEAN) ⊎ (e.status ≡ OUT_OF_MEMORY)) (sym ending.ensures)
           (plays_clean (g.S.Source.left c.args.source.now) (g.S.Source.left p.new.source) (g.S.Source.faults c.args.source.now) (g.S.Source.faults p.new.source) (g.K.Sink.sent c.args.sink.now)
           (g.K.Sink.sent p.new.sink) (g.K.Sink.faults c.args.sink.now) (g.K.Sink.faults p.new.sink) input p.result p.ensures.played no_source no_sink);
     })
@@ -56,9 +55,7 @@ returns-in-Sell-clause-does g c =
       disk = refl;
       clock = refl;
       complete = λ job input no_source.
-          ⊎_elim
-          (λ sold. inl (sold ∙ ap (λ (j : Job). Work j) (sym input.1)))
-          (λ starved. inr starved)
+          subst (λ (j : Job). (t.result ≡ Work j) ⊎ EndsWith t.result OUT_OF_MEMORY) (sym input.1)
           (stocks_clean (g.S.Source.left c.args.source.now) (g.S.Source.left t.new.source) (g.S.Source.faults c.args.source.now) (g.S.Source.faults t.new.source) c.in-Sell.links input.0 t.result t.ensures.stocks
           input.2 no_source);
     })
@@ -73,9 +70,7 @@ returns-in-SellOffers-clause-does g c =
       disk = refl;
       clock = refl;
       complete = λ job input no_source.
-          ⊎_elim
-          (λ sold. inl (sold ∙ ap (λ (j : Job). Work j) (sym input.2)))
-          (λ starved. inr starved)
+          subst (λ (j : Job). (t.result ≡ Work j) ⊎ EndsWith t.result OUT_OF_MEMORY) (sym input.2)
           (offers_clean (g.S.Source.left c.args.source.now) (g.S.Source.left t.new.source) (g.S.Source.faults c.args.source.now) (g.S.Source.faults t.new.source) c.in-SellOffers.links t.result input.0 input.1
           t.ensures.offers input.3 no_source);
     })
