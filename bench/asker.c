@@ -15,7 +15,8 @@
 #include <time.h>
 #include <unistd.h>
 
-enum { HEADER = 8, LENGTH_AT = 4, MOST_LINKS = 64, PIECE = 1 << 20 };
+/* What comes wakes it by so many bytes, which are 32 replies, or at the end: the less it runs, the more of the machine is the server's. */
+enum { HEADER = 8, LENGTH_AT = 4, MOST_LINKS = 64, PIECE = 1 << 20, WAKING = 32 * 350 };
 
 /* What is sent over a link, whose writes end at these places, and how far it is; and how much came. */
 struct link {
@@ -57,7 +58,9 @@ static void dial(struct link *link, int port)
     int file = socket(AF_INET, SOCK_STREAM, 0), one = 1;
     if (file < 0 || connect(file, (struct sockaddr *)&to, sizeof to) != 0)
         failed("connect");
-    if (setsockopt(file, IPPROTO_TCP, TCP_NODELAY, &one, sizeof one) != 0 || fcntl(file, F_SETFL, O_NONBLOCK) != 0)
+    int waking = WAKING;
+    if (setsockopt(file, IPPROTO_TCP, TCP_NODELAY, &one, sizeof one) != 0 || setsockopt(file, SOL_SOCKET, SO_RCVLOWAT, &waking, sizeof waking) != 0 ||
+        fcntl(file, F_SETFL, O_NONBLOCK) != 0)
         failed("set");
     link->polled = (struct pollfd){file, POLLIN | POLLOUT, 0};
 }
