@@ -24,9 +24,9 @@ GROUPS = {
     "The outside": "nb_port nb_system nb_link nb_net nb_wire",
     "Bytes and seals": "nb_units nb_seal nb_index nb_frame nb_body nb_ticket nb_epo nb_goods nb_endorse nb_msgs",
     "The house": "nb_entry nb_book nb_escrow nb_turns nb_journal nb_vault nb_standby nb_statement nb_turn nb_desk nb_session nb_server nb_batch",
-    "The parties": "nb_price nb_groups nb_stall nb_merchant nb_wallet nb_consumer nb_trade nb_buy nb_sell nb_judge",
-    "The world": "nb_world nb_parties nb_nodes nb_script nb_simulator nb_player nb_headline",
-    "Programs": "nb_play nb_words nb_commands nb_run nb_work netbill nb_cases nb_lines layouts books trades deals worlds vaults runs houses bench bench_nodes",
+    "The parties": "nb_price nb_groups nb_stall nb_merchant nb_wallet nb_asking nb_consumer nb_trade nb_buy nb_sell nb_judge",
+    "The world": "nb_world nb_parties nb_packets nb_buyers nb_sellers nb_script nb_simulator nb_player nb_headline",
+    "Programs": "nb_play nb_words nb_commands nb_answers nb_run nb_work nb_platform netbill nb_cases nb_lines layouts books trades deals worlds vaults runs houses bench bench_nodes",
 }
 
 

@@ -6,6 +6,7 @@ ghost use Rattle.nb_msgs.specs.Bodies.{MessageKeepsRules};
 ghost use Rattle.nb_wallet.specs.Spelling.{StartKeepsRules, PassKeepsRules};
 
 use crate::{Made, discount, sale};
+use nb_asking::price_request;
 use nb_consumer::Consumer;
 use nb_merchant::Merchant;
 use nb_msgs::{Message, Step};
@@ -14,7 +15,7 @@ use nb_seal::NoMemory;
 use nb_stall::Stall;
 use nb_ticket::{Ticket, write_ticket};
 use nb_units::{AcctId, PartyId, Price, Secret, Small};
-use nb_wallet::{SessionTicket, Start, Wallet, price_request};
+use nb_wallet::{SessionTicket, Start, Wallet};
 use std::alloc::Global;
 
 /// The key of all parties, of the house and of the keeper of groups.

@@ -6,6 +6,7 @@ ghost use Rattle.nb_journal.specs.declared.limits.TheConstants.{MAX_ITEM};
 
 use crate::Made;
 use crate::nodes::{MOMENT, STALL, pass, start_of};
+use nb_asking::{goods_request, price_request};
 use nb_goods::PART_BYTES;
 use nb_journal::{Journal, MAX_ITEM, init};
 use nb_link::MemLink;
@@ -16,7 +17,6 @@ use nb_price::{Catalogue, MAX_SHELF};
 use nb_seal::NoMemory;
 use nb_sell::sell_link;
 use nb_units::width::SEAL;
-use nb_wallet::{goods_request, price_request};
 use std::alloc::Global;
 
 // The most items of the stall's journal.

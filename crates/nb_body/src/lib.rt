@@ -8,13 +8,18 @@
 //! of each. That they are the two sides of one thing is proved by the functions of [`laws`]: what was spelled is read as that value, and
 //! what was read is spelled as those bytes. Which values fields may have, and how long the records are, stands in `src/limits.rt`.
 //!
+//! Two types more stand here, since both messages and what a consumer keeps speak of them, and neither of these stands on the other: [`BodyFault`], why
+//! bytes were not read by a reader that takes memory (`specs/Reads.antt`), and [`End`], how a purchase ended.
+//!
 //! Left to others: frames and kinds, keys, seals and tags, what an order says, and what comes of a request. No memory is taken.
 //!
 //! Not said: whose tags these are, and under which keys and labels the texts are sealed; `nb_escrow` tests the first, the nodes seal the second.
 #![tactic(auto)]
 
+mod end;
 mod endorsed;
 mod enrolment;
+mod fault;
 mod funding;
 mod goods_head;
 mod goods_request;
@@ -25,8 +30,10 @@ mod price_request;
 mod query;
 mod quote;
 
+pub use end::End;
 pub use endorsed::{EndorsedBytes, EndorsedOrder};
 pub use enrolment::Enrolment;
+pub use fault::BodyFault;
 pub use funding::Funding;
 pub use goods_head::GoodsHead;
 pub use goods_request::GoodsRequest;

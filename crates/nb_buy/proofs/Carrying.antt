@@ -14,7 +14,7 @@ use Rattle.nb_consumer.specs.declared.deed.Deed.TheVariants as deed
 use Rattle.nb_consumer.specs.State.{Buyer}
 use Rattle.nb_consumer.specs.Table.{step_of, after}
 use Rattle.nb_consumer.specs.Deeds.{Answers, DeedIsSpelled}
-use Rattle.nb_consumer.specs.Restart.{kept_in}
+use Rattle.nb_msgs.specs.Steps.{kept_in}
 use Rattle.nb_buy.specs.declared.peer.Peer.{Peer}
 use Rattle.nb_buy.specs.declared.peer.Peer.TheVariants.{House, Seller}
 use Rattle.nb_buy.specs.declared.peer.Next.{Next}

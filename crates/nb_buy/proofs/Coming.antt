@@ -34,7 +34,7 @@ use Rattle.nb_consumer.specs.State.{Buyer, purchase_of}
 use Rattle.nb_wallet.specs.declared.purchase.Purchase.{Purchase}
 use Rattle.nb_wallet.specs.declared.purchase.Stage.{Stage}
 use Rattle.nb_wallet.specs.declared.purchase.Stage.TheVariants as stage
-use Rattle.nb_consumer.specs.Restart.{kept_in}
+use Rattle.nb_msgs.specs.Steps.{kept_in}
 use Rattle.nb_consumer.specs.Table.{after}
 use Rattle.nb_consumer.specs.Goods.{IsOpen, HasEnded, phase_of, phase_in, goods_of, goods_in}
 use Rattle.nb_consumer.proofs.Moving.{start_moves, silent_moves}

@@ -27,7 +27,8 @@ use Rattle.nb_consumer.specs.State.{Buyer, purchase_of}
 use Rattle.nb_consumer.specs.Table.{step_of, after}
 use Rattle.nb_consumer.specs.Deeds.{DeedIsSpelled}
 use Rattle.nb_consumer.specs.Goods.{IsOpen, HasEnded, phase_in, goods_in}
-use Rattle.nb_consumer.specs.Restart.{Kept, kept_in, untold, restarted}
+use Rattle.nb_consumer.specs.Restart.{Kept, untold, restarted}
+use Rattle.nb_msgs.specs.Steps.{kept_in}
 use Rattle.nb_consumer.specs.Runs.{Call, row_of}
 use Rattle.nb_consumer.specs.Runs as calls
 use Rattle.nb_consumer.proofs.Restoring.{keeps_restarting, same_wallet}

@@ -5,8 +5,8 @@ use Rattle.std.proofs.lemmas.Bool.{eqb-true}
 use Rattle.nb_port.specs.Tells.{DiskTells}
 use Rattle.nb_msgs.specs.Reading.{message_of}
 use Rattle.nb_msgs.specs.declared.message.Message.{Message}
-use Rattle.nb_msgs.specs.declared.node.End.{End}
-use Rattle.nb_msgs.specs.declared.node.End.TheVariants as end
+use Rattle.nb_body.specs.declared.end.End.{End}
+use Rattle.nb_body.specs.declared.end.End.TheVariants as end
 use Rattle.nb_msgs.specs.declared.node.Reason.{Reason}
 use Rattle.nb_wallet.specs.declared.wallet.Start.{Start}
 use Rattle.nb_wallet.specs.declared.purchase.Purchase.{Purchase}

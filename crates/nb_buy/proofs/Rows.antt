@@ -21,7 +21,7 @@ use Rattle.nb_wallet.specs.declared.wallet.Start.{Start}
 use Rattle.nb_wallet.specs.declared.item.Item.{Item}
 use Rattle.nb_wallet.specs.declared.item.Item.TheVariants as item
 use Rattle.nb_wallet.specs.declared.purchase.Purchase.{Purchase}
-use Rattle.nb_wallet.specs.Messages.{ticket_request}
+use Rattle.nb_asking.specs.Messages.{ticket_request}
 use Rattle.nb_wallet.specs.Spelling.{item_bytes}
 use Rattle.nb_consumer.specs.declared.deed.Deed.{Deed}
 use Rattle.nb_consumer.specs.declared.deed.Deed.TheVariants as deed

@@ -6,7 +6,7 @@ use Rattle.nb_msgs.specs.declared.node.Step.{Step}
 use Rattle.nb_wallet.specs.declared.wallet.Start.{Start}
 use Rattle.nb_consumer.specs.State.{Buyer}
 use Rattle.nb_consumer.specs.Table.{after}
-use Rattle.nb_consumer.specs.Restart.{kept_in}
+use Rattle.nb_msgs.specs.Steps.{kept_in}
 use Rattle.nb_buy.specs.declared.peer.Peer.{Peer}
 use Rattle.nb_buy.specs.Run.{Act, act_row, step_at, buyer_behind, steps, kept_by, AreSpelled, bytes_in, bytes_to, frame_in, frames_on, heard_in, frames_of, Way, onward, way_behind, Obeys}
 

@@ -11,7 +11,7 @@ use Rattle.nb_journal.specs.States.{AtRest}
 use Rattle.nb_journal.specs.Growing.{StandsAmong}
 use Rattle.nb_wallet.specs.declared.wallet.Start.{Start}
 use Rattle.nb_consumer.specs.State.{Buyer, purchase_of}
-use Rattle.nb_msgs.specs.declared.node.End.{End}
+use Rattle.nb_body.specs.declared.end.End.{End}
 use Rattle.nb_msgs.specs.declared.node.Reason.{Reason}
 use Rattle.nb_consumer.specs.declared.deed.Deed.{Deed}
 use Rattle.nb_consumer.specs.declared.deed.Deed.TheVariants as deed

@@ -20,7 +20,7 @@ use Rattle.nb_consumer.specs.State.{Buyer, purchase_of}
 use Rattle.nb_consumer.specs.Table.{started, heard, silent, step_of, after}
 use Rattle.nb_consumer.specs.Deeds.{DeedIsSpelled}
 use Rattle.nb_consumer.specs.Goods.{phase_in, IsOpen}
-use Rattle.nb_consumer.specs.Restart.{kept_in}
+use Rattle.nb_msgs.specs.Steps.{kept_in}
 use Rattle.nb_buy.specs.declared.peer.Peer.{Peer}
 use Rattle.nb_buy.specs.declared.peer.Peer.TheVariants.{House, Seller}
 

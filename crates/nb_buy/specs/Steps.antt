@@ -24,7 +24,7 @@ use Rattle.nb_wallet.specs.declared.wallet.Start.{Start}
 use Rattle.nb_consumer.specs.declared.phase.Phase.{Phase}
 use Rattle.nb_consumer.specs.State.{Buyer}
 use Rattle.nb_consumer.specs.Goods.{IsOpen, HasEnded}
-use Rattle.nb_consumer.specs.Restart.{kept_in}
+use Rattle.nb_msgs.specs.Steps.{kept_in}
 use Rattle.nb_buy.specs.declared.peer.Peer.{Peer}
 use Rattle.nb_buy.specs.declared.peer.Peer.TheVariants.{House, Seller}
 use Rattle.nb_buy.specs.declared.peer.Over.TheVariants as over

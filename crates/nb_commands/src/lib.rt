@@ -7,7 +7,7 @@
 //! [`nb_price::Catalogue`], [`take_offers`] offers as well, as [`nb_groups::Offers`], [`ask_with`] the request of one who buys. [`read_most`] reads a whole input, up to a limit. Each has a module of
 //! `specs`, which says what it comes to: what is read, what is written, byte for byte, and why it ends so.
 //!
-//! Left to others: the words (`nb_words`), which of these is done at which, answering frames and playing (`nb_run`), the jobs (`nb_work`), the real terminal, file
+//! Left to others: the words (`nb_words`), answering frames (`nb_answers`), playing, and which of these is done at which words (`nb_run`), the jobs (`nb_work`), the real terminal, file
 //! and clock.
 //!
 //! Not said: what [`make_journal`] leaves on a disk without a journal where the disk failed, and

@@ -16,7 +16,7 @@ use Rattle.nb_endorse.specs.Reading.{signed_of}
 use Rattle.nb_goods.specs.Goods.{OpensTo, OpensToNothing}
 use Rattle.nb_msgs.specs.declared.message.Message.{Message}
 use Rattle.nb_msgs.specs.declared.message.Message.TheVariants as message
-use Rattle.nb_msgs.specs.declared.node.End.TheVariants as end
+use Rattle.nb_body.specs.declared.end.End.TheVariants as end
 use Rattle.nb_msgs.specs.declared.node.Reason.{Reason}
 use Rattle.nb_msgs.specs.declared.node.Reason.TheVariants as reason
 use Rattle.nb_msgs.specs.declared.node.To.TheVariants as to
@@ -32,7 +32,7 @@ use Rattle.nb_wallet.specs.declared.item.SessionTicket.{SessionTicket}
 use Rattle.nb_wallet.specs.declared.purchase.Stage.{Stage}
 use Rattle.nb_wallet.specs.declared.purchase.Stage.TheVariants as stage
 use Rattle.nb_wallet.specs.declared.purchase.Purchase.{Purchase}
-use Rattle.nb_wallet.specs.Messages.{goods_request}
+use Rattle.nb_asking.specs.Messages.{goods_request}
 use Rattle.nb_wallet.specs.Stages.{wanted_from, with_head, ordered_from, stage_ended, stage_with, stage_opened, end_of, end_with, end_opened}
 use Rattle.nb_msgs.specs.Tests.{unless, field, found, opened}
 use Rattle.nb_consumer.specs.declared.deed.Deed.{Deed}

@@ -25,7 +25,7 @@ use Rattle.nb_goods.specs.Goods.{OpensTo}
 use Rattle.nb_msgs.specs.StatusText.{text_of}
 use Rattle.nb_msgs.specs.declared.message.Message.{Message}
 use Rattle.nb_msgs.specs.declared.message.Message.TheVariants as message
-use Rattle.nb_msgs.specs.declared.node.End.TheVariants as end
+use Rattle.nb_body.specs.declared.end.End.TheVariants as end
 use Rattle.nb_msgs.specs.declared.node.Reason.{Reason}
 use Rattle.nb_msgs.specs.declared.node.Reason.TheVariants as reason
 use Rattle.nb_wallet.specs.declared.wallet.Start.{Start}

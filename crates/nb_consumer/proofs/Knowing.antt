@@ -27,7 +27,7 @@ use Rattle.nb_wallet.specs.declared.purchase.Stage.{Stage}
 use Rattle.nb_wallet.specs.declared.purchase.Stage.TheVariants as stage
 use Rattle.nb_wallet.specs.declared.purchase.Purchase.{Purchase}
 use Rattle.nb_wallet.specs.Stages.{wanted_from, with_head, ordered_from, stage_ended, stage_with, stage_opened}
-use Rattle.nb_wallet.specs.Messages.{price_request_of_start}
+use Rattle.nb_wallet.specs.Orders.{price_request_of_start}
 use Rattle.nb_wallet.specs.Reading.{item_of}
 use Rattle.nb_consumer.specs.declared.rows.Wanting.{Wanting}
 use Rattle.nb_consumer.specs.State.{Buyer, new_buyer, place_of, purchase_at, purchase_of, changed_at, changed_with, behind_item, fresh, remembered}

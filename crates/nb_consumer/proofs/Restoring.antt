@@ -22,7 +22,8 @@ use Rattle.nb_consumer.specs.declared.deed.Deed.TheVariants as deed
 use Rattle.nb_wallet.specs.Stages.{raised_from, wanted_from, with_head, ordered_from, stage_ended, stage_with, stage_opened}
 use Rattle.nb_consumer.specs.State.{Buyer, new_buyer, number_of, place_of, purchase_at, purchase_of, changed, changed_at, changed_with, behind_item, fresh, remembered, raised, noted, epoid_bytes}
 use Rattle.nb_consumer.specs.Table.{step_of, after, is_ticketing, pass_of_asked, wanting_in, owing_in, is_price, receipt_fits}
-use Rattle.nb_consumer.specs.Restart.{allows, holds_for, holds_at, part_follows, order_follows, behind, behind_read, restarted_from, restarted, untold_stage, untold_purchase, untold, Kept, kept_in}
+use Rattle.nb_consumer.specs.Restart.{allows, holds_for, holds_at, part_follows, order_follows, behind, behind_read, restarted_from, restarted, untold_stage, untold_purchase, untold, Kept}
+use Rattle.nb_msgs.specs.Steps.{kept_in}
 use Rattle.nb_wallet.specs.Spelling.{item_bytes, IsItem}
 use Rattle.nb_consumer.specs.Deeds.{DeedIsSpelled}
 use Rattle.nb_consumer.specs.Laws.{RowSo, KeepsRestarting}

@@ -22,7 +22,8 @@ use Rattle.nb_consumer.specs.declared.deed.Halt.{Halt}
 use Rattle.nb_consumer.specs.State.{Buyer, new_buyer, remembered}
 use Rattle.nb_consumer.specs.Table.{step_of, after}
 use Rattle.nb_consumer.specs.Deeds.{Answers, AnswersRow, Gives, DeedIsSpelled}
-use Rattle.nb_consumer.specs.Restart.{allows, behind, behind_read, restarted, restarted_from, Restarts, untold, Kept, HasKept, kept_in}
+use Rattle.nb_consumer.specs.Restart.{allows, behind, behind_read, restarted, restarted_from, Restarts, untold, Kept, HasKept}
+use Rattle.nb_msgs.specs.Steps.{kept_in}
 use Rattle.nb_consumer.specs.Runs.{Call, row_of, kept_of, Event, Called, Restarted, Runs, AllAllowed, IsJournal, GivesBack}
 use Rattle.nb_consumer.specs.Laws.{RowSo, RunsRestart, RestartsAsKept}
 use Rattle.nb_consumer.proofs.Restoring.{buyer_is, same_allowed, same_remembered, same_wallet, call_so, keeps_restarting}

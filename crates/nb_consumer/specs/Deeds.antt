@@ -5,7 +5,6 @@ use Rattle.nb_endorse.specs.Replies.{ReceiptKeepsRules}
 use Rattle.nb_msgs.specs.Bodies.{MessageKeepsRules}
 use Rattle.nb_msgs.specs.declared.node.Reason.{Reason}
 use Rattle.nb_msgs.specs.declared.node.Step.{Step}
-use Rattle.nb_msgs.specs.declared.node.Step.TheVariants as step
 use Rattle.nb_units.specs.declared.memory.NoMemory.{NoMemory}
 use Rattle.nb_units.specs.declared.limits.TheConstants.{MAX_HIDDEN}
 use Rattle.nb_goods.specs.declared.limits.TheConstants.{MAX_SEALED}
@@ -55,11 +54,6 @@ Gives (Err halt.NoMemory) row = ⊤
 abbrev pub seen : {A : Type 0} → Result (Bor A) Reason → Result A Reason
 seen (Ok x) = Ok x.now
 seen (Err why) = Err why
-
--- the message of a step can be written
-abbrev pub StepKeepsRules : Step → Type 0
-StepKeepsRules (step.Move keep to message) = MessageKeepsRules message
-StepKeepsRules other = Unit {0}
 
 -- a step is what a row says, and the consumer then is what it says; what it keeps is within its limits; after want of memory all is as before
 pub record Answers (old new : Buyer) (row : Result Deed Reason) (result : Result Step NoMemory) : Type 0 where

@@ -3,8 +3,8 @@ use Rattle.std.specs.Prelude.{◌≡◌, ℕ, ◌-◌, List, length, codes, Opti
 use Rattle.nb_seal.specs.Seal.{text_in}
 use Rattle.nb_units.specs.declared.width.TheConstants.{SEAL}
 use Rattle.nb_goods.specs.Goods.{OpensTo}
-use Rattle.nb_msgs.specs.declared.node.End.{End}
-use Rattle.nb_msgs.specs.declared.node.End.TheVariants as end
+use Rattle.nb_body.specs.declared.end.End.{End}
+use Rattle.nb_body.specs.declared.end.End.TheVariants as end
 use Rattle.nb_consumer.specs.declared.phase.Phase.{Phase}
 use Rattle.nb_consumer.specs.declared.phase.Phase.TheVariants as phase
 use Rattle.nb_wallet.specs.declared.purchase.Stage.{Stage}

@@ -11,8 +11,8 @@ use Rattle.nb_endorse.specs.declared.receipt.Receipt.{Receipt}
 use Rattle.nb_endorse.specs.declared.receipt.Signed.{Signed}
 use Rattle.nb_goods.specs.Goods.{OpensTo, OpensToNothing}
 use Rattle.nb_msgs.specs.declared.message.Message.{Message}
-use Rattle.nb_msgs.specs.declared.node.End.{End}
-use Rattle.nb_msgs.specs.declared.node.End.TheVariants as end
+use Rattle.nb_body.specs.declared.end.End.{End}
+use Rattle.nb_body.specs.declared.end.End.TheVariants as end
 use Rattle.nb_msgs.specs.declared.node.Reason.{Reason}
 use Rattle.nb_msgs.specs.declared.node.RestartFault.{RestartFault}
 use Rattle.nb_msgs.specs.declared.node.To.{To}
@@ -35,7 +35,7 @@ use Rattle.nb_msgs.specs.declared.status.StatusText.{StatusText}
 use Rattle.nb_msgs.specs.StatusText.{text_of}
 use Rattle.nb_msgs.specs.declared.message.Message.TheVariants as message
 use Rattle.nb_msgs.specs.Tests.{opened}
-use Rattle.nb_wallet.specs.Messages.{ticket_request, payment}
+use Rattle.nb_asking.specs.Messages.{ticket_request, payment}
 use Rattle.nb_consumer.specs.Table.{started, heard, silent, wanting_in, owing_in, receipt_fits, status_told, step_of, after}
 use Rattle.nb_consumer.specs.declared.phase.Phase.{Phase}
 use Rattle.nb_consumer.specs.declared.phase.Phase.TheVariants as phase

@@ -1,7 +1,7 @@
 -- For the contracts of private functions alone: what recalling one item gives.
 use Rattle.std.specs.Prelude.{◌≡◌, ℕ, List, Some, None, Result, Ok, Err, ⊤}
-use Rattle.nb_msgs.specs.declared.fault.BodyFault.{BodyFault}
-use Rattle.nb_msgs.specs.declared.fault.BodyFault.TheVariants as body
+use Rattle.nb_body.specs.declared.fault.BodyFault.{BodyFault}
+use Rattle.nb_body.specs.declared.fault.BodyFault.TheVariants as body
 use Rattle.nb_consumer.specs.declared.restart.RecallFault.{RecallFault}
 use Rattle.nb_consumer.specs.declared.restart.RecallFault.TheVariants as fault
 use Rattle.nb_consumer.specs.State.{Buyer}

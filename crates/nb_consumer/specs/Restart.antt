@@ -8,8 +8,6 @@ use Rattle.nb_epo.specs.declared.order.Order.{Order}
 use Rattle.nb_units.specs.declared.ids.Price.{Price}
 use Rattle.nb_msgs.specs.declared.node.RestartFault.{RestartFault}
 use Rattle.nb_msgs.specs.declared.node.RestartFault.TheVariants as fault
-use Rattle.nb_msgs.specs.declared.node.Step.{Step}
-use Rattle.nb_msgs.specs.declared.node.Step.TheVariants as step
 use Rattle.nb_goods.specs.declared.limits.TheConstants.{MAX_SEALED}
 use Rattle.nb_wallet.specs.declared.wallet.Wallet.{Wallet}
 use Rattle.nb_wallet.specs.declared.item.Item.{Item}
@@ -20,7 +18,7 @@ use Rattle.nb_wallet.specs.declared.purchase.Purchase.{Purchase}
 use Rattle.nb_consumer.specs.declared.rows.Wanting.{Wanting}
 use Rattle.nb_wallet.specs.Reading.{item_of}
 use Rattle.nb_consumer.specs.State.{Buyer, new_buyer, place_of, purchase_of, remembered}
-use Rattle.nb_wallet.specs.Messages.{price_request_of_start}
+use Rattle.nb_wallet.specs.Orders.{price_request_of_start}
 use Rattle.nb_units.specs.Epoid.{is_same_epoid}
 use Rattle.nb_consumer.specs.Table.{is_ticketing, is_price, pass_of_asked, wanting_in, owing_in, part_fits, receipt_fits}
 
@@ -123,10 +121,3 @@ Kept items b = restarted b.wallet items ≡ Ok (untold b)
 -- there are items that it kept
 unfoldable pub HasKept : Buyer → Type 0
 HasKept b = (items : List (List ℕ)) × Kept items b
-
--- the item that a step keeps, if it keeps one
-abbrev pub kept_in : Step → List (List ℕ)
-kept_in (step.Move (Some item) to message) = item ∷ []
-kept_in (step.Move None to message) = []
-kept_in (step.Ended item end) = item ∷ []
-kept_in (step.Ignored why) = []

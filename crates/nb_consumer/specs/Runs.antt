@@ -14,7 +14,8 @@ use Rattle.nb_consumer.specs.declared.deed.Deed.{Deed}
 use Rattle.nb_consumer.specs.State.{Buyer, new_buyer, remembered}
 use Rattle.nb_consumer.specs.Table.{started, heard, silent}
 use Rattle.nb_consumer.specs.Deeds.{Answers}
-use Rattle.nb_consumer.specs.Restart.{allows, Restarts, untold, kept_in}
+use Rattle.nb_consumer.specs.Restart.{allows, Restarts, untold}
+use Rattle.nb_msgs.specs.Steps.{kept_in}
 
 -- what a consumer is asked: a start, a message, or that nothing was heard of a purchase for long
 pub data Call : Type 0 where

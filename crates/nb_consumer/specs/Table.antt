@@ -41,7 +41,8 @@ use Rattle.nb_wallet.specs.Spelling.{item_bytes}
 use Rattle.nb_wallet.specs.Stages.{end_of}
 use Rattle.nb_consumer.specs.State.{Buyer, place_of, purchase_of, ordered_with, changed, raised, remembered}
 use Rattle.nb_msgs.specs.Tests.{unless, field, found, opened}
-use Rattle.nb_wallet.specs.Messages.{ticket_request, price_request, goods_request, payment, status_query, order_for}
+use Rattle.nb_wallet.specs.Orders.{order_for}
+use Rattle.nb_asking.specs.Messages.{ticket_request, price_request, goods_request, payment, status_query}
 
 -- ---- a start: the number is not known. A ticket is asked for
 

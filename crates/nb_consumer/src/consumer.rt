@@ -1,6 +1,7 @@
 ghost use Rattle.std.specs.Prelude.{◌≡◌, ◌<◌, ◌^◌, length, map, IfOk};
 ghost use Rattle.nb_msgs.specs.Bodies.{MessageKeepsRules};
-ghost use Rattle.nb_consumer.specs.Deeds.{Answers, StepKeepsRules};
+ghost use Rattle.nb_consumer.specs.Deeds.{Answers};
+ghost use Rattle.nb_msgs.specs.Steps.{StepKeepsRules};
 ghost use Rattle.nb_consumer.specs.Goods.{goods_in, phase_in, TellsGoods};
 ghost use Rattle.nb_consumer.specs.Restart.{Restarts, HasKept};
 ghost use Rattle.nb_wallet.specs.Spelling.{StartKeepsRules};

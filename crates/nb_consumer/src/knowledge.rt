@@ -8,6 +8,7 @@ ghost use Rattle.nb_consumer.specs.State as state;
 ghost use Rattle.nb_wallet.specs.Spelling.{IsItem, ItemKeepsRules, item_bytes};
 ghost use Rattle.nb_wallet.specs.Stages.{end_of};
 ghost use Rattle.nb_consumer.specs.Table as table;
+ghost use Rattle.nb_msgs.specs.Steps.{StepKeepsRules};
 ghost use Rattle.nb_msgs.specs.Tests.{found};
 ghost use Rattle.nb_msgs.specs.declared.node.Reason.TheVariants.{Unknown};
 ghost use Rattle.nb_wallet.specs.declared.item.Item.TheVariants as items;
@@ -307,7 +308,7 @@ impl Knowledge {
     pub(crate) fn carry_out(&mut self, deed: Deed) -> Result<Step, NoMemory>
         requires { deeds.DeedFits self.old deed }
         ensures answers { deeds.Answers self.old self.new (Ok deed) result }
-        ensures lawful { IfOk result deeds.StepKeepsRules }
+        ensures lawful { IfOk result StepKeepsRules }
     {
         match deed {
             Deed::Sends { to, message } => Ok(Step::Move {
@@ -340,7 +341,7 @@ impl Knowledge {
     ) -> Result<Step, NoMemory>
         requires { deeds.DeedFits self.old (does.Hears transaction place to message) }
         ensures answers { deeds.Answers self.old self.new (Ok (does.Hears transaction place to message)) result }
-        ensures lawful { IfOk result deeds.StepKeepsRules }
+        ensures lawful { IfOk result StepKeepsRules }
     {
         self.raise(transaction, place)?;
         Ok(Step::Move {
@@ -354,7 +355,7 @@ impl Knowledge {
     fn keep_and_send(&mut self, item: Item, to: To, message: Message) -> Result<Step, NoMemory>
         requires { deeds.DeedFits self.old (does.Keeps item to message) }
         ensures answers { deeds.Answers self.old self.new (Ok (does.Keeps item to message)) result }
-        ensures lawful { IfOk result deeds.StepKeepsRules }
+        ensures lawful { IfOk result StepKeepsRules }
     {
         match self.spell_and_remember(item) {
             Ok(keep) => Ok(Step::Move {
@@ -389,7 +390,7 @@ impl Knowledge {
     ) -> Result<Step, NoMemory>
         requires { deeds.DeedFits self.old (does.Ends transaction receipt end) }
         ensures answers { deeds.Answers self.old self.new (Ok (does.Ends transaction receipt end)) result }
-        ensures lawful { IfOk result deeds.StepKeepsRules }
+        ensures lawful { IfOk result StepKeepsRules }
     {
         let item = Item::Ended {
             transaction,
@@ -404,7 +405,7 @@ impl Knowledge {
     pub(crate) fn answer(&mut self, deed: Result<Deed, Halt>) -> Result<Step, NoMemory>
         requires { IfOk deed (deeds.DeedFits self.old) }
         ensures answers { deeds.AnswersRow self.old self.new deed result }
-        ensures lawful { IfOk result deeds.StepKeepsRules }
+        ensures lawful { IfOk result StepKeepsRules }
     {
         match deed {
             Ok(deed) => self.carry_out(deed),

@@ -19,16 +19,17 @@ ghost use Rattle.nb_msgs.specs.Tests as tests;
 
 use crate::deed::{Deed, Halt};
 use crate::knowledge::Knowledge;
+use nb_asking::{
+    goods_request, open_granted, open_head, open_quote, open_status, payment, price_request,
+    status_query, ticket_request,
+};
 use nb_body::GoodsHead;
 use nb_endorse::{Receipt, Signed};
 use nb_epo::Order;
 use nb_goods::{MAX_SEALED, PART_BYTES};
 use nb_msgs::{Message, Reason, To, open_receipt};
 use nb_units::{Blob, PartyId, Price};
-use nb_wallet::{
-    Item, Purchase, SessionTicket, Stage, Start, goods_request, open_granted, open_head,
-    open_quote, open_status, order_for, payment, price_request, status_query, ticket_request,
-};
+use nb_wallet::{Item, Purchase, SessionTicket, Stage, Start, order_for};
 
 // What is asked for holds, or this is why not.
 pub(crate) fn unless(test: bool, why: Reason) -> Result<(), Reason>

@@ -1,7 +1,7 @@
 -- That messages read back and spell back, one kind after the other.
-use Rattle.std.proofs.Common.{◌≡◌, ℕ, ◌+◌, ◌<◌, ◌≤◌, ◌^◌, ◌⊎◌, Bool, true, false, cond, List, ◌++◌, length, drop, get_or, Ok, Err, Result, refl, sym, ap, subst, ◌∙◌, inl, inr, arith, length-append}
+use Rattle.std.proofs.Common.{◌≡◌, ℕ, ◌+◌, ◌<◌, ◌≤◌, ◌^◌, Bool, true, false, cond, List, ◌++◌, length, drop, get_or, Ok, Err, Result, refl, sym, ap, subst, ◌∙◌, arith, length-append}
 use Rattle.std.proofs.lemmas.Bool.{eqb-true}
-use Rattle.std.specs.Prelude.{◌==◌, IfOk}
+use Rattle.std.specs.Prelude.{◌==◌}
 use Rattle.nb_units.proofs.FrameLaws.{whole_front}
 use Rattle.nb_units.proofs.Rows.{ok_is}
 use Rattle.nb_units.specs.Fields.{be8, sized}
@@ -12,13 +12,11 @@ use Rattle.nb_ticket.proofs.Layouts.{ask_reads_back, ask_spells_back}
 use Rattle.nb_ticket.specs.declared.ask.TicketAsk.{TicketAsk}
 use Rattle.nb_ticket.specs.Spelling.{IsAsk, unsigned_bytes, ask_bytes}
 use Rattle.nb_ticket.specs.Reading.{ask_of}
-use Rattle.nb_msgs.specs.declared.fault.BodyFault.{BodyFault}
-use Rattle.nb_msgs.specs.declared.fault.BodyFault.TheVariants as fault
 use Rattle.nb_msgs.specs.declared.message.Message.{Message}
 use Rattle.nb_msgs.specs.declared.message.Message.TheVariants as message
 use Rattle.nb_msgs.specs.Bodies.{IsMessage, MessageKeepsRules, kind_of, body_bytes, message_frame}
 use Rattle.nb_msgs.specs.Laws.{MessageReadsBack, MessageSpellsBack, OneMessage, MessageIsFrame}
-use Rattle.nb_msgs.specs.Reading.{two_texts_of, numbered_text_of, whole_of, made, message_of, ReadsBody}
+use Rattle.nb_msgs.specs.Reading.{two_texts_of, numbered_text_of, whole_of, made, message_of}
 use Rattle.nb_msgs.proofs.Layouts.{two_texts_found, two_texts_read, numbered_text_found, numbered_text_read, whole_of_found, whole_of_reads, goods_found, goods_reads, done_found, done_reads, refusal_found, refusal_reads, Spelled}
 
 -- ---- reading back
@@ -188,17 +186,6 @@ pub message_is_frame : MessageIsFrame
 message_is_frame m rest is =
     let frame : IsFrame (message_frame m) = ((least m).0, (least m).1, short m is) in
     (frame, whole_front (message_frame m) rest frame)
-
--- ---- what a reader gave
-
-pub if_body : {A : Type 0} (r : Result A BodyFault) (read : Result A ℕ) (P : A → Type 0) → ReadsBody r read → ((x : A) → read ≡ Ok x → P x) → IfOk r P
-if_body (Ok x) read P is each = each x is
-if_body (Err other) read P is each = tt
-
-pub body_or_none : {A : Type 0} (r : Result A BodyFault) (read : Result A ℕ) (x : A) → ReadsBody r read → read ≡ Ok x → (r ≡ Ok x) ⊎ (r ≡ Err fault.NoMemory)
-body_or_none (Ok y) read x is e = inl (ap Ok (ok_is y x (sym is ∙ e)))
-body_or_none (Err (fault.Malformed place)) read x is e = absurd cc
-body_or_none (Err fault.NoMemory) read x is e = inr refl
 
 -- a message within its limits keeps the rules
 pub keeps_rules : (m : Message) → IsMessage m → MessageKeepsRules m

@@ -7,3 +7,4 @@ pub mod ReplyMessages
 pub mod Reading
 pub mod Tests
 pub mod Laws
+pub mod Steps

@@ -1,15 +1,14 @@
 -- What a body says, read field by field at the place of each: the message, or the place of the first field that fails.
-use Rattle.std.specs.Prelude.{◌≡◌, ℕ, ◌+◌, ◌==◌, nat_lt, if◌then◌else◌, List, length, Result, Ok, Err, IsOk}
+use Rattle.std.specs.Prelude.{ℕ, ◌+◌, ◌==◌, nat_lt, if◌then◌else◌, List, length, Result, Ok, Err}
 use Rattle.nb_units.specs.Fields.{◌>>=◌, u8_at, u32_at, u64_at, raw_at, bytes_at, done_at, or_place}
 use Rattle.nb_units.specs.declared.frames.TheConstants.{PRICE_REQUEST, QUOTE_REPLY, GOODS_REQUEST, GOODS_REPLY, PAYMENT_REQUEST, ORDER_REQUEST, RESULT_REPLY, PAYMENT_REPLY, STATUS_REQUEST, STATUS_REPLY, TICKET_REQUEST, GRANT_REPLY, ENROL_REQUEST, FUND_REQUEST, DONE_REPLY, REFUSED_REPLY}
+pub use Rattle.nb_body.specs.Reads.{ReadsBody}
 use Rattle.nb_body.specs.Reading.{endorsed_of, query_of, enrolment_of, funding_of}
 use Rattle.nb_endorse.specs.declared.receipt.TheConstants.{RECEIPT_BYTES}
 use Rattle.nb_ticket.specs.declared.ticket.TheConstants.{TICKET_BYTES}
 use Rattle.nb_ticket.specs.declared.granted.TheConstants.{GRANT_BYTES}
 use Rattle.nb_ticket.specs.Reading.{ask_of}
 use Rattle.nb_goods.specs.declared.limits.TheConstants.{PART_BYTES}
-use Rattle.nb_msgs.specs.declared.fault.BodyFault.{BodyFault}
-use Rattle.nb_msgs.specs.declared.fault.BodyFault.TheVariants as fault
 use Rattle.nb_msgs.specs.declared.lengths.TheConstants.{MAX_SEALED_PRICE_REQUEST, MAX_SEALED_QUOTE, MAX_SEALED_GOODS_REQUEST, MAX_SEALED_HEAD, MAX_SEALED_PAYMENT}
 use Rattle.nb_msgs.specs.declared.status.TheConstants.{MOST_STATUS}
 use Rattle.nb_msgs.specs.declared.message.Message.{Message}
@@ -124,9 +123,3 @@ message_of kind body =
     else if kind == DONE_REPLY then done_of body
     else if kind == REFUSED_REPLY then refusal_of body
     else Err 0
-
--- what a reader that takes memory gave: the value that stands there, or the bad place; or that there was no memory for the value
-abbrev pub ReadsBody : {A : Type 0} → Result A BodyFault → Result A ℕ → Type 0
-ReadsBody (Ok value) read = read ≡ Ok value
-ReadsBody (Err (fault.Malformed place)) read = read ≡ Err place
-ReadsBody (Err fault.NoMemory) read = IsOk read

@@ -18,7 +18,6 @@
 #![tactic(auto)]
 
 mod draft;
-mod fault;
 mod grant;
 mod labels;
 pub mod laws;
@@ -32,7 +31,6 @@ mod status;
 mod writing;
 
 pub use draft::{Draft, write_each};
-pub use fault::BodyFault;
 pub use labels::{
     GOODS_HEAD_LABEL, GOODS_REQUEST_LABEL, PAYMENT_LABEL, PRICE_REQUEST_LABEL, QUOTE_LABEL,
     STATUS_LABEL,
@@ -42,7 +40,8 @@ pub use lengths::{
     MAX_SEALED_QUOTE,
 };
 pub use message::Message;
-pub use node::{End, Reason, RestartFault, Step, To};
+pub use nb_body::{BodyFault, End};
+pub use node::{Reason, RestartFault, Step, To};
 pub use opening::{open_receipt, sealed, unsealed};
 pub use reading::read_body;
 pub use reply::{LONGEST_REPLY, REPLY_ROOM, limits, write_reply};

@@ -1,4 +1,5 @@
 use crate::message::Message;
+use nb_body::End;
 use nb_units::{Blob, NoMemory, PartyId};
 
 /// Whom a message is for.
@@ -33,17 +34,6 @@ pub enum Step {
     },
     /// It does nothing, and nothing in it changes.
     Ignored(Reason),
-}
-
-/// How a purchase ended for its consumer.
-#[derive(Drop)]
-pub enum End {
-    /// It was paid, and the key opened the goods, which these bytes are.
-    Paid(Blob),
-    /// It was refused, for the reason that this code, one byte wide, has in `nb_endorse`.
-    Refused(u8),
-    /// It was paid, and the key does not open the goods.
-    Foul,
 }
 
 /// Why a node ignores a message or a word of its holder.

@@ -1,17 +1,16 @@
 ghost use Rattle.std.specs.Prelude.{◌≡◌, ◌≤◌, ◌⊎◌, length, IfOk, Ok, Err};
 ghost use Rattle.nb_units.specs.declared.frames.TheConstants.{LAST_KIND};
-ghost use Rattle.nb_msgs.specs.declared.fault.BodyFault.TheVariants as fault;
+ghost use Rattle.nb_body.specs.declared.fault.BodyFault.TheVariants as fault;
 ghost use Rattle.nb_msgs.specs.Bodies.{IsMessage, MessageKeepsRules, kind_of, body_bytes};
 ghost use Rattle.nb_msgs.specs.Reading as reading;
 
-use crate::fault::BodyFault;
 use crate::lengths::{
     MAX_SEALED_GOODS_REQUEST, MAX_SEALED_HEAD, MAX_SEALED_PAYMENT, MAX_SEALED_PRICE_REQUEST,
     MAX_SEALED_QUOTE,
 };
 use crate::message::Message;
 use crate::status::MOST_STATUS;
-use nb_body::{EndorsedBytes, Enrolment, Funding, StatusQuery};
+use nb_body::{BodyFault, EndorsedBytes, Enrolment, Funding, StatusQuery};
 use nb_endorse::{RECEIPT_BYTES, Refusal};
 use nb_goods::PART_BYTES;
 use nb_ticket::{GRANT_BYTES, TICKET_BYTES, TicketAsk};

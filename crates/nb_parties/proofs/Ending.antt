@@ -22,8 +22,8 @@ use Rattle.nb_endorse.specs.declared.receipt.TheConstants.{PAID_CODE}
 use Rattle.nb_endorse.proofs.Placing.{spelled_is_read}
 use Rattle.nb_msgs.specs.Reading.{message_of}
 use Rattle.nb_msgs.specs.declared.message.Message.{Message}
-use Rattle.nb_msgs.specs.declared.node.End.{End}
-use Rattle.nb_msgs.specs.declared.node.End.TheVariants as end
+use Rattle.nb_body.specs.declared.end.End.{End}
+use Rattle.nb_body.specs.declared.end.End.TheVariants as end
 use Rattle.nb_msgs.specs.declared.node.Reason.{Reason}
 use Rattle.nb_wallet.specs.Stages.{stage_opened, stage_with, stage_ended, end_of}
 use Rattle.nb_wallet.specs.declared.item.Item.TheVariants as item

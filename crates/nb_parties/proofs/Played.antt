@@ -43,7 +43,7 @@ use Rattle.nb_escrow.specs.Tickets.{ticket_granted}
 use Rattle.nb_escrow.specs.Verdict.{verdict}
 use Rattle.nb_escrow.specs.declared.decision.Decision.{Decision}
 use Rattle.nb_ticket.specs.Sealed.{sealed_grant}
-use Rattle.nb_wallet.specs.Messages.{ticket_request, price_request, goods_request, payment, status_query}
+use Rattle.nb_asking.specs.Messages.{ticket_request, price_request, goods_request, payment, status_query}
 use Rattle.nb_stall.specs.Messages.{quote_message, endorsed_message}
 use Rattle.nb_stall.specs.declared.item.Item.{Item}
 use Rattle.nb_consumer.specs.State.{Buyer, new_buyer, purchase_of}

@@ -67,7 +67,8 @@ use Rattle.nb_msgs.specs.declared.message.Message.TheVariants as message
 use Rattle.nb_msgs.specs.declared.node.Reason.{Reason}
 use Rattle.nb_msgs.specs.declared.node.To.TheVariants as to
 use Rattle.nb_msgs.proofs.Unsealing.{opened_so}
-use Rattle.nb_wallet.specs.Messages.{ticket_request, price_request, goods_request, payment, order_for, untagged_query, status_query}
+use Rattle.nb_wallet.specs.Orders.{order_for}
+use Rattle.nb_asking.specs.Messages.{ticket_request, price_request, goods_request, payment, untagged_query, status_query}
 use Rattle.nb_wallet.specs.Stages.{end_of}
 use Rattle.nb_wallet.specs.declared.item.Item.TheVariants as keeps
 use Rattle.nb_wallet.specs.declared.item.SessionTicket.{SessionTicket}

@@ -25,7 +25,7 @@ use Rattle.nb_msgs.specs.ReplyBytes.{sealed_receipt, status_frame}
 use Rattle.nb_msgs.specs.StatusText.{text_of}
 use Rattle.nb_msgs.specs.Tests.{opened}
 use Rattle.nb_msgs.specs.declared.message.Message.{Message}
-use Rattle.nb_msgs.specs.declared.node.End.{End}
+use Rattle.nb_body.specs.declared.end.End.{End}
 use Rattle.nb_msgs.specs.declared.node.To.TheVariants as to
 use Rattle.nb_msgs.specs.declared.status.StatusText.{StatusText}
 use Rattle.nb_wallet.specs.declared.item.SessionTicket.{SessionTicket}

@@ -23,7 +23,7 @@ use Rattle.nb_book.specs.Money.{opened}
 use Rattle.nb_book.specs.Searches.{holder_in, holder_at}
 use Rattle.nb_book.proofs.Indexing.{first_push}
 use Rattle.nb_consumer.specs.State.{Buyer, number_of}
-use Rattle.nb_nodes.specs.Nodes.{knows_of}
+use Rattle.nb_buyers.specs.Buyers.{knows_of}
 use Rattle.nb_player.specs.Report.{account, AddsAccount, AddsPurchases, AreAccounts, ArePurchases, Knows, purchase_order}
 use Rattle.nb_player.proofs.OneReport.{purchase_order_total, purchase_order_exact}
 

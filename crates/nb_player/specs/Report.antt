@@ -14,7 +14,7 @@ use Rattle.nb_consumer.specs.declared.phase.Phase.TheVariants as phase
 use Rattle.nb_consumer.specs.State.{Buyer, number_of}
 use Rattle.nb_merchant.specs.Shop.{Shop}
 use Rattle.nb_world.specs.World.{World}
-use Rattle.nb_nodes.specs.Nodes.{phase_of_first}
+use Rattle.nb_buyers.specs.Buyers.{phase_of_first}
 
 -- the account of this number
 abbrev pub account : ℕ → AcctId

@@ -9,8 +9,8 @@ use Rattle.nb_commands.specs.declared.ending.Ending.{Ending}
 use Rattle.nb_commands.specs.declared.ending.Outcome.TheVariants.{Done}
 use Rattle.nb_commands.specs.declared.ending.TheConstants.{CLEAN, SOURCE_FAILED, OUT_OF_MEMORY, DISK_FAILED, NO_JOURNAL}
 use Rattle.nb_commands.specs.Opening.{IsJournal}
-use Rattle.nb_run.specs.Batch.{BatchLines, EndsWhole, IsWholeInput}
-use Rattle.nb_run.specs.Ending.{EndsEarly}
+use Rattle.nb_answers.specs.Batch.{BatchLines, EndsWhole, IsWholeInput}
+use Rattle.nb_answers.specs.Ending.{EndsEarly}
 use Rattle.nb_run.specs.Run.{AnswersFrames, Around, DiskFailed, SinkFailed, SourceFailed, outside}
 
 -- where nothing failed, and the journal was opened, all is done, or memory was wanting

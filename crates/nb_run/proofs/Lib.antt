@@ -1,9 +1,5 @@
-pub mod Running
-pub mod Completeness
 pub mod Frames
 pub mod Numerals
-pub mod Tallying
-pub mod Drilling
 pub mod Stocking
 pub mod Requests
 pub mod Wares

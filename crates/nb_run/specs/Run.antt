@@ -33,9 +33,9 @@ use Rattle.nb_commands.specs.Promote.{PromoteIs}
 use Rattle.nb_commands.specs.Selling.{IsShelfInput, StocksAs}
 use Rattle.nb_commands.specs.Ship.{ShipIs}
 use Rattle.nb_commands.specs.Statement.{StatementIs}
-use Rattle.nb_run.specs.Batch.{BatchIs, IsWholeInput}
-use Rattle.nb_run.specs.Drill.{DrillIs}
-use Rattle.nb_run.specs.Ending.{EndsEarly}
+use Rattle.nb_answers.specs.Batch.{BatchIs, IsWholeInput}
+use Rattle.nb_answers.specs.Drill.{DrillIs}
+use Rattle.nb_answers.specs.Ending.{EndsEarly}
 use Rattle.nb_run.specs.Play.{IsScriptInput, PlayIs}
 
 -- the statuses that a run can end with

@@ -5,26 +5,20 @@
 //! output, `ship JOURNAL FROM` writes the records of its entries, `follow JOURNAL` takes the records of the input into a standby's journal, `promote JOURNAL` tells how many entries it has, `judge` rules on the case that is the input, `play` plays the script that is the input, `credential CONSUMER UNTIL GROUPS` writes a credential under the key that is the input, and `buy` and `sell` are told as a
 //! [`Job`], too, `sell` with the shelf that is the input, and so are `buywith`, with the request that is the input, and `selloffers`, with offers and a shelf.
 //!
-//! [`nb_words::command_of`] reads the words, and `nb_commands` has what each comes to. What answers requests stands here: for `batch` and `follow` the vault is
-//! opened, and [`nb_batch::answer_frames`] answers; for `drill` a journal is made first, and the frames come of a source of its own. A script is played here too, by [`nb_player::play`]. [`run`] is all of it over any
+//! [`nb_words::command_of`] reads the words, `nb_commands` has what each comes to, and `nb_answers` what answers requests: `batch`, `follow` and `drill`. A script
+//! is played here, by [`nb_player::play`]. [`run`] is all of it over any
 //! source, sink, disk and clock. Its contract is one sentence over the command that the words are (`specs/Run.antt`): how the run ends and why, what is written to the output, byte for
-//! byte, what stays as it was, and what a stop at any moment of a batch leaves of the disk. What a command comes to has a module of its own: `specs/Batch.antt`, `specs/Drill.antt`,
-//! `specs/Play.antt`, and in `nb_commands` one for each other command.
+//! byte, what stays as it was, and what a stop at any moment of a batch leaves of the disk. What a command comes to has a module of its own: `specs/Play.antt`, `Batch.antt` and
+//! `Drill.antt` of `nb_answers`, and in `nb_commands` one for each other command.
 //!
 //! Left to others: the real terminal, file and clock, and the lock on the file.
 //!
-//! Not said: what `main` does, which reads the words, opens, makes and locks the file and prints the line. An order between the bytes sent and
-//! the disk's moments: that an entry is durable before its reply is sent is said for each request by `Vault::answer` and `send_reply`. That a
-//! fault is told in the turn in which the disk failed, and that settling goes by the byte of the gate: the contract of `Vault::answer` says both
-//! of each turn. What stands behind the last gate, free by the format. What a real file keeps: `tests/kill`
-//! reads it after each kill, and what a failure of power leaves is not tried. How many bytes a read asks for, but that less
-//! than a piece is read ahead of the last answer. What a clock that stops telling gave. What `nb_commands` does not say is not said here either.
+//! Not said: what `nb_platform` and `main` do: they open, make and lock the file, read the words and print the line. What `nb_commands` and `nb_answers` do not say is not
+//! said here either.
 #![tactic(auto)]
 
-mod drill;
 pub mod laws;
 mod playing;
 mod program;
-mod tally;
 
 pub use program::run;

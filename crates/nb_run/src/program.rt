@@ -1,26 +1,18 @@
-ghost use Rattle.std.specs.Prelude.{◌≡◌, ◌≢◌, ◌≤◌, ℕ, map, string_bytes};
+ghost use Rattle.std.specs.Prelude.{◌≤◌, ℕ, map, string_bytes};
 ghost use Rattle.nb_port.specs.Faults.{Rose};
-ghost use Rattle.nb_journal.specs.Time.{Unwritten};
-ghost use Rattle.nb_commands.specs.declared.ending.TheConstants.{SOURCE_FAILED, SINK_FAILED, DISK_FAILED, NO_JOURNAL};
+ghost use Rattle.nb_commands.specs.declared.ending.TheConstants.{SOURCE_FAILED, SINK_FAILED, DISK_FAILED};
 ghost use Rattle.nb_commands.specs.Ending.{EndsWith};
-ghost use Rattle.nb_commands.specs.Opening.{IsJournal};
-ghost use Rattle.nb_run.specs.Batch as batches;
-ghost use Rattle.nb_run.specs.Ending.{EndsEarly};
-ghost use Rattle.nb_run.specs.Ending as endings;
 ghost use Rattle.nb_run.specs.Run as runs;
 
-use crate::drill::drill;
 use crate::playing::play_input;
-use nb_batch::{Answerer, BatchEnd, answer_frames};
+use nb_answers::{Batched, answer_batch, drill};
+use nb_batch::Answerer;
 use nb_commands::{
-    BAD_INPUT, BAD_WORDS, CLEAN, Ending, FRAME_LIMIT, Job, OUT_OF_MEMORY, Outcome, SINK_FAILED,
-    SOURCE_FAILED, ask_with, grant, make_journal, move_journal, promote, rule_on, ship_records,
-    take_offers, take_stock, write_statement,
+    BAD_WORDS, Ending, Job, OUT_OF_MEMORY, Outcome, ask_with, grant, make_journal, move_journal,
+    promote, rule_on, ship_records, take_offers, take_stock, write_statement,
 };
 use nb_port::{Clock, Disk, Sink, Source};
-use nb_turns::Line;
 use nb_units::{NoMemory, Small};
-use nb_vault::Vault;
 use nb_words::{Command, command_of};
 use std::alloc::Global;
 
@@ -174,76 +166,5 @@ fn do_command<S: Source, K: Sink, D: Disk, C: Clock>(
         }
         Command::Sell { links } => (take_stock(alloc, links, source), disk),
         Command::SellOffers { links } => (take_offers(alloc, links, source), disk),
-    }
-}
-
-// How a batch ended, the disk, and the lines of what was done in it.
-pub(crate) struct Batched<D> {
-    pub(crate) ending: Ending,
-    pub(crate) disk: D,
-    pub(crate) lines: Vec<Line>,
-}
-
-// Opens the house on the disk, or the standby, which answers the frames of the source.
-pub(crate) fn answer_batch<S: Source, K: Sink, D: Disk, C: Clock>(
-    alloc: Global,
-    by: Answerer,
-    source: &mut S,
-    sink: &mut K,
-    disk: D,
-    clock: &mut C,
-) -> Batched<D>
-    ensures batch { batches.BatchLines D.tells by disk result.disk
-        (record { left = S.left source.old; sent = K.sent sink.old; moments = C.moments clock.old })
-        (record { left = S.left source.new; sent = K.sent sink.new; moments = C.moments clock.new }) result.lines.items result.ending }
-    ensures counts { (S.faults source.old ≤ S.faults source.new) × (K.faults sink.old ≤ K.faults sink.new) × (D.tells.faults disk ≤ D.tells.faults result.disk) }
-    ensures source { result.ending.status ≡ SOURCE_FAILED → Rose (S.faults source.old) (S.faults source.new) }
-    ensures sink { result.ending.status ≡ SINK_FAILED → Rose (K.faults sink.old) (K.faults sink.new) }
-    ensures fault { result.ending.status ≡ DISK_FAILED → Rose (D.tells.faults disk) (D.tells.faults result.disk) }
-    ensures closed { EndsEarly result.ending → (source.new ≡ source.old) × (sink.new ≡ sink.old) × (clock.new ≡ clock.old) }
-    ensures unwritten { EndsEarly result.ending → Unwritten D.tells disk result.disk }
-    ensures whole { batches.IsWholeInput (S.left source.old) → (Rose (K.faults sink.old) (K.faults sink.new) → ⊥) → batches.EndsWhole result.ending }
-    ensures opens { IsJournal (D.tells.content disk) → (Rose (D.tells.faults disk) (D.tells.faults result.disk) → ⊥)
-        → (result.ending.status ≢ NO_JOURNAL) × (result.ending.status ≢ DISK_FAILED) }
-{
-    let mut house = match Vault::open(alloc, disk) {
-        Ok(house) => house,
-        Err((fault, disk)) => {
-            return Batched {
-                ending: Ending::unopened(fault),
-                disk,
-                lines: Vec::new(alloc),
-            };
-        }
-    };
-    let end = answer_frames(alloc, by, &mut house, source, sink, clock);
-    // What the disk is at rest in is what every vault keeps.
-    house.witness();
-    let (disk, lines) = house.into_parts();
-    Batched {
-        ending: ended(end),
-        disk,
-        lines,
-    }
-}
-
-// How a batch ends the program.
-fn ended(end: BatchEnd) -> Ending
-    ensures { result ≡ endings.ended end }
-{
-    match end {
-        BatchEnd::Clean => Ending::at_no_place(CLEAN),
-        BatchEnd::Cut { place } => Ending {
-            status: BAD_INPUT,
-            place,
-        },
-        BatchEnd::BadFrame(fault) => Ending {
-            status: BAD_INPUT,
-            place: fault.place(),
-        },
-        BatchEnd::ReadFault => Ending::at_no_place(SOURCE_FAILED),
-        BatchEnd::WriteFault => Ending::at_no_place(SINK_FAILED),
-        BatchEnd::NoMemory => Ending::at_no_place(OUT_OF_MEMORY),
-        BatchEnd::FrameLimit => Ending::at_no_place(FRAME_LIMIT),
     }
 }

@@ -15,10 +15,10 @@ use Rattle.nb_world.specs.declared.packet.Packet.{Packet}
 use Rattle.nb_world.specs.World.{Going, Stays, Goes, Rules, World}
 use Rattle.nb_world.specs.Steps.{where_so, consumer_goes, merchant_goes, consumer_at, merchant_at, started, buy_of, quiet_consumer_of, quiet_merchant_of, restart_consumer_of, restart_merchant_of, server_gets, deliver_of}
 use Rattle.nb_world.proofs.Chains.{so, same_some, stands_there}
-use Rattle.nb_nodes.specs.declared.did.Did.{Did}
-use Rattle.nb_nodes.specs.declared.did.Did.TheVariants.{Stayed, Went, Sent}
-use Rattle.nb_nodes.specs.Doing.{is_nothing, packets_did, Follows, WentAt, BecameAt, TestsAt}
-use Rattle.nb_nodes.proofs.Places.{set_same}
+use Rattle.nb_packets.specs.declared.did.Did.{Did}
+use Rattle.nb_packets.specs.declared.did.Did.TheVariants.{Stayed, Went, Sent}
+use Rattle.nb_packets.specs.Doing.{is_nothing, packets_did, Follows, WentAt, BecameAt, TestsAt}
+use Rattle.nb_packets.proofs.Places.{set_same}
 
 not_so : (b : Bool) → b ≡ false → where_so b ≡ None
 not_so b is = ap where_so is

@@ -5,7 +5,7 @@
 //! changes then. What is made is behind no event, and what is behind some events is by a step behind these and one more (`IsBehind` of `specs/Laws.antt`): so a
 //! caller has that its world is the set-up's behind the events of its own calls, by their clauses alone, and with that each law of [`laws`].
 //!
-//! Its nodes are those of `nb_nodes`. That packets and calls are found by their numbers, without going
+//! Its nodes are those of `nb_buyers` and `nb_sellers`, its packets and calls those of `nb_packets`. That packets and calls are found by their numbers, without going
 //! through the others, and that all memory that an event needs is taken before anything changes, is how it is built: no contract promises it. What is
 //! promised of a step without memory is that nothing changed.
 //!
@@ -14,7 +14,7 @@
 
 pub mod laws;
 mod setup;
-mod turns;
+mod verdict;
 mod world;
 
 pub use nb_world::Event;

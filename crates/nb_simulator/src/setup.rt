@@ -6,10 +6,11 @@ ghost use Rattle.nb_consumer.specs.State.{new_buyer};
 ghost use Rattle.nb_simulator.specs.Setups as setups;
 
 use nb_book::{Book, Party};
+use nb_buyers::Buyers;
 use nb_entry::{CONSUMER, Entry, MERCHANT};
 use nb_escrow::Head;
-use nb_nodes::{Buyers, Sellers};
 use nb_price::Catalogue;
+use nb_sellers::Sellers;
 use nb_stall::Stall;
 use nb_units::{AcctId, FEE_VERSION, FIRST_VERSION, HEAD, MAX_CAP, MAX_RATE, NoMemory, Secret};
 use nb_wallet::Wallet;

@@ -9,21 +9,23 @@ ghost use Rattle.nb_world.specs.Steps as steps;
 ghost use Rattle.nb_world.specs.World.{entry_written};
 ghost use Rattle.nb_simulator.specs.Laws.{IsBehind};
 ghost use Rattle.nb_simulator.specs.Setups.{Fills, IsLawful, SellersFit, Sets, world_of};
-ghost use Rattle.nb_nodes.specs.Nodes.{phase_of_first, told_of, knows_of};
+ghost use Rattle.nb_buyers.specs.Buyers.{phase_of_first, told_of, knows_of};
 ghost use Rattle.nb_simulator.specs.Worlds.{Tells, SameHouse, rules_of};
 
 use crate::setup::{Parties, Setup, SetupFault, book_of, may_start, parties_of};
-use crate::turns::{
-    acknowledge, addressee, asker_of, call_at, come_to, hand_out, left, let_go, may_answer,
-    verdict_on,
-};
+use crate::verdict::verdict_on;
 use nb_body::MAX_REQUEST;
 use nb_book::Book;
+use nb_buyers::Buyers;
 use nb_consumer::Phase;
 use nb_entry::Entry;
 use nb_escrow::Head;
 use nb_msgs::To;
-use nb_nodes::{Buyers, Content, Parcel, Sellers, send};
+use nb_packets::{
+    Content, Parcel, acknowledge, addressee, asker_of, call_at, come_to, hand_out, left, let_go,
+    may_answer, send,
+};
+use nb_sellers::Sellers;
 use nb_units::frames::{LAST_KIND, MAX_BODY};
 use nb_units::{Blob, MAX_MEMO, NoMemory, PartyId};
 use nb_wallet::Start;

@@ -2,6 +2,6 @@ pub mod Spelling
 pub mod Reading
 pub mod Stages
 pub mod Changes
-pub mod Messages
+pub mod Orders
 pub mod Laws
 pub mod Head

@@ -1,12 +1,12 @@
 -- How one purchase ends with a receipt, and how far it has come then and behind a quote, a part, an order and a status.
 use Rattle.std.specs.Prelude.{ℕ, max, List, codes, Option, Some, None, ◌==◌, if◌then◌else◌}
 use Rattle.nb_units.specs.declared.ids.Price.{Price}
+use Rattle.nb_body.specs.declared.end.End.{End}
+use Rattle.nb_body.specs.declared.end.End.TheVariants as end
 use Rattle.nb_body.specs.declared.goods_head.GoodsHead.{GoodsHead}
 use Rattle.nb_endorse.specs.declared.receipt.TheConstants.{PAID_CODE}
 use Rattle.nb_endorse.specs.declared.receipt.Receipt.{Receipt}
 use Rattle.nb_epo.specs.declared.order.Order.{Order}
-use Rattle.nb_msgs.specs.declared.node.End.{End}
-use Rattle.nb_msgs.specs.declared.node.End.TheVariants as end
 use Rattle.nb_seal.specs.Seal.{text_in}
 use Rattle.nb_wallet.specs.declared.purchase.Stage.{Stage}
 use Rattle.nb_wallet.specs.declared.purchase.Stage.TheVariants as stage

@@ -4,18 +4,18 @@ ghost use Rattle.nb_units.specs.declared.limits.TheConstants.{MAX_HIDDEN, MAX_OR
 ghost use Rattle.nb_goods.specs.declared.limits.TheConstants.{PART_BYTES};
 ghost use Rattle.nb_endorse.specs.Replies.{ReceiptKeepsRules};
 ghost use Rattle.nb_epo.specs.Spelling.{IsOrder, order_bytes};
-ghost use Rattle.nb_msgs.specs.declared.fault.BodyFault.TheVariants as fault;
-ghost use Rattle.nb_msgs.specs.Reading.{ReadsBody};
+ghost use Rattle.nb_body.specs.declared.fault.BodyFault.TheVariants as fault;
+ghost use Rattle.nb_body.specs.Reads.{ReadsBody};
 ghost use Rattle.nb_wallet.specs.Spelling as spelling;
 ghost use Rattle.nb_wallet.specs.Reading as reading;
 
 use crate::limits::{ENDED, FORGOTTEN, GRANTED, ORDERED, PART, STARTED, WANTED};
+use crate::ordering::order_text;
 use crate::wallet::Start;
-use nb_body::{GoodsHead, MAX_REQUEST};
+use nb_body::{BodyFault, GoodsHead, MAX_REQUEST};
 use nb_endorse::{Signed, read_signed};
-use nb_epo::{Order, read_order, write_order};
+use nb_epo::{Order, read_order};
 use nb_goods::PART_BYTES;
-use nb_msgs::BodyFault;
 use nb_ticket::TICKET_BYTES;
 use nb_units::{
     Blob, Buffer, Cut, Epoid, MAX_MEMO, MAX_ORDER, Malformed, NoMemory, PartyId, Price, Secret,
@@ -128,18 +128,6 @@ impl Item {
             Item::Forgotten { transaction } => whole(alloc, &spelled_forgotten(*transaction)),
         }
     }
-}
-
-// The bytes of an order.
-pub(crate) fn order_text(alloc: Global, order: &Order) -> Result<Small, NoMemory>
-    requires { length order.now.hidden ≤ MAX_HIDDEN }
-    ensures bytes { IfOk result (λ text. text ≡ order_bytes order.now) }
-    ensures fits { IfOk result (λ _. IsOrder order.now) }
-    ensures short { IfOk result (λ text. length text ≤ MAX_ORDER) }
-{
-    let mut bytes = Vec::with_capacity(alloc, MAX_ORDER)?;
-    write_order(order, &mut bytes);
-    Ok(Small::of(bytes.as_slice()).unwrap())
 }
 
 // A copy of the bytes.

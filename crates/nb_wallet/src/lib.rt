@@ -9,12 +9,11 @@
 //! an order or a status it is at the stage that `specs/Stages.antt` says. Sealed goods come in parts. One copy of them is held, with the state of
 //! their digest, so that no part is hashed twice.
 //!
-//! What a consumer sends stands in `specs/Messages.antt`, a call for each message; what is sealed for it is opened by a call for each text, which
-//! answers why it does not open.
+//! What a price is asked for, and the order of a purchase ([`order_for`]), stand in `specs/Orders.antt`.
 //!
-//! Left to others: which purchases there are, and what is done at a message.
+//! Left to others: which purchases there are, what is sent and how what comes is opened (`nb_asking`), and what is done at a message.
 //!
-//! Not said: that there is memory for an item, a message or a part; that parts are held once and hashed once: the clauses see the bytes joined,
+//! Not said: that there is memory for an item, an order or a part; that parts are held once and hashed once: the clauses see the bytes joined,
 //! and the state of the digest is held beside the parts.
 #![tactic(auto)]
 
@@ -23,18 +22,14 @@ mod held;
 mod item;
 pub mod laws;
 mod limits;
+mod ordering;
 mod purchase;
-mod reading;
-mod sending;
 mod wallet;
 
 pub use held::Held;
 pub use item::{Item, SessionTicket};
+pub use ordering::{order_for, order_text, price_text, request_digest};
 pub use purchase::{
     Change, Purchase, Stage, ordered_from, raised_from, stage_ended, wanted_from, with_head,
-};
-pub use reading::{open_granted, open_head, open_quote, open_status};
-pub use sending::{
-    goods_request, order_for, payment, price_request, request_digest, status_query, ticket_request,
 };
 pub use wallet::{Start, Wallet};

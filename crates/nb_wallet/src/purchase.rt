@@ -7,10 +7,9 @@ ghost use Rattle.nb_wallet.specs.Changes.{ChangeFits, StageIsSound, changed_to};
 use crate::held::Held;
 use crate::item::SessionTicket;
 use crate::wallet::Start;
-use nb_body::GoodsHead;
+use nb_body::{End, GoodsHead};
 use nb_endorse::{PAID_CODE, Receipt};
 use nb_epo::Order;
-use nb_msgs::End;
 use nb_units::{Blob, NoMemory, Price, Secret};
 use std::alloc::Global;
 

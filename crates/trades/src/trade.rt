@@ -1,5 +1,5 @@
 ghost use Rattle.std.specs.Prelude.{IfOk};
-ghost use Rattle.nb_consumer.specs.Deeds.{StepKeepsRules};
+ghost use Rattle.nb_msgs.specs.Steps.{StepKeepsRules};
 ghost use Rattle.nb_msgs.specs.Bodies.{MessageKeepsRules};
 
 pub(crate) mod selling;

@@ -1,7 +1,7 @@
 // A consumer, a merchant and the house, and what each does at a frame.
 
 ghost use Rattle.std.specs.Prelude.{IfOk};
-ghost use Rattle.nb_consumer.specs.Deeds.{StepKeepsRules};
+ghost use Rattle.nb_msgs.specs.Steps.{StepKeepsRules};
 ghost use Rattle.nb_merchant.specs.Sending.{StepIs};
 ghost use Rattle.nb_msgs.specs.Bodies.{MessageKeepsRules};
 ghost use Rattle.nb_wallet.specs.Spelling.{StartKeepsRules};

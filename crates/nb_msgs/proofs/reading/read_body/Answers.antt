@@ -2,7 +2,8 @@ use Rattle.std.proofs.Common.{◌≡◌, ap, ◌∙◌, sym, arith}
 use Rattle.std.specs.Prelude.{ℕ}
 use Rattle.nb_msgs.specs.Bodies.{IsMessage, MessageKeepsRules, kind_of, body_bytes}
 use Rattle.nb_msgs.specs.Reading.{message_of}
-use Rattle.nb_msgs.proofs.Messages.{if_body, body_or_none, message_spells_back, message_reads_back, keeps_rules}
+use Rattle.nb_body.proofs.ReadBodies.{if_body, body_or_none}
+use Rattle.nb_msgs.proofs.Messages.{message_spells_back, message_reads_back, keeps_rules}
 use Rattle.nb_msgs.proofs.reading.read_body.Goals as goal
 
 pub returns-clause-spelled : goal.returns-clause-spelled

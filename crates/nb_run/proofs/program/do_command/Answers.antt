@@ -20,8 +20,8 @@ returns-in-Migrate-clause-does g c =
     subst (Does g.D.Disk.tells _ _ _) (sym c.in-Migrate.is)
     (record {
       came = (m.result, ending.ensures, m.ensures.moved);
-      sink = refl;
-      clock = refl;
+      sink = refl {a = c.args.sink.now};
+      clock = refl {a = c.args.clock.now};
       spares = m.ensures.spares;
       complete = λ input none no_source no_disk.
           subst (λ (e : Ending). (e.status ≡ CLEAN) ⊎ (e.status ≡ OUT_OF_MEMORY)) (sym ending.ensures)
@@ -36,8 +36,8 @@ returns-in-Play-clause-does g c =
     subst (Does g.D.Disk.tells _ _ _) (sym c.in-Play.is)
     (record {
       came = (p.result, ending.ensures, p.ensures.played);
-      disk = refl;
-      clock = refl;
+      disk = refl {a = c.args.disk};
+      clock = refl {a = c.args.clock.now};
       silent = search rules;
       complete = λ input no_source no_sink.
           subst (λ (e : Ending). (e.status ≡ CLEAN) ⊎ (e.status ≡ OUT_OF_MEMORY)) (sym ending.ensures)
@@ -51,9 +51,9 @@ returns-in-Sell-clause-does g c =
     subst (Does g.D.Disk.tells _ _ _) (sym c.in-Sell.is)
     (record {
       came = t.ensures.stocks;
-      sink = refl;
-      disk = refl;
-      clock = refl;
+      sink = refl {a = c.args.sink.now};
+      disk = refl {a = c.args.disk};
+      clock = refl {a = c.args.clock.now};
       complete = λ job input no_source.
           subst (λ (j : Job). (t.result ≡ Work j) ⊎ EndsWith t.result OUT_OF_MEMORY) (sym input.1)
           (stocks_clean (g.S.Source.left c.args.source.now) (g.S.Source.left t.new.source) (g.S.Source.faults c.args.source.now) (g.S.Source.faults t.new.source) c.in-Sell.links input.0 t.result t.ensures.stocks
@@ -66,9 +66,9 @@ returns-in-SellOffers-clause-does g c =
     subst (Does g.D.Disk.tells _ _ _) (sym c.in-SellOffers.is)
     (record {
       came = t.ensures.offers;
-      sink = refl;
-      disk = refl;
-      clock = refl;
+      sink = refl {a = c.args.sink.now};
+      disk = refl {a = c.args.disk};
+      clock = refl {a = c.args.clock.now};
       complete = λ job input no_source.
           subst (λ (j : Job). (t.result ≡ Work j) ⊎ EndsWith t.result OUT_OF_MEMORY) (sym input.2)
           (offers_clean (g.S.Source.left c.args.source.now) (g.S.Source.left t.new.source) (g.S.Source.faults c.args.source.now) (g.S.Source.faults t.new.source) c.in-SellOffers.links t.result input.0 input.1

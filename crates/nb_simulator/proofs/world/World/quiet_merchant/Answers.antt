@@ -1,7 +1,7 @@
 use Rattle.std.proofs.Common.{List, ◌++◌, refl, sym, ap, ◌∙◌}
 use Rattle.nb_world.specs.declared.packet.Maker.TheVariants as by
 use Rattle.nb_world.specs.declared.packet.Packet.{Packet}
-use Rattle.nb_nodes.specs.Doing.{packets_did}
+use Rattle.nb_packets.specs.Doing.{packets_did}
 use Rattle.nb_simulator.proofs.Nodes.{quiet_merchant_went, quiet_merchant_not, quiet_merchant_unknown}
 use Rattle.nb_simulator.proofs.world.World.quiet_merchant.Goals as goal
 

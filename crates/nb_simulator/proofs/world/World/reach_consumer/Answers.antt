@@ -1,14 +1,14 @@
 use Rattle.std.proofs.Common.{◌≡◌, ◌<◌, Some, List, ◌++◌, length, get_or, refl, sym, ap, subst, ◌∙◌}
 use Rattle.nb_world.specs.declared.packet.Maker.TheVariants as by
 use Rattle.nb_world.specs.declared.packet.Packet.{Packet}
-use Rattle.nb_nodes.specs.Doing.{packets_did}
+use Rattle.nb_packets.specs.Doing.{packets_did}
 use Rattle.std.specs.Prelude.{option_map}
 use Rattle.std.specs.List.{slice_get}
 use Rattle.nb_msgs.specs.declared.node.To.TheVariants as to
 use Rattle.nb_simulator.specs.Worlds.{Simulated}
-use Rattle.nb_nodes.proofs.Kept.{unread_buyer}
+use Rattle.nb_buyers.proofs.Kept.{unread_buyer}
 use Rattle.nb_simulator.proofs.Nodes.{consumer_heard, consumer_absent}
-use Rattle.nb_nodes.proofs.Places.{stands_at}
+use Rattle.nb_packets.proofs.Places.{stands_at}
 use Rattle.nb_simulator.proofs.world.World.reach_consumer.Goals as goal
 
 pub returns-in-None-clause-world : goal.returns-in-None-clause-world

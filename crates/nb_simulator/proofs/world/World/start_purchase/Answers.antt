@@ -2,7 +2,7 @@ use Rattle.std.proofs.Common.{◌≡◌, List, ◌++◌, Some, sym, ap, subst, �
 use Rattle.nb_world.specs.Steps.{consumer_at}
 use Rattle.nb_world.specs.declared.packet.Maker.TheVariants as by
 use Rattle.nb_world.specs.declared.packet.Packet.{Packet}
-use Rattle.nb_nodes.specs.Doing.{packets_did}
+use Rattle.nb_packets.specs.Doing.{packets_did}
 use Rattle.nb_simulator.specs.Worlds.{Simulated, rules_of}
 use Rattle.nb_simulator.proofs.Nodes.{buy_went, buy_ignored_is}
 use Rattle.nb_simulator.proofs.world.World.start_purchase.Goals as goal

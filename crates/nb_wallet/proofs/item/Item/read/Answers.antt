@@ -1,5 +1,5 @@
 use Rattle.std.proofs.Common.{◌≡◌, ap, ◌∙◌, arith}
-use Rattle.nb_msgs.proofs.Messages.{if_body, body_or_none}
+use Rattle.nb_body.proofs.ReadBodies.{if_body, body_or_none}
 use Rattle.nb_wallet.specs.Spelling.{IsItem, item_bytes}
 use Rattle.nb_wallet.specs.Reading.{item_of}
 use Rattle.nb_wallet.proofs.Items.{item_spells_back, item_reads_back}

@@ -1,0 +1,4 @@
+pub mod Running
+pub mod Completeness
+pub mod Tallying
+pub mod Drills

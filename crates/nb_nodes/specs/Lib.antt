@@ -1,3 +1,0 @@
-pub mod Parcels
-pub mod Doing
-pub mod Nodes

@@ -1,7 +1,0 @@
-use Rattle.std.proofs.Common.{◌≡◌, take}
-use Rattle.nb_run.specs.Drill.{recorded, tally}
-use Rattle.nb_run.proofs.tally.tally_of.Given as goal
-
--- those that were looked at are told
-abbrev pub invariant-telling : goal.invariant-telling
-invariant-telling l = l.tally ≡ tally (recorded (take l.line-index l.lines))
