@@ -22,7 +22,7 @@ def stands_on():
 # The crates by what they are for, as ARCHITECTURE.md shows them.
 GROUPS = {
     "The outside": "nb_port nb_system nb_link nb_net nb_wire",
-    "Bytes and seals": "nb_units nb_seal nb_index nb_frame nb_body nb_ticket nb_epo nb_goods nb_endorse nb_msgs",
+    "Bytes and seals": "nb_units nb_seal nb_index nb_numbers nb_frame nb_body nb_ticket nb_epo nb_goods nb_endorse nb_msgs",
     "The house": "nb_entry nb_book nb_escrow nb_turns nb_journal nb_vault nb_standby nb_statement nb_turn nb_desk nb_session nb_server nb_batch",
     "The parties": "nb_price nb_groups nb_stall nb_merchant nb_wallet nb_asking nb_consumer nb_trade nb_buy nb_sell nb_judge",
     "The world": "nb_world nb_parties nb_packets nb_buyers nb_sellers nb_script nb_simulator nb_player nb_headline",

@@ -2,7 +2,7 @@
 //!
 //! What a consumer sends stands in `specs/Messages.antt`, a call for each message: [`ticket_request`] and [`status_query`] to the house,
 //! [`price_request`], [`goods_request`] and [`payment`] to a merchant, sealed under the key of their session. What is sealed for a consumer is opened by a
-//! call for each text, which answers why it does not open: [`open_granted`] and [`open_status`] what the house says, [`open_quote`] and [`open_head`]
+//! call for each text, which answers [`Reason::Seal`](nb_msgs::Reason::Seal) where it does not open: [`open_granted`] and [`open_status`] what the house says, [`open_quote`] and [`open_head`]
 //! what a merchant says. A receipt alone is opened by `nb_msgs`.
 //!
 //! Left to others: what is kept, and what is known of a purchase (`nb_wallet`); when a message is sent, and what is done at one (`nb_consumer`).

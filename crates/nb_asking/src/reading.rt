@@ -18,7 +18,7 @@ use nb_seal::KeyState;
 use nb_ticket::{Granted, open_grant};
 use nb_units::Secret;
 
-/// The quote that is sealed under the session key, or [`Reason::Seal`] where the bytes do not open to one.
+/// The quote that at most [`MAX_SEALED_QUOTE`] bytes are the seal of under the session key, or [`Reason::Seal`] where they do not open to one.
 #[tactic(auto, unfolding(nb_msgs::specs::Tests::opened))]
 pub fn open_quote(session: &Secret, sealed: &[u8]) -> Result<Quote, Reason>
     requires { length sealed.now ≤ MAX_SEALED_QUOTE }
@@ -32,7 +32,8 @@ pub fn open_quote(session: &Secret, sealed: &[u8]) -> Result<Quote, Reason>
     }
 }
 
-/// What is said of a part of goods, sealed under the session key, or [`Reason::Seal`] where the bytes do not open to that.
+/// What is said of a part of goods, of which at most [`MAX_SEALED_HEAD`] bytes are the seal under the session key, or [`Reason::Seal`] where they do not
+/// open to that.
 #[tactic(auto, unfolding(nb_msgs::specs::Tests::opened))]
 pub fn open_head(session: &Secret, sealed: &[u8]) -> Result<GoodsHead, Reason>
     requires { length sealed.now ≤ MAX_SEALED_HEAD }
@@ -51,7 +52,7 @@ pub fn open_head(session: &Secret, sealed: &[u8]) -> Result<GoodsHead, Reason>
     }
 }
 
-/// The status that the house sealed under the consumer's key, or [`Reason::Seal`] where the bytes do not open to one.
+/// The status that at most [`MOST_STATUS`] bytes are the house's seal of under the consumer's key, or [`Reason::Seal`] where they do not open to one.
 #[tactic(auto, unfolding(nb_msgs::specs::Tests::opened))]
 pub fn open_status(key: &Secret, sealed: &[u8]) -> Result<StatusText, Reason>
     requires { length sealed.now ≤ MOST_STATUS }
@@ -67,7 +68,8 @@ pub fn open_status(key: &Secret, sealed: &[u8]) -> Result<StatusText, Reason>
     }
 }
 
-/// The grant that the house sealed under the consumer's key, or [`Reason::Seal`] where the bytes do not open to one.
+/// The grant that at most [`GRANT_BYTES`](nb_ticket::GRANT_BYTES) bytes are the house's seal of under the consumer's key, or [`Reason::Seal`] where they
+/// do not open to one.
 pub fn open_granted(key: &Secret, sealed: &[u8]) -> Result<Granted, Reason>
     requires { length sealed.now ≤ GRANT_BYTES }
     ensures opened { result ≡ opened granted_of key.now (codes "gran") sealed.now }

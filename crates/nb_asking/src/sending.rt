@@ -1,6 +1,6 @@
 ghost use Rattle.std.specs.Prelude.{◌≡◌, ◌≤◌, ◌+◌, ◌++◌, length, codes, IfOk};
 ghost use Rattle.nb_units.specs.declared.limits.TheConstants.{MAX_HIDDEN};
-ghost use Rattle.nb_body.specs.declared.limits.TheConstants.{MAX_REQUEST, MAX_PRICE_REQUEST};
+ghost use Rattle.nb_body.specs.declared.limits.TheConstants.{MAX_REQUEST};
 ghost use Rattle.nb_seal.specs.Hmac.{hmac_of};
 ghost use Rattle.nb_seal.specs.Seal.{seal_of};
 ghost use Rattle.nb_asking.specs.Messages as messages;

@@ -3,7 +3,7 @@ use Rattle.std.specs.Prelude.{◌≡◌, ℕ, Result, Ok, Err, IsOk}
 use Rattle.nb_body.specs.declared.fault.BodyFault.{BodyFault}
 use Rattle.nb_body.specs.declared.fault.BodyFault.TheVariants as fault
 
--- what a reader that takes memory gave: the value that stands there, or the bad place; or that there was no memory for the value
+-- what a reader that takes memory gave: it is the value that stands there, or the bad place; or there is a value, and there was no memory for it
 abbrev pub ReadsBody : {A : Type 0} → Result A BodyFault → Result A ℕ → Type 0
 ReadsBody (Ok value) read = read ≡ Ok value
 ReadsBody (Err (fault.Malformed place)) read = read ≡ Err place

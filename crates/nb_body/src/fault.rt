@@ -1,14 +1,14 @@
 use nb_units::{CutFault, Malformed, NoMemory};
 use std::fmt;
 
-/// Why a body was not read.
+/// Why bytes were not read: a body of a message, or an item that a party keeps.
 #[derive(Clone, Copy, Debug)]
 pub enum BodyFault {
-    /// The body is not spelled as bodies of its kind are. The place is that of the first field that fails, in bytes from the front: a
+    /// The bytes are not spelled as those of their kind are. The place is that of the first field that fails, in bytes from the front: a
     /// field of which bytes are missing, the length of a text that is too long or not all there, a value that is not allowed, or the
-    /// first byte behind the last field. A body that is sealed as a whole and too long fails behind the bytes that it may have.
+    /// first byte behind the last field. Where bytes that are sealed as a whole are too many, the place is the greatest number of them that is allowed.
     Malformed { place: usize },
-    /// It is, and there was no memory for what it says.
+    /// They are, and there was no memory for what they say.
     NoMemory,
 }
 

@@ -22,9 +22,14 @@ use std::alloc::Global;
 use std::marker::Model;
 
 /// The entries of a house in order, at most as many as its cap.
-#[derive(Drop)]
 pub struct Book {
     list: EntryList,
+}
+
+impl Drop for Book {
+    fn drop(self) {
+        let Self { list: _ } = self;
+    }
 }
 
 impl Model for Book {

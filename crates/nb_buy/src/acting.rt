@@ -1,8 +1,7 @@
 ghost use Rattle.std.specs.Prelude.{◌≡◌, ◌≤◌, ◌∷◌, [], length};
 ghost use Rattle.nb_journal.specs.Growing.{IsAtRest};
 ghost use Rattle.nb_journal.specs.declared.limits.TheConstants.{MAX_ITEM};
-ghost use Rattle.nb_msgs.specs.Steps.{StepKeepsRules};
-ghost use Rattle.nb_msgs.specs.Steps.{kept_in};
+ghost use Rattle.nb_msgs.specs.Steps.{StepKeepsRules, kept_in};
 ghost use Rattle.nb_buy.specs.Run.{peer_of};
 ghost use Rattle.nb_buy.specs.Steps.{Acts, AreShort, Keeps, SameReaders, items_of, lines_of, next_sent};
 

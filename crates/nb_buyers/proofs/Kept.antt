@@ -1,14 +1,7 @@
--- What a consumer keeps makes it again, and what it hears.
-use Rattle.std.proofs.Common.{◌≡◌, ℕ, ◌+◌, ◌<◌, ◌^◌, false, List, [], ◌∷◌, ◌++◌, length, map, Some, Result, Ok, Err, refl, sym, ap, subst, ◌∙◌}
-use Rattle.std.specs.Prelude.{IfOk, set}
-use Rattle.std.specs.Result.{is_ok}
-use Rattle.std.proofs.lemmas.Bool.{false≢true}
-use Rattle.std.specs.List.{slice_get}
-use Rattle.nb_units.specs.declared.memory.NoMemory.{NoMemory}
+-- What a consumer keeps makes it again.
+use Rattle.std.proofs.Common.{◌≡◌, ℕ, ◌+◌, ◌<◌, ◌^◌, List, [], ◌∷◌, ◌++◌, length, map, Result, Ok, Err, refl, sym, ap, subst, ◌∙◌}
 use Rattle.nb_msgs.specs.declared.node.Reason.{Reason}
 use Rattle.nb_msgs.specs.declared.node.Step.{Step}
-use Rattle.nb_msgs.specs.declared.message.Message.{Message}
-use Rattle.nb_msgs.specs.Reading.{message_of}
 use Rattle.nb_msgs.specs.Steps.{kept_in}
 use Rattle.nb_wallet.specs.declared.item.Item.{Item}
 use Rattle.nb_wallet.specs.declared.item.Item.TheVariants as item
@@ -23,13 +16,7 @@ use Rattle.nb_consumer.specs.Laws.{KeepsRestarting}
 use Rattle.nb_consumer.specs.Restart.{restarted, untold_stage, untold_purchase, untold, Kept}
 use Rattle.nb_consumer.specs.Runs.{Call, row_of}
 use Rattle.nb_consumer.specs.State.{Buyer, remembered}
-use Rattle.nb_consumer.specs.Table.{after, heard}
-use Rattle.nb_world.specs.World.{Going, Stays}
-use Rattle.nb_parties.specs.Rules.{buyer_goes, buyer_hears}
-use Rattle.nb_packets.specs.declared.did.Did.{Did}
-use Rattle.nb_packets.specs.declared.did.Did.TheVariants.{Stayed}
-use Rattle.nb_packets.specs.Doing.{Follows, DidSo, WentAt}
-use Rattle.nb_packets.proofs.Places.{set_same}
+use Rattle.nb_consumer.specs.Table.{after}
 use Rattle.nb_packets.proofs.Keeping.{few_more}
 
 stage_twice : (t : Stage) → untold_stage (untold_stage t) ≡ untold_stage t
@@ -95,26 +82,3 @@ pub restart_so : (w : Wallet) (items read : List (List ℕ)) (b core : Buyer) �
 restart_so w items read b core same kept few is again =
     let gives : restarted b.wallet items ≡ Ok core = ap (λ (x : Wallet). restarted x items) (sym same) ∙ ap (restarted w) (sym is) ∙ again in
     record { wallet = same ∙ ap (λ (c : Buyer). c.wallet) (sym (restart_is items b core kept gives)); kept = restart_keeps items b core kept gives; few = few }
-
--- ---- what is heard
-
-pub buyer_went : (kind : ℕ) (body : List ℕ) (m : Message) (old : List Buyer) (i : ℕ) (was now : Buyer) (result : Result Did NoMemory) → message_of kind body ≡ Ok m → slice_get old i ≡ Some was
-    → IfOk result (λ did. Follows (buyer_goes was (heard was m)) was now did × DidSo did)
-    → IfOk result (λ did. WentAt (λ (b : Buyer). buyer_hears b (message_of kind body)) old (set old i now) i did × DidSo did)
-buyer_went kind body m old i was now (Ok did) read there went =
-    (record { was = was; now = now; there = there; behind = refl; follows = subst (λ (g : Going Buyer). Follows g was now did) (sym (ap (buyer_hears was) read)) went.0 }, went.1)
-buyer_went kind body m old i was now (Err none) read there went = tt
-
--- a body that is none leaves a node as it is
-pub buyer_stays : (r : Result Message ℕ) (place : ℕ) (old : List Buyer) (i : ℕ) (was : Buyer) → r ≡ Err place → slice_get old i ≡ Some was
-    → WentAt (λ (b : Buyer). buyer_hears b r) old old i Stayed
-buyer_stays r place old i was bad there =
-    record { was = was; now = was; there = there; behind = sym (set_same old i was there); follows = subst (λ (g : Going Buyer). Follows g was was Stayed) (sym (ap (buyer_hears was) bad)) refl }
-
--- what is not read
-pub unread_buyer : (kind : ℕ) (body : List ℕ) (b : Buyer) → is_ok (message_of kind body) ≡ false → buyer_hears b (message_of kind body) ≡ Stays
-unread_buyer kind body b = by (message_of kind body)
-  where
-    by : (r : Result Message ℕ) → is_ok r ≡ false → buyer_hears b r ≡ Stays
-    by (Ok m) e = absurd (false≢true (sym e))
-    by (Err place) e = refl

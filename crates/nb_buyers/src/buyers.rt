@@ -10,9 +10,9 @@ ghost use Rattle.nb_packets.specs.Doing.{WentAt, BecameAt, TestsAt, DidSo};
 ghost use Rattle.nb_buyers.specs.Buyers.{buyer_number, phase_of_first, told_of, knows_of};
 
 use crate::buying::Buying;
-use indexmap::IndexSet;
 use nb_consumer::Phase;
 use nb_msgs::{BodyFault, read_body};
+use nb_numbers::Numbers;
 use nb_packets::{Content, Did, Parcel};
 use nb_units::{NoMemory, PartyId};
 use nb_wallet::{Start, Wallet};
@@ -20,10 +20,18 @@ use std::alloc::Global;
 use std::marker::Model;
 
 /// Consumers, found by their numbers. They are seen as the list of them.
-#[derive(Drop)]
 pub struct Buyers {
-    numbers: IndexSet<u32>,
+    numbers: Numbers,
     each: Vec<Buying>,
+}
+
+impl Drop for Buyers {
+    fn drop(self) {
+        let Self {
+            numbers: _,
+            each: _,
+        } = self;
+    }
 }
 
 impl Model for Buyers {
@@ -35,7 +43,7 @@ impl Model for Buyers {
 
     ghost view = { λ b. b.each.items };
 
-    ghost invariant = { λ b. b.numbers.keys ≡ map buyer_number b.each.items };
+    ghost invariant = { λ b. b.numbers ≡ map buyer_number b.each.items };
 }
 
 // The consumer at a place starts a purchase.
@@ -105,7 +113,7 @@ impl Buyers {
         ensures { result ≡ [] }
     {
         Buyers {
-            numbers: IndexSet::new(alloc),
+            numbers: Numbers::new(alloc),
             each: Vec::new(alloc),
         }
     }
@@ -116,7 +124,7 @@ impl Buyers {
         ensures found { result ≡ position (λ b. b.wallet.id.0 == id.0) self.now }
         ensures within { IfSome result (λ i. i < length self.now) }
     {
-        self.numbers.get_index_of(&id.0)
+        self.numbers.place_of(id.0 as u64)
     }
 
     /// One more, whose number is new. Answers [`NoMemory`] where there is none, and nothing changed then.
@@ -127,7 +135,7 @@ impl Buyers {
         ensures err { OnErr result (self.new ≡ self.old) }
     {
         self.each.reserve(1)?;
-        let _new = self.numbers.insert(wallet.id.0)?;
+        self.numbers.add(wallet.id.0 as u64)?;
         self.each.push_reserved(Buying::new(alloc, wallet));
         Ok(())
     }

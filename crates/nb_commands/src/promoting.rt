@@ -46,7 +46,7 @@ pub fn promote<K: Sink, D: Disk>(alloc: Global, sink: &mut K, disk: D) -> (Endin
     ensures sink { result.0.status ≡ SINK_FAILED → Rose (K.faults sink.old) (K.faults sink.new) }
     // And the disk, only where its count rose.
     ensures fault { result.0.status ≡ DISK_FAILED → Rose (D.tells.faults disk) (D.tells.faults result.1) }
-    // But after 0 and 4 the sink is as before.
+    // After any status but 0 and 4 the sink is as before.
     ensures silent { (result.0.status ≢ CLEAN) → (result.0.status ≢ SINK_FAILED) → sink.new ≡ sink.old }
     // A journal, and nothing that fails: it is told how many entries stand, unless memory is wanting.
     ensures complete { IsJournal (D.tells.content disk) → (Rose (K.faults sink.old) (K.faults sink.new) → ⊥) → (Rose (D.tells.faults disk) (D.tells.faults result.1) → ⊥)

@@ -26,7 +26,7 @@ pub fn ship_records<K: Sink, D: Disk>(
     ensures sink { result.0.status ≡ SINK_FAILED → Rose (K.faults sink.old) (K.faults sink.new) }
     // And the disk, only where its count rose.
     ensures fault { result.0.status ≡ DISK_FAILED → Rose (D.tells.faults disk) (D.tells.faults result.1) }
-    // But after 0 and 4 the sink is as before.
+    // After any status but 0 and 4 the sink is as before.
     ensures silent { (result.0.status ≢ CLEAN) → (result.0.status ≢ SINK_FAILED) → sink.new ≡ sink.old }
     // A journal, and nothing that fails: its records are shipped, or the place is above them, unless memory is wanting.
     ensures complete { IsJournal (D.tells.content disk) → (Rose (K.faults sink.old) (K.faults sink.new) → ⊥) → (Rose (D.tells.faults disk) (D.tells.faults result.1) → ⊥)

@@ -1,4 +1,5 @@
 pub mod Purchases
+pub mod Firsts
 pub mod Keeping
 pub mod Restoring
 pub mod Running

@@ -1,16 +1,9 @@
 -- How the purchases of a consumer change.
-use Rattle.std.proofs.Common.{◌≡◌, ℕ, zero, suc, ◌+◌, ◌≤◌, Bool, true, false, cond, List, [], ◌∷◌, ◌++◌, map, length, set, Option, Some, None, Ok, Err, Result, refl, sym, ap, subst, ◌∙◌, arith}
-use Rattle.std.specs.Prelude.{OnOk, OnErr, slice_get, position, nat_eq, nat_lt, not, is_some}
-use Rattle.std.specs.List.{AllByRecursion, list_any, position_or_len, prefix_len}
+use Rattle.std.proofs.Common.{◌≡◌, ℕ, zero, suc, ◌+◌, Bool, true, false, cond, List, [], ◌∷◌, ◌++◌, map, length, set, Option, Some, None, Ok, Err, Result, refl, sym, ap, subst, ◌∙◌, arith}
+use Rattle.std.specs.Prelude.{OnOk, OnErr, slice_get, nat_eq, nat_lt, not}
+use Rattle.std.specs.List.{AllByRecursion, position_or_len, prefix_len}
 use Rattle.std.proofs.lemmas.List.{map-append}
-use Rattle.std.proofs.lemmas.Bool.{ltb-false, false≢true, eqb-true}
-use Rattle.std.specs.Borrow.{Bor}
-use Rattle.std.specs.Cmp.Lexicographic.{pointwise}
-use Rattle.std.specs.Map.{lookup}
-use Rattle.std.specs.Prelude.{option_copied, ◌||◌}
-use Rattle.indexmap.specs.IndexSet.{insert_key}
-use Rattle.indexmap.specs.IndexMap.{insert_entry}
-use Rattle.indexmap.proofs.MapLemmas.{absent_from_lookup, insert_entry-absent}
+use Rattle.std.proofs.lemmas.Bool.{eqb-true}
 use Rattle.nb_units.specs.declared.memory.NoMemory.{NoMemory}
 use Rattle.nb_msgs.specs.declared.node.Reason.{Reason}
 use Rattle.nb_msgs.specs.Tests.{found}
@@ -73,50 +66,12 @@ change_keeps (Err none) keys old new i stage parts numbers all sound ok err = (n
 
 -- ---- one purchase more
 
-any_none : (p : ℕ → Bool) (xs : List ℕ) → length xs ≤ prefix_len (λ x. not (p x)) xs → list_any p xs ≡ false
-any_none p [] h = refl
-any_none p (x ∷ xs) h = by (any_none p xs) (p x) refl h
-  where
-    by : (length xs ≤ prefix_len (λ x. not (p x)) xs → list_any p xs ≡ false) → (b : Bool) → p x ≡ b → suc (length xs) ≤ cond (not (p x)) (1 + prefix_len (λ x. not (p x)) xs) 0
-        → (p x || list_any p xs) ≡ false
-    by rest true is h = absurd (omega (arith, subst (λ (b : Bool). suc (length xs) ≤ cond (not b) (1 + prefix_len (λ x. not (p x)) xs) 0) is h))
-    by rest false is h = rw is (rest (omega (arith, subst (λ (b : Bool). suc (length xs) ≤ cond (not b) (1 + prefix_len (λ x. not (p x)) xs) 0) is h)))
-
-position_none : (p : ℕ → Bool) (xs : List ℕ) → position p xs ≡ None → list_any p xs ≡ false
-position_none p xs none = any_none p xs (ltb-false (position_or_len p xs) (length xs) (by (nat_lt (position_or_len p xs) (length xs)) none))
-  where
-    by : (b : Bool) → cond b (Some (position_or_len p xs)) None ≡ None → b ≡ false
-    by true e = no_some (position_or_len p xs) (sym e)
-    by false e = refl
-
-new_key : (ns : List ℕ) (t : ℕ) → position (nat_eq t) ns ≡ None → insert_key nat_eq ns t ≡ ns ++ t ∷ []
-new_key ns t none = ap (λ (x : Bool). cond x ns (ns ++ t ∷ [])) (position_none (nat_eq t) ns none)
-
-pub add_keeps : (keys keys' : List ℕ) (old new : List Purchase) (q : Purchase) → keys ≡ map number_of old → AllByRecursion Sound old
-    → place_of old (number_of q) ≡ None → keys' ≡ insert_key nat_eq keys (number_of q) → new ≡ old ++ q ∷ [] → Sound q
-    → (keys' ≡ map number_of new) × AllByRecursion Sound new
-add_keeps keys keys' old new q numbers all none inserted pushed sound = (
-  inserted ∙ ap (λ (ns : List ℕ). insert_key nat_eq ns (number_of q)) numbers ∙ new_key (map number_of old) (number_of q) none
-      ∙ sym (map-append number_of old (q ∷ [])) ∙ sym (ap (map number_of) pushed),
+pub add_keeps : (keys more : List ℕ) (old new : List Purchase) (q : Purchase) → keys ≡ map number_of old → AllByRecursion Sound old → more ≡ keys ++ number_of q ∷ []
+    → new ≡ old ++ q ∷ [] → Sound q → (more ≡ map number_of new) × AllByRecursion Sound new
+add_keeps keys more old new q numbers all added pushed sound = (
+  added ∙ ap (λ (ns : List ℕ). ns ++ number_of q ∷ []) numbers ∙ sym (map-append number_of old (q ∷ [])) ∙ sym (ap (map number_of) pushed),
   subst (AllByRecursion Sound) (sym pushed) (sound_push old q all sound),
 )
-
--- ---- an identifier more
-
-none_of : (o : Option (Bor ℕ)) (b : Bool) → is_some o ≡ not b → b ≡ true → option_copied o ≡ None
-none_of None b e is = refl
-none_of (Some x) b e is = absurd (false≢true (sym (e ∙ ap not is)))
-
-pub noted_new : (orders new : List (List ℕ × ℕ)) (epoid : List ℕ) (t : ℕ) (o : Option (Bor ℕ)) (b : Bool) → option_copied o ≡ lookup (pointwise nat_eq epoid) orders
-    → is_some o ≡ not b → b ≡ true → new ≡ insert_entry (pointwise nat_eq) orders epoid t → new ≡ noted orders epoid t
-noted_new orders new epoid t o b found test none_so is =
-    let none : lookup (pointwise nat_eq epoid) orders ≡ None = sym found ∙ none_of o b test none_so in
-    is ∙ insert_entry-absent (pointwise nat_eq) epoid t orders (absent_from_lookup (pointwise nat_eq epoid) orders none)
-    ∙ sym (ap (λ (o : Option ℕ). cond (is_some o) orders (orders ++ (epoid, t) ∷ [])) none)
-
-pub on_ok : {A E : Type 0} (r : Result A E) (x : A) (P : Type 0) → r ≡ Ok x → OnOk r P → P
-on_ok (Ok y) x P e is = is
-on_ok (Err f) x P e is = absurd cc
 
 pub pushed_so : (old held new : List Purchase) (start : Start) (none : List ℕ) → held ≡ old → none ≡ [] → new ≡ held ++ (record { start = start; stage = stage.Ticketing; held = none }) ∷ []
     → new ≡ old ++ fresh start ∷ []
@@ -124,11 +79,11 @@ pushed_so old held new start none a b c = c ∙ rw (a, b) refl
 
 -- ---- an order
 
-pub order_so : (b : Buyer) (t : ℕ) (order : Order) (part : List ℕ) (at : ℕ) (p : Purchase) (stage : Stage) (new : List Purchase) (reserved later : List (List ℕ × ℕ))
+pub order_so : (r : Result (Unit {0}) NoMemory) (b : Buyer) (t : ℕ) (order : Order) (part : List ℕ) (at : ℕ) (p : Purchase) (stage : Stage) (new : List Purchase) (later : List (List ℕ × ℕ)) (epoid : List ℕ)
     → place_of b.purchases t ≡ Some at → purchase_of b t ≡ Some p → stage ≡ ordered_from p.stage order
-    → new ≡ changed_at b.purchases (Some at) (changed_to stage (change.More part)) → reserved ≡ b.orders → later ≡ noted reserved (epoid_bytes order.epoid) t
-    → (let c : Buyer = record { wallet = b.wallet; purchases = new; orders = later } in c) ≡ remembered b (item.Ordered t order part)
-order_so b t order part at p stage new reserved later place found stage_is new_is reserved_is later_is =
+    → OnOk r (new ≡ changed_at b.purchases (Some at) (changed_to stage (change.More part))) → OnOk r (later ≡ noted b.orders epoid t) → epoid ≡ epoid_bytes order.epoid
+    → OnOk r (let c : Buyer = record { wallet = b.wallet; purchases = new; orders = later } in c ≡ remembered b (item.Ordered t order part))
+order_so (Ok done) b t order part at p stage new later epoid place found stage_is new_is later_is epoid_is =
     let got : slice_get b.purchases at ≡ Some p = sym (ap (purchase_at b.purchases) place) ∙ found in
     let first : new ≡ set b.purchases at (behind_item (item.Ordered t order part) p) =
     new_is ∙ ap (changed_with b.purchases at (changed_to stage (change.More part))) got
@@ -136,7 +91,9 @@ order_so b t order part at p stage new reserved later place found stage_is new_i
     let second : changed b.purchases t (behind_item (item.Ordered t order part)) ≡ set b.purchases at (behind_item (item.Ordered t order part) p) =
     ap (λ (o : Option ℕ). changed_at b.purchases o (behind_item (item.Ordered t order part))) place
     ∙ ap (changed_with b.purchases at (behind_item (item.Ordered t order part))) got in
-    rw (first ∙ sym second, later_is, reserved_is) refl
+    let noted_is : later ≡ noted b.orders (epoid_bytes order.epoid) t = later_is ∙ ap (λ (e : List ℕ). noted b.orders e t) epoid_is in
+    rw (first ∙ sym second, noted_is) refl
+order_so (Err none) b t order part at p stage new later epoid place found stage_is new_is later_is epoid_is = tt
 
 -- ---- the number of a purchase that was found
 

@@ -1,4 +1,5 @@
 pub mod State
+pub mod Firsts
 pub mod Table
 pub mod Deeds
 pub mod Goods

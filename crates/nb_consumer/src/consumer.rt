@@ -18,9 +18,14 @@ use std::alloc::Global;
 use std::marker::Model;
 
 /// A consumer: its wallet, and what its kept items say of each of its purchases. It is seen as these (`specs/State.antt`).
-#[derive(Drop)]
 pub struct Consumer {
     known: Knowledge,
+}
+
+impl Drop for Consumer {
+    fn drop(self) {
+        let Self { known: _ } = self;
+    }
 }
 
 impl Model for Consumer {

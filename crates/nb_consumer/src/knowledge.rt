@@ -1,5 +1,5 @@
-ghost use Rattle.std.specs.Prelude.{◌≡◌, ◌≤◌, ◌<◌, ◌+◌, [], length, map, is_some, is_none, option_copied, slice_get, IfOk, IfErr, IfSome, OnOk, OnErr, Some, None, Ok};
-ghost use Rattle.indexmap.specs.IndexMap.{spare};
+ghost use Rattle.std.specs.Prelude.{◌≡◌, ◌<◌, length, map, is_none, option_copied, slice_get, IfOk, IfSome, OnOk, OnErr, Some, None, Ok};
+ghost use Rattle.nb_consumer.specs.Firsts.{AreFirstOrders};
 ghost use Rattle.nb_consumer.specs.Deeds as deeds;
 ghost use Rattle.nb_consumer.specs.declared.deed.Deed.TheVariants as does;
 ghost use Rattle.nb_consumer.specs.Goods.{goods_in};
@@ -7,24 +7,25 @@ ghost use Rattle.nb_wallet.specs.Changes as changes;
 ghost use Rattle.nb_consumer.specs.State as state;
 ghost use Rattle.nb_wallet.specs.Spelling.{IsItem, ItemKeepsRules, item_bytes};
 ghost use Rattle.nb_wallet.specs.Stages.{end_of};
-ghost use Rattle.nb_consumer.specs.Table as table;
 ghost use Rattle.nb_msgs.specs.Steps.{StepKeepsRules};
 ghost use Rattle.nb_msgs.specs.Tests.{found};
 ghost use Rattle.nb_msgs.specs.declared.node.Reason.TheVariants.{Unknown};
 ghost use Rattle.nb_wallet.specs.declared.item.Item.TheVariants as items;
+ghost use Rattle.nb_wallet.specs.declared.purchase.Change.TheVariants as kinds;
 
 use crate::deed::{Deed, Halt};
-use indexmap::{IndexMap, IndexSet};
 use nb_body::GoodsHead;
 use nb_endorse::Signed;
 use nb_epo::Order;
 use nb_msgs::{End, Message, Reason, Step, To};
+use nb_numbers::Numbers;
 use nb_units::{Blob, Epoid, NoMemory, Price};
 use nb_wallet::{
     Change, Held, Item, Purchase, Stage, Start, Wallet, ordered_from, raised_from, stage_ended,
     wanted_from, with_head,
 };
 use std::alloc::Global;
+use std::collections::BTreeMap;
 use std::marker::Model;
 
 // What a consumer knows: its wallet, and what its kept items say of each of its purchases. It is seen as these (`specs/State.antt`).
@@ -33,10 +34,13 @@ pub(crate) struct Knowledge {
     alloc: Global,
     wallet: Wallet,
     // The number of each purchase, in their order.
-    numbers: IndexSet<u64>,
+    numbers: Numbers,
     purchases: Vec<Purchase>,
-    // For the identifier of each order the number of the purchase that was ordered with it first.
-    orders: IndexMap<[u8; 16], u64>,
+    // The identifier of each order, with the number of the purchase that was ordered with it first, in the order in which the identifiers came: a
+    // consumer is seen as this list. No look-up goes through it.
+    orders: Vec<([u8; 16], u64)>,
+    // The number by the identifier.
+    firsts: BTreeMap<[u8; 16], u64>,
 }
 
 impl Model for Knowledge {
@@ -44,25 +48,17 @@ impl Model for Knowledge {
     ghost use Rattle.std.specs.List.{AllByRecursion};
     ghost use Rattle.nb_consumer.specs.State.{Buyer, number_of};
     ghost use Rattle.nb_wallet.specs.Changes.{Sound};
+    ghost use Rattle.nb_consumer.specs.Firsts.{AreFirstOrders};
 
     ghost Value = { Buyer };
 
-    ghost view = { λ c. record { wallet = c.wallet; purchases = c.purchases.items; orders = c.orders.entries } };
+    ghost view = { λ c. record { wallet = c.wallet; purchases = c.purchases.items; orders = c.orders.items } };
 
     ghost invariant = { λ c. record {
-      numbers : c.numbers.keys ≡ map number_of c.purchases.items;
+      numbers : c.numbers ≡ map number_of c.purchases.items;
       sound : AllByRecursion Sound c.purchases.items;
+      firsts : AreFirstOrders c.firsts.entries c.orders.items;
     } };
-}
-
-// An identifier that has no purchase gets this one.
-fn note(orders: &mut IndexMap<[u8; 16], u64>, epoid: &[u8; 16], transaction: u64)
-    requires { 0 < spare orders.old }
-    ensures { orders.new.entries ≡ state.noted orders.old.entries epoid.now transaction }
-{
-    if orders.get(epoid).is_none() {
-        let _was = orders.insert(*epoid, transaction).unwrap();
-    }
 }
 
 // Changes the purchase at a place. After want of memory all is as before.
@@ -80,6 +76,43 @@ fn change_at(
     purchases[at].change(stage, parts)
 }
 
+// Changes the purchase at a place where goods are ordered: an identifier that has no purchase gets this one. After want of memory all is as before.
+fn order_at(
+    purchases: &mut Vec<Purchase>,
+    orders: &mut Vec<([u8; 16], u64)>,
+    firsts: &mut BTreeMap<[u8; 16], u64>,
+    at: usize,
+    stage: Stage,
+    part: Blob,
+    epoid: &[u8; 16],
+    transaction: u64,
+) -> Result<(), NoMemory>
+    requires within { at < length purchases.old.items }
+    requires fits { IfSome (slice_get purchases.old.items at) (λ p. changes.ChangeFits p.held (kinds.More part)) }
+    requires firsts { AreFirstOrders firsts.old.entries orders.old.items }
+    ensures changed { OnOk result (purchases.new.items ≡ state.changed_at purchases.old.items (Some at) (changes.changed_to stage (kinds.More part))) }
+    ensures noted { OnOk result (orders.new.items ≡ state.noted orders.old.items epoid.now transaction) }
+    ensures err { OnErr result (purchases.new.items ≡ purchases.old.items) }
+    ensures not_noted { OnErr result (orders.new.items ≡ orders.old.items) }
+    ensures firsts { AreFirstOrders firsts.new.entries orders.new.items }
+{
+    if firsts.contains_key(epoid) {
+        return change_at(purchases, at, stage, Change::More(part));
+    }
+    orders.reserve(1)?;
+    let _was = firsts.insert(*epoid, transaction)?;
+    match change_at(purchases, at, stage, Change::More(part)) {
+        Ok(()) => {
+            orders.push_reserved((*epoid, transaction));
+            Ok(())
+        }
+        Err(no) => {
+            let _noted = firsts.remove(epoid);
+            Err(no)
+        }
+    }
+}
+
 impl Knowledge {
     // Nothing was kept. It takes no memory now.
     pub(crate) fn new(alloc: Global, wallet: Wallet) -> Knowledge
@@ -88,9 +121,10 @@ impl Knowledge {
         Knowledge {
             alloc,
             wallet,
-            numbers: IndexSet::new(alloc),
+            numbers: Numbers::new(alloc),
             purchases: Vec::new(alloc),
-            orders: IndexMap::new(alloc),
+            orders: Vec::new(alloc),
+            firsts: BTreeMap::new(alloc),
         }
     }
 
@@ -117,7 +151,7 @@ impl Knowledge {
         ensures found { option_copied result ≡ state.purchase_of self.now transaction }
         ensures sound { IfSome result (λ p. changes.Sound p.now) }
     {
-        let at = self.numbers.get_index_of(&transaction)?;
+        let at = self.numbers.place_of(transaction)?;
         self.purchases.get(at)
     }
 
@@ -136,14 +170,14 @@ impl Knowledge {
     pub(crate) fn is_new(&self, transaction: u64) -> bool
         ensures { result ≡ is_none (state.place_of self.now.purchases transaction) }
     {
-        self.numbers.get_index_of(&transaction).is_none()
+        self.numbers.place_of(transaction).is_none()
     }
 
     // The number of the purchase that was ordered first with this identifier.
     fn ordered_with(&self, epoid: &Epoid) -> Option<u64>
         ensures { result ≡ state.ordered_with self.now.orders (state.epoid_bytes epoid.now) }
     {
-        self.orders.get(&epoid.write()).copied()
+        self.firsts.get(&epoid.write()).copied()
     }
 
     // The same, or the reason for which a message of it is ignored.
@@ -160,7 +194,7 @@ impl Knowledge {
         ensures err { OnErr result (self.new ≡ self.old) }
     {
         self.purchases.reserve(1)?;
-        let _new = self.numbers.insert(start.transaction)?;
+        self.numbers.add(start.transaction)?;
         self.purchases.push_reserved(Purchase {
             start,
             stage: Stage::Ticketing,
@@ -176,7 +210,7 @@ impl Knowledge {
         ensures changed { OnOk result (self.new ≡ record self.old { purchases = state.changed self.old.purchases transaction (changes.changed_to stage parts) }) }
         ensures err { OnErr result (self.new ≡ self.old) }
     {
-        match self.numbers.get_index_of(&transaction) {
+        match self.numbers.place_of(transaction) {
             Some(at) => change_at(&mut self.purchases, at, stage, parts),
             None => Ok(()),
         }
@@ -256,13 +290,19 @@ impl Knowledge {
             unreachable!()
         };
         let stage = ordered_from(&purchase.stage, &order);
-        self.orders.reserve(1)?;
-        let Some(at) = self.numbers.get_index_of(&transaction) else {
+        let Some(at) = self.numbers.place_of(transaction) else {
             unreachable!()
         };
-        change_at(&mut self.purchases, at, stage, Change::More(part))?;
-        note(&mut self.orders, &order.epoid.write(), transaction);
-        Ok(())
+        order_at(
+            &mut self.purchases,
+            &mut self.orders,
+            &mut self.firsts,
+            at,
+            stage,
+            part,
+            &order.epoid.write(),
+            transaction,
+        )
     }
 
     // A receipt came.

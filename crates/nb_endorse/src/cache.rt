@@ -111,13 +111,24 @@ fn is_last(last: &Option<KeyState>, key: &Secret) -> bool
 
 /// The states of keys that a house keeps from one request to the next: of its own key, of the operator's, those of merchants and of
 /// consumers by their numbers, on [`PARTY_SLOTS`] slots each, and those of who asks for a status by the first bytes of their keys, on [`ASKER_SLOTS`].
-#[derive(Drop)]
 pub struct KeptStates {
     house: StateCache,
     operator: StateCache,
     merchants: StateCache,
     consumers: StateCache,
     askers: StateCache,
+}
+
+impl Drop for KeptStates {
+    fn drop(self) {
+        let Self {
+            house: _,
+            operator: _,
+            merchants: _,
+            consumers: _,
+            askers: _,
+        } = self;
+    }
 }
 
 impl KeptStates {

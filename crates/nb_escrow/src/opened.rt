@@ -24,10 +24,18 @@ use std::marker::Model;
 /// What was opened of an endorsed order before its turn, under the keys that were known then: what its sealed endorsement gave, and the
 /// tests of the order in it, refusals too. It promises nothing of the request that it was made of: what it holds of its own bytes and keys is its
 /// invariant, and what is decided does not depend on it. Where a turn has other bytes, or parties of other keys, the work is done there.
-#[derive(Drop)]
 pub struct OpenedOrder {
     endorsement: OpenedEndorsement,
     order: Option<TestedOrder>,
+}
+
+impl Drop for OpenedOrder {
+    fn drop(self) {
+        let Self {
+            endorsement: _,
+            order: _,
+        } = self;
+    }
 }
 
 impl OpenedOrder {

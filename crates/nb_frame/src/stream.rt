@@ -41,11 +41,20 @@ pub enum Next {
 }
 
 /// The frames of a stream that is fed piece by piece.
-#[derive(Drop)]
 pub struct Frames {
     held: Vec<u8>,
     at: usize,
     taken: u64,
+}
+
+impl Drop for Frames {
+    fn drop(self) {
+        let Self {
+            held: _,
+            at: _,
+            taken: _,
+        } = self;
+    }
 }
 
 impl Model for Frames {

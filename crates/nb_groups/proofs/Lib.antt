@@ -10,3 +10,4 @@ pub mod Least
 pub mod Exactly
 pub mod Quotes
 pub mod OneReading
+pub mod Prices

@@ -1,5 +1,5 @@
--- Offers by product and group, in a list and in the entries of a map.
-use Rattle.std.proofs.Common.{◌≡◌, ℕ, true, false, List, [], ◌∷◌, ◌++◌, map, Option, None, Some, refl, sym, ap, subst, ◌∙◌}
+-- Offers by product and group, in a list and in pairs.
+use Rattle.std.proofs.Common.{◌≡◌, ℕ, true, false, List, [], ◌∷◌, ◌++◌, map, Option, None, Some, refl, ap, subst, ◌∙◌}
 use Rattle.std.specs.List.{IsDistinct}
 use Rattle.std.specs.Prelude.{cond, is_some}
 use Rattle.std.specs.Map.{lookup, keys_of}
@@ -8,7 +8,7 @@ use Rattle.std.proofs.lemmas.Bool.{false≢true}
 use Rattle.nb_groups.specs.declared.found.Offer.{Offer}
 use Rattle.nb_groups.specs.Offers.{key_of, same_key, AreApart, offer_at, price_for}
 
--- the map has the price that the list has
+-- the pairs have the price that the list has
 pub looked_up : (entries : List ((ℕ × ℕ) × ℕ)) (key : ℕ × ℕ) → lookup (same_key key) entries ≡ price_for (map offer_at entries) key
 looked_up [] key = refl
 looked_up (e ∷ entries) key = ap (cond (same_key key e.0) (Some e.1)) (looked_up entries key)
@@ -25,12 +25,8 @@ some_is_not_none (Some n) is e = no_some n e
     no_some : (x : ℕ) → ◌≡◌ {A = Option ℕ} (Some x) None → ⊥
     no_some x e = cc
 
-pub none_where_not_some : (o : Option ℕ) → is_some o ≡ false → o ≡ None
-none_where_not_some None is = refl
-none_where_not_some (Some n) is = absurd (false≢true (sym is))
-
--- the keys of a map's offers are those of the map
-keys_again : (entries : List ((ℕ × ℕ) × ℕ)) → keys_of entries ≡ map key_of (map offer_at entries)
+-- the keys of the offers of pairs are those of the pairs
+pub keys_again : (entries : List ((ℕ × ℕ) × ℕ)) → keys_of entries ≡ map key_of (map offer_at entries)
 keys_again [] = refl
 keys_again (e ∷ entries) = ap (λ (l : List (ℕ × ℕ)). e.0 ∷ l) (keys_again entries)
 

@@ -7,7 +7,7 @@ use Rattle.std.proofs.lemmas.Bool.{eqb-true, false≢true}
 use Rattle.std.proofs.lemmas.Grind.{flat_map-append}
 use Rattle.std.proofs.lemmas.List.{map-append}
 use Rattle.std.proofs.lemmas.Map.Keys.{IsDistinct-push}
-use Rattle.indexmap.proofs.CallerLemmas.{Contains-list_any}
+use Rattle.std.proofs.lemmas.Map.Views.{Contains-from_any}
 use Rattle.std.specs.Fmt.{decimal}
 use Rattle.nb_groups.specs.declared.found.Offer.{Offer}
 use Rattle.nb_groups.specs.declared.fault.OffersFault.{OffersFault}
@@ -16,7 +16,7 @@ use Rattle.nb_groups.specs.Offers.{Tariff, IsOffer, offer_bytes, offers_bytes, k
 use Rattle.nb_groups.specs.Reads.{Front, FailsAt, ReadsLines, Adds}
 
 -- the keys of offers are told apart
-keys_equiv : IsEquivalence same_key
+pub keys_equiv : IsEquivalence same_key
 keys_equiv = and_equiv (on_equiv (λ t. t.0) nat_eq_equiv) (on_equiv (λ t. t.1) nat_eq_equiv)
 
 pub same_keys : (a b : ℕ × ℕ) → same_key a b ≡ true → a ≡ b
@@ -54,7 +54,7 @@ all_more [] o all is = (is, tt)
 all_more (p ∷ offers) o all is = (all.0, all_more offers o all.1 is)
 
 -- where no price is found, there is no such offer; where one is, there is one
-absent : (offers : List Offer) (key : ℕ × ℕ) → price_for offers key ≡ None → list_any (same_key key) (map key_of offers) ≡ false
+pub absent : (offers : List Offer) (key : ℕ × ℕ) → price_for offers key ≡ None → list_any (same_key key) (map key_of offers) ≡ false
 absent [] key e = refl
 absent (o ∷ offers) key none = by (absent offers key) (same_key key (key_of o)) refl
   where
@@ -125,7 +125,7 @@ not_added bytes rest next old new number o (Twice n) so begins adds = record {
   front = so.front;
   number = omega (arith, adds.0, so.number);
   begins = begins;
-  held = Contains-list_any same_key same_keys (map key_of old.offers) (key_of o) (present old.offers (key_of o) adds.1);
+  held = Contains-from_any {eq = same_key} same_keys (key_of o) (map key_of old.offers) (present old.offers (key_of o) adds.1);
 }
 not_added bytes rest next old new number o NoMemory so begins adds = record {
   tariff = old;

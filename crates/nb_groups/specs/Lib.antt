@@ -5,3 +5,4 @@ pub mod Offers
 pub mod Reads
 pub mod Quote
 pub mod Laws
+pub mod Prices

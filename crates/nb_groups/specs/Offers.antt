@@ -22,7 +22,7 @@ key_of o = (o.product, o.group)
 abbrev pub same_key : ℕ × ℕ → ℕ × ℕ → Bool
 same_key a b = nat_eq a.0 b.0 && nat_eq a.1 b.1
 
--- that of an entry of the map
+-- that of a product and a group, and a price
 abbrev pub offer_at : (ℕ × ℕ) × ℕ → Offer
 offer_at e = record { product = e.0.0; group = e.0.1; price = e.1 }
 

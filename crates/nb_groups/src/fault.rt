@@ -1,4 +1,4 @@
-use std::alloc::AllocFailed;
+use nb_units::NoMemory;
 
 /// Why a list of offers was not read.
 #[derive(Clone, Copy, Debug)]
@@ -13,13 +13,13 @@ pub enum OffersFault {
     NoMemory,
 }
 
-impl<T: Drop> From<AllocFailed<T>> for OffersFault {
+impl From<NoMemory> for OffersFault {
     ghost use Rattle.std.specs.Prelude.{◌≡◌};
     ghost use Rattle.nb_groups.specs.declared.fault.OffersFault.TheVariants as fault;
 
     ghost from_gives = { λ _ e. e ≡ fault.NoMemory };
 
-    fn from(_failed: AllocFailed<T>) -> OffersFault {
+    fn from(_none: NoMemory) -> OffersFault {
         OffersFault::NoMemory
     }
 }

@@ -4,7 +4,6 @@ ghost use Rattle.std.specs.Prelude.{◌≡◌, ◌≤◌, ◌<◌, ◌+◌, ◌=
 ghost use Rattle.nb_groups.specs.Quote.{least, group_at};
 
 use crate::limits::MAX_GROUPS;
-use arrayvec::ArrayVec;
 use std::marker::Model;
 
 // For the members of a group a product has this price.
@@ -18,16 +17,20 @@ pub(crate) struct Offer {
 // Offers, at most four. It is seen as their list.
 #[derive(Drop)]
 pub(crate) struct Found {
-    offers: ArrayVec<Offer, MAX_GROUPS>,
+    offers: [Offer; MAX_GROUPS],
+    len: usize,
 }
 
 impl Model for Found {
-    ghost use Rattle.std.specs.Prelude.{List};
+    ghost use Rattle.std.specs.Prelude.{◌≤◌, List, take};
     ghost use Rattle.nb_groups.specs.declared.found.Offer.{Offer};
+    ghost use Rattle.nb_groups.specs.declared.limits.TheConstants.{MAX_GROUPS};
 
     ghost Value = { List Offer };
 
-    ghost view = { λ f. f.offers.items };
+    ghost view = { λ f. take f.len f.offers };
+
+    ghost invariant = { λ f. f.len ≤ MAX_GROUPS };
 }
 
 impl Found {
@@ -36,7 +39,8 @@ impl Found {
         ensures { result ≡ [] }
     {
         Found {
-            offers: ArrayVec::new(),
+            offers: [Offer::default(); MAX_GROUPS],
+            len: 0,
         }
     }
 
@@ -45,14 +49,22 @@ impl Found {
         requires { length self.old < 4 }
         ensures { self.new ≡ self.old ++ offer ∷ [] }
     {
-        self.offers.push(offer);
+        self.offers[self.len] = offer;
+        self.len += 1;
+    }
+
+    // The offers.
+    fn as_slice(&self) -> &[Offer]
+        ensures { result.now ≡ self.now }
+    {
+        self.offers.split_at(self.len).0
     }
 
     // Whether there is none.
     pub(crate) fn is_empty(&self) -> bool
         ensures { result ≡ (length self.now == 0) }
     {
-        self.offers.is_empty()
+        self.as_slice().is_empty()
     }
 
     // The least of a price and those of the offers.
@@ -60,7 +72,7 @@ impl Found {
         ensures { result ≡ least price self.now }
     {
         let mut least = price;
-        for offer in self.offers.as_slice() {
+        for offer in self.as_slice() {
             least = least.min(u64::from(offer.price));
         }
         least
@@ -70,7 +82,7 @@ impl Found {
     pub(crate) fn group_at(&self, price: u64) -> Option<u32>
         ensures { result ≡ group_at price self.now }
     {
-        for next in self.offers.as_slice() {
+        for next in self.as_slice() {
             if u64::from(next.price) == price {
                 return Some(next.group);
             }

@@ -1,11 +1,10 @@
 //! The groups of a credential, as numbers, as a word and as bytes.
 
-ghost use Rattle.std.specs.Prelude.{◌≡◌, ◌≤◌, ◌*◌, ℕ, List, length, Some, IfSome, IsTrue};
+ghost use Rattle.std.specs.Prelude.{◌≡◌, ◌≤◌, ◌<◌, ◌*◌, ◌++◌, ◌∷◌, [], ℕ, List, length, Some, IfSome};
 ghost use Rattle.nb_groups.specs.declared.limits.TheConstants.{GROUPS_BYTES};
 ghost use Rattle.nb_groups.specs.Groups as lists;
 
 use crate::limits::{COMMA, GROUP, MAX_GROUPS};
-use arrayvec::ArrayVec;
 use nb_price::numbered;
 use nb_units::{Buffer, decimal_of, u32_of};
 use std::marker::Model;
@@ -13,15 +12,19 @@ use std::marker::Model;
 /// Numbers of groups, at most four. It is seen as their list.
 #[derive(Drop)]
 pub struct Groups {
-    numbers: ArrayVec<u32, MAX_GROUPS>,
+    numbers: [u32; MAX_GROUPS],
+    len: usize,
 }
 
 impl Model for Groups {
-    ghost use Rattle.std.specs.Prelude.{ℕ, List};
+    ghost use Rattle.std.specs.Prelude.{ℕ, ◌≤◌, List, take};
+    ghost use Rattle.nb_groups.specs.declared.limits.TheConstants.{MAX_GROUPS};
 
     ghost Value = { List ℕ };
 
-    ghost view = { λ g. g.numbers.items };
+    ghost view = { λ g. take g.len g.numbers };
+
+    ghost invariant = { λ g. g.len ≤ MAX_GROUPS };
 }
 
 /// Whether a credential may name these groups: 1 to 4, each greater than the one before it.
@@ -46,7 +49,7 @@ impl Groups {
         // of each such list of groups that it names
         ensures each { (groups : List ℕ) → lists.AreGroups groups → word.now ≡ lists.groups_text groups → result ≡ Some groups }
     {
-        let mut numbers = ArrayVec::new();
+        let mut numbers = Groups::new();
         let mut rest = word;
         'naming: while let Some((group, behind)) = numbered(rest, COMMA) {
             if numbers.len() + 1 == MAX_GROUPS {
@@ -63,7 +66,7 @@ impl Groups {
         if !are_groups(numbers.as_slice()) {
             return None;
         }
-        Some(Groups { numbers })
+        Some(numbers)
     }
 
     // The numbers that the bytes spell, four bytes each; fewer at the end spell none.
@@ -71,14 +74,14 @@ impl Groups {
         requires { length text.now ≤ GROUPS_BYTES }
         ensures { result ≡ lists.groups_in text.now }
     {
-        let mut numbers = ArrayVec::new();
+        let mut numbers = Groups::new();
         let mut rest = text;
         while rest.len() >= GROUP {
             let (number, behind) = rest.split_at(GROUP);
             numbers.push(u32_of(number));
             rest = behind;
         }
-        Groups { numbers }
+        numbers
     }
 
     /// The numbers.
@@ -86,7 +89,33 @@ impl Groups {
         ensures value { result.now ≡ self.now }
         ensures short { length result.now ≤ 4 }
     {
-        self.numbers.as_slice()
+        self.numbers.split_at(self.len).0
+    }
+
+    // No number.
+    fn new() -> Groups
+        ensures { result ≡ [] }
+    {
+        Groups {
+            numbers: [0; MAX_GROUPS],
+            len: 0,
+        }
+    }
+
+    // How many numbers there are.
+    fn len(&self) -> usize
+        ensures { result ≡ length self.now }
+    {
+        self.len
+    }
+
+    // One number more.
+    fn push(&mut self, number: u32)
+        requires { length self.old < 4 }
+        ensures { self.new ≡ self.old ++ number ∷ [] }
+    {
+        self.numbers[self.len] = number;
+        self.len += 1;
     }
 }
 

@@ -1,6 +1,6 @@
 //! The lines of a list of offers.
 
-ghost use Rattle.std.specs.Prelude.{◌≡◌, IfSome, IsNone, List, ℕ};
+ghost use Rattle.std.specs.Prelude.{IfSome, IsNone, List, ℕ};
 ghost use Rattle.nb_groups.specs.declared.found.Offer.{Offer};
 ghost use Rattle.nb_groups.specs.Offers.{BeginsWithKeeper, BeginsWith, IsFound};
 

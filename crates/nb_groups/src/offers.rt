@@ -1,36 +1,55 @@
-ghost use Rattle.std.specs.Prelude.{◌≡◌, ◌≤◌, [], length};
+ghost use Rattle.std.specs.Prelude.{◌≡◌, ◌≤◌, ◌++◌, ◌∷◌, [], length, None, OnOk, OnErr};
+ghost use Rattle.std.specs.List.{IsDistinct};
+ghost use Rattle.std.specs.Map.{lookup, keys_of};
 ghost use Rattle.nb_groups.specs.declared.limits.TheConstants.{OFFERS_BYTES};
-ghost use Rattle.nb_groups.specs.Offers.{AreApart, price_for, offers_for};
+ghost use Rattle.nb_groups.specs.Offers.{AreApart, same_key, price_for, offers_for};
+ghost use Rattle.nb_groups.specs.Prices.{AreFirstPrices};
 ghost use Rattle.nb_groups.specs.Reads.{ReadsOffers, ReadsFront, ReadsLines, Adds};
 
 use crate::fault::OffersFault;
 use crate::found::{Found, Offer};
 use crate::line::{keeper_of, offer_of};
-use indexmap::IndexMap;
 use nb_price::LINE_FEED;
-use nb_units::Secret;
+use nb_units::{NoMemory, Secret};
 use std::alloc::Global;
+use std::collections::BTreeMap;
 use std::marker::Model;
 
 /// What a merchant offers to the members of groups, and the key of the keeper of these groups. It is seen as that key and the list of offers, in the
 /// order of their lines.
-#[derive(Drop)]
 pub struct Offers {
     pub(crate) keeper: Secret,
-    // The price of a product for a group.
-    prices: IndexMap<(u32, u32), u32>,
+    // The price of a product for a group, in the order of the lines: offers are seen as this list. No look-up goes through it.
+    prices: Vec<((u32, u32), u32)>,
+    // The price by the product and the group.
+    by_key: BTreeMap<(u32, u32), u32>,
+}
+
+impl Drop for Offers {
+    fn drop(self) {
+        let Self {
+            keeper: _,
+            prices: _,
+            by_key: _,
+        } = self;
+    }
 }
 
 impl Model for Offers {
     ghost use Rattle.std.specs.Prelude.{map};
-    ghost use Rattle.indexmap.specs.IndexMap.{IsUnique};
+    ghost use Rattle.std.specs.List.{IsDistinct};
+    ghost use Rattle.std.specs.Map.{keys_of};
     ghost use Rattle.nb_groups.specs.Offers.{Tariff, offer_at, same_key};
+    ghost use Rattle.nb_groups.specs.Prices.{AreFirstPrices};
 
     ghost Value = { Tariff };
 
-    ghost view = { λ o. record { keeper = o.keeper; offers = map offer_at o.prices.entries } };
+    ghost view = { λ o. record { keeper = o.keeper; offers = map offer_at o.prices.items } };
 
-    ghost invariant = { λ o. IsUnique same_key o.prices };
+    ghost invariant = { λ o. record {
+      apart : IsDistinct same_key (keys_of o.prices.items);
+      firsts : AreFirstPrices o.by_key.entries o.prices.items;
+    } };
 }
 
 // The offers of the lines at the front of bytes, how many lines these are, and what follows them.
@@ -38,6 +57,27 @@ struct Lines<'a> {
     offers: Offers,
     number: u32,
     rest: &'a [u8],
+}
+
+// A price for a product and a group that have none. After want of memory all is as before.
+fn put(
+    prices: &mut Vec<((u32, u32), u32)>,
+    by_key: &mut BTreeMap<(u32, u32), u32>,
+    key: (u32, u32),
+    price: u32,
+) -> Result<(), NoMemory>
+    requires apart { IsDistinct same_key (keys_of prices.old.items) }
+    requires firsts { AreFirstPrices by_key.old.entries prices.old.items }
+    requires new { lookup (same_key key) prices.old.items ≡ None }
+    ensures apart { IsDistinct same_key (keys_of prices.new.items) }
+    ensures firsts { AreFirstPrices by_key.new.entries prices.new.items }
+    ensures added { OnOk result (prices.new.items ≡ prices.old.items ++ (key, price) ∷ []) }
+    ensures err { OnErr result (prices.new.items ≡ prices.old.items) }
+{
+    prices.reserve(1)?;
+    let _was = by_key.insert(key, price)?;
+    prices.push_reserved((key, price));
+    Ok(())
 }
 
 impl Offers {
@@ -81,12 +121,14 @@ impl Offers {
     }
 
     // The keeper's key, and no offer.
+    #[tactic(auto, using(crate::proofs::Prices::none_apart))]
     fn new(alloc: Global, keeper: &Secret) -> Offers
         ensures { result ≡ (record { keeper = keeper.now; offers = [] }) }
     {
         Offers {
             keeper: *keeper,
-            prices: IndexMap::new(alloc),
+            prices: Vec::new(alloc),
+            by_key: BTreeMap::new(alloc),
         }
     }
 
@@ -94,12 +136,11 @@ impl Offers {
     fn add(&mut self, line: u32, offer: Offer) -> Result<(), OffersFault>
         ensures { Adds self.old self.new line offer result }
     {
-        let was = self
-            .prices
-            .insert((offer.product, offer.group), offer.price)?;
-        if was.is_some() {
+        let key = (offer.product, offer.group);
+        if self.by_key.contains_key(&key) {
             return Err(OffersFault::Twice { line });
         }
+        put(&mut self.prices, &mut self.by_key, key, offer.price)?;
         Ok(())
     }
 
@@ -114,7 +155,7 @@ impl Offers {
     fn price_for(&self, product: u32, group: u32) -> Option<u32>
         ensures { result ≡ price_for self.now.offers (product, group) }
     {
-        match self.prices.get(&(product, group)) {
+        match self.by_key.get(&(product, group)) {
             Some(price) => Some(*price),
             None => None,
         }

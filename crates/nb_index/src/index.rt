@@ -10,7 +10,6 @@ use std::alloc::Global;
 use std::marker::Model;
 
 /// Numbers under keys, each key put once, in memory that [`FixedIndex::new`] takes.
-#[derive(Drop)]
 pub struct FixedIndex {
     // By which keys fall on slots.
     key: [u8; 16],
@@ -20,6 +19,17 @@ pub struct FixedIndex {
     puts: Vec<Put>,
     // For each put the number of the one before it at its slot.
     before: Vec<u32>,
+}
+
+impl Drop for FixedIndex {
+    fn drop(self) {
+        let Self {
+            key: _,
+            lasts: _,
+            puts: _,
+            before: _,
+        } = self;
+    }
 }
 
 impl Model for FixedIndex {

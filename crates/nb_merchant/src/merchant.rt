@@ -36,7 +36,6 @@ use std::marker::Model;
 use std::mem;
 
 /// A merchant: who it is, what it sells, what it offers to groups, and what it kept.
-#[derive(Drop)]
 pub struct Merchant {
     stall: Stall,
     catalogue: Catalogue,
@@ -47,6 +46,19 @@ pub struct Merchant {
     sales: BTreeMap<Purchase, Held>,
     // The goods that were sealed, in the order of their serial numbers, which begin at 1.
     deliveries: Vec<Delivery>,
+}
+
+impl Drop for Merchant {
+    fn drop(self) {
+        let Self {
+            stall: _,
+            catalogue: _,
+            offers: _,
+            items: _,
+            sales: _,
+            deliveries: _,
+        } = self;
+    }
 }
 
 impl Model for Merchant {

@@ -12,7 +12,6 @@ use std::marker::Model;
 
 /// A link to one address, which dials it anew at the first write of an exchange where the other side ended it before. An exchange is some
 /// writes, and the reads behind them: it ends by a read alone, so that behind a write that failed a read comes first.
-#[derive(Drop)]
 pub struct DialLink<D: Dialler> {
     dialler: D,
     link: TcpLink<D::Joined>,
@@ -20,6 +19,17 @@ pub struct DialLink<D: Dialler> {
     speaking: bool,
     // the link is over
     over: bool,
+}
+
+impl<D: Dialler> Drop for DialLink<D> {
+    fn drop(self) {
+        let Self {
+            dialler: _,
+            link: _,
+            speaking: _,
+            over: _,
+        } = self;
+    }
 }
 
 impl<D: Dialler> Model for DialLink<D> {

@@ -20,7 +20,6 @@ use std::marker::Model;
 use std::net::TcpStream;
 
 /// A link over a socket, which waits no longer than its limits allow.
-#[derive(Drop)]
 pub struct TcpLink<S: Socket> {
     pub(crate) socket: S,
     pub(crate) limits: Limits,
@@ -28,6 +27,19 @@ pub struct TcpLink<S: Socket> {
     since: Option<u64>,
     pub(crate) read_faults: u64,
     pub(crate) write_faults: u64,
+}
+
+impl<S: Socket> Drop for TcpLink<S> {
+    fn drop(self) {
+        let Self {
+            socket: _,
+            limits: _,
+            place: _,
+            since: _,
+            read_faults: _,
+            write_faults: _,
+        } = self;
+    }
 }
 
 impl<S: Socket> Model for TcpLink<S> {
@@ -124,7 +136,8 @@ impl<S: Socket> TcpLink<S> {
             limits,
             place,
             since,
-            ..
+            read_faults: _,
+            write_faults: _,
         } = link;
         *self = TcpLink {
             socket,

@@ -17,13 +17,24 @@ pub const MAX_TRIES: u32 = u32::MAX;
 
 /// A port over a listener, which gives so many links as it was made with. Where none is left its listener is closed: it is closed
 /// before the last one is given.
-#[derive(Drop)]
 pub struct TcpPort<A: Listener> {
     listener: A,
     limits: Limits,
     left: u32,
     out: u32,
     faults: u64,
+}
+
+impl<A: Listener> Drop for TcpPort<A> {
+    fn drop(self) {
+        let Self {
+            listener: _,
+            limits: _,
+            left: _,
+            out: _,
+            faults: _,
+        } = self;
+    }
 }
 
 impl<A: Listener> Model for TcpPort<A> {

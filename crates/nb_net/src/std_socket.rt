@@ -13,12 +13,21 @@ use std::os::fd::AsRawFd;
 use std::time::Duration;
 
 /// A connected stream of std.
-#[derive(Drop)]
 pub struct StdSocket {
     stream: TcpStream,
     // what it was told last, and asked for
     moment: u64,
     until: u64,
+}
+
+impl Drop for StdSocket {
+    fn drop(self) {
+        let Self {
+            stream: _,
+            moment: _,
+            until: _,
+        } = self;
+    }
 }
 
 impl StdSocket {
@@ -139,9 +148,14 @@ fn number(n: u8) -> [u8; 16] {
 }
 
 /// A listener of std, until it is closed.
-#[derive(Drop)]
 pub struct StdListener {
     listener: Option<TcpListener>,
+}
+
+impl Drop for StdListener {
+    fn drop(self) {
+        let Self { listener: _ } = self;
+    }
 }
 
 impl StdListener {

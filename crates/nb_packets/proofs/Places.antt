@@ -1,11 +1,10 @@
 -- Where a node stands among the others, by its number.
-use Rattle.std.proofs.Common.{◌≡◌, ℕ, zero, suc, ◌+◌, ◌≤◌, ◌<◌, Bool, true, false, cond, List, [], ◌∷◌, ◌++◌, map, set, length, get_or, Option, Some, None, refl, sym, ap, subst, ◌∙◌, arith}
-use Rattle.std.specs.Prelude.{slice_get, position, nat_eq, nat_lt, not, ◌||◌}
-use Rattle.std.specs.List.{prefix_len, position_or_len, list_any}
-use Rattle.std.proofs.lemmas.Bool.{eqb-true, eq-eqb, false≢true, ltb-false}
+use Rattle.std.proofs.Common.{◌≡◌, ℕ, zero, suc, ◌+◌, ◌<◌, Bool, true, false, cond, List, [], ◌∷◌, ◌++◌, map, set, length, get_or, Option, Some, None, refl, sym, ap, ◌∙◌, arith}
+use Rattle.std.specs.Prelude.{slice_get, position, nat_eq, nat_lt, not}
+use Rattle.std.specs.List.{prefix_len}
+use Rattle.std.proofs.lemmas.Bool.{eqb-true, eq-eqb, false≢true}
 use Rattle.std.proofs.lemmas.List.{length-map, map-append}
 use Rattle.std.proofs.lemmas.Option.{slice_get-get_or}
-use Rattle.indexmap.specs.IndexSet.{insert_key}
 
 no_some : {A : Type 0} {B : Type 0} (x : A) → ◌≡◌ {A = Option A} None (Some x) → B
 no_some x e = absurd cc
@@ -53,29 +52,13 @@ numbers_at f xs i was now d within is same = numbers_set f xs i was now (stands_
 
 -- ---- a number more
 
-any_none : (p : ℕ → Bool) (xs : List ℕ) → length xs ≤ prefix_len (λ x. not (p x)) xs → list_any p xs ≡ false
-any_none p [] h = refl
-any_none p (x ∷ xs) h = by (any_none p xs) (p x) refl h
-  where
-    by : (length xs ≤ prefix_len (λ x. not (p x)) xs → list_any p xs ≡ false) → (b : Bool) → p x ≡ b → suc (length xs) ≤ cond (not (p x)) (1 + prefix_len (λ x. not (p x)) xs) 0
-        → (p x || list_any p xs) ≡ false
-    by rest true is h = absurd (omega (arith, subst (λ (b : Bool). suc (length xs) ≤ cond (not b) (1 + prefix_len (λ x. not (p x)) xs) 0) is h))
-    by rest false is h = rw is (rest (omega (arith, subst (λ (b : Bool). suc (length xs) ≤ cond (not b) (1 + prefix_len (λ x. not (p x)) xs) 0) is h)))
-
-position_none : (p : ℕ → Bool) (xs : List ℕ) → position p xs ≡ None → list_any p xs ≡ false
-position_none p xs none = any_none p xs (ltb-false (position_or_len p xs) (length xs) (by (nat_lt (position_or_len p xs) (length xs)) none))
-  where
-    by : (b : Bool) → cond b (Some (position_or_len p xs)) None ≡ None → b ≡ false
-    by true e = no_some (position_or_len p xs) (sym e)
-    by false e = refl
-
 -- a node with a new number behind the others
-pub numbers_more : {A : Type 0} (f : A → ℕ) (keys more : List ℕ) (old new : List A) (x : A) → keys ≡ map f old → position (λ (y : A). nat_eq (f y) (f x)) old ≡ None
-    → more ≡ insert_key nat_eq keys (f x) → new ≡ old ++ x ∷ [] → more ≡ map f new
-numbers_more f keys more old new x numbers none inserted pushed =
-    let fresh : list_any (nat_eq (f x)) (map f old) ≡ false = position_none (nat_eq (f x)) (map f old) (position_number (f x) f old ∙ none) in
-    inserted ∙ ap (λ (ns : List ℕ). insert_key nat_eq ns (f x)) numbers ∙ ap (λ (b : Bool). cond b (map f old) (map f old ++ f x ∷ [])) fresh
-    ∙ sym (map-append f old (x ∷ [])) ∙ sym (ap (map f) pushed)
+pub numbers_more : {A : Type 0} (f : A → ℕ) (keys more : List ℕ) (old new : List A) (x : A) → keys ≡ map f old → more ≡ keys ++ f x ∷ [] → new ≡ old ++ x ∷ [] → more ≡ map f new
+numbers_more f keys more old new x numbers added pushed = added ∙ ap (λ (ns : List ℕ). ns ++ f x ∷ []) numbers ∙ sym (map-append f old (x ∷ [])) ∙ sym (ap (map f) pushed)
+
+-- its number is not among the numbers, where no node has it
+pub number_new : {A : Type 0} (k : ℕ) (f : A → ℕ) (keys : List ℕ) (xs : List A) → keys ≡ map f xs → position (λ (x : A). nat_eq (f x) k) xs ≡ None → position (nat_eq k) keys ≡ None
+number_new k f keys xs numbers none = ap (position (nat_eq k)) numbers ∙ position_number k f xs ∙ none
 
 -- something stands at each place within a list
 pub there_is : {A : Type 0} (xs : List A) (i : ℕ) → i < length xs → (x : A) × (slice_get xs i ≡ Some x)

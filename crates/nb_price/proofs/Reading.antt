@@ -7,7 +7,7 @@ use Rattle.std.proofs.lemmas.Bool.{eqb-true, false≢true}
 use Rattle.std.proofs.lemmas.Grind.{flat_map-append}
 use Rattle.std.proofs.lemmas.List.{map-append}
 use Rattle.std.proofs.lemmas.Map.Keys.{IsDistinct-push}
-use Rattle.indexmap.proofs.CallerLemmas.{Contains-list_any}
+use Rattle.std.proofs.lemmas.Map.Views.{Contains-from_any}
 use Rattle.std.specs.Fmt.{decimal}
 use Rattle.nb_price.specs.Shelf.{Item, IsItem, item_bytes, shelf_bytes, ids, BeginsWith, BeginsWithNone}
 use Rattle.nb_price.specs.Products.{Product, product_of, products_of, product_in}
@@ -117,7 +117,7 @@ repeats bytes rest next found item x so begins some =
       number = omega (arith, so.number);
       begins = begins;
       same = refl;
-      held = Contains-list_any nat_eq eqb-true (ids so.items) x.id (present so.items x.id held);
+      held = Contains-from_any {eq = nat_eq} eqb-true x.id (ids so.items) (present so.items x.id held);
     }
 
 -- nothing is left

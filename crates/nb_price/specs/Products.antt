@@ -17,7 +17,7 @@ product_of x = record { id = x.id; price = x.price; goods = x.goods }
 abbrev pub products_of : List Item → List Product
 products_of items = map product_of items
 
--- that of an entry of the map
+-- that of a number and what is held of it
 abbrev pub product_at : ℕ × Goods → Product
 product_at e = record { id = e.0; price = e.1.price; goods = e.1.bytes.items }
 

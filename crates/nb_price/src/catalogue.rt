@@ -1,14 +1,15 @@
-ghost use Rattle.std.specs.Prelude.{◌≡◌, ◌≤◌, ◌+◌, ◌++◌, ◌∷◌, [], length, IfOk, IfErr, OnOk, Contains, map, None};
+ghost use Rattle.std.specs.Prelude.{◌≡◌, ◌≤◌, ◌++◌, ◌∷◌, [], length, nat_eq, option_copied, IfOk, OnOk, OnErr, map, None};
+ghost use Rattle.std.specs.Map.{lookup, keys_of};
 ghost use Rattle.nb_price.specs.declared.limits.TheConstants.{MAX_SHELF};
-ghost use Rattle.nb_price.specs.Products.{product_in, Product};
+ghost use Rattle.nb_price.specs.Products.{Product};
 ghost use Rattle.nb_price.specs.Putting.{PutsProduct};
 ghost use Rattle.nb_price.specs.Reads.{ReadsShelf, Quotes, Holds, Adds};
 
 use crate::fault::{NoProduct, PutFault, ShelfFault};
 use crate::limits::MAX_PRICE;
 use crate::line::{Found, item_of};
-use indexmap::IndexMap;
 use nb_goods::MAX_GOODS;
+use nb_numbers::Numbers;
 use nb_units::{NoMemory, Price};
 use std::alloc::{AllocError, Global};
 use std::marker::Model;
@@ -35,18 +36,61 @@ impl Clone for Goods {
 
 /// Products by their numbers. It is seen as the list of them, in the order of the shelf that they were read from, and behind these in that
 /// in which they were put.
-#[derive(Drop)]
 pub struct Catalogue {
-    products: IndexMap<u32, Goods>,
+    // The number of each product, in their order.
+    numbers: Numbers,
+    products: Vec<(u32, Goods)>,
+}
+
+impl Drop for Catalogue {
+    fn drop(self) {
+        let Self {
+            numbers: _,
+            products: _,
+        } = self;
+    }
 }
 
 impl Model for Catalogue {
-    ghost use Rattle.std.specs.Prelude.{List, map};
+    ghost use Rattle.std.specs.Prelude.{◌≡◌, List, map};
+    ghost use Rattle.std.specs.Map.{keys_of};
     ghost use Rattle.nb_price.specs.Products.{Product, product_at};
 
     ghost Value = { List Product };
 
-    ghost view = { λ c. map product_at c.products.entries };
+    ghost view = { λ c. map product_at c.products.items };
+
+    ghost invariant = { λ c. c.numbers ≡ keys_of c.products.items };
+}
+
+// What is held of a product, or `None` where there is none of this number.
+fn held<'a>(numbers: &Numbers, products: &'a Vec<(u32, Goods)>, product: u32) -> Option<&'a Goods>
+    requires { numbers.now ≡ keys_of products.now.items }
+    ensures value { option_copied result ≡ lookup (nat_eq product) products.now.items }
+{
+    match numbers.place_of(product as u64) {
+        Some(at) => Some(&products[at].1),
+        None => None,
+    }
+}
+
+// A product that is not there goes behind the others. After want of memory all is as before.
+fn push(
+    numbers: &mut Numbers,
+    products: &mut Vec<(u32, Goods)>,
+    product: u32,
+    goods: Goods,
+) -> Result<(), NoMemory>
+    requires keys { numbers.old ≡ keys_of products.old.items }
+    requires new { lookup (nat_eq product) products.old.items ≡ None }
+    ensures keys { numbers.new ≡ keys_of products.new.items }
+    ensures added { OnOk result (products.new.items ≡ products.old.items ++ (product, goods) ∷ []) }
+    ensures err { OnErr result (products.new.items ≡ products.old.items) }
+{
+    products.reserve(1)?;
+    numbers.add(product as u64)?;
+    products.push_reserved((product, goods));
+    Ok(())
 }
 
 impl Catalogue {
@@ -55,7 +99,8 @@ impl Catalogue {
         ensures { result ≡ [] }
     {
         Catalogue {
-            products: IndexMap::new(alloc),
+            numbers: Numbers::new(alloc),
+            products: Vec::new(alloc),
         }
     }
 
@@ -65,14 +110,12 @@ impl Catalogue {
     /// 7E other than `;`. Goods alone are copied.
     ///
     /// It answers the fault of the first item that is not of this form ([`ShelfFault::BadItem`]) or has the number of one before it
-    /// ([`ShelfFault::Twice`]), and [`ShelfFault::NoMemory`] where there is none for the goods.
+    /// ([`ShelfFault::Twice`]), and [`ShelfFault::NoMemory`] where there is none for the products and their goods.
     pub fn read(alloc: Global, bytes: &[u8]) -> Result<Catalogue, ShelfFault>
         requires { length bytes.now ≤ MAX_SHELF }
         ensures { ReadsShelf bytes.now result }
     {
-        let mut catalogue = Catalogue {
-            products: IndexMap::new(alloc),
-        };
+        let mut catalogue = Catalogue::new(alloc);
         let mut item = 0;
         let mut rest = bytes;
         'items: while !rest.is_empty() {
@@ -92,14 +135,14 @@ impl Catalogue {
     fn add(&mut self, alloc: Global, item: u32, found: &Found<'_>) -> Result<(), ShelfFault>
         ensures { Adds self.old self.new item found.now result }
     {
+        if held(&self.numbers, &self.products, found.id).is_some() {
+            return Err(ShelfFault::Twice { item, id: found.id });
+        }
         let goods = Goods {
             price: u64::from(found.price),
             bytes: Vec::from_slice(alloc, found.goods)?,
         };
-        let was = self.products.insert(found.id, goods)?;
-        if was.is_some() {
-            return Err(ShelfFault::Twice { item, id: found.id });
-        }
+        push(&mut self.numbers, &mut self.products, found.id, goods)?;
         Ok(())
     }
 
@@ -118,7 +161,7 @@ impl Catalogue {
         if len > MAX_GOODS {
             return Err(PutFault::TooLong { len });
         }
-        match self.products.get(&product) {
+        match held(&self.numbers, &self.products, product) {
             Some(_) => return Err(PutFault::Taken { id: product }),
             None => {}
         }
@@ -126,17 +169,15 @@ impl Catalogue {
             price: price.0,
             bytes: goods,
         };
-        match self.products.insert(product, goods) {
-            Ok(_) => Ok(()),
-            Err(_) => Err(PutFault::NoMemory),
-        }
+        push(&mut self.numbers, &mut self.products, product, goods)?;
+        Ok(())
     }
 
     /// What a product costs. It answers [`NoProduct`] exactly where the catalogue has none of this number.
     pub fn quote(&self, product: u32) -> Result<Price, NoProduct>
         ensures { Quotes self.now product result }
     {
-        match self.products.get(&product) {
+        match held(&self.numbers, &self.products, product) {
             Some(goods) => Ok(Price(goods.price)),
             None => Err(NoProduct { id: product }),
         }
@@ -146,7 +187,7 @@ impl Catalogue {
     pub fn goods(&self, product: u32) -> Option<&[u8]>
         ensures { Holds self.now product result }
     {
-        match self.products.get(&product) {
+        match held(&self.numbers, &self.products, product) {
             Some(goods) => Some(goods.bytes.as_slice()),
             None => None,
         }
@@ -156,8 +197,8 @@ impl Catalogue {
     pub fn copy(&self) -> Result<Catalogue, NoMemory>
         ensures { IfOk result (λ c. c ≡ self.now) }
     {
-        Ok(Catalogue {
-            products: self.products.clone()?,
-        })
+        let numbers = self.numbers.copy()?;
+        let products = self.products.clone()?;
+        Ok(Catalogue { numbers, products })
     }
 }

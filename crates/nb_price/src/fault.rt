@@ -1,5 +1,5 @@
-use nb_units::Price;
-use std::alloc::{AllocError, AllocFailed};
+use nb_units::{NoMemory, Price};
+use std::alloc::AllocError;
 use std::fmt;
 use thiserror::Error;
 
@@ -12,7 +12,7 @@ pub enum ShelfFault {
     /// The item of this number, from 1 on, is of the form of items, and its product's number is that of one before it.
     #[error("product {id} stands twice")]
     Twice { item: u32, id: u32 },
-    /// There was no memory for the goods.
+    /// There was no memory for the product and its goods.
     #[error("no memory")]
     NoMemory,
 }
@@ -28,13 +28,13 @@ impl From<AllocError> for ShelfFault {
     }
 }
 
-impl<T: Drop> From<AllocFailed<T>> for ShelfFault {
+impl From<NoMemory> for ShelfFault {
     ghost use Rattle.std.specs.Prelude.{◌≡◌};
     ghost use Rattle.nb_price.specs.declared.fault.ShelfFault.TheVariants as fault;
 
     ghost from_gives = { λ _ e. e ≡ fault.NoMemory };
 
-    fn from(_failed: AllocFailed<T>) -> ShelfFault {
+    fn from(_none: NoMemory) -> ShelfFault {
         ShelfFault::NoMemory
     }
 }
@@ -50,6 +50,17 @@ pub enum PutFault {
     Taken { id: u32 },
     /// There was no memory for one product more.
     NoMemory,
+}
+
+impl From<NoMemory> for PutFault {
+    ghost use Rattle.std.specs.Prelude.{◌≡◌};
+    ghost use Rattle.nb_price.specs.declared.fault.PutFault.TheVariants as fault;
+
+    ghost from_gives = { λ _ e. e ≡ fault.NoMemory };
+
+    fn from(_none: NoMemory) -> PutFault {
+        PutFault::NoMemory
+    }
 }
 
 /// The catalogue has no product of this number.

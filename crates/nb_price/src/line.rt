@@ -1,4 +1,4 @@
-ghost use Rattle.std.specs.Prelude.{◌≡◌, ◌≤◌, ◌<◌, ◌^◌, ◌↔◌, ◌++◌, ℕ, List, length, IfSome, IsTrue};
+ghost use Rattle.std.specs.Prelude.{◌≡◌, ◌≤◌, ◌<◌, ◌^◌, ◌↔◌, ℕ, List, length, IfSome, IsTrue};
 ghost use Rattle.nb_price.specs.declared.limits.TheConstants.{MAX_NAME, SEMICOLON};
 ghost use Rattle.nb_price.specs.Shelf.{Item, IsName, BeginsWith};
 ghost use Rattle.nb_price.specs.Fields.{IsFree, IsLine, IsLawful, IsFound, line_bytes};

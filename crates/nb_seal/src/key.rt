@@ -8,12 +8,21 @@ use std::marker::Model;
 
 /// A key of 32 bytes, and the two states of the hash behind its padded blocks: a code under it costs two blocks of the hash less
 /// than one by [`hmac`]. It is seen as the key's bytes.
-#[derive(Drop)]
 pub struct KeyState {
     key: [u8; CODE_BYTES],
     // The hashes that have taken the inner and the outer block (RFC 2104, section 2).
     inner: Sha256,
     outer: Sha256,
+}
+
+impl Drop for KeyState {
+    fn drop(self) {
+        let Self {
+            key: _,
+            inner: _,
+            outer: _,
+        } = self;
+    }
 }
 
 impl Model for KeyState {

@@ -15,12 +15,17 @@ pub(crate) const OUTER: u8 = 0x5C;
 /// Clauses speak of it by `MacHolds`: under which key it was begun, and which message the pieces make that it
 /// took. [`Mac::new`] makes that so for no pieces, [`Mac::push`] keeps it with one piece more, and
 /// [`Mac::finish`] gives the code of that message.
-#[derive(Drop)]
 pub struct Mac {
     // The inner hash: it has taken the inner block and the pieces so far.
     inner: Sha256,
     // The block that the outer hash begins with.
     outer: [u8; BLOCK_BYTES],
+}
+
+impl Drop for Mac {
+    fn drop(self) {
+        let Self { inner: _, outer: _ } = self;
+    }
 }
 
 impl Mac {

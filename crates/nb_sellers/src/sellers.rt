@@ -9,8 +9,8 @@ ghost use Rattle.nb_packets.specs.Doing.{WentAt, TestsAt, DidSo};
 ghost use Rattle.nb_sellers.specs.Sellers.{shop_number};
 
 use crate::selling::Selling;
-use indexmap::IndexSet;
 use nb_msgs::{BodyFault, read_body};
+use nb_numbers::Numbers;
 use nb_packets::{Content, Did, Parcel};
 use nb_price::Catalogue;
 use nb_stall::Stall;
@@ -19,10 +19,18 @@ use std::alloc::Global;
 use std::marker::Model;
 
 /// Merchants, found by their numbers. They are seen as the list of them.
-#[derive(Drop)]
 pub struct Sellers {
-    numbers: IndexSet<u32>,
+    numbers: Numbers,
     each: Vec<Selling>,
+}
+
+impl Drop for Sellers {
+    fn drop(self) {
+        let Self {
+            numbers: _,
+            each: _,
+        } = self;
+    }
 }
 
 impl Model for Sellers {
@@ -34,7 +42,7 @@ impl Model for Sellers {
 
     ghost view = { λ s. s.each.items };
 
-    ghost invariant = { λ s. s.numbers.keys ≡ map shop_number s.each.items };
+    ghost invariant = { λ s. s.numbers ≡ map shop_number s.each.items };
 }
 
 // The merchant at a place hears what a packet brings at a moment, where that is a message.
@@ -95,7 +103,7 @@ impl Sellers {
         ensures { result ≡ [] }
     {
         Sellers {
-            numbers: IndexSet::new(alloc),
+            numbers: Numbers::new(alloc),
             each: Vec::new(alloc),
         }
     }
@@ -106,7 +114,7 @@ impl Sellers {
         ensures found { result ≡ position (λ s. s.stall.id.0 == id.0) self.now }
         ensures within { IfSome result (λ i. i < length self.now) }
     {
-        self.numbers.get_index_of(&id.0)
+        self.numbers.place_of(id.0 as u64)
     }
 
     /// One more, whose number is new. Answers [`NoMemory`] where there is none, and nothing changed then.
@@ -117,7 +125,7 @@ impl Sellers {
         ensures err { OnErr result (self.new ≡ self.old) }
     {
         self.each.reserve(1)?;
-        let _new = self.numbers.insert(stall.id.0)?;
+        self.numbers.add(stall.id.0 as u64)?;
         self.each
             .push_reserved(Selling::new(alloc, stall, catalogue));
         Ok(())

@@ -44,7 +44,6 @@ pub enum Stepped {
 
 /// A world: consumers, merchants, a house, all packets and all calls, and a clock. It is seen as the world of `nb_world`, with the head and the cap of
 /// its house.
-#[derive(Drop)]
 pub struct World {
     alloc: Global,
     head: Head,
@@ -57,6 +56,24 @@ pub struct World {
     origins: Vec<Origin>,
     acknowledged: Vec<Acknowledged>,
     moment: u64,
+}
+
+impl Drop for World {
+    fn drop(self) {
+        let Self {
+            alloc: _,
+            head: _,
+            book: _,
+            consumers: _,
+            merchants: _,
+            packets: _,
+            calls: _,
+            turn: _,
+            origins: _,
+            acknowledged: _,
+            moment: _,
+        } = self;
+    }
 }
 
 impl Model for World {

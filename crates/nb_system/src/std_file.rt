@@ -12,10 +12,15 @@ use std::os::unix::fs::FileExt;
 const FILE_SIZE: i32 = 1;
 
 /// A file of std and its folder.
-#[derive(Drop)]
 pub struct StdFile {
     file: File,
     folder: File,
+}
+
+impl Drop for StdFile {
+    fn drop(self) {
+        let Self { file: _, folder: _ } = self;
+    }
 }
 
 impl StdFile {

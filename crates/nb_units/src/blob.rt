@@ -5,9 +5,15 @@ use std::alloc::Global;
 use std::marker::Model;
 
 /// A list of bytes in memory.
-#[derive(Debug, Drop)]
+#[derive(Debug)]
 pub struct Blob {
     bytes: Vec<u8>,
+}
+
+impl Drop for Blob {
+    fn drop(self) {
+        let Self { bytes: _ } = self;
+    }
 }
 
 impl Model for Blob {

@@ -1,10 +1,9 @@
-ghost use Rattle.std.specs.Prelude.{◌≡◌, ◌≤◌, ◌+◌, ◌<◌, ◌^◌, ◌++◌, ◌∷◌, [], length};
+ghost use Rattle.std.specs.Prelude.{◌≡◌, ◌≤◌, ◌+◌, ◌++◌, ◌∷◌, [], length};
 ghost use Rattle.nb_units.specs.Fields.{be4, be8, sized};
 ghost use Rattle.nb_units.specs.declared.buffer.TheConstants.{MAX_BUFFER};
 
 use crate::small::MAX_SMALL;
 use crate::width::{ACCOUNT, LENGTH, SECRET};
-use arrayvec::ArrayVec;
 use std::marker::Model;
 
 /// The most bytes of a [`Buffer`], 604: as many as the longest text that is spelled in one can have, an endorsement whose order
@@ -15,15 +14,19 @@ pub const MAX_BUFFER: usize = LENGTH + MAX_SMALL + ACCOUNT + LENGTH + MAX_SMALL 
 /// Numbers are big-endian. What is spelled in a buffer is then appended, sealed or hashed as a whole.
 #[derive(Drop)]
 pub struct Buffer {
-    bytes: ArrayVec<u8, MAX_BUFFER>,
+    bytes: [u8; MAX_BUFFER],
+    len: usize,
 }
 
 impl Model for Buffer {
-    ghost use Rattle.std.specs.Prelude.{ℕ, List};
+    ghost use Rattle.std.specs.Prelude.{ℕ, ◌≤◌, List, take};
+    ghost use Rattle.nb_units.specs.declared.buffer.TheConstants.{MAX_BUFFER};
 
     ghost Value = { List ℕ };
 
-    ghost view = { λ b. b.bytes.items };
+    ghost view = { λ b. take b.len b.bytes };
+
+    ghost invariant = { λ b. b.len ≤ MAX_BUFFER };
 }
 
 impl Buffer {
@@ -32,7 +35,8 @@ impl Buffer {
         ensures { result ≡ [] }
     {
         Buffer {
-            bytes: ArrayVec::new(),
+            bytes: [0; MAX_BUFFER],
+            len: 0,
         }
     }
 
@@ -65,7 +69,9 @@ impl Buffer {
         requires { length self.old + length b.now ≤ MAX_BUFFER }
         ensures { self.new ≡ self.old ++ b.now }
     {
-        self.bytes.try_extend_from_slice(b).unwrap();
+        let end = self.len + b.len();
+        self.bytes[self.len..end].copy_from_slice(b);
+        self.len = end;
     }
 
     /// A text: its length in 4 bytes, and then the text.
@@ -82,6 +88,6 @@ impl Buffer {
         ensures value { result.now ≡ self.now }
         ensures short { length result.now ≤ MAX_BUFFER }
     {
-        self.bytes.as_slice()
+        self.bytes.split_at(self.len).0
     }
 }

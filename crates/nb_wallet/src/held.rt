@@ -10,13 +10,22 @@ use std::alloc::Global;
 use std::marker::Model;
 
 /// The parts of sealed goods that came, in order, and the state of the digest of all of them. They are seen as the bytes joined.
-#[derive(Drop)]
 pub struct Held {
     parts: Vec<Blob>,
     // How many bytes they have together.
     len: usize,
     // It has taken all of them.
     hasher: Sha256,
+}
+
+impl Drop for Held {
+    fn drop(self) {
+        let Self {
+            parts: _,
+            len: _,
+            hasher: _,
+        } = self;
+    }
 }
 
 impl Model for Held {

@@ -1,9 +1,8 @@
 ghost use Rattle.std.specs.Prelude.{◌≡◌, ◌≤◌, ◌<◌, ◌^◌, ◌+◌, ◌⊎◌, length, IfOk, Ok, Err};
 ghost use Rattle.nb_units.specs.declared.buffer.TheConstants.{MAX_BUFFER};
-ghost use Rattle.nb_units.specs.declared.limits.TheConstants.{MAX_HIDDEN, MAX_ORDER};
+ghost use Rattle.nb_units.specs.declared.limits.TheConstants.{MAX_ORDER};
 ghost use Rattle.nb_goods.specs.declared.limits.TheConstants.{PART_BYTES};
 ghost use Rattle.nb_endorse.specs.Replies.{ReceiptKeepsRules};
-ghost use Rattle.nb_epo.specs.Spelling.{IsOrder, order_bytes};
 ghost use Rattle.nb_body.specs.declared.fault.BodyFault.TheVariants as fault;
 ghost use Rattle.nb_body.specs.Reads.{ReadsBody};
 ghost use Rattle.nb_wallet.specs.Spelling as spelling;

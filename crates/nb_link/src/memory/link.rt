@@ -11,7 +11,6 @@ use std::marker::Model;
 
 /// A link whose peer sent given bytes and then no more, and takes all that is written. A call for whose bytes or record there is no
 /// memory fails too.
-#[derive(Drop)]
 pub struct MemLink {
     content: Vec<u8>,
     at: usize,
@@ -21,6 +20,21 @@ pub struct MemLink {
     calls: Plan,
     read_faults: u64,
     write_faults: u64,
+}
+
+impl Drop for MemLink {
+    fn drop(self) {
+        let Self {
+            content: _,
+            at: _,
+            step: _,
+            sent: _,
+            reads: _,
+            calls: _,
+            read_faults: _,
+            write_faults: _,
+        } = self;
+    }
 }
 
 impl Model for MemLink {

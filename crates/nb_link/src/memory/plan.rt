@@ -6,10 +6,15 @@ use std::alloc::Global;
 use std::marker::Model;
 
 /// Counts the calls of an object from 1, and says which of them are to fail.
-#[derive(Drop)]
 pub struct Plan {
     fails: Vec<u64>,
     made: u64,
+}
+
+impl Drop for Plan {
+    fn drop(self) {
+        let Self { fails: _, made: _ } = self;
+    }
 }
 
 impl Model for Plan {

@@ -11,7 +11,6 @@ use std::alloc::Global;
 use std::marker::Model;
 
 /// A port of given links.
-#[derive(Drop)]
 pub struct MemPort {
     // The first one to come stands last.
     coming: Vec<MemLink>,
@@ -20,6 +19,19 @@ pub struct MemPort {
     listening: bool,
     calls: Plan,
     faults: u64,
+}
+
+impl Drop for MemPort {
+    fn drop(self) {
+        let Self {
+            coming: _,
+            taken: _,
+            out: _,
+            listening: _,
+            calls: _,
+            faults: _,
+        } = self;
+    }
 }
 
 impl Model for MemPort {

@@ -10,10 +10,18 @@ use std::marker::Model;
 
 /// A clock that gives chosen moments, and then the last one again. It tells what it gave until the count
 /// of its calls stays, at 2^64 - 1.
-#[derive(Drop)]
 pub struct MemClock {
     moments: Vec<u64>,
     calls: u64,
+}
+
+impl Drop for MemClock {
+    fn drop(self) {
+        let Self {
+            moments: _,
+            calls: _,
+        } = self;
+    }
 }
 
 impl Model for MemClock {

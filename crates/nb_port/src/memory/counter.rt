@@ -7,11 +7,20 @@ use std::alloc::Global;
 use std::marker::Model;
 
 /// Counts the calls of an object from 1, and says which of them fail.
-#[derive(Drop)]
 pub struct Counter {
     fails: Vec<u64>,
     made: u64,
     faults: u64,
+}
+
+impl Drop for Counter {
+    fn drop(self) {
+        let Self {
+            fails: _,
+            made: _,
+            faults: _,
+        } = self;
+    }
 }
 
 impl Model for Counter {

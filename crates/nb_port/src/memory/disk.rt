@@ -19,13 +19,24 @@ use std::marker::Model;
 
 /// A disk whose content is in memory, with a record of its calls. A call for whose record there is no memory is not recorded
 /// and fails: it counts as made and as failed, and changes nothing else.
-#[derive(Drop)]
 pub struct MemDisk {
     alloc: Global,
     start: Vec<u8>,
     content: Vec<u8>,
     steps: Vec<DiskStep>,
     calls: Counter,
+}
+
+impl Drop for MemDisk {
+    fn drop(self) {
+        let Self {
+            alloc: _,
+            start: _,
+            content: _,
+            steps: _,
+            calls: _,
+        } = self;
+    }
 }
 
 impl Model for MemDisk {

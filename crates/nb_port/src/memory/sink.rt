@@ -10,10 +10,15 @@ use std::alloc::Global;
 use std::marker::Model;
 
 /// A sink that keeps what is sent. A write for which there is no memory fails too.
-#[derive(Drop)]
 pub struct MemSink {
     sent: Vec<u8>,
     calls: Counter,
+}
+
+impl Drop for MemSink {
+    fn drop(self) {
+        let Self { sent: _, calls: _ } = self;
+    }
 }
 
 impl Model for MemSink {

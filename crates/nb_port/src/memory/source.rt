@@ -10,12 +10,22 @@ use std::alloc::Global;
 use std::marker::Model;
 
 /// A source of given bytes.
-#[derive(Drop)]
 pub struct MemSource {
     content: Vec<u8>,
     at: usize,
     step: usize,
     calls: Counter,
+}
+
+impl Drop for MemSource {
+    fn drop(self) {
+        let Self {
+            content: _,
+            at: _,
+            step: _,
+            calls: _,
+        } = self;
+    }
 }
 
 impl Model for MemSource {

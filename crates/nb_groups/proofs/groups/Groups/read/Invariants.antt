@@ -5,8 +5,8 @@ use Rattle.nb_groups.proofs.groups.Groups.read.Given as goal
 -- the numbers so far and those of the rest are all, and each had four bytes
 abbrev pub invariant-loop-rest : goal.invariant-loop-rest
 invariant-loop-rest l = record {
-  all : l.numbers.items ++ groups_in l.rest ≡ groups_in l.text;
-  each : 4 * length l.numbers.items + length l.rest ≡ length l.text;
+  all : l.numbers ++ groups_in l.rest ≡ groups_in l.text;
+  each : 4 * length l.numbers + length l.rest ≡ length l.text;
 }
 
 -- the rest gets shorter

@@ -1,12 +1,12 @@
-use Rattle.std.proofs.Common.{rules, Err, ◌≡◌, ◌++◌, ◌∷◌, [], ℕ, List, None, map, sym, ap, subst, ◌∙◌, arith}
-use Rattle.nb_price.specs.Products.{Product, product_at, product_in}
+use Rattle.std.proofs.Common.{rules, Err, ◌≡◌, ◌++◌, ◌∷◌, [], ℕ, List, None, sym, ap, subst, ◌∙◌, arith}
+use Rattle.nb_price.specs.Products.{Product, product_in}
 use Rattle.nb_price.specs.Reads.{ReadsShelf}
 use Rattle.nb_price.proofs.Reading.{SoFar, none_yet, one_more, smaller, fails, all_read, found_product, not_added, not_empty, is_empty}
 use Rattle.nb_price.proofs.catalogue.Catalogue.read.Goals as goal
 
 pub items-init : goal.items-init
 items-init c =
-    subst (λ (found : List Product). SoFar c.args.bytes.now found c.args.bytes.now 0) (sym (ap (map product_at) c.new.ensures.empty)) (none_yet c.args.bytes.now)
+    subst (λ (found : List Product). SoFar c.args.bytes.now found c.args.bytes.now 0) (sym c.new-catalogue.ensures) (none_yet c.args.bytes.now)
 
 pub overflow_add-item : goal.overflow_add-item
 overflow_add-item c = omega (arith, c.items.invariant.number, c.items.invariant.few, c.requires)

@@ -6,7 +6,9 @@ use Rattle.std.specs.Prelude.{option_map}
 use Rattle.std.specs.List.{slice_get}
 use Rattle.nb_msgs.specs.declared.node.To.TheVariants as to
 use Rattle.nb_simulator.specs.Worlds.{Simulated}
-use Rattle.nb_sellers.proofs.Kept.{unread_shop}
+use Rattle.nb_msgs.specs.Reading.{message_of}
+use Rattle.nb_parties.specs.Rules.{shop_hears}
+use Rattle.nb_packets.proofs.Hearing.{unread}
 use Rattle.nb_simulator.proofs.Nodes.{merchant_heard, merchant_absent}
 use Rattle.nb_packets.proofs.Places.{stands_at}
 use Rattle.nb_simulator.proofs.world.World.reach_merchant.Goals as goal
@@ -24,4 +26,4 @@ returns-clause-world c =
     let there = stands_at c.self.inside.packets.items c.args.k packet packet within (c.index-packet.ensures ∙ ap (λ (ps : List Packet). get_or ps c.args.k packet) c.reserve.ensures.items) in
     let sent = c.send.ensures ∙ ap (λ (ps : List Packet). ps ++ packets_did (by.Merchant c.args.id) c.in_ok-did.did) c.reserve.ensures.items in
     rw (← c.self.view_is) (merchant_heard _ _ c.args.k packet c.args.id c.in-Some.i c.hear.new.self c.in_ok-did.did c.send.new.packets.items there whom (sym c.find.ensures.found ∙ c.in-Some.is)
-    (λ s. unread_shop c.index-packet.result.now.kind c.index-packet.result.now.body c.self.inside.moment s) c.in_ok-did.ensures.goes.0 sent)
+    (λ s. unread (λ s read. shop_hears s read c.self.inside.moment) (λ s place. refl) (message_of c.index-packet.result.now.kind c.index-packet.result.now.body) s) c.in_ok-did.ensures.goes.0 sent)
