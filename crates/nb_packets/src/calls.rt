@@ -10,19 +10,19 @@ use nb_msgs::To;
 use nb_world::{Acknowledged, Call, CallPhase, Maker, Stage, Turning, Verdict};
 
 /// The call of this number, counted from 0; none where there is none.
-pub fn call_at(calls: &[Call], c: u32) -> Option<Call>
-    ensures { result ≡ slice_get calls.now c }
+pub fn call_at(calls: &[Call], number: u32) -> Option<Call>
+    ensures { result ≡ slice_get calls.now number }
 {
-    calls.get(c as usize).copied()
+    calls.get(number as usize).copied()
 }
 
 /// The call of this number, if there is one, comes to a phase.
-pub fn come_to(calls: &mut Vec<Call>, c: u32, phase: CallPhase)
-    ensures calls { calls.new.items ≡ set_phase phase calls.old.items c }
+pub fn come_to(calls: &mut Vec<Call>, number: u32, phase: CallPhase)
+    ensures calls { calls.new.items ≡ set_phase phase calls.old.items number }
     ensures len { length calls.new.items ≡ length calls.old.items }
 {
-    match call_at(calls.as_slice(), c) {
-        Some(call) => calls[c as usize] = Call { phase, ..call },
+    match call_at(calls.as_slice(), number) {
+        Some(call) => calls[number as usize] = Call { phase, ..call },
         None => {}
     }
 }
@@ -61,21 +61,22 @@ pub fn let_go(calls: &mut Vec<Call>)
 }
 
 /// Whom the packet of this number, counted from 0, is for; none where there is none.
-pub fn addressee(packets: &[Parcel], k: u32) -> Option<To>
-    ensures to { result ≡ option_map (λ p. p.to) (slice_get packets.now k) }
-    ensures within { IfSome result (λ _. k < length packets.now) }
+pub fn addressee(packets: &[Parcel], number: u32) -> Option<To>
+    // It is what the packet says, where there is one.
+    ensures to { result ≡ option_map (λ p. p.to) (slice_get packets.now number) }
+    ensures within { IfSome result (λ _. number < length packets.now) }
 {
-    match packets.get(k as usize) {
+    match packets.get(number as usize) {
         Some(packet) => Some(packet.to),
         None => None,
     }
 }
 
 /// The node that made the packet of a call; none where there is no such call or packet, or where the house or the network made it.
-pub fn asker_of(calls: &[Call], packets: &[Parcel], c: u32) -> Option<To>
-    ensures { result ≡ asker_among calls.now packets.now c }
+pub fn asker_of(calls: &[Call], packets: &[Parcel], number: u32) -> Option<To>
+    ensures { result ≡ asker_among calls.now packets.now number }
 {
-    let call = calls.get(c as usize)?;
+    let call = calls.get(number as usize)?;
     let packet = packets.get(call.packet as usize)?;
     match packet.maker {
         Maker::Consumer(id) => Some(To::Consumer(id)),
@@ -85,12 +86,12 @@ pub fn asker_of(calls: &[Call], packets: &[Parcel], c: u32) -> Option<To>
 }
 
 /// Whether the call of this number has the turn, and its reply may be handed out.
-pub fn may_answer(turn: &Option<Turning>, c: u32) -> bool
-    ensures { result ≡ turn_may_answer turn.now c }
+pub fn may_answer(turn: &Option<Turning>, number: u32) -> bool
+    ensures { result ≡ turn_may_answer turn.now number }
 {
     match turn {
         Some(turn) => {
-            turn.call == c
+            turn.call == number
                 && match turn.stage {
                     Stage::Opened => true,
                     Stage::Decided => turn.verdict.entry.is_none(),
@@ -102,7 +103,7 @@ pub fn may_answer(turn: &Option<Turning>, c: u32) -> bool
 }
 
 /// What a stop leaves of the entry that is written and not opened, and the call that it came by. `keep` says whether the stop leaves it.
-pub fn left(turn: &Option<Turning>, keep: bool) -> Option<(u32, Entry)>
+pub fn left_by_stop(turn: &Option<Turning>, keep: bool) -> Option<(u32, Entry)>
     ensures { result ≡ left_of turn.now keep }
 {
     match turn {

@@ -14,7 +14,7 @@ mod did;
 mod packet;
 
 pub use calls::{
-    acknowledge, addressee, asker_of, call_at, come_to, hand_out, left, let_go, may_answer,
+    acknowledge, addressee, asker_of, call_at, come_to, hand_out, left_by_stop, let_go, may_answer,
 };
 pub use did::{Did, carry_out, make_room, send};
 pub use packet::{Content, Parcel};

@@ -12,7 +12,7 @@ const OWNER_ALONE: u32 = 0o600;
 /// comes to stand in it.
 ///
 /// It is an error where the file or its folder cannot be opened, where another process holds the file, and where it cannot be made its owner's.
-pub fn open(rt: &HostRuntime, name: &str, make: bool) -> io::Result<FileDisk<StdFile>> {
+pub fn open_journal(rt: &HostRuntime, name: &str, make: bool) -> io::Result<FileDisk<StdFile>> {
     let file = OpenOptions::new()
         .read(true)
         .write(true)

@@ -1,6 +1,6 @@
 //! What the program does on a real machine: it opens the journal's file, listens, dials, and does what is left.
 //!
-//! [`open`] opens the file of a journal for this process alone, and its folder, and gives the disk over both. [`do_job`] does a
+//! [`open_journal`] opens the file of a journal for this process alone, and its folder, and gives the disk over both. [`do_job`] does a
 //! [`Job`](nb_commands::Job) over what the words of the job name: to serve it listens on a port for each worker, to buy it dials the house and
 //! the seller, and to sell it listens on one port and dials the house. Where one of these cannot be opened the job is not begun, and the
 //! status is [`NO_FILE`], or 6 for want of memory. Else [`nb_work::work`] does the job, over the adapters of `nb_net` and of `nb_system`, and its contract
@@ -20,5 +20,5 @@ mod jobs;
 mod links;
 mod watched;
 
-pub use files::open;
+pub use files::open_journal;
 pub use jobs::{NO_FILE, do_job};

@@ -22,8 +22,8 @@ use nb_entry::Entry;
 use nb_escrow::Head;
 use nb_msgs::To;
 use nb_packets::{
-    Content, Parcel, acknowledge, addressee, asker_of, call_at, come_to, hand_out, left, let_go,
-    may_answer, send,
+    Content, Parcel, acknowledge, addressee, asker_of, call_at, come_to, hand_out, left_by_stop,
+    let_go, may_answer, send,
 };
 use nb_sellers::Sellers;
 use nb_units::frames::{LAST_KIND, MAX_BODY};
@@ -270,30 +270,30 @@ impl World {
 
     // A call takes its turn.
     #[tactic(auto, unfolding(nb_world::specs::Steps::turn_of))]
-    fn turn(&mut self, c: u32) -> Result<Stepped, NoMemory>
-        ensures world { IfOk result (λ stepped. Tells (steps.turn_of (rules_of self.old) self.old.world c) self.old.world self.new.world stepped) }
+    fn turn(&mut self, number: u32) -> Result<Stepped, NoMemory>
+        ensures world { IfOk result (λ stepped. Tells (steps.turn_of (rules_of self.old) self.old.world number) self.old.world self.new.world stepped) }
         ensures err { OnErr result (self.new ≡ self.old) }
         ensures house { SameHouse self.old self.new }
     {
         if self.turn.is_some() {
             return Ok(Stepped::Unfit);
         }
-        let Some(call) = call_at(self.calls.as_slice(), c) else {
+        let Some(call) = call_at(self.calls.as_slice(), number) else {
             return Ok(Stepped::Unfit);
         };
         if !matches!(call.phase, CallPhase::Waiting) {
             return Ok(Stepped::Unfit);
         }
-        self.take_turn(c, call)
+        self.take_turn(number, call)
     }
 
     // A call that waits takes the turn, which is free.
     #[tactic(auto, unfolding(nb_world::specs::Steps::turn_of))]
-    fn take_turn(&mut self, c: u32, call: Call) -> Result<Stepped, NoMemory>
+    fn take_turn(&mut self, number: u32, call: Call) -> Result<Stepped, NoMemory>
         requires free { self.old.world.turn ≡ None }
-        requires call { slice_get self.old.world.calls c ≡ Some call }
+        requires call { slice_get self.old.world.calls number ≡ Some call }
         requires waits { call.phase ≡ phase.Waiting }
-        ensures world { IfOk result (λ stepped. Tells (steps.turn_of (rules_of self.old) self.old.world c) self.old.world self.new.world stepped) }
+        ensures world { IfOk result (λ stepped. Tells (steps.turn_of (rules_of self.old) self.old.world number) self.old.world self.new.world stepped) }
         ensures err { OnErr result (self.new ≡ self.old) }
         ensures house { SameHouse self.old self.new }
     {
@@ -302,25 +302,25 @@ impl World {
         };
         let verdict = verdict_on(self.alloc, &self.book, &self.head, packet, call.moment)?;
         self.turn = Some(Turning {
-            call: c,
+            call: number,
             at: self.book.len(),
             verdict,
             stage: Stage::Decided,
         });
-        come_to(&mut self.calls, c, CallPhase::InTurn);
+        come_to(&mut self.calls, number, CallPhase::InTurn);
         Ok(Stepped::Moved)
     }
 
     // The entry of a turn is written.
     #[tactic(auto, unfolding(nb_world::specs::Steps::write_of))]
-    fn write(&mut self, c: u32) -> Stepped
-        ensures world { Tells (steps.write_of self.old.world c) self.old.world self.new.world result }
+    fn write(&mut self, number: u32) -> Stepped
+        ensures world { Tells (steps.write_of self.old.world number) self.old.world self.new.world result }
         ensures house { SameHouse self.old self.new }
     {
         let Some(turn) = &mut self.turn else {
             return Stepped::Unfit;
         };
-        if turn.call != c || !matches!(turn.stage, Stage::Decided) {
+        if turn.call != number || !matches!(turn.stage, Stage::Decided) {
             return Stepped::Unfit;
         }
         let Some(_entry) = turn.verdict.entry else {
@@ -332,29 +332,29 @@ impl World {
 
     // The entry of a turn is opened.
     #[tactic(auto, unfolding(nb_world::specs::Steps::open_of))]
-    fn open(&mut self, c: u32) -> Result<Stepped, NoMemory>
-        ensures world { IfOk result (λ stepped. Tells (steps.open_of self.old.world c) self.old.world self.new.world stepped) }
+    fn open(&mut self, number: u32) -> Result<Stepped, NoMemory>
+        ensures world { IfOk result (λ stepped. Tells (steps.open_of self.old.world number) self.old.world self.new.world stepped) }
         ensures err { OnErr result (self.new ≡ self.old) }
         ensures house { SameHouse self.old self.new }
     {
         let Some(turn) = &self.turn else {
             return Ok(Stepped::Unfit);
         };
-        if turn.call != c || !matches!(turn.stage, Stage::Written) {
+        if turn.call != number || !matches!(turn.stage, Stage::Written) {
             return Ok(Stepped::Unfit);
         }
         let Some(entry) = turn.verdict.entry else {
             return Ok(Stepped::Unfit);
         };
-        self.open_entry(c, &entry)
+        self.open_entry(number, &entry)
     }
 
     // The entry of the turn of this call, which is written, is opened.
     #[tactic(auto, unfolding(nb_world::specs::Steps::open_of))]
-    fn open_entry(&mut self, c: u32, entry: &Entry) -> Result<Stepped, NoMemory>
-        requires call { option_map (λ t. t.call) self.old.world.turn ≡ Some c }
+    fn open_entry(&mut self, number: u32, entry: &Entry) -> Result<Stepped, NoMemory>
+        requires call { option_map (λ t. t.call) self.old.world.turn ≡ Some number }
         requires written { entry_written self.old.world.turn ≡ Some entry.now }
-        ensures world { IfOk result (λ stepped. Tells (steps.open_of self.old.world c) self.old.world self.new.world stepped) }
+        ensures world { IfOk result (λ stepped. Tells (steps.open_of self.old.world number) self.old.world self.new.world stepped) }
         ensures err { OnErr result (self.new ≡ self.old) }
         ensures house { SameHouse self.old self.new }
     {
@@ -365,7 +365,7 @@ impl World {
         turn.stage = Stage::Opened;
         self.origins.push_reserved(Origin {
             place: self.book.len(),
-            call: c,
+            call: number,
         });
         self.book.apply(entry);
         Ok(Stepped::Moved)
@@ -373,22 +373,22 @@ impl World {
 
     // The reply of a turn is handed out.
     #[tactic(auto, unfolding(nb_world::specs::Steps::answer_of))]
-    fn answer(&mut self, c: u32) -> Result<Stepped, NoMemory>
+    fn answer(&mut self, number: u32) -> Result<Stepped, NoMemory>
         requires packets { length self.old.world.packets < 2 ^ 32 - 1 }
-        ensures world { IfOk result (λ stepped. Tells (steps.answer_of self.old.world c) self.old.world self.new.world stepped) }
+        ensures world { IfOk result (λ stepped. Tells (steps.answer_of self.old.world number) self.old.world self.new.world stepped) }
         ensures err { OnErr result (self.new ≡ self.old) }
         ensures house { SameHouse self.old self.new }
     {
-        if !may_answer(&self.turn, c) {
+        if !may_answer(&self.turn, number) {
             return Ok(Stepped::Unfit);
         }
         self.packets.reserve(1)?;
         self.acknowledged.reserve(1)?;
-        let asker = asker_of(self.calls.as_slice(), self.packets.as_slice(), c);
+        let asker = asker_of(self.calls.as_slice(), self.packets.as_slice(), number);
         let Some(turn) = self.turn.take() else {
             unreachable!()
         };
-        come_to(&mut self.calls, c, CallPhase::Answered);
+        come_to(&mut self.calls, number, CallPhase::Answered);
         acknowledge(&mut self.acknowledged, &turn);
         hand_out(&mut self.packets, turn, asker);
         Ok(Stepped::Moved)
@@ -402,7 +402,7 @@ impl World {
         ensures house { SameHouse self.old self.new }
     {
         self.origins.reserve(1)?;
-        if let Some((call, entry)) = left(&self.turn, keep) {
+        if let Some((call, entry)) = left_by_stop(&self.turn, keep) {
             self.origins.push_reserved(Origin {
                 place: self.book.len(),
                 call,
@@ -461,32 +461,32 @@ impl World {
     }
 
     // A packet reaches whom it is for.
-    fn deliver(&mut self, k: u32) -> Result<Stepped, NoMemory>
+    fn deliver(&mut self, number: u32) -> Result<Stepped, NoMemory>
         requires packets { length self.old.world.packets < 2 ^ 32 - 1 }
         requires calls { length self.old.world.calls < 2 ^ 32 - 1 }
-        ensures world { IfOk result (λ stepped. Tells (steps.deliver_of (rules_of self.old) self.old.world k) self.old.world self.new.world stepped) }
+        ensures world { IfOk result (λ stepped. Tells (steps.deliver_of (rules_of self.old) self.old.world number) self.old.world self.new.world stepped) }
         ensures err { OnErr result (self.new ≡ self.old) }
         ensures house { SameHouse self.old self.new }
     {
-        match addressee(self.packets.as_slice(), k) {
+        match addressee(self.packets.as_slice(), number) {
             None => Ok(Stepped::Unfit),
-            Some(To::Server) => self.reach_house(k),
-            Some(To::Merchant(id)) => self.reach_merchant(k, id),
-            Some(To::Consumer(id)) => self.reach_consumer(k, id),
+            Some(To::Server) => self.reach_house(number),
+            Some(To::Merchant(id)) => self.reach_merchant(number, id),
+            Some(To::Consumer(id)) => self.reach_consumer(number, id),
         }
     }
 
     // A packet reaches the house: a call that waits.
-    fn reach_house(&mut self, k: u32) -> Result<Stepped, NoMemory>
+    fn reach_house(&mut self, number: u32) -> Result<Stepped, NoMemory>
         requires calls { length self.old.world.calls < 2 ^ 32 - 1 }
-        requires to { option_map (λ p. p.to) (slice_get self.old.world.packets k) ≡ Some to.Server }
-        ensures world { IfOk result (λ stepped. Tells (steps.deliver_of (rules_of self.old) self.old.world k) self.old.world self.new.world stepped) }
+        requires to { option_map (λ p. p.to) (slice_get self.old.world.packets number) ≡ Some to.Server }
+        ensures world { IfOk result (λ stepped. Tells (steps.deliver_of (rules_of self.old) self.old.world number) self.old.world self.new.world stepped) }
         ensures err { OnErr result (self.new ≡ self.old) }
         ensures house { SameHouse self.old self.new }
     {
         self.calls.reserve(1)?;
         self.calls.push_reserved(Call {
-            packet: k,
+            packet: number,
             moment: self.moment,
             phase: CallPhase::Waiting,
         });
@@ -494,11 +494,11 @@ impl World {
     }
 
     // A packet reaches a merchant.
-    fn reach_merchant(&mut self, k: u32, id: PartyId) -> Result<Stepped, NoMemory>
+    fn reach_merchant(&mut self, number: u32, id: PartyId) -> Result<Stepped, NoMemory>
         requires packets { length self.old.world.packets < 2 ^ 32 - 1 }
-        requires within { k < length self.old.world.packets }
-        requires to { option_map (λ p. p.to) (slice_get self.old.world.packets k) ≡ Some (to.Merchant id) }
-        ensures world { IfOk result (λ stepped. Tells (steps.deliver_of (rules_of self.old) self.old.world k) self.old.world self.new.world stepped) }
+        requires within { number < length self.old.world.packets }
+        requires to { option_map (λ p. p.to) (slice_get self.old.world.packets number) ≡ Some (to.Merchant id) }
+        ensures world { IfOk result (λ stepped. Tells (steps.deliver_of (rules_of self.old) self.old.world number) self.old.world self.new.world stepped) }
         ensures err { OnErr result (self.new ≡ self.old) }
         ensures house { SameHouse self.old self.new }
     {
@@ -507,18 +507,18 @@ impl World {
             None => return Ok(Stepped::Unfit),
         };
         self.packets.reserve(1)?;
-        let packet = &self.packets[k as usize];
+        let packet = &self.packets[number as usize];
         let did = self.merchants.hear(i, self.alloc, packet, self.moment)?;
         send(&mut self.packets, Maker::Merchant(id), did);
         Ok(Stepped::Moved)
     }
 
     // A packet reaches a consumer.
-    fn reach_consumer(&mut self, k: u32, id: PartyId) -> Result<Stepped, NoMemory>
+    fn reach_consumer(&mut self, number: u32, id: PartyId) -> Result<Stepped, NoMemory>
         requires packets { length self.old.world.packets < 2 ^ 32 - 1 }
-        requires within { k < length self.old.world.packets }
-        requires to { option_map (λ p. p.to) (slice_get self.old.world.packets k) ≡ Some (to.Consumer id) }
-        ensures world { IfOk result (λ stepped. Tells (steps.deliver_of (rules_of self.old) self.old.world k) self.old.world self.new.world stepped) }
+        requires within { number < length self.old.world.packets }
+        requires to { option_map (λ p. p.to) (slice_get self.old.world.packets number) ≡ Some (to.Consumer id) }
+        ensures world { IfOk result (λ stepped. Tells (steps.deliver_of (rules_of self.old) self.old.world number) self.old.world self.new.world stepped) }
         ensures err { OnErr result (self.new ≡ self.old) }
         ensures house { SameHouse self.old self.new }
     {
@@ -527,7 +527,7 @@ impl World {
             None => return Ok(Stepped::Unfit),
         };
         self.packets.reserve(1)?;
-        let packet = &self.packets[k as usize];
+        let packet = &self.packets[number as usize];
         let did = self.consumers.hear(i, self.alloc, packet)?;
         send(&mut self.packets, Maker::Consumer(id), did);
         Ok(Stepped::Moved)

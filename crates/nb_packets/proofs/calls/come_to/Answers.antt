@@ -5,8 +5,8 @@ use Rattle.nb_packets.proofs.calls.come_to.Goals as goal
 
 pub returns-in-Some-clause-calls : goal.returns-in-Some-clause-calls
 returns-in-Some-clause-calls c =
-    phase_there c.args.phase c.args.calls.now.items c.args.c c.in-Some.call (ap (λ cs. slice_get cs c.args.c) (sym c.as_slice.ensures.value) ∙ sym c.call_at.ensures ∙ c.in-Some.is)
+    phase_there c.args.phase c.args.calls.now.items c.args.number c.in-Some.call (ap (λ cs. slice_get cs c.args.number) (sym c.as_slice.ensures.value) ∙ sym c.call_at.ensures ∙ c.in-Some.is)
 
 pub returns-in-None-clause-calls : goal.returns-in-None-clause-calls
 returns-in-None-clause-calls c =
-    phase_not_there c.args.phase c.args.calls.now.items c.args.c (ap (λ cs. slice_get cs c.args.c) (sym c.as_slice.ensures.value) ∙ sym c.call_at.ensures ∙ c.in-None.is)
+    phase_not_there c.args.phase c.args.calls.now.items c.args.number (ap (λ cs. slice_get cs c.args.number) (sym c.as_slice.ensures.value) ∙ sym c.call_at.ensures ∙ c.in-None.is)

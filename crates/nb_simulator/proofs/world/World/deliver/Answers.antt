@@ -7,5 +7,5 @@ use Rattle.nb_simulator.proofs.world.World.deliver.Goals as goal
 
 pub returns-in-None-clause-world : goal.returns-in-None-clause-world
 returns-in-None-clause-world c =
-    let none = ap (λ (ps : List Packet). option_map (λ (x : Packet). x.to) (slice_get ps c.args.k)) (sym c.as_slice.ensures.value) ∙ sym c.addressee.ensures.to ∙ c.in-None.is in
-    rw (← c.self.view_is) (deliver_to_none _ _ c.args.k none, refl)
+    let none = ap (λ (ps : List Packet). option_map (λ (x : Packet). x.to) (slice_get ps c.args.number)) (sym c.as_slice.ensures.value) ∙ sym c.addressee.ensures.to ∙ c.in-None.is in
+    rw (← c.self.view_is) (deliver_to_none _ _ c.args.number none, refl)

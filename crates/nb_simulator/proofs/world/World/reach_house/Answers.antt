@@ -11,6 +11,6 @@ use Rattle.nb_simulator.proofs.world.World.reach_house.Goals as goal
 
 pub returns-clause-world : goal.returns-clause-world
 returns-clause-world c =
-    let whom = subst (λ (s : Simulated). option_map (λ (packet : Packet). packet.to) (slice_get s.world.packets c.args.k) ≡ Some to.Server) (sym c.self.view_is) c.requires.to in
-    let call : Call = record { packet = c.args.k; moment = c.self.inside.moment; phase = Waiting } in
-    rw (← c.self.view_is) (house_called _ c.args.k c.push_reserved.new.self.items whom (c.push_reserved.ensures.items ∙ ap (λ (cs : List Call). cs ++ call ∷ []) c.reserve.ensures.items))
+    let whom = subst (λ (s : Simulated). option_map (λ (packet : Packet). packet.to) (slice_get s.world.packets c.args.number) ≡ Some to.Server) (sym c.self.view_is) c.requires.to in
+    let call : Call = record { packet = c.args.number; moment = c.self.inside.moment; phase = Waiting } in
+    rw (← c.self.view_is) (house_called _ c.args.number c.push_reserved.new.self.items whom (c.push_reserved.ensures.items ∙ ap (λ (cs : List Call). cs ++ call ∷ []) c.reserve.ensures.items))

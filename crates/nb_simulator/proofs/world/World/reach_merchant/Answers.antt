@@ -15,15 +15,15 @@ use Rattle.nb_simulator.proofs.world.World.reach_merchant.Goals as goal
 
 pub returns-in-None-clause-world : goal.returns-in-None-clause-world
 returns-in-None-clause-world c =
-    let whom = subst (λ (s : Simulated). option_map (λ (packet : Packet). packet.to) (slice_get s.world.packets c.args.k) ≡ Some (to.Merchant c.args.id)) (sym c.self.view_is) c.requires.to in
-    rw (← c.self.view_is) (merchant_absent _ _ c.args.k c.args.id whom (sym c.find.ensures.found ∙ c.in-None.is), refl)
+    let whom = subst (λ (s : Simulated). option_map (λ (packet : Packet). packet.to) (slice_get s.world.packets c.args.number) ≡ Some (to.Merchant c.args.id)) (sym c.self.view_is) c.requires.to in
+    rw (← c.self.view_is) (merchant_absent _ _ c.args.number c.args.id whom (sym c.find.ensures.found ∙ c.in-None.is), refl)
 
 pub returns-clause-world : goal.returns-clause-world
 returns-clause-world c =
     let packet : Packet = c.index-packet.result.now in
-    let whom = subst (λ (s : Simulated). option_map (λ (x : Packet). x.to) (slice_get s.world.packets c.args.k) ≡ Some (to.Merchant c.args.id)) (sym c.self.view_is) c.requires.to in
-    let within = subst (λ (s : Simulated). c.args.k < length s.world.packets) (sym c.self.view_is) c.requires.within in
-    let there = stands_at c.self.inside.packets.items c.args.k packet packet within (c.index-packet.ensures ∙ ap (λ (ps : List Packet). get_or ps c.args.k packet) c.reserve.ensures.items) in
+    let whom = subst (λ (s : Simulated). option_map (λ (x : Packet). x.to) (slice_get s.world.packets c.args.number) ≡ Some (to.Merchant c.args.id)) (sym c.self.view_is) c.requires.to in
+    let within = subst (λ (s : Simulated). c.args.number < length s.world.packets) (sym c.self.view_is) c.requires.within in
+    let there = stands_at c.self.inside.packets.items c.args.number packet packet within (c.index-packet.ensures ∙ ap (λ (ps : List Packet). get_or ps c.args.number packet) c.reserve.ensures.items) in
     let sent = c.send.ensures ∙ ap (λ (ps : List Packet). ps ++ packets_did (by.Merchant c.args.id) c.in_ok-did.did) c.reserve.ensures.items in
-    rw (← c.self.view_is) (merchant_heard _ _ c.args.k packet c.args.id c.in-Some.i c.hear.new.self c.in_ok-did.did c.send.new.packets.items there whom (sym c.find.ensures.found ∙ c.in-Some.is)
+    rw (← c.self.view_is) (merchant_heard _ _ c.args.number packet c.args.id c.in-Some.i c.hear.new.self c.in_ok-did.did c.send.new.packets.items there whom (sym c.find.ensures.found ∙ c.in-Some.is)
     (λ s. unread (λ s read. shop_hears s read c.self.inside.moment) (λ s place. refl) (message_of c.index-packet.result.now.kind c.index-packet.result.now.body) s) c.in_ok-did.ensures.goes.0 sent)
