@@ -17,10 +17,15 @@ use nb_vault::{Answer, AnswerAll, AskAt, Origin, Vault};
 use std::marker::Model;
 
 /// A vault as the passes of a desk hand it on, with the number of its lines. Contracts see it as the vault.
-#[derive(Drop)]
 pub struct DeskVault<D: Disk> {
     vault: Vault<D>,
     count: u64,
+}
+
+impl<D: Disk + Drop> Drop for DeskVault<D> {
+    fn drop(self) {
+        let Self { vault: _, count: _ } = self;
+    }
 }
 
 impl<D: Disk> Model for DeskVault<D> {

@@ -8,7 +8,6 @@ mod settling;
 mod state;
 
 /// A journal on a disk.
-#[derive(Drop)]
 pub struct Journal<D> {
     disk: D,
     // The place of the gate behind the last item.
@@ -31,6 +30,21 @@ pub struct Journal<D> {
     ghost small: { room ≤ MAX_ITEM },
     ghost doubt: { stale ≡ true → (len < cap) × (next ≤ FRONT + (len + 1) * (MAX_ITEM + AROUND)) },
     ghost buffer: { room + AROUND ≤ vec_capacity buf },
+}
+
+impl<D: Drop> Drop for Journal<D> {
+    fn drop(self) {
+        let Self {
+            disk: _,
+            gate: _,
+            next: _,
+            len: _,
+            cap: _,
+            room: _,
+            stale: _,
+            buf: _,
+        } = self;
+    }
 }
 
 /// Why an item was not appended.

@@ -28,12 +28,21 @@ pub use opening::VaultFault;
 use std::marker::Model;
 
 /// The entries of a house, durable on a disk, and what was done since they were read.
-#[derive(Drop)]
 pub struct Vault<D: Disk> {
     parts: Parts<D>,
     // The states of keys that are kept from one turn to the next, and the drafts of a turn whose replies are written here.
     kept: KeptStates,
     drafts: Vec<Draft>,
+}
+
+impl<D: Disk + Drop> Drop for Vault<D> {
+    fn drop(self) {
+        let Self {
+            parts: _,
+            kept: _,
+            drafts: _,
+        } = self;
+    }
 }
 
 impl<D: Disk> Model for Vault<D> {
