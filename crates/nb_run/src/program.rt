@@ -1,6 +1,7 @@
-ghost use Rattle.std.specs.Prelude.{◌≤◌, ℕ, map, string_bytes};
+ghost use Rattle.std.specs.Prelude.{◌≡◌, ◌≤◌, ℕ, map, string_bytes};
 ghost use Rattle.nb_port.specs.Faults.{Rose};
 ghost use Rattle.nb_commands.specs.declared.ending.TheConstants.{SOURCE_FAILED, SINK_FAILED, DISK_FAILED};
+ghost use Rattle.nb_commands.specs.declared.ending.Outcome.TheVariants as outcomes;
 ghost use Rattle.nb_commands.specs.Ending.{EndsWith};
 ghost use Rattle.nb_run.specs.Run as runs;
 
@@ -58,6 +59,26 @@ pub fn run<S: Source, K: Sink, D: Disk, C: Clock>(
     }
 }
 
+// What a command that is over comes to, with the disk that it hands back.
+fn over<D>(done: (Ending, D)) -> (Outcome, D)
+    ensures { result ≡ (outcomes.Done done.0, done.1) }
+{
+    let (ending, disk) = done;
+    (Outcome::Done(ending), disk)
+}
+
+// What a batch comes to, with the disk that it hands back. Nobody asks for its lines.
+fn batch_over<D>(batched: Batched<D>) -> (Outcome, D)
+    ensures { result ≡ (outcomes.Done batched.ending, batched.disk) }
+{
+    let Batched {
+        ending,
+        disk,
+        lines: _,
+    } = batched;
+    (Outcome::Done(ending), disk)
+}
+
 // Does what a command asks for, but for the work over links, which is left to do.
 fn do_command<S: Source, K: Sink, D: Disk, C: Clock>(
     alloc: Global,
@@ -90,40 +111,18 @@ fn do_command<S: Source, K: Sink, D: Disk, C: Clock>(
             let end = move_journal(alloc, source, &mut disk, rate);
             (Outcome::Done(end.ending()), disk)
         }
-        Command::Statement { acct } => {
-            let (ending, disk) = write_statement(alloc, acct, sink, disk);
-            (Outcome::Done(ending), disk)
-        }
-        Command::Ship { from } => {
-            let (ending, disk) = ship_records(alloc, from, sink, disk);
-            (Outcome::Done(ending), disk)
-        }
-        Command::Promote => {
-            let (ending, disk) = promote(alloc, sink, disk);
-            (Outcome::Done(ending), disk)
-        }
+        Command::Statement { acct } => over(write_statement(alloc, acct, sink, disk)),
+        Command::Ship { from } => over(ship_records(alloc, from, sink, disk)),
+        Command::Promote => over(promote(alloc, sink, disk)),
         Command::Batch => {
             let by = Answerer::House;
-            let Batched {
-                ending,
-                disk,
-                lines: _lines,
-            } = answer_batch(alloc, by, source, sink, disk, clock);
-            (Outcome::Done(ending), disk)
+            batch_over(answer_batch(alloc, by, source, sink, disk, clock))
         }
         Command::Follow => {
             let by = Answerer::Standby;
-            let Batched {
-                ending,
-                disk,
-                lines: _lines,
-            } = answer_batch(alloc, by, source, sink, disk, clock);
-            (Outcome::Done(ending), disk)
+            batch_over(answer_batch(alloc, by, source, sink, disk, clock))
         }
-        Command::Drill { seed, orders } => {
-            let (ending, disk) = drill(alloc, seed, orders, sink, disk);
-            (Outcome::Done(ending), disk)
-        }
+        Command::Drill { seed, orders } => over(drill(alloc, seed, orders, sink, disk)),
         Command::Judge => (Outcome::Done(rule_on(alloc, source, sink).ending()), disk),
         Command::Play => (
             Outcome::Done(play_input(alloc, source, sink).ending()),

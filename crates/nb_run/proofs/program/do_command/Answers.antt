@@ -77,12 +77,25 @@ returns-in-SellOffers-clause-does g c =
 
 pub returns-in-Batch-clause-does : goal.returns-in-Batch-clause-does
 returns-in-Batch-clause-does g c =
-    let b = c.answer_batch-disk in
-    subst (Does g.D.Disk.tells _ _ _) (sym c.in-Batch.is)
-    (answers_frames g.D.Disk.tells answers.House _ _ b.result.ending b.result.lines.items b.ensures.batch b.ensures.closed b.ensures.unwritten b.ensures.source b.ensures.whole b.ensures.opens)
+    let b = c.answer_batch in
+    rw (c.batch_over.ensures) (subst (Does g.D.Disk.tells _ _ _) (sym c.in-Batch.is)
+    (answers_frames g.D.Disk.tells answers.House _ _ b.result.ending b.result.lines.items b.ensures.batch b.ensures.closed b.ensures.unwritten b.ensures.source b.ensures.whole b.ensures.opens))
 
 pub returns-in-Follow-clause-does : goal.returns-in-Follow-clause-does
 returns-in-Follow-clause-does g c =
-    let b = c.answer_batch-disk-in-Follow in
-    subst (Does g.D.Disk.tells _ _ _) (sym c.in-Follow.is)
-    (answers_frames g.D.Disk.tells answers.Standby _ _ b.result.ending b.result.lines.items b.ensures.batch b.ensures.closed b.ensures.unwritten b.ensures.source b.ensures.whole b.ensures.opens)
+    let b = c.answer_batch-in-Follow in
+    rw (c.batch_over-in-Follow.ensures) (subst (Does g.D.Disk.tells _ _ _) (sym c.in-Follow.is)
+    (answers_frames g.D.Disk.tells answers.Standby _ _ b.result.ending b.result.lines.items b.ensures.batch b.ensures.closed b.ensures.unwritten b.ensures.source b.ensures.whole b.ensures.opens))
+
+pub returns-in-Drill-clause-does : goal.returns-in-Drill-clause-does
+returns-in-Drill-clause-does g c =
+    let d = c.drill in
+    rw (c.over-in-Drill.ensures) (subst (Does g.D.Disk.tells _ _ _) (sym c.in-Drill.is)
+    (record {
+      came = d.ensures.drill;
+      source = refl {a = c.args.source.now};
+      clock = refl {a = c.args.clock.now};
+      spares = d.ensures.spares;
+      silent = d.ensures.closed;
+      complete = d.ensures.complete;
+    }))
