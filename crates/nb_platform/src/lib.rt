@@ -3,15 +3,15 @@
 //! [`open_journal`] opens the file of a journal for this process alone, and its folder, and gives the disk over both. [`do_job`] does a
 //! [`Job`](nb_commands::Job) over what the words of the job name: to serve it listens on a port for each worker, to buy it dials the house and
 //! the seller, and to sell it listens on one port and dials the house. Where one of these cannot be opened the job is not begun, and the
-//! status is [`NO_FILE`], or 6 for want of memory. Else [`nb_work::work`] does the job, over the adapters of `nb_net` and of `nb_system`, and its contract
-//! says what comes of it. Who buys at a terminal is told there how many bytes came of the seller.
+//! status is [`NO_FILE`], or 6 for want of memory. Else [`nb_work::work`] does the job, over the adapters of `nb_net` and of `nb_system`. Who buys at a terminal is told there how many bytes came of the seller.
 //!
-//! What [`nb_work::work`] asks for is proved of each call of it here. The port of who sells gives as many links as the job says.
+//! What a job comes to is said in `specs/Doing.antt`: no words tell it, or something could not be opened, and nothing was sent; or it was done as [`nb_work::work`]
+//! says, over as many workers, ports that give as many links, and the dialled links that it names.
 //!
 //! Left to others: which command the words are, and whether it has a file or makes one; to hold standard input and output, to print the status.
 //!
-//! Not said, since no clause can: what the real system answers, and so whether a file is there, whether its lock keeps other programs away, and who
-//! is at the other end of a link. Nor is it said which address a word names, on which port a worker listens, and what a terminal is told.
+//! Not said, since no clause can: what the real system answers, and so whether a file is there, whether its lock keeps other programs away, whether what is not
+//! opened could have been, and who is at the other end of a link. Nor is it said which address a word names, on which port a worker listens, and what a terminal is told.
 //! `examples/check` tries the files, and `tests/serve`, `tests/buy` and `tests/shop` try the sockets.
 #![tactic(auto)]
 

@@ -1,29 +1,85 @@
 ghost use Rattle.std.specs.Prelude.{◌≡◌, IfOk, vec_len};
+ghost use Rattle.nb_platform.specs.Doing.{AllGive, AllGiveFor, IsTold};
+ghost use Rattle.nb_work.specs.Work.{IsStaffed, IsDialled};
 
 use crate::watched::WatchedLink;
+use nb_commands::Job;
 use nb_net::{DialLink, PARTY, StdDialler, StdListener, TcpPort};
 use nb_server::Worker;
 use nb_system::SystemClock;
 use nb_words::port_of;
+use nb_work::Dials;
 use std::io;
 use std::net::{SocketAddr, TcpListener};
 
 // A link that a party's program dials, and dials anew where it ended between two exchanges.
-pub(crate) type PartyLink = WatchedLink<DialLink<StdDialler<HostRuntime>>>;
+type PartyLink = WatchedLink<DialLink<StdDialler<HostRuntime>>>;
 
-// The workers of a job, each of which listens on a port of its own: the address's, and those behind it.
-pub(crate) fn listen(
+// A worker that listens on a port of its own.
+type Listening = Worker<TcpPort<StdListener>, SystemClock<HostRuntime>>;
+
+// What the words of a job name.
+pub(crate) struct Opened {
+    pub(crate) workers: Vec<Listening>,
+    pub(crate) dials: Dials<PartyLink>,
+}
+
+// Opens what the words of the job name. A terminal is told how many bytes come of a seller.
+pub(crate) fn open(rt: &HostRuntime, words: &[String], job: &Job) -> io::Result<Opened>
+    requires { IsTold job.now }
+    // there are as many workers as the job says, and the links that it needs
+    ensures staffed { IfOk result (λ opened. IsStaffed job.now (vec_len opened.workers)) }
+    ensures dialled { IfOk result (λ opened. IsDialled job.now opened.dials) }
+    // each port gives as many links as the job says
+    ensures give { IfOk result (λ opened. AllGiveFor (λ port. port.left) job.now opened.workers.items) }
+{
+    match job {
+        Job::Serve { workers, sessions } => Ok(Opened {
+            workers: listen(rt, words, *workers, *sessions)?,
+            dials: Dials::none(),
+        }),
+        Job::Buy { .. } => {
+            let server = dial(rt, address_at(words, 2)?)?;
+            let seller = dial(rt, address_at(words, 3)?)?;
+            Ok(Opened {
+                workers: Vec::new(rt.alloc()),
+                dials: Dials {
+                    server: Some(WatchedLink::silent(server)),
+                    seller: Some(WatchedLink::told(seller, rt)),
+                },
+            })
+        }
+        Job::Sell { links, .. } => {
+            let listener = TcpListener::bind(rt, address_at(words, 2)?)?;
+            let port = TcpPort::of(StdListener::over(listener), *links, PARTY);
+            let server = dial(rt, address_at(words, 3)?)?;
+            Ok(Opened {
+                workers: one_worker(rt, port)?,
+                dials: Dials {
+                    server: Some(WatchedLink::silent(server)),
+                    seller: None,
+                },
+            })
+        }
+    }
+}
+
+// The workers of a server, each of which listens on a port of its own: the address's, and those behind it.
+fn listen(
     rt: &HostRuntime,
     words: &[String],
     workers: u32,
     sessions: u32,
-) -> io::Result<Vec<Worker<TcpPort<StdListener>, SystemClock<HostRuntime>>>> {
+) -> io::Result<Vec<Listening>>
+    ensures all { IfOk result (λ listening. vec_len listening ≡ workers) }
+    ensures give { IfOk result (λ listening. AllGive (λ port. port.left) sessions listening.items) }
+{
     let mut listening = Vec::with_capacity(rt.alloc(), workers as usize)?;
     let mut address = address_at(words, 2)?;
     let first = address.port();
     // no worker listens where one of them has no port
     port_of(first, workers.saturating_sub(1)).ok_or(io::ErrorKind::AddrNotAvailable)?;
-    for worker in 0..workers {
+    'listening: for worker in 0..workers {
         address.set_port(port_of(first, worker).ok_or(io::ErrorKind::AddrNotAvailable)?);
         let port = TcpPort::over(TcpListener::bind(rt, address)?, sessions);
         let clock = SystemClock::over(rt.clone()?);
@@ -32,36 +88,10 @@ pub(crate) fn listen(
     Ok(listening)
 }
 
-// The links to the house and to the seller, at the addresses that the words of a purchase name.
-pub(crate) fn dial_both(rt: &HostRuntime, words: &[String]) -> io::Result<(PartyLink, PartyLink)> {
-    let server = dial(rt, address_at(words, 2)?)?;
-    let seller = dial(rt, address_at(words, 3)?)?;
-    Ok((WatchedLink::silent(server), WatchedLink::told(seller, rt)))
-}
-
-// What one sells over: the port that gives the links of consumers, and the link to the house.
-pub(crate) struct Shop {
-    pub(crate) port: TcpPort<StdListener>,
-    pub(crate) server: PartyLink,
-}
-
-// Listens for so many consumers at the address that the words of a sale name, and dials the house at the one behind it.
-pub(crate) fn open_shop(rt: &HostRuntime, words: &[String], links: u32) -> io::Result<Shop>
-    // the port gives as many links as there are to be
-    ensures { IfOk result (λ shop. shop.port.left ≡ links) }
-{
-    let listener = TcpListener::bind(rt, address_at(words, 2)?)?;
-    let port = TcpPort::of(StdListener::over(listener), links, PARTY);
-    let server = WatchedLink::silent(dial(rt, address_at(words, 3)?)?);
-    Ok(Shop { port, server })
-}
-
-// The one worker of who sells.
-pub(crate) fn one_worker(
-    rt: &HostRuntime,
-    port: TcpPort<StdListener>,
-) -> io::Result<Vec<Worker<TcpPort<StdListener>, SystemClock<HostRuntime>>>>
-    ensures { IfOk result (λ workers. vec_len workers ≡ 1) }
+// The one worker of who sells, over this port.
+fn one_worker(rt: &HostRuntime, port: TcpPort<StdListener>) -> io::Result<Vec<Listening>>
+    ensures one { IfOk result (λ workers. vec_len workers ≡ 1) }
+    ensures give { IfOk result (λ workers. AllGive (λ port. port.left) port.left workers.items) }
 {
     let clock = SystemClock::over(rt.clone()?);
     let mut workers = Vec::with_capacity(rt.alloc(), 1)?;
