@@ -11,6 +11,9 @@ use std::os::unix::fs::FileExt;
 // How the system names the limit of a file's size, where it is asked for a limit.
 const FILE_SIZE: i32 = 1;
 
+// How many bytes of a file the system is asked to read ahead, once its pages were dropped.
+const READ_AHEAD: i64 = 65_536;
+
 /// A file of std and its folder.
 pub struct StdFile {
     file: File,
@@ -69,8 +72,12 @@ impl PositionalFile for StdFile {
         done_if(self.file.sync_all().is_ok())
     }
 
+    // What is read next is the front: the system reads it ahead, while the folder is made to keep the name. That is a hint, and no answer depends on it.
     fn drop_pages(&mut self) -> DiskOut {
-        done_if(libc::posix_fadvise(self.file.as_raw_fd(), 0, 0, libc::POSIX_FADV_DONTNEED) == 0)
+        let fd = self.file.as_raw_fd();
+        let dropped = libc::posix_fadvise(fd, 0, 0, libc::POSIX_FADV_DONTNEED) == 0;
+        let _ = libc::posix_fadvise(fd, 0, READ_AHEAD, libc::POSIX_FADV_WILLNEED);
+        done_if(dropped)
     }
 
     fn sync_folder(&mut self) -> DiskOut {
