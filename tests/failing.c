@@ -108,11 +108,12 @@ MOVES("pwrite", pwrite64, fits(place, size), (int file, const void *bytes, size_
 SYNCS(fsync)
 SYNCS(fdatasync)
 
+/* To read ahead is a hint, which is counted by itself. */
 #define ADVISES(name, type) \
     int name(int file, type place, type size, int advice) \
     { \
         NEXT(name); \
-        return fails("posix_fadvise") ? error : next(file, place, size, advice); \
+        return fails(advice == POSIX_FADV_WILLNEED ? "hint" : "posix_fadvise") ? error : next(file, place, size, advice); \
     }
 
 ADVISES(posix_fadvise, off_t)

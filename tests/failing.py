@@ -3,7 +3,8 @@ that there is for it, and, of those that move bytes, by moving half of them. A l
 program is held to this:
 
 - A batch ends with 0, and with 3, 4 or 7 only where a read of the input, a write of the output, or a call of the disk in opening failed. A call that
-  was interrupted is made again, and the rest of what was not moved is moved: then nothing else is told than where all goes well.
+  was interrupted is made again, and the rest of what was not moved is moved: then nothing else is told than where all goes well. Nor is it where a
+  hint fails, by which a file is read ahead.
 - Each reply that was handed out whole is a refusal with code 50, or the one that entries of the journal give which stand in it behind the run; or,
   behind a request that is in doubt, another refusal, of a request that has no entry.
 - The journal is opened again behind each run, and is given the same requests: all are answered, and the entries are what they ask for, each once.
@@ -42,10 +43,10 @@ CAP, RATE, FRONT = 64, 25, 96
 # How a call fails: by these errors of errno.h, or by moving half of its bytes.
 HALF = 0
 ERRORS, MOVES = (errno.EIO, errno.ENOSPC, errno.EINTR), (errno.EINTR, HALF)
-CALLS = {"read": (*ERRORS, HALF), "write": (*ERRORS, HALF), "pread": (*ERRORS, HALF), "pwrite": (*ERRORS, HALF), "fsync": ERRORS, "posix_fadvise": ERRORS}
+CALLS = {"read": (*ERRORS, HALF), "write": (*ERRORS, HALF), "pread": (*ERRORS, HALF), "pwrite": (*ERRORS, HALF), "fsync": ERRORS, "posix_fadvise": ERRORS, "hint": ERRORS}
 
-# The status of a batch where a call fails for good, beside 0.
-TOLD = {"read": 3, "write": 4, "pread": 7, "pwrite": 0, "fsync": 7, "posix_fadvise": 7}
+# The status of a batch where a call fails for good, beside 0. Of a hint nothing is told.
+TOLD = {"read": 3, "write": 4, "pread": 7, "pwrite": 0, "fsync": 7, "posix_fadvise": 7, "hint": 0}
 
 # So many of the last bytes of a journal the disk fills up at; and in seconds, when no further one is tried, and the whole test at most, of which it takes a quarter where nothing else runs.
 LAST_BYTES, LONGEST, SECONDS = 2000, 20, 180
@@ -197,6 +198,11 @@ def failing(counts):
                 yield f"{name} {number} {way}", name, way
 
 
+def is_repaired(name, way):
+    """Whether nothing is to be told where a call fails so: it is made again, or moves the rest, or was a hint."""
+    return name == "hint" or way in MOVES and name not in ("fsync", "posix_fadvise")
+
+
 def builds(folder):
     """Builds the library, and sees that it comes before the program's own. Why it does not, if so."""
     global library
@@ -230,10 +236,10 @@ def batches(folder):
         journal.write_bytes(empty)
         status, sent, line = run(["batch", journal], text, words)
         doubts = see_replies(words, [it for _, it in asked], journal, sent)
-        repaired = way in MOVES and name not in ("fsync", "posix_fadvise")
+        repaired = is_repaired(name, way)
         if status not in ((0,) if repaired else (0, TOLD[name])) or line != (f"netbill: status {status} at 0\n" if status else ""):
             fail(f"{words}: a batch ended with status {status} and the line {line!r}")
-        if way not in MOVES and status == 0 and not doubts:
+        if way not in MOVES and not repaired and status == 0 and not doubts:
             fail(f"{words}: a call that failed was passed over")
         if way not in MOVES and name == "pwrite" and doubts != 1:
             fail(f"{words}: one write that failed left {doubts} requests in doubt")
@@ -264,7 +270,7 @@ def makings(folder):
             journal.unlink(missing_ok=True)
             status, sent, line = run(words, text, told)
             left = journal.read_bytes() if journal.exists() else b""
-            repaired = way in MOVES and name not in ("fsync", "posix_fadvise")
+            repaired = is_repaired(name, way)
             if sent or status not in ((0,) if repaired else (0, TOLD[name] or 7) if way in MOVES else (TOLD[name] or 7,)) or (left != whole if status == 0 else left[:8] == whole[:8] and left != whole):
                 fail(f"{told}: {words[0]} ended with status {status}, {line!r}, and left {left.hex()}")
             again = run(words, text)[0]
@@ -283,7 +289,7 @@ def statements(folder):
     words = ["statement", journal, "1"]
     for told, name, way in failing(counted(folder, words, b"")):
         status, sent, line = run(words, b"", told)
-        repaired = way in MOVES and name not in ("fsync", "posix_fadvise")
+        repaired = is_repaired(name, way)
         if status not in ((0,) if repaired else (0, TOLD[name]) if way in MOVES else (TOLD[name],)) or not text.startswith(sent) or (sent == text) != (status == 0) or sent and status not in (0, 4):
             fail(f"{told}: a statement ended with status {status}, {line!r}, and {len(sent)} bytes")
         if journal.read_bytes() != image:

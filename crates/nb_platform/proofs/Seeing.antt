@@ -1,6 +1,5 @@
 -- What is said of a job over workers and links is so of what is seen of these.
-use Rattle.std.proofs.Common.{◌≡◌, ◌⊎◌, inl, inr, ℕ, zero, suc, List, [], ◌∷◌, ◌++◌, map, length, Option, Some, None, IsSome, refl, sym, ap, subst, ◌∙◌}
-use Rattle.std.specs.List.{slice_get}
+use Rattle.std.proofs.Common.{◌≡◌, inl, inr, ℕ, zero, suc, List, [], ◌∷◌, ◌++◌, map, length, Option, Some, None, IfSome, IsSome, refl, sym, ap, subst, ◌∙◌}
 use Rattle.std.specs.Option.{option_map}
 use Rattle.std.proofs.lemmas.Option.{same_Some}
 use Rattle.nb_port.specs.Tells.{DiskTells}
@@ -20,14 +19,14 @@ use Rattle.nb_commands.specs.declared.ending.Job.TheVariants.{Serve, Buy, Sell}
 use Rattle.nb_work.specs.declared.working.Dials.{Dials}
 use Rattle.nb_work.specs.Work.{IsDialled, IsIdle, IsServed, IsStaffed, ServesAs, WorksAs, workers_seen}
 use Rattle.nb_platform.specs.declared.watched.WatchedLink.{WatchedLink}
-use Rattle.nb_platform.specs.Doing.{AllGive, AllGiveFor, IsDone, SeenWorker}
+use Rattle.nb_platform.specs.Doing.{AllGive, AllPorts, AreNew, IsNewPort, IsWorked, ToldWorker}
 
--- one worker more, whose port gives so many links
-pub one_more : {P C : Type 0} (left : P → ℕ) (links : ℕ) (all : List (Worker P C)) (w : Worker P C) → AllGive left links all → left w.port ≡ links → AllGive left links (all ++ w ∷ [])
-one_more left links [] w give is zero worker at = ap (λ (x : Worker _ _). left x.port) (sym (same_Some w worker at)) ∙ is
-one_more left links [] w give is (suc k) worker at = absurd cc
-one_more left links (v ∷ all) w give is zero worker at = give zero worker at
-one_more left links (v ∷ all) w give is (suc k) worker at = one_more left links all w (λ k. give (suc k)) is k worker at
+-- one worker more, whose port is so
+pub one_more : {P C : Type 0} (Is : P → Type 0) (all : List (Worker P C)) (w : Worker P C) → AllPorts Is all → Is w.port → AllPorts Is (all ++ w ∷ [])
+one_more Is [] w give is zero worker at = subst (λ (x : Worker _ _). Is x.port) (same_Some w worker at) is
+one_more Is [] w give is (suc k) worker at = absurd cc
+one_more Is (v ∷ all) w give is zero worker at = give zero worker at
+one_more Is (v ∷ all) w give is (suc k) worker at = one_more Is all w (λ k. give (suc k)) is k worker at
 
 -- what a port, a clock and a link of the system tell
 abbrev pub port_seen : ListenerPort StdListener → PortSeen
@@ -39,12 +38,9 @@ no_moments c = None
 abbrev pub link_seen : {D S : Type 0} → WatchedLink (DialledLink D S) → LinkSeen
 link_seen l = dialled_told l.link
 
-abbrev pub links_left : {A : Type 0} → ListenerPort A → ℕ
-links_left p = p.left
-
 module _ {P C L : Type 0} (port : P → PortSeen) (moments : C → Option (List ℕ)) (link : L → LinkSeen) where
   -- a worker, and what was dialled, as it is seen
-  abbrev pub worker_as : Worker P C → SeenWorker
+  abbrev pub worker_as : Worker P C → ToldWorker
   worker_as w = record { port = port w.port; clock = moments w.clock }
 
   abbrev pub dials_as : Dials L → Dials LinkSeen
@@ -53,7 +49,7 @@ module _ {P C L : Type 0} (port : P → PortSeen) (moments : C → Option (List 
   abbrev sees : List (Worker P C) → List WorkerSeen
   sees = workers_seen port moments
 
-  abbrev sees_seen : List SeenWorker → List WorkerSeen
+  abbrev sees_seen : List ToldWorker → List WorkerSeen
   sees_seen = workers_seen (λ p. p) (λ m. m)
 
   -- what is seen of a worker as it is seen is that
@@ -74,15 +70,26 @@ module _ {P C L : Type 0} (port : P → PortSeen) (moments : C → Option (List 
   dialled_seen (Buy merchant product limit transaction request) d is = (some_seen d.server is.0, some_seen d.seller is.1)
   dialled_seen (Sell links shelf offers) d is = some_seen d.server is
 
-  all_give : (left : P → ℕ) → ((p : P) → (port p).left ≡ left p) → (links : ℕ) (all : List (Worker P C)) → AllGive left links all → AllGive (λ (p : PortSeen). p.left) links (map worker_as all)
-  all_give left tells links [] give k worker is = absurd cc
-  all_give left tells links (w ∷ all) give zero worker is = ap (λ (x : SeenWorker). x.port.left) (sym (same_Some (worker_as w) worker is)) ∙ tells w.port ∙ give zero w refl
-  all_give left tells links (w ∷ all) give (suc k) worker is = all_give left tells links all (λ k. give (suc k)) k worker is
+  some_new : (o : Option L) → IfSome o (λ (l : L). ((link l).read_faults ≡ 0) × ((link l).write_faults ≡ 0)) → IfSome (option_map link o) (λ (l : LinkSeen). (l.read_faults ≡ 0) × (l.write_faults ≡ 0))
+  some_new (Some l) is = is
+  some_new None is = is
 
-  pub give_seen : (left : P → ℕ) → ((p : P) → (port p).left ≡ left p) → (job : Job) (all : List (Worker P C)) → AllGiveFor left job all → AllGiveFor (λ (p : PortSeen). p.left) job (map worker_as all)
-  give_seen left tells (Serve workers sessions) all give = all_give left tells sessions all give
-  give_seen left tells (Buy merchant product limit transaction request) all give = give
-  give_seen left tells (Sell links shelf offers) all give = all_give left tells links all give
+  pub new_seen : (d : Dials L) → AreNew link d → AreNew (λ (l : LinkSeen). l) (dials_as d)
+  new_seen d are = (some_new d.server are.0, some_new d.seller are.1)
+
+  all_ports : (Is : P → Type 0) (Told : PortSeen → Type 0) → ((p : P) → Is p → Told (port p)) → (all : List (Worker P C)) → AllPorts Is all → AllPorts Told (map worker_as all)
+  all_ports Is Told tells [] all_are k worker at = absurd cc
+  all_ports Is Told tells (w ∷ all) all_are zero worker at = subst (λ (x : ToldWorker). Told x.port) (same_Some (worker_as w) worker at) (tells w.port (all_are zero w refl))
+  all_ports Is Told tells (w ∷ all) all_are (suc k) worker at = all_ports Is Told tells all (λ k. all_are (suc k)) k worker at
+
+  pub give_seen : (left out faults : P → ℕ) → ((links : ℕ) (p : P) → IsNewPort links (left p) (out p) (faults p) → IsNewPort links (port p).left (port p).out (port p).faults)
+      → (job : Job) (all : List (Worker P C)) → AllGive left out faults job all
+      → AllGive (λ (p : PortSeen). p.left) (λ (p : PortSeen). p.out) (λ (p : PortSeen). p.faults) job (map worker_as all)
+  give_seen left out faults tells (Serve workers sessions) all give =
+      all_ports (λ (p : P). IsNewPort sessions (left p) (out p) (faults p)) (λ (p : PortSeen). IsNewPort sessions p.left p.out p.faults) (tells sessions) all give
+  give_seen left out faults tells (Buy merchant product limit transaction request) all give = give
+  give_seen left out faults tells (Sell links shelf offers) all give =
+      all_ports (λ (p : P). IsNewPort links (left p) (out p) (faults p)) (λ (p : PortSeen). IsNewPort links p.left p.out p.faults) (tells links) all give
 
   module _ {D : Type 0} (tells : DiskTells D) (old new : D) (before after : List (Worker P C)) (dials dials' : Dials L) (sent sent' : Option (List ℕ)) (faults faults' : ℕ) (lines : List Line) (ends : List WorkerEnd) (ending : Ending) where
     idle_seen : IsIdle tells old new before after lines ends → IsIdle tells old new (map worker_as before) (map worker_as after) lines ends
@@ -122,22 +129,23 @@ module _ {P C L : Type 0} (port : P → PortSeen) (moments : C → Option (List 
           w.4,
         )
 
--- so a job that was done over these workers and links came to what is seen of them
-pub done : {P C L D : Type 0} (before after : List (Worker P C)) (dials dials' : Dials L) (port : P → PortSeen) (moments : C → Option (List ℕ)) (link : L → LinkSeen) (left : P → ℕ) (tells : DiskTells D) (job : Job) (old new : D)
+-- so a job that was worked over these workers and links came to what is told of them
+pub worked : {P C L D : Type 0} (before after : List (Worker P C)) (dials dials' : Dials L) (port : P → PortSeen) (moments : C → Option (List ℕ)) (link : L → LinkSeen) (left out faulty : P → ℕ) (tells : DiskTells D) (job : Job) (old new : D)
     (sent sent' : Option (List ℕ)) (faults faults' : ℕ) (lines : List Line) (ends : List WorkerEnd) (ending : Ending)
-    → ((p : P) → (port p).left ≡ left p) → IsStaffed job (length before) → IsDialled job dials → AllGiveFor left job before
+    → ((links : ℕ) (p : P) → IsNewPort links (left p) (out p) (faulty p) → IsNewPort links (port p).left (port p).out (port p).faults)
+    → IsStaffed job (length before) → IsDialled job dials → AllGive left out faulty job before → AreNew link dials
     → WorksAs tells (workers_seen port moments) link job old new before after dials dials' sent sent' faults faults' lines ends ending
-    → IsDone tells job old sent sent' faults faults' ending
-done before after dials dials' port moments link left tells job old new sent sent' faults faults' lines ends ending same staffed dialled give works = record {
+    → IsWorked tells job old new sent sent' faults faults' ending
+worked before after dials dials' port moments link left out faulty tells job old new sent sent' faults faults' lines ends ending same staffed dialled give fresh works = record {
   before = map (worker_as port moments link) before;
   after = map (worker_as port moments link) after;
   dials = dials_as port moments link dials;
   dials' = dials_as port moments link dials';
-  disk' = new;
   lines = lines;
   ends = ends;
   staffed = subst (IsStaffed job) (sym (as_many port moments link before)) staffed;
   dialled = dialled_seen port moments link job dials dialled;
-  give = give_seen port moments link left same job before give;
+  give = give_seen port moments link left out faulty same job before give;
+  fresh = new_seen port moments link dials fresh;
   works = works_seen port moments link tells old new before after dials dials' sent sent' faults faults' lines ends ending job works;
 }

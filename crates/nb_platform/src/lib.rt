@@ -5,13 +5,14 @@
 //! the seller, and to sell it listens on one port and dials the house. Where one of these cannot be opened the job is not begun, and the
 //! status is [`NO_FILE`], or 6 for want of memory. Else [`nb_work::work`] does the job, over the adapters of `nb_net` and of `nb_system`. Who buys at a terminal is told there how many bytes came of the seller.
 //!
-//! What a job comes to is said in `specs/Doing.antt`: no words tell it, or something could not be opened, and nothing was sent; or it was done as [`nb_work::work`]
-//! says, over as many workers, ports that give as many links, and the dialled links that it names.
+//! What a job comes to is said in `specs/Doing.antt`: something could not be opened, and the disk is the one handed in; or it was worked as [`nb_work::work`]
+//! says, over as many workers and new ports that give as many links as it names, and the new links that it needs.
 //!
 //! Left to others: which command the words are, and whether it has a file or makes one; to hold standard input and output, to print the status.
 //!
 //! Not said, since no clause can: what the real system answers, and so whether a file is there, whether its lock keeps other programs away, whether what is not
-//! opened could have been, and who is at the other end of a link. Nor is it said which address a word names, on which port a worker listens, and what a terminal is told.
+//! opened could have been, and which of the two statuses that has, and who is at the other end of a link. Nor is it said which word is listened or dialled at, which address
+//! it names, on which port a worker listens, how long its links wait, and what a terminal is told.
 //! `examples/check` tries the files, and `tests/serve`, `tests/buy` and `tests/shop` try the sockets.
 #![tactic(auto)]
 

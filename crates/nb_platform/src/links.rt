@@ -1,5 +1,6 @@
 ghost use Rattle.std.specs.Prelude.{◌≡◌, IfOk, vec_len};
-ghost use Rattle.nb_platform.specs.Doing.{AllGive, AllGiveFor, IsTold};
+ghost use Rattle.nb_net.specs.Dials.{dialled_told};
+ghost use Rattle.nb_platform.specs.Doing.{AllGive, AllPorts, AreNew, FitsWork, IsNewPort};
 ghost use Rattle.nb_work.specs.Work.{IsStaffed, IsDialled};
 
 use crate::watched::WatchedLink;
@@ -26,12 +27,14 @@ pub(crate) struct Opened {
 
 // Opens what the words of the job name. A terminal is told how many bytes come of a seller.
 pub(crate) fn open(rt: &HostRuntime, words: &[String], job: &Job) -> io::Result<Opened>
-    requires { IsTold job.now }
+    requires { FitsWork job.now }
     // there are as many workers as the job says, and the links that it needs
     ensures staffed { IfOk result (λ opened. IsStaffed job.now (vec_len opened.workers)) }
     ensures dialled { IfOk result (λ opened. IsDialled job.now opened.dials) }
-    // each port gives as many links as the job says
-    ensures give { IfOk result (λ opened. AllGiveFor (λ port. port.left) job.now opened.workers.items) }
+    // each port is new, and gives as many links as the job says
+    ensures give { IfOk result (λ opened. AllGive (λ port. port.left) (λ port. port.out) (λ port. port.faults) job.now opened.workers.items) }
+    // no call of a link failed yet
+    ensures fresh { IfOk result (λ opened. AreNew (λ watched. dialled_told watched.link) opened.dials) }
 {
     match job {
         Job::Serve { workers, sessions } => Ok(Opened {
@@ -72,7 +75,7 @@ fn listen(
     sessions: u32,
 ) -> io::Result<Vec<Listening>>
     ensures all { IfOk result (λ listening. vec_len listening ≡ workers) }
-    ensures give { IfOk result (λ listening. AllGive (λ port. port.left) sessions listening.items) }
+    ensures give { IfOk result (λ listening. AllPorts (λ port. IsNewPort sessions port.left port.out port.faults) listening.items) }
 {
     let mut listening = Vec::with_capacity(rt.alloc(), workers as usize)?;
     let mut address = address_at(words, 2)?;
@@ -91,7 +94,7 @@ fn listen(
 // The one worker of who sells, over this port.
 fn one_worker(rt: &HostRuntime, port: TcpPort<StdListener>) -> io::Result<Vec<Listening>>
     ensures one { IfOk result (λ workers. vec_len workers ≡ 1) }
-    ensures give { IfOk result (λ workers. AllGive (λ port. port.left) port.left workers.items) }
+    ensures give { IfOk result (λ workers. AllPorts (λ worked. worked ≡ port) workers.items) }
 {
     let clock = SystemClock::over(rt.clone()?);
     let mut workers = Vec::with_capacity(rt.alloc(), 1)?;
@@ -100,7 +103,9 @@ fn one_worker(rt: &HostRuntime, port: TcpPort<StdListener>) -> io::Result<Vec<Li
 }
 
 // A link to an address, which is dialled now.
-fn dial(rt: &HostRuntime, address: SocketAddr) -> io::Result<DialLink<StdDialler<HostRuntime>>> {
+fn dial(rt: &HostRuntime, address: SocketAddr) -> io::Result<DialLink<StdDialler<HostRuntime>>>
+    ensures { IfOk result (λ link. (link.link.read_faults ≡ 0) × (link.link.write_faults ≡ 0)) }
+{
     match DialLink::to(StdDialler::over(rt.clone()?, address), PARTY) {
         Ok(link) => Ok(link),
         Err(_) => Err(io::ErrorKind::NotConnected.into()),

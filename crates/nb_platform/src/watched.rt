@@ -1,4 +1,4 @@
-ghost use Rattle.std.specs.Prelude.{◌<◌, length};
+ghost use Rattle.std.specs.Prelude.{◌≡◌, ◌<◌, length};
 ghost use Rattle.nb_link.specs.Link.{LinkReads, LinkWrites};
 
 use nb_link::Link;
@@ -28,12 +28,16 @@ struct Watch {
 
 impl<L: Link> WatchedLink<L> {
     /// A link of which nothing is told.
-    pub fn silent(link: L) -> WatchedLink<L> {
+    pub fn silent(link: L) -> WatchedLink<L>
+        ensures { result.link ≡ link }
+    {
         WatchedLink { link, watch: None }
     }
 
     /// A link of which standard error is told, in one line that is written over, how many bytes came and how fast, where that is a terminal.
-    pub fn told(link: L, rt: &HostRuntime) -> WatchedLink<L> {
+    pub fn told(link: L, rt: &HostRuntime) -> WatchedLink<L>
+        ensures { result.link ≡ link }
+    {
         WatchedLink {
             link,
             watch: Watch::of(rt),
@@ -41,7 +45,9 @@ impl<L: Link> WatchedLink<L> {
     }
 
     /// Nothing more is told: a line that was told is told whole, and ends.
-    pub fn end(&mut self) {
+    pub fn end(&mut self)
+        ensures { self.new.link ≡ self.old.link }
+    {
         if let Some(watch) = &mut self.watch {
             if watch.told.is_some() {
                 watch.tell();

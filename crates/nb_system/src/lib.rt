@@ -1,7 +1,7 @@
 //! The edge: a source, a sink and a clock over std's objects, and a disk over a file.
 //!
 //! A [`StdSource`] stands over a reader, a [`StdSink`] over a writer, and a [`FileDisk`] over a [`PositionalFile`]: the calls that it
-//! makes of a file, one each of the system. A call that fails raises the object's count, which stays at 2^64 - 1, and so does a
+//! makes of a file, one each of the system, beside which the system is asked for the limit of a file's size, and to read ahead. A call that fails raises the object's count, which stays at 2^64 - 1, and so does a
 //! write that takes nothing; a read or write that was interrupted is tried again. To the layers above they tell nothing of content
 //! and images, since no contract can say what a file or a terminal gives or takes; but where a reader, a writer or a
 //! [`PositionalFile`] tells its bytes, their own clauses speak of these (`specs/File.antt`, `specs/System.antt`).

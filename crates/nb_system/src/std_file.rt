@@ -11,7 +11,7 @@ use std::os::unix::fs::FileExt;
 // How the system names the limit of a file's size, where it is asked for a limit.
 const FILE_SIZE: i32 = 1;
 
-// How many bytes of a file the system is asked to read ahead, once its pages were dropped.
+// So many bytes of a file the system is asked to read ahead, once its pages were dropped: a journal is read from its beginning next, by pieces of as many.
 const READ_AHEAD: i64 = 65_536;
 
 /// A file of std and its folder.
@@ -72,7 +72,7 @@ impl PositionalFile for StdFile {
         done_if(self.file.sync_all().is_ok())
     }
 
-    // What is read next is the front: the system reads it ahead, while the folder is made to keep the name. That is a hint, and no answer depends on it.
+    // What is read ahead comes from the device, as what is read later does. To ask for it is a hint, and no answer depends on it.
     fn drop_pages(&mut self) -> DiskOut {
         let fd = self.file.as_raw_fd();
         let dropped = libc::posix_fadvise(fd, 0, 0, libc::POSIX_FADV_DONTNEED) == 0;

@@ -12,7 +12,7 @@
 //! Left to others: to listen, to dial, to open the file.
 //!
 //! Not said: that want of memory is told only where memory was wanting, since no clause bounds it; that a server's turns are those of its workers alone, as of
-//! [`nb_server::serve_all`]; that each port gives as many links as the job says, since `nb_platform` makes them. `tests/serve`, `tests/buy` and `tests/shop` try the sockets.
+//! [`nb_server::serve_all`]; that each port gives as many links as the job says, which `nb_platform` says, who makes them. `tests/serve`, `tests/buy` and `tests/shop` try the sockets.
 #![tactic(auto)]
 
 mod buying;

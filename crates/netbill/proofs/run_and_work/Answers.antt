@@ -1,29 +1,32 @@
-use Rattle.std.proofs.Common.{◌≡◌, map, string_bytes, refl, subst}
+use Rattle.std.proofs.Common.{map, string_bytes, refl, subst}
 use Rattle.nb_commands.specs.declared.ending.Outcome.{Outcome}
 use Rattle.nb_commands.specs.declared.ending.Outcome.TheVariants.{Done, Work}
 use Rattle.nb_run.specs.Run.{Ran, around}
+use Rattle.netbill.proofs.Fitting.{fits}
 use Rattle.netbill.proofs.run_and_work.Goals as goal
 
 pub returns-in-Done : goal.returns-in-Done
 returns-in-Done g c =
     let at = around g.S.Source.left g.S.Source.faults g.K.Sink.sent g.K.Sink.faults g.C.Clock.moments in
-    let after = at c.run-outcome.new.source c.run-outcome.new.sink c.run-outcome.result.1 c.run-outcome.new.clock in record {
+    let ran = at c.run-outcome.new.source c.run-outcome.new.sink c.run-outcome.result.1 c.run-outcome.new.clock in record {
       ends = (
-        after,
+        ran,
         Done c.in-Done.ending,
-        subst (λ (outcome : Outcome). Ran g.D.Disk.tells (at c.args.source.now c.args.sink.now c.args.disk c.args.clock.now) after outcome (map string_bytes c.args.words.now)) c.in-Done.is c.run-outcome.ensures.ran,
-        (refl, refl, refl),
+        subst (λ (outcome : Outcome). Ran g.D.Disk.tells (at c.args.source.now c.args.sink.now c.args.disk c.args.clock.now) ran outcome (map string_bytes c.args.words.now)) c.in-Done.is c.run-outcome.ensures.ran,
+        (refl, refl),
       );
     }
 
 pub returns-in-Work : goal.returns-in-Work
 returns-in-Work g c =
     let at = around g.S.Source.left g.S.Source.faults g.K.Sink.sent g.K.Sink.faults g.C.Clock.moments in
-    let after = at c.run-outcome.new.source c.run-outcome.new.sink c.run-outcome.result.1 c.run-outcome.new.clock in record {
+    let before = at c.args.source.now c.args.sink.now c.args.disk c.args.clock.now in
+    let ran = at c.run-outcome.new.source c.run-outcome.new.sink c.run-outcome.result.1 c.run-outcome.new.clock in
+    let did = subst (λ (outcome : Outcome). Ran g.D.Disk.tells before ran outcome (map string_bytes c.args.words.now)) c.in-Work.is c.run-outcome.ensures.ran in record {
       ends = (
-        after,
+        ran,
         Work c.in-Work.job,
-        subst (λ (outcome : Outcome). Ran g.D.Disk.tells (at c.args.source.now c.args.sink.now c.args.disk c.args.clock.now) after outcome (map string_bytes c.args.words.now)) c.in-Work.is c.run-outcome.ensures.ran,
-        c.do_job.ensures.comes_to,
+        did,
+        (refl, refl, fits g.D.Disk.tells before ran (map string_bytes c.args.words.now) c.in-Work.job did, c.do_job.ensures.comes_to),
       );
     }
