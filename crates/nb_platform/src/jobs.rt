@@ -30,7 +30,7 @@ pub fn do_job<T: Threads + Wait + Sync, D: Disk + Drop + Send, K: Sink>(
     disk: D,
     sink: &mut K,
 ) -> (Ending, D)
-    // there are words that tell it
+    // its numbers, and the length of its request, are those of a command
     requires { FitsWork job }
     // something could not be opened for it; or it came to what `work` says, over as many workers as it names and the links that it needs
     ensures comes_to { ComesTo D.tells job disk result.1 (K.sent sink.old) (K.sent sink.new) (K.faults sink.old) (K.faults sink.new) result.0 }

@@ -94,7 +94,7 @@ fn listen(
 // The one worker of who sells, over this port.
 fn one_worker(rt: &HostRuntime, port: TcpPort<StdListener>) -> io::Result<Vec<Listening>>
     ensures one { IfOk result (λ workers. vec_len workers ≡ 1) }
-    ensures give { IfOk result (λ workers. AllPorts (λ worked. worked ≡ port) workers.items) }
+    ensures give { IfOk result (λ workers. AllPorts (λ own. own ≡ port) workers.items) }
 {
     let clock = SystemClock::over(rt.clone()?);
     let mut workers = Vec::with_capacity(rt.alloc(), 1)?;
