@@ -6,3 +6,4 @@ pub mod Wares
 pub mod Grants
 pub mod Plays
 pub mod Asked
+pub mod Worded
