@@ -6,4 +6,3 @@ pub mod Wares
 pub mod Grants
 pub mod Plays
 pub mod Asked
-pub mod Worded

@@ -6,13 +6,11 @@ use Rattle.nb_price.specs.Products.{Product}
 use Rattle.nb_groups.specs.Offers.{Tariff}
 use Rattle.nb_words.specs.declared.words.Command.{Command}
 use Rattle.nb_words.specs.declared.words.Command.TheVariants.{Serve, Buy, BuyWith, Sell, SellOffers}
-use Rattle.nb_words.specs.Words.{Are, IsCommand}
+use Rattle.nb_words.specs.Words.{Are}
 use Rattle.nb_commands.specs.declared.ending.Job.{Job}
 use Rattle.nb_commands.specs.declared.ending.Job.TheVariants as jobs
 use Rattle.nb_commands.specs.declared.ending.Outcome.{Outcome}
 use Rattle.nb_commands.specs.declared.ending.Outcome.TheVariants.{Work}
-use Rattle.nb_commands.specs.declared.ending.TheConstants.{BAD_WORDS}
-use Rattle.nb_commands.specs.Ending.{EndsWith}
 use Rattle.nb_commands.specs.Input.{TookAll}
 use Rattle.nb_commands.specs.Offering.{AreWares}
 use Rattle.nb_commands.specs.Selling.{IsStock}
@@ -40,9 +38,3 @@ abbrev pub LeavesAsAsked : (S K : Type 0) {D : Type 0} (C : Type 0) → DiskTell
 LeavesAsAsked S K {D} C tells =
     (before after : Around S K D C) (job : Job) (words : List (List ℕ)) → Ran tells before after (Work job) words
     → (command : Command) × Are words command × Leaves before after command job
-
--- a run ends with 2 where the words are no command, unless there was no memory to read them, and where they are one it does not
-abbrev pub BadWordsAlone : (S K : Type 0) {D : Type 0} (C : Type 0) → DiskTells D → Type 0
-BadWordsAlone S K {D} C tells =
-    (before after : Around S K D C) (outcome : Outcome) (words : List (List ℕ)) → Ran tells before after outcome words
-    → (EndsWith outcome BAD_WORDS → IsCommand words → ⊥) × ((IsCommand words → ⊥) → EndsWith outcome BAD_WORDS ⊎ IsUnbegun before after outcome)

@@ -38,10 +38,10 @@ use Rattle.nb_answers.specs.Drill.{DrillIs}
 use Rattle.nb_answers.specs.Ending.{EndsEarly}
 use Rattle.nb_run.specs.Play.{IsScriptInput, PlayIs}
 
--- the statuses that a run can end with
+-- the statuses that a run ends with, but for 2
 abbrev pub IsStatus : ℕ → Type 0
 IsStatus n =
-    (n ≡ CLEAN) ⊎ (n ≡ BAD_WORDS) ⊎ (n ≡ SOURCE_FAILED) ⊎ (n ≡ SINK_FAILED) ⊎ (n ≡ BAD_INPUT) ⊎ (n ≡ OUT_OF_MEMORY) ⊎ (n ≡ DISK_FAILED) ⊎ (n ≡ NO_JOURNAL) ⊎ (n ≡ NOT_MADE) ⊎ (n ≡ FRAME_LIMIT) ⊎ (n ≡ NO_ACCOUNT) ⊎ (n ≡ NO_PLACE)
+    (n ≡ CLEAN) ⊎ (n ≡ SOURCE_FAILED) ⊎ (n ≡ SINK_FAILED) ⊎ (n ≡ BAD_INPUT) ⊎ (n ≡ OUT_OF_MEMORY) ⊎ (n ≡ DISK_FAILED) ⊎ (n ≡ NO_JOURNAL) ⊎ (n ≡ NOT_MADE) ⊎ (n ≡ FRAME_LIMIT) ⊎ (n ≡ NO_ACCOUNT) ⊎ (n ≡ NO_PLACE)
 
 -- What a run has before it, or after it: input, output, disk and clock, and beside them what input, output and clock tell.
 pub record Around (S K D C : Type 0) : Type 0 where

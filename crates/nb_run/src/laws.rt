@@ -1,6 +1,6 @@
 //! What holds of every run, by its words.
 
-ghost use Rattle.nb_run.specs.Laws.{BadWordsAlone, DoesAsAsked, LeavesAsAsked};
+ghost use Rattle.nb_run.specs.Laws.{DoesAsAsked, LeavesAsAsked};
 
 use nb_port::Disk;
 
@@ -12,9 +12,4 @@ pub fn does_as_asked<S, K, D: Disk, C>()
 /// A law: a job is left at the words alone of a server, of a purchase or of one who sells, with these numbers, and with what was read of the input.
 pub fn leaves_as_asked<S, K, D: Disk, C>()
     ensures { LeavesAsAsked S K C D.tells }
-{}
-
-/// A law: a run ends with 2 where the words are no command, unless there was no memory to read them, and at no other words.
-pub fn bad_words_alone<S, K, D: Disk, C>()
-    ensures { BadWordsAlone S K C D.tells }
 {}

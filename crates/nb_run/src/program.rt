@@ -1,8 +1,9 @@
-ghost use Rattle.std.specs.Prelude.{◌≡◌, ◌≤◌, ℕ, map, string_bytes};
+ghost use Rattle.std.specs.Prelude.{◌≡◌, ◌⊎◌, ◌≤◌, ℕ, map, string_bytes};
 ghost use Rattle.nb_port.specs.Faults.{Rose};
-ghost use Rattle.nb_commands.specs.declared.ending.TheConstants.{SOURCE_FAILED, SINK_FAILED, DISK_FAILED};
+ghost use Rattle.nb_commands.specs.declared.ending.TheConstants.{BAD_WORDS, SOURCE_FAILED, SINK_FAILED, DISK_FAILED};
 ghost use Rattle.nb_commands.specs.declared.ending.Outcome.TheVariants as outcomes;
 ghost use Rattle.nb_commands.specs.Ending.{EndsWith};
+ghost use Rattle.nb_words.specs.Words.{IsCommand};
 ghost use Rattle.nb_run.specs.Run as runs;
 
 use crate::playing::play_input;
@@ -41,8 +42,8 @@ pub fn run<S: Source, K: Sink, D: Disk, C: Clock>(
         (runs.around S.left S.faults K.sent K.faults C.moments source.old sink.old disk clock.old)
         (runs.around S.left S.faults K.sent K.faults C.moments source.new sink.new result.1 clock.new)
         result.0 (map string_bytes words.now) }
-    // A run that is over ended with one of these statuses.
-    ensures status { (status : ℕ) → EndsWith result.0 status → runs.IsStatus status }
+    // A run that is over ended with one of these statuses, or with 2, and then the words are no command.
+    ensures status { (status : ℕ) → EndsWith result.0 status → runs.IsStatus status ⊎ ((status ≡ BAD_WORDS) × (IsCommand (map string_bytes words.now) → ⊥)) }
     // No count of faults falls.
     ensures counts { (S.faults source.old ≤ S.faults source.new) × (K.faults sink.old ≤ K.faults sink.new) × (D.tells.faults disk ≤ D.tells.faults result.1) }
     // A fault is answered only where the count of that object rose.

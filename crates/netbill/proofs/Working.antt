@@ -1,9 +1,11 @@
 -- A job that is left never ends with the status of words that are none.
-use Rattle.std.proofs.Common.{inl, inr, ℕ, List, Option, arith}
+use Rattle.std.proofs.Common.{◌≡◌, inl, inr, ℕ, List, Option, sym, ap, ◌∙◌, arith}
 use Rattle.nb_port.specs.Tells.{DiskTells}
 use Rattle.nb_turns.specs.declared.line.Line.{Line}
 use Rattle.nb_journal.specs.declared.opening.OpenFault.{OpenFault}
 use Rattle.nb_journal.specs.declared.opening.OpenFault.TheVariants as opens
+use Rattle.nb_vault.specs.declared.vault.opening.VaultFault.{VaultFault}
+use Rattle.nb_vault.specs.declared.vault.opening.VaultFault.TheVariants as vaults
 use Rattle.nb_link.specs.Link.{LinkSeen}
 use Rattle.nb_server.specs.declared.worker.WorkerEnd.{WorkerEnd}
 use Rattle.nb_buy.specs.declared.ended.BuyEnd.{BuyEnd}
@@ -12,6 +14,7 @@ use Rattle.nb_buy.specs.declared.ended.Lost.TheVariants as lost
 use Rattle.nb_commands.specs.declared.ending.Ending.{Ending}
 use Rattle.nb_commands.specs.declared.ending.Job.{Job}
 use Rattle.nb_commands.specs.declared.ending.Job.TheVariants.{Serve, Buy, Sell}
+use Rattle.nb_commands.specs.declared.ending.TheConstants.{BAD_WORDS}
 use Rattle.nb_commands.specs.Ending.{at_no_place}
 use Rattle.nb_commands.specs.Opening.{unopened}
 use Rattle.nb_work.specs.declared.selling.Stop.{Stop}
@@ -21,8 +24,22 @@ use Rattle.nb_work.specs.Buying.{not_opened}
 use Rattle.nb_work.specs.Buying as buying
 use Rattle.nb_work.specs.Selling as selling
 use Rattle.nb_work.specs.Work.{WorksAs, workers_seen}
-use Rattle.nb_run.proofs.Worded.{IsBad, bad_as, of_opening}
 use Rattle.nb_platform.specs.Doing.{ComesTo, ToldWorker}
+
+-- it ends with that status
+abbrev pub IsBad : Ending → Type 0
+IsBad ending = ending.status ≡ BAD_WORDS
+
+-- what ends so ends like what it is
+bad_as : (ending other : Ending) → ending ≡ other → IsBad ending → IsBad other
+bad_as ending other is bad = sym (ap (λ (e : Ending). e.status) is) ∙ bad
+
+of_vault : (fault : VaultFault) → IsBad (unopened fault) → ⊥
+of_vault (vaults.Unborn found) bad = omega (arith, bad)
+of_vault (vaults.Damaged item place) bad = omega (arith, bad)
+of_vault (vaults.BadEntry item) bad = omega (arith, bad)
+of_vault (vaults.DiskFault before after) bad = omega (arith, bad)
+of_vault vaults.NoMemory bad = omega (arith, bad)
 
 of_journal : (fault : OpenFault) → IsBad (not_opened fault) → ⊥
 of_journal (opens.Unborn found) bad = omega (arith, bad)
@@ -52,7 +69,7 @@ module _ {D : Type 0} (tells : DiskTells D) (old new : D) (sent sent' : Option (
   worked : (job : Job) (before after : List ToldWorker) (dials dials' : Dials LinkSeen) (lines : List Line) (ends : List WorkerEnd)
       → WorksAs tells (workers_seen (λ port. port) (λ moments. moments)) (λ link. link) job old new before after dials dials' sent sent' faults faults' lines ends ending → ⊥
   worked (Serve workers sessions) before after dials dials' lines ends works = elim works.0 [
-    | inl none ↦ of_opening none.0 (bad_as ending (unopened none.0) none.1 bad)
+    | inl none ↦ of_vault none.0 (bad_as ending (unopened none.0) none.1 bad)
     | inr (inl idle) ↦ omega (arith, bad_as ending _ idle.0 bad)
     | inr (inr all) ↦ elim all.1 [
       | inl failed ↦ omega (arith, bad_as ending _ failed.1 bad)
