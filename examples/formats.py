@@ -86,6 +86,9 @@ STATUSES = {
 }
 
 OPEN, CLOSED = b"\xa5", b"\x00"
+
+# As many zeros are written behind an item that reaches a multiple of this place, where it has at most so many bytes.
+AHEAD, MAX_AHEAD_ITEM = 131_072, 32_768
 WORD = 0xFFFFFFFF
 
 # How long a ticket holds, in seconds, and the last moment that there is.
@@ -296,6 +299,12 @@ def journal(head, cap, entries, rate=None):
     items = b"".join(OPEN + sized(entry) for entry in entries)
     magic = b"NBJRNL01" if rate is None else b"NBJRNL02"
     return magic + struct.pack(">I", cap) + head + struct.pack(">HH", rate or 0, 0) + items + CLOSED
+
+
+def ahead(gate, size):
+    """How many zeros are written behind an item of so many bytes, whose gate stands there."""
+    reaches = gate // AHEAD < (gate + 5 + size) // AHEAD
+    return AHEAD if reaches and size <= MAX_AHEAD_ITEM else 0
 
 
 def shipped(house, place, entry):

@@ -2,6 +2,8 @@
 was paid, one that was refused, and as many enrolments and funds in turn. The program has to open the journal where the last entry
 may come behind them, and then tells a query that there are 1,000,000; and to end with status 8 where the last entry uses a number, an
 account, a reference or an identifier again.
+
+And a journal whose last gate reaches 131,072: as many zeros stand behind that gate, over which the next items are written, and it opens as before.
 """
 
 import pathlib
@@ -78,6 +80,35 @@ def test(journal):
     print(f"tests/open: {COUNT} entries, with {len(list(last_entries()))} that come last")
 
 
+def batch(journal, funds):
+    """Runs a batch of these funds."""
+    frames = b"".join(fund.frame(OPERATOR) for fund in funds)
+    ran = subprocess.run([PROGRAM, "batch", journal], input=frames, capture_output=True, check=False)
+    if ran.returncode:
+        sys.exit(f"tests/open: the program ended with status {ran.returncode}: {ran.stderr.decode()}")
+
+
+def test_ahead(journal):
+    """A journal that reaches a multiple of AHEAD by the second of the funds that come behind it."""
+    funds = [formats.Fund(2, 1, 1)]
+    gate = len(formats.journal(HEAD, COUNT, [party(2).entry()])) - 1
+    taken = len(formats.OPEN + formats.sized(funds[0].entry()))
+    filled = (formats.AHEAD - gate - 1) // taken - 1
+    funds = [formats.Fund(2, 1, reference) for reference in range(1, filled + 5)]
+    images = [formats.journal(HEAD, COUNT, [party(2).entry()] + [fund.entry() for fund in funds[:count]]) for count in range(filled, filled + 5)]
+    if not len(images[1]) - 1 < formats.AHEAD <= len(images[2]) - 1:
+        sys.exit("tests/open: the second fund does not reach the multiple")
+    journal.write_bytes(images[0])
+    size = len(images[2]) + formats.AHEAD
+    for count in range(4):
+        batch(journal, funds[filled + count : filled + count + 1])
+        image = images[count + 1]
+        if journal.read_bytes() != (image if count == 0 else image + bytes(size - len(image))):
+            sys.exit(f"tests/open: behind fund {count + 1} the journal has other bytes")
+    print(f"tests/open: a journal that reaches {formats.AHEAD} bytes")
+
+
 if __name__ == "__main__":
     with tempfile.TemporaryDirectory() as name:
         test(pathlib.Path(name) / "house.journal")
+        test_ahead(pathlib.Path(name) / "house.journal")

@@ -11,7 +11,7 @@ use nb_units::{FIRST_VERSION, NoMemory};
 const MOST: u32 = 1_000_000;
 
 impl Trial {
-    /// `content`: what it is. `content HEX`: it is this now. `more COUNT HEX`: these bytes so many times, behind it. `turn PLACE BYTE`: a byte
+    /// `content`: what it is, `length`: how many bytes. `content HEX`: it is this now. `more COUNT HEX`: these bytes so many times, behind it. `turn PLACE BYTE`: a byte
     /// of it is another. `fails CALL..`: the calls of the next disk that fail. `init CAP BYTE [RATE]`: a journal is made whose head is 80 times this
     /// byte, with a rate one of the version with fees. `open`: what it has. `cut COUNT`: what so many bytes of its front are. `steps`: see [`Trial::steps`].
     pub fn of_journal(
@@ -24,6 +24,10 @@ impl Trial {
             "steps" => self.steps(told, words),
             "content" if words.is_empty() => {
                 told.bytes("", &self.content);
+                Ok(())
+            }
+            "length" if words.is_empty() => {
+                told.show("", &self.content.len()).text(" bytes");
                 Ok(())
             }
             "open" => opened(told, &self.content),

@@ -1,6 +1,6 @@
 -- The two steps of an append: the body is put behind the closed gate, and then the gate is opened.
-use Rattle.std.proofs.Common.{◌≡◌, refl, inl, ℕ, ◌+◌, ◌<◌, ◌≤◌, false, true, List, [], ◌∷◌, ◌++◌, length, Option, Some, None, IfSome, arith, sym, ap, subst, ◌∙◌, length-append}
-use Rattle.std.proofs.lemmas.List.{length-take}
+use Rattle.std.proofs.Common.{◌≡◌, refl, inl, ℕ, ◌+◌, ◌<◌, ◌≤◌, false, true, List, [], ◌∷◌, ◌++◌, length, replicate, Option, Some, None, IfSome, arith, sym, ap, subst, ◌∙◌, length-append}
+use Rattle.std.proofs.lemmas.List.{length-replicate, length-take}
 use Rattle.nb_units.specs.Fields.{sized}
 use Rattle.nb_port.specs.Tells.{DiskTells}
 use Rattle.nb_port.specs.Disk.{Torn, MayTear, Only, Follows, put_at, wrote_at}
@@ -28,10 +28,10 @@ next_gate front items item gate place =
 pub behind_gate : (front : List ℕ) (items : List (List ℕ)) (gate n : ℕ) (d c : List ℕ) → gate ≡ length (up_to_gate front items) → Stands front items d → Torn (gate + 1) n d c → Stands front items c
 behind_gate front items gate n d c place stands torn = stands_torn front items d c n stands (subst (λ (g : ℕ). Torn (g + 1) n d c) place torn)
 
--- the body put behind the gate
-pub body_put : (front : List ℕ) (items : List (List ℕ)) (item : List ℕ) (gate : ℕ) (d : List ℕ) → gate ≡ length (up_to_gate front items) → Stands front items d → Staged front items item (put_at d (gate + 1) (body_bytes item))
-body_put front items item gate d place stands =
-    subst (λ (g : ℕ). Staged front items item (put_at d (g + 1) (body_bytes item))) (sym place) (stands_put front items item d stands)
+-- the body put behind the gate, with more behind it
+pub body_put : (front : List ℕ) (items : List (List ℕ)) (item more : List ℕ) (gate : ℕ) (d : List ℕ) → gate ≡ length (up_to_gate front items) → Stands front items d → Staged front items item (put_at d (gate + 1) (body_bytes item ++ more))
+body_put front items item more gate d place stands =
+    subst (λ (g : ℕ). Staged front items item (put_at d (g + 1) (body_bytes item ++ more))) (sym place) (stands_put front items item more d stands)
 
 -- the gate torn, with the body behind it
 pub at_gate : (front : List ℕ) (items : List (List ℕ)) (item : List ℕ) (gate : ℕ) (d c : List ℕ) → gate ≡ length (up_to_gate front items) → Staged front items item d → Torn gate 1 d c → BeforeOrAfter front items item c
@@ -62,22 +62,25 @@ both_wrote old mid new gate byte bytes first second inside = second ∙ ap (λ (
 
 -- ---- what a write that failed leaves
 
--- the body takes five bytes more than the item
-body_length : (item : List ℕ) → length (body_bytes item) ≡ length item + 5
+-- the body takes five bytes more than the item, and the zeros behind it
+body_length : (item : List ℕ) (zeros : ℕ) → length (body_bytes item ++ replicate zeros 0) ≡ length item + 5 + zeros
 unfolding body_bytes
-body_length item = omega (arith, length-append (sized item) (0 ∷ []))
+body_length item zeros =
+    omega (arith, length-append (sized item ++ 0 ∷ []) (replicate zeros 0), length-append (sized item) (0 ∷ []), length-replicate {A = ℕ} zeros 0)
 
 -- the body failed
-pub body_tears : (old new : Option (List ℕ)) (gate : ℕ) (item : List ℕ) → MayTear old new (gate + 1) (length (body_bytes item)) → MayTear old new gate (length item + 6)
-body_tears old new gate item torn = tears_wider (gate + 1) (length (body_bytes item)) gate (length item + 6) old new (omega arith) (omega (arith, body_length item)) torn
+pub body_tears : (old new : Option (List ℕ)) (gate : ℕ) (item : List ℕ) (zeros : ℕ) → MayTear old new (gate + 1) (length (body_bytes item ++ replicate zeros 0)) → MayTear old new gate (length item + 6 + zeros)
+body_tears old new gate item zeros torn =
+    tears_wider (gate + 1) (length (body_bytes item ++ replicate zeros 0)) gate (length item + 6 + zeros) old new (omega arith) (omega (arith, body_length item zeros)) torn
 
 -- the body was put, and the gate failed
-pub gate_tears : (old mid new : Option (List ℕ)) (gate : ℕ) (item : List ℕ) → mid ≡ wrote_at old (gate + 1) (body_bytes item) → IfSome old (λ d. gate < length d)
-    → MayTear mid new gate 1 → MayTear old new gate (length item + 6)
-gate_tears old mid new gate item wrote inside torn =
-    let body : MayTear old mid (gate + 1) (length (body_bytes item)) =
-    wrote_tears old mid mid (gate + 1) (body_bytes item) wrote refl (some_each old (λ d. gate < length d) (λ d. gate + 1 ≤ length d) (λ d within. omega arith) inside) in
-    tears_twice (gate + 1) (length (body_bytes item)) gate 1 gate (length item + 6) old mid new (omega arith) (omega (arith, body_length item)) (omega arith) (omega arith) body torn
+pub gate_tears : (old mid new : Option (List ℕ)) (gate : ℕ) (item : List ℕ) (zeros : ℕ) → mid ≡ wrote_at old (gate + 1) (body_bytes item ++ replicate zeros 0) → IfSome old (λ d. gate < length d)
+    → MayTear mid new gate 1 → MayTear old new gate (length item + 6 + zeros)
+gate_tears old mid new gate item zeros wrote inside torn =
+    let piece = body_bytes item ++ replicate zeros 0 in
+    let body : MayTear old mid (gate + 1) (length piece) =
+    wrote_tears old mid mid (gate + 1) piece wrote refl (some_each old (λ d. gate < length d) (λ d. gate + 1 ≤ length d) (λ d within. omega arith) inside) in
+    tears_twice (gate + 1) (length piece) gate 1 gate (length item + 6 + zeros) old mid new (omega arith) (omega (arith, body_length item zeros)) (omega arith) (omega arith) body torn
 
 -- ---- journals
 
@@ -94,15 +97,16 @@ pub stands_now : {D : Type 0} (tells : DiskTells D) (front : List ℕ) (items : 
 stands_now tells front items j rest c is = some_of (tells.content j.disk) (Stands front items) c (rest.only c is) rest.bytes
 
 module _ {D : Type 0} (tells : DiskTells D) (front : List ℕ) (items : List (List ℕ)) (item : List ℕ) where
-  -- the body was put and synced
+  -- the body was put and synced, with more behind it
   pub record HasBody (old : Journal D) (mid : D) : Type 0 where
-    pub wrote : tells.content mid ≡ wrote_at (tells.content old.disk) (old.gate + 1) (body_bytes item)
+    pub more : List ℕ
+    pub wrote : tells.content mid ≡ wrote_at (tells.content old.disk) (old.gate + 1) (body_bytes item ++ more)
     pub only : Only (tells.content mid) (tells.allowed mid)
 
   -- the content then
   staged_content : (old : Journal D) (mid : D) → AtRest tells front items old → HasBody old mid → IfSome (tells.content mid) (Staged front items item)
   staged_content old mid rest body =
-      some_wrote (tells.content old.disk) (tells.content mid) (old.gate + 1) (body_bytes item) (Stands front items) (Staged front items item) body.wrote (λ d stands. body_put front items item old.gate d rest.place stands) rest.bytes
+      some_wrote (tells.content old.disk) (tells.content mid) (old.gate + 1) (body_bytes item ++ body.more) (Stands front items) (Staged front items item) body.wrote (λ d stands. body_put front items item body.more old.gate d rest.place stands) rest.bytes
 
   -- each image then
   staged_now : (old : Journal D) (mid : D) → AtRest tells front items old → HasBody old mid → (c : List ℕ) → tells.allowed mid c → Staged front items item c

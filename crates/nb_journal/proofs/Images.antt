@@ -26,14 +26,20 @@ pub record Staged (front : List ℕ) (items : List (List ℕ)) (item image : Lis
   pub shut : gate ≢ open_gate
   pub bytes : image ≡ up_to_gate front items ++ gate ∷ (body_bytes item ++ rest)
 
--- the body that is put stands so
-pub stands_put : (front : List ℕ) (items : List (List ℕ)) (item d : List ℕ) → Stands front items d → Staged front items item (put_at d (length (up_to_gate front items) + 1) (body_bytes item))
-stands_put front items item d stands = record {
-  gate = stands.gate;
-  rest = drop (length (body_bytes item)) stands.rest;
-  shut = stands.shut;
-  bytes = ap (λ (xs : List ℕ). put_at xs (length (up_to_gate front items) + 1) (body_bytes item)) stands.bytes ∙ behind_put (up_to_gate front items) stands.gate stands.rest (body_bytes item);
-}
+-- the body that is put stands so, whatever is put behind it
+pub stands_put : (front : List ℕ) (items : List (List ℕ)) (item more d : List ℕ) → Stands front items d → Staged front items item (put_at d (length (up_to_gate front items) + 1) (body_bytes item ++ more))
+stands_put front items item more d stands =
+    let up = up_to_gate front items in
+    let bytes = body_bytes item ++ more in
+    record {
+      gate = stands.gate;
+      rest = more ++ drop (length bytes) stands.rest;
+      shut = stands.shut;
+      bytes =
+          ap (λ (xs : List ℕ). put_at xs (length up + 1) bytes) stands.bytes
+          ∙ behind_put up stands.gate stands.rest bytes
+          ∙ ap (λ (xs : List ℕ). up ++ stands.gate ∷ xs) (append_assoc (body_bytes item) more (drop (length bytes) stands.rest));
+    }
 
 -- the item does not count yet
 pub staged_stands : (front : List ℕ) (items : List (List ℕ)) (item d : List ℕ) → Staged front items item d → Stands front items d

@@ -1,11 +1,11 @@
 -- The bytes of a journal: a front of 96 bytes, then item after item, each behind its gate, and then a gate that is not open.
-use Rattle.std.specs.Prelude.{◌≡◌, ◌⊎◌, ℕ, ◌+◌, ◌≤◌, List, [], ◌∷◌, ◌++◌, length}
+use Rattle.std.specs.Prelude.{◌≡◌, ◌⊎◌, ℕ, ◌+◌, ◌/◌, ◌≤◌, List, [], ◌∷◌, ◌++◌, length, replicate, nat_lt, if◌then◌else◌}
 use Rattle.std.specs.List.{flat_map}
 use Rattle.nb_units.specs.Charter.{AreVersionAndRate}
 use Rattle.nb_units.specs.Fields.{be2, be4, sized}
 use Rattle.nb_units.specs.declared.charter.Charter.{Charter}
 use Rattle.nb_units.specs.declared.limits.TheConstants.{HEAD, MAX_CAP, FIRST_VERSION, FEE_VERSION}
-use Rattle.nb_journal.specs.declared.limits.TheConstants.{MAX_ITEM}
+use Rattle.nb_journal.specs.declared.limits.TheConstants.{AHEAD, AROUND, MAX_AHEAD_ITEM, MAX_ITEM}
 
 -- what a journal of a version begins with: NBJRNL01, NBJRNL02
 abbrev pub magic : ℕ → List ℕ
@@ -45,6 +45,16 @@ item_bytes item = open_gate ∷ sized item
 -- what is written of an item before its gate is opened: length 4 | the item | the next gate, closed
 unfoldable pub body_bytes : List ℕ → List ℕ
 body_bytes item = sized item ++ 0 ∷ []
+
+-- how many zeros are written behind an item whose gate stands at the place: some where a multiple of AHEAD is past this gate and not past the next
+-- one, and the item is at most MAX_AHEAD_ITEM long
+abbrev pub zeros_behind : ℕ → List ℕ → ℕ
+zeros_behind gate item =
+    if nat_lt (gate / AHEAD) ((gate + (length item + AROUND)) / AHEAD) then (if nat_lt MAX_AHEAD_ITEM (length item) then 0 else AHEAD) else 0
+
+-- what an append writes from the gate on: the item behind its open gate, the next gate, closed, and zeros
+abbrev pub appended_bytes : ℕ → List ℕ → List ℕ
+appended_bytes gate item = item_bytes item ++ 0 ∷ replicate (zeros_behind gate item) 0
 
 -- the front and the items, up to the gate behind them
 abbrev pub up_to_gate : List ℕ → List (List ℕ) → List ℕ

@@ -13,7 +13,7 @@ use Rattle.nb_journal.specs.declared.journal.Settled.TheVariants as settles
 use Rattle.nb_journal.specs.declared.journal.StillStale.{StillStale}
 use Rattle.nb_journal.specs.declared.reading.ByteRead.{ByteRead}
 use Rattle.nb_journal.specs.declared.reading.ByteRead.TheVariants as bytes
-use Rattle.nb_journal.specs.Layout.{open_gate, item_bytes, up_to_gate}
+use Rattle.nb_journal.specs.Layout.{open_gate, appended_bytes, up_to_gate, zeros_behind}
 use Rattle.nb_journal.specs.Stands.{Stands, BeforeOrAfter}
 
 -- nothing is in doubt: the content stands for the items, and a stop leaves nothing else
@@ -56,13 +56,13 @@ AppendFits old item (Err (appends.Full cap)) = ⊤
 AppendFits old item (Err (appends.TooBig len room)) = ⊤
 AppendFits old item (Err (appends.DiskFault before after)) = HasRoomFor old item
 
--- what is written, for the content before and after: where the disk failed bytes from the gate on up to the end of the next gate
--- may have changed, and no others
+-- what is written, for the content before and after: where the disk failed bytes from the gate on up to the end of the next gate, or
+-- of the zeros behind it, may have changed, and no others
 abbrev pub AppendWrites : Option (List ℕ) → Option (List ℕ) → ℕ → List ℕ → Result (Unit {0}) AppendFault → Type 0
-AppendWrites old new gate item (Ok done) = new ≡ wrote_at old gate (item_bytes item ++ 0 ∷ [])
+AppendWrites old new gate item (Ok done) = new ≡ wrote_at old gate (appended_bytes gate item)
 AppendWrites old new gate item (Err (appends.Full cap)) = new ≡ old
 AppendWrites old new gate item (Err (appends.TooBig len room)) = new ≡ old
-AppendWrites old new gate item (Err (appends.DiskFault before after)) = MayTear old new gate (length item + 6)
+AppendWrites old new gate item (Err (appends.DiskFault before after)) = MayTear old new gate (length item + 6 + zeros_behind gate item)
 
 -- an item is in doubt then where the disk failed, and nowhere else
 abbrev pub DoubtAfterAppend : {D : Type 0} → Journal D → Result (Unit {0}) AppendFault → Type 0

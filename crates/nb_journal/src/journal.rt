@@ -1,6 +1,6 @@
 ghost use Rattle.std.specs.Prelude.{ℕ, ◌≡◌, ◌≤◌, ◌<◌, ◌+◌, ◌*◌, true, vec_capacity};
 ghost use Rattle.nb_units.specs.declared.limits.TheConstants.{MAX_CAP};
-ghost use Rattle.nb_journal.specs.declared.limits.TheConstants.{FRONT, AROUND, MAX_ITEM};
+ghost use Rattle.nb_journal.specs.declared.limits.TheConstants.{FRONT, AROUND, AHEAD, MAX_ITEM};
 
 mod appending;
 mod resting;
@@ -21,7 +21,8 @@ pub struct Journal<D> {
     room: u32,
     // Whether an item is in doubt.
     stale: bool,
-    // Where an item is laid out before it is written: room for the longest one, of which no more is touched than the longest that was written.
+    // Where an item is laid out before it is written: room for the longest one and for zeros, of which no more is touched than the longest
+    // that was written.
     buf: Vec<u8>,
     // The places fit, however many items there are.
     ghost near: { gate ≤ FRONT + len * (MAX_ITEM + AROUND) },
@@ -29,7 +30,7 @@ pub struct Journal<D> {
     ghost few: { cap ≤ MAX_CAP },
     ghost small: { room ≤ MAX_ITEM },
     ghost doubt: { stale ≡ true → (len < cap) × (next ≤ FRONT + (len + 1) * (MAX_ITEM + AROUND)) },
-    ghost buffer: { room + AROUND ≤ vec_capacity buf },
+    ghost buffer: { room + AROUND + AHEAD ≤ vec_capacity buf },
 }
 
 impl<D: Drop> Drop for Journal<D> {

@@ -4,7 +4,7 @@
 //! items are those up to the first gate that is not open. Of its two versions, which the magic tells, the first has no rate.
 //! [`init`] makes a journal of the first version without items, [`init2`] one of the second, [`Journal::open`] reads one,
 //! [`Journal::append`] appends an item: its bytes are written and synced behind the closed gate, and then the gate is opened
-//! and synced. Where the disk fails the item is in doubt, and [`Journal::settle`] finds out whether it is there.
+//! and synced; at each multiple of 131,072 zeros are written ahead. Where the disk fails the item is in doubt, and [`Journal::settle`] finds out whether it is there.
 //!
 //! A journal is seen by its disk, which tells its content and what a stop may leave. At rest both stand for the front and
 //! the items; in doubt they stand for the items without the one in doubt or with it (`specs/States.antt`). What is promised:
@@ -29,7 +29,7 @@
 //! raise the count and then work; how many calls of the disk a call makes, and how many bytes a read asks for: the trials of `books` count them,
 //! and opening asks for 65,536 bytes at once but for an item that is longer. Which bytes an append that failed leaves in its range, beyond what
 //! they stand for, and which of its two writes failed; when an item in doubt is settled: none can be appended before, and a journal that is opened anew has none in doubt; what
-//! stands behind the last gate, where what was written of an item that was dropped may stay till the next item is written over it; and what an item and a head say: they are bytes.
+//! stands behind the last gate beyond the zeros that the last append which was done wrote there: what was written of an item that was dropped may stay till other items are written over it; and what an item and a head say: they are bytes.
 #![tactic(auto)]
 
 mod journal;

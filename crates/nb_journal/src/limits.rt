@@ -34,6 +34,13 @@ pub const AROUND: u64 = LEAD as u64;
 /// The most bytes of an item.
 pub const MAX_ITEM: u32 = 2_097_152;
 
+/// The zeros that are written behind an item whose next gate reaches a multiple of this place, and which is not longer than
+/// [`MAX_AHEAD_ITEM`], so that the appends up to the next multiple fall on bytes that the file has.
+pub const AHEAD: usize = 131_072;
+
+/// The most bytes of an item behind which zeros are written.
+pub const MAX_AHEAD_ITEM: usize = 32_768;
+
 /// The bytes that one read of a disk asks for while a journal is opened, where an item is not longer.
 pub const WINDOW: usize = 65_536;
 

@@ -10,7 +10,7 @@ use Rattle.nb_book.specs.Legal.{LegalUnder, NextUnder}
 use Rattle.nb_entry.specs.Spelling.{entry_bytes, entries_bytes, IsEntry, Spells}
 use Rattle.nb_entry.specs.declared.spelling.TheConstants.{MAX_ENTRY, MAX_ITEM_ENTRIES}
 use Rattle.nb_journal.specs.declared.journal.Journal.{Journal}
-use Rattle.nb_journal.specs.Layout.{front_bytes, item_bytes}
+use Rattle.nb_journal.specs.Layout.{front_bytes, appended_bytes, zeros_behind}
 use Rattle.nb_journal.specs.Stands.{Stands, BeforeOrAfter}
 use Rattle.nb_journal.specs.States.{AtRest, InDoubt}
 use Rattle.nb_journal.specs.Time.{LeavesOnly}
@@ -240,14 +240,14 @@ module _ {D : Type 0} (tells : DiskTells D) where
   gate_at r g = record { items = g.items; joins = g.carries.joins; stands = g.rest.bytes; place = g.rest.place }
 
   pub writes_at : (r : Records D) (item : List ℕ) (new : Option (List ℕ)) → Gathers tells r → (r.group.items ≡ [] → ⊥) → item ≡ r.item.items
-      → new ≡ wrote_at (tells.content (disk_under r)) r.journal.gate (item_bytes item ++ 0 ∷ []) → WritesItem r.charter r.book.cap (over_of r) r.group.items (tells.content (disk_under r)) new
+      → new ≡ wrote_at (tells.content (disk_under r)) r.journal.gate (appended_bytes r.journal.gate item) → WritesItem r.charter r.book.cap (over_of r) r.group.items (tells.content (disk_under r)) new
   writes_at r item new g some is wrote = of_group r.group.items some (is ∙ g.bytes)
     where
       of_group : (group : List Entry) → (group ≡ [] → ⊥) → item ≡ entries_bytes group → WritesItem r.charter r.book.cap (over_of r) group (tells.content (disk_under r)) new
       of_group [] some same = absurd (some refl)
-      of_group (e ∷ more) some same = (r.journal.gate, gate_at r g, wrote ∙ ap (λ (bytes : List ℕ). wrote_at (tells.content (disk_under r)) r.journal.gate (item_bytes bytes ++ 0 ∷ [])) same)
+      of_group (e ∷ more) some same = (r.journal.gate, gate_at r g, wrote ∙ ap (λ (bytes : List ℕ). wrote_at (tells.content (disk_under r)) r.journal.gate (appended_bytes r.journal.gate bytes)) same)
 
   pub tears_at : (r : Records D) (item : List ℕ) (new : Option (List ℕ)) → Gathers tells r → item ≡ r.item.items
-      → MayTear (tells.content (disk_under r)) new r.journal.gate (length item + 6) → TearsItem r.charter r.book.cap (over_of r) r.group.items (tells.content (disk_under r)) new
+      → MayTear (tells.content (disk_under r)) new r.journal.gate (length item + 6 + zeros_behind r.journal.gate item) → TearsItem r.charter r.book.cap (over_of r) r.group.items (tells.content (disk_under r)) new
   tears_at r item new g is torn =
-      (r.journal.gate, gate_at r g, subst (λ (bytes : List ℕ). MayTear (tells.content (disk_under r)) new r.journal.gate (length bytes + 6)) (is ∙ g.bytes) torn)
+      (r.journal.gate, gate_at r g, subst (λ (bytes : List ℕ). MayTear (tells.content (disk_under r)) new r.journal.gate (length bytes + 6 + zeros_behind r.journal.gate bytes)) (is ∙ g.bytes) torn)

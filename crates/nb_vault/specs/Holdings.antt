@@ -6,7 +6,7 @@ use Rattle.nb_entry.specs.declared.entry.Entry.{Entry}
 use Rattle.nb_book.specs.Legal.{LegalUnder}
 use Rattle.nb_entry.specs.Spelling.{entries_bytes, Spells}
 use Rattle.nb_port.specs.Disk.{wrote_at, MayTear}
-use Rattle.nb_journal.specs.Layout.{front_bytes, item_bytes, up_to_gate, AreTerms}
+use Rattle.nb_journal.specs.Layout.{front_bytes, appended_bytes, up_to_gate, zeros_behind, AreTerms}
 use Rattle.nb_journal.specs.Stands.{Stands}
 
 -- the items spell these entries, from 1 to 32 each
@@ -36,16 +36,16 @@ pub record IsGate (charter : Charter) (cap : ℕ) (entries : List Entry) (conten
   pub stands : IfSome content (Stands (front_bytes cap charter) items)
   pub place : gate ≡ length (up_to_gate (front_bytes cap charter) items)
 
--- what is written to record these behind the entries, for the content before and after: nothing where there are none, or one item
--- behind an open gate, and a closed gate
+-- what is written to record these behind the entries, for the content before and after: nothing where there are none, or one item that is appended
 abbrev pub WritesItem : Charter → ℕ → List Entry → List Entry → Option (List ℕ) → Option (List ℕ) → Type 0
 WritesItem charter cap entries [] old new = new ≡ old
 WritesItem charter cap entries (entry ∷ more) old new =
-    (gate : ℕ) × IsGate charter cap entries old gate × (new ≡ wrote_at old gate (item_bytes (entries_bytes (entry ∷ more)) ++ 0 ∷ []))
+    (gate : ℕ) × IsGate charter cap entries old gate × (new ≡ wrote_at old gate (appended_bytes gate (entries_bytes (entry ∷ more))))
 
--- what was written where the disk failed: bytes of that range may have changed, and no others
+-- what was written where the disk failed: bytes in the range of such an item may have changed, and no others
 abbrev pub TearsItem : Charter → ℕ → List Entry → List Entry → Option (List ℕ) → Option (List ℕ) → Type 0
-TearsItem charter cap entries group old new = (gate : ℕ) × IsGate charter cap entries old gate × MayTear old new gate (length (entries_bytes group) + 6)
+TearsItem charter cap entries group old new =
+    (gate : ℕ) × IsGate charter cap entries old gate × MayTear old new gate (length (entries_bytes group) + 6 + zeros_behind gate (entries_bytes group))
 
 -- an image stands for one list
 abbrev pub OneList : Type 0

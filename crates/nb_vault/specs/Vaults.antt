@@ -107,7 +107,7 @@ pub record OneGateOpens {D : Type 0} (house : House) (tells : DiskTells D) (old 
   pub before : LeavesOnly tells old.disk settled (StandsForState old)
   pub since : LeavesOnly tells settled new.disk (StandsForEither old.origin.charter old.origin.cap over (recorded house over requests))
 
--- the disk in a turn that decided over these entries: its content stood for them, and what the verdicts record is written as one item.
+-- the disk in a turn that decided over these entries: its content stood for them, and what the verdicts record is appended as one item.
 -- Where they record nothing, nothing is written
 pub record WritesTurn {D : Type 0} (house : House) (tells : DiskTells D) (old new : Chronicled D) (requests : List Request) (over : List Entry) : Type 0 where
   pub told : IfSome (tells.content old.disk) (StandsFor old.origin.charter old.origin.cap over)
@@ -116,7 +116,7 @@ pub record WritesTurn {D : Type 0} (house : House) (tells : DiskTells D) (old ne
   pub gate : OneGateOpens house tells old new requests over
 
 -- the disk in a turn whose item could not be made durable: its content stood for the entries that the turn was decided over, and bytes
--- of the item's range may have changed
+-- in the range of such an item may have changed
 pub record TearsTurn {D : Type 0} (house : House) (tells : DiskTells D) (old new : Chronicled D) (requests : List Request) (over : List Entry) : Type 0 where
   pub told : IfSome (tells.content old.disk) (StandsFor old.origin.charter old.origin.cap over)
   pub written : TearsItem old.origin.charter old.origin.cap over (recorded house over requests) (tells.content old.disk) (tells.content new.disk)

@@ -125,8 +125,8 @@ impl<D: Disk> Vault<D> {
         // verdict over these and each other over those with the entries recorded before it; their places stand behind `ats` and their replies behind
         // `out`, and nothing else. `DiskFault`: the turn failed between these counts; `Worn`: 1,000 turns failed before; then both are as before. The
         // new lines are those of that very turn, made by `by`, with the next number. State, lines and disk tell the same of it: where it decided, what
-        // is written is one item of all that was recorded, behind an open gate and before a closed one, or nothing where nothing was recorded; where it
-        // failed, either what its verdicts record is in doubt, and only bytes of the item's range may have changed, or what was in doubt could not be
+        // is written is one item of all that was recorded, as `append` of nb_journal writes one, or nothing where nothing was recorded; where it
+        // failed, either what its verdicts record is in doubt, and only bytes in the range of such an item may have changed, or what was in doubt could not be
         // settled, and nothing was written.
         ensures turn { TurnAll D.tells self.old self.new by (requests_of bytes.now asks.now) ats.old.items ats.new.items out.old.items out.new.items result }
         ensures origin { self.new.origin ≡ self.old.origin }

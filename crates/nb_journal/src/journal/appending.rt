@@ -5,12 +5,14 @@ ghost use Rattle.nb_journal.specs.Time.{LeavesOnly};
 
 use crate::journal::{AppendFault, Journal};
 use crate::limits::{AROUND, OPEN};
-use crate::putting::{put_body, put_synced};
+use crate::putting::{put_body, put_synced, zeros_behind};
 use nb_port::{Disk, DiskOut};
 
 impl<D: Disk> Journal<D> {
     /// Appends the item: its bytes are written and synced behind the closed gate, then the gate is opened and synced. No
-    /// item is in doubt, and the gate's place is within the content, as it is of every journal at rest.
+    /// item is in doubt, and the gate's place is within the content, as it is of every journal at rest. Behind an item of at most
+    /// 32,768 bytes whose next gate reaches a multiple of 131,072 as many zeros are written, so that the appends behind it, up to the next multiple, do not
+    /// make the file longer.
     pub fn append(&mut self, item: &[u8]) -> Result<(), AppendFault>
         requires fresh { self.old.stale ≡ false }
         requires gate { HasGate D.tells self.old }
@@ -39,7 +41,8 @@ impl<D: Disk> Journal<D> {
         let before = self.disk.fault_count();
         self.next = self.gate + (item.len() as u64 + AROUND);
         self.stale = true;
-        match put_body(&mut self.disk, self.gate + 1, &mut self.buf, item) {
+        let zeros = zeros_behind(self.gate, item);
+        match put_body(&mut self.disk, self.gate + 1, &mut self.buf, item, zeros) {
             DiskOut::Failed => {
                 let after = self.disk.fault_count();
                 return Err(AppendFault::DiskFault { before, after });

@@ -4,7 +4,7 @@ ghost use Rattle.nb_journal.specs.declared.limits.TheConstants.{FRONT, AROUND, M
 ghost use Rattle.nb_journal.specs.States.{IsOver};
 
 use crate::journal::Journal;
-use crate::limits::AROUND;
+use crate::limits::{AHEAD, LEAD};
 use std::alloc::Global;
 
 impl<D> Journal<D> {
@@ -25,7 +25,7 @@ impl<D> Journal<D> {
         ensures ok { IfOk result (IsOver disk place len cap room) }
         ensures err { IfErr result (λ given. given ≡ disk) }
     {
-        match Vec::with_capacity(alloc, (room as u64 + AROUND) as usize) {
+        match Vec::with_capacity(alloc, room as usize + LEAD + AHEAD) {
             Ok(buf) => Ok(Journal {
                 disk,
                 gate: place,
