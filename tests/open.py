@@ -4,9 +4,11 @@ may come behind them, and then tells a query that there are 1,000,000; and to en
 account, a reference or an identifier again.
 
 And a journal whose last gate reaches 131,072: as many zeros stand behind that gate, over which the next items are written, and it opens as before.
+Where the file may not grow by all of them the item is refused with code 50, and what stood before it stands; once the file may grow it is recorded.
 """
 
 import pathlib
+import resource
 import subprocess
 import sys
 import tempfile
@@ -20,7 +22,7 @@ PROGRAM = TOP / "crates/netbill/out/netbill"
 HOUSE, OPERATOR, GOODS = (bytes([byte]) * 32 for byte in (0x11, 0x22, 0x77))
 HEAD = formats.head(HOUSE, OPERATOR, bytes([0x33]) * 16)
 COUNT, MOMENT = 1_000_000, 1000
-GOOD, BAD = (0, ""), (8, "netbill: status 8 at 0\n")
+GOOD, BAD, DISK_FAILED = (0, ""), (8, "netbill: status 8 at 0\n"), 50
 
 
 def party(number):
@@ -80,12 +82,13 @@ def test(journal):
     print(f"tests/open: {COUNT} entries, with {len(list(last_entries()))} that come last")
 
 
-def batch(journal, funds):
-    """Runs a batch of these funds."""
-    frames = b"".join(fund.frame(OPERATOR) for fund in funds)
-    ran = subprocess.run([PROGRAM, "batch", journal], input=frames, capture_output=True, check=False)
+def batch(journal, fund, most=resource.RLIM_INFINITY):
+    """The reply to a fund, where the file may have so many bytes at most."""
+    limit = lambda: resource.setrlimit(resource.RLIMIT_FSIZE, (most, most))
+    ran = subprocess.run([PROGRAM, "batch", journal], input=fund.frame(OPERATOR), capture_output=True, check=False, preexec_fn=limit)
     if ran.returncode:
         sys.exit(f"tests/open: the program ended with status {ran.returncode}: {ran.stderr.decode()}")
+    return ran.stdout
 
 
 def test_ahead(journal):
@@ -101,7 +104,12 @@ def test_ahead(journal):
     journal.write_bytes(images[0])
     size = len(images[2]) + formats.AHEAD
     for count in range(4):
-        batch(journal, funds[filled + count : filled + count + 1])
+        if count == 1:
+            refused = batch(journal, funds[filled + count], most=formats.AHEAD + 1000)
+            entries, gate = formats.read_journal(journal.read_bytes(), formats.journal(HEAD, COUNT, [])[:-1]) or ([], 0)
+            if refused[8:9] != bytes([DISK_FAILED]) or formats.journal(HEAD, COUNT, entries) != images[1] or gate != len(images[1]) - 1:
+                sys.exit(f"tests/open: a fund whose zeros have no room is told {refused.hex()}, and {len(entries)} entries stand")
+        batch(journal, funds[filled + count])
         image = images[count + 1]
         if journal.read_bytes() != (image if count == 0 else image + bytes(size - len(image))):
             sys.exit(f"tests/open: behind fund {count + 1} the journal has other bytes")
