@@ -1,12 +1,12 @@
 -- What holds of every image.
-use Rattle.std.specs.Prelude.{◌≡◌, ℕ, ◌+◌, ◌≤◌, List, ◌∷◌, ◌++◌, codes, length, replicate}
+use Rattle.std.specs.Prelude.{◌≡◌, ◌⊎◌, ℕ, ◌+◌, ◌*◌, ◌<◌, ◌≤◌, List, ◌∷◌, ◌++◌, codes, length, replicate}
 use Rattle.std.specs.List.{AllByRecursion}
 use Rattle.nb_units.specs.Fields.{be2, be4}
 use Rattle.nb_units.specs.Frames.{AreBytes}
 use Rattle.nb_units.specs.declared.charter.Charter.{Charter}
 use Rattle.nb_units.specs.declared.limits.TheConstants.{HEAD, MAX_CAP, FIRST_VERSION, FEE_VERSION}
 use Rattle.nb_journal.specs.declared.limits.TheConstants.{EMPTY, FRONT, MAX_IMAGE, MAX_ITEM}
-use Rattle.nb_journal.specs.Layout.{magic, front_bytes, AreTerms, IsItem, item_bytes}
+use Rattle.nb_journal.specs.Layout.{magic, front_bytes, AreTerms, IsItem, item_bytes, zeros_behind}
 use Rattle.nb_journal.specs.Reading.{Holds, IsDamaged, IsUnborn}
 use Rattle.nb_journal.specs.Stands.{Stands}
 
@@ -54,3 +54,9 @@ FrontLayout = (cap : ℕ) (charter : Charter) → AreTerms cap charter → (leng
 abbrev pub JournalLayout : Type 0
 JournalLayout = (magic FIRST_VERSION ≡ codes "NBJRNL01") × (magic FEE_VERSION ≡ codes "NBJRNL02") × (FRONT ≡ 96) × (HEAD ≡ 80) × (EMPTY ≡ 97) × (MAX_ITEM ≡ 2097152) × (MAX_IMAGE ≡ 268435456) × (MAX_CAP ≡ 1000000) × FrontLayout
     × ((item : List ℕ) → (item_bytes item ≡ 0xA5 ∷ be4 (length item) ++ item) × (length (item_bytes item) ≡ 5 + length item))
+
+-- an item of at most 32,768 bytes brings 131,072 zeros where its next gate reaches a multiple of 131,072, and else an item brings none
+abbrev pub ZerosWhereReached : Type 0
+ZerosWhereReached = (gate : ℕ) (item : List ℕ)
+    → ((k : ℕ) → gate < k * 131072 → k * 131072 ≤ gate + (length item + 5) → length item ≤ 32768 → zeros_behind gate item ≡ 131072)
+    × ((zeros_behind gate item ≡ 0) ⊎ ((length item ≤ 32768) × ((k : ℕ) × (gate < k * 131072) × (k * 131072 ≤ gate + (length item + 5)))))

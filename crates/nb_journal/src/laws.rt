@@ -1,8 +1,8 @@
-//! Laws of reading, what each image is read as; and of growing, what appends leave.
+//! Laws of reading, what each image is read as; of growing, what appends leave; and of where zeros are written.
 
 ghost use Rattle.nb_journal.specs.Growing.{RestMayAppend, AppendGrows, StaysGrows, GrowsTwice, GrowsToRest, StopLeavesSome};
 ghost use Rattle.nb_journal.specs.Migrating.{CrownLeaves, CrownStands};
-ghost use Rattle.nb_journal.specs.Laws.{StandsIsRead, ReadStands, OneJournal, WholeNotDamaged, OneFault, UnbornIsNeither, JournalLayout};
+ghost use Rattle.nb_journal.specs.Laws.{StandsIsRead, ReadStands, OneJournal, WholeNotDamaged, OneFault, UnbornIsNeither, JournalLayout, ZerosWhereReached};
 
 use nb_port::Disk;
 
@@ -39,6 +39,11 @@ pub fn unborn_is_neither()
 /// A law: the layout of a journal in numbers.
 pub fn layout()
     ensures { JournalLayout }
+{}
+
+/// A law: where zeros are written behind an item, and how many.
+pub fn zeros_where_reached()
+    ensures { ZerosWhereReached }
 {}
 
 /// A law: what a stop leaves while a content is crowned, where it begins with the magic of the second version.

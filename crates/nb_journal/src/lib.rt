@@ -4,7 +4,7 @@
 //! items are those up to the first gate that is not open. Of its two versions, which the magic tells, the first has no rate.
 //! [`init`] makes a journal of the first version without items, [`init2`] one of the second, [`Journal::open`] reads one,
 //! [`Journal::append`] appends an item: its bytes are written and synced behind the closed gate, and then the gate is opened
-//! and synced; at each multiple of 131,072 zeros are written ahead. Where the disk fails the item is in doubt, and [`Journal::settle`] finds out whether it is there.
+//! and synced. An item that is not long brings zeros with it where it reaches a multiple of 131,072. Where the disk fails the item is in doubt, and [`Journal::settle`] finds out whether it is there.
 //!
 //! A journal is seen by its disk, which tells its content and what a stop may leave. At rest both stand for the front and
 //! the items; in doubt they stand for the items without the one in doubt or with it (`specs/States.antt`). What is promised:

@@ -1,6 +1,7 @@
-ghost use Rattle.std.specs.Prelude.{◌≡◌, ◌⊎◌, ◌≤◌, ℕ, map, string_bytes};
+ghost use Rattle.std.specs.Prelude.{◌≡◌, ◌⊎◌, ◌≤◌, ℕ, [], map, string_bytes};
 ghost use Rattle.nb_port.specs.Faults.{Rose};
 ghost use Rattle.nb_commands.specs.declared.ending.TheConstants.{BAD_WORDS, SOURCE_FAILED, SINK_FAILED, DISK_FAILED};
+ghost use Rattle.nb_commands.specs.declared.ending.Job.TheVariants as jobs;
 ghost use Rattle.nb_commands.specs.declared.ending.Outcome.TheVariants as outcomes;
 ghost use Rattle.nb_commands.specs.Ending.{EndsWith};
 ghost use Rattle.nb_words.specs.Words.{IsCommand};
@@ -14,7 +15,7 @@ use nb_commands::{
     promote, rule_on, ship_records, take_offers, take_stock, write_statement,
 };
 use nb_port::{Clock, Disk, Sink, Source};
-use nb_units::{NoMemory, Small};
+use nb_units::{NoMemory, PartyId, Price, Small};
 use nb_words::{Command, command_of};
 use std::alloc::Global;
 
@@ -80,13 +81,26 @@ fn batch_over<D>(batched: Batched<D>) -> (Outcome, D)
     (Outcome::Done(ending), disk)
 }
 
+// A purchase without a request, which is left to do.
+fn buy_alone(merchant: PartyId, product: u32, limit: Price, transaction: u64) -> Outcome
+    ensures { result ≡ outcomes.Work (jobs.Buy merchant product limit transaction []) }
+{
+    Outcome::Work(Job::Buy {
+        merchant,
+        product,
+        limit,
+        transaction,
+        request: Small::of(&[]).unwrap(),
+    })
+}
+
 // Does what a command asks for, but for the work over links, which is left to do.
 fn do_command<S: Source, K: Sink, D: Disk, C: Clock>(
     alloc: Global,
     command: Command,
     source: &mut S,
     sink: &mut K,
-    disk: D,
+    mut disk: D,
     clock: &mut C,
 ) -> (Outcome, D)
     // Its numbers are within their limits.
@@ -103,12 +117,10 @@ fn do_command<S: Source, K: Sink, D: Disk, C: Clock>(
 {
     match command {
         Command::Init { cap, rate } => {
-            let mut disk = disk;
             let end = make_journal(source, &mut disk, cap, rate);
             (Outcome::Done(end.ending()), disk)
         }
         Command::Migrate { rate } => {
-            let mut disk = disk;
             let end = move_journal(alloc, source, &mut disk, rate);
             (Outcome::Done(end.ending()), disk)
         }
@@ -146,14 +158,8 @@ fn do_command<S: Source, K: Sink, D: Disk, C: Clock>(
             limit,
             transaction,
         } => {
-            let job = Job::Buy {
-                merchant,
-                product,
-                limit,
-                transaction,
-                request: Small::of(&[]).unwrap(),
-            };
-            (Outcome::Work(job), disk)
+            let outcome = buy_alone(merchant, product, limit, transaction);
+            (outcome, disk)
         }
         Command::BuyWith {
             merchant,

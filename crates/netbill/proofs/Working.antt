@@ -1,5 +1,5 @@
 -- A job that is left never ends with the status of words that are none.
-use Rattle.std.proofs.Common.{◌≡◌, inl, inr, ℕ, List, Option, sym, ap, ◌∙◌, arith}
+use Rattle.std.proofs.Common.{◌≡◌, inl, inr, ℕ, List, Option, subst, arith}
 use Rattle.nb_port.specs.Tells.{DiskTells}
 use Rattle.nb_turns.specs.declared.line.Line.{Line}
 use Rattle.nb_journal.specs.declared.opening.OpenFault.{OpenFault}
@@ -29,10 +29,6 @@ use Rattle.nb_platform.specs.Doing.{ComesTo, ToldWorker}
 -- it ends with that status
 abbrev pub IsBad : Ending → Type 0
 IsBad ending = ending.status ≡ BAD_WORDS
-
--- what ends so ends like what it is
-bad_as : (ending other : Ending) → ending ≡ other → IsBad ending → IsBad other
-bad_as ending other is bad = sym (ap (λ (e : Ending). e.status) is) ∙ bad
 
 of_vault : (fault : VaultFault) → IsBad (unopened fault) → ⊥
 of_vault (vaults.Unborn found) bad = omega (arith, bad)
@@ -69,29 +65,29 @@ module _ {D : Type 0} (tells : DiskTells D) (old new : D) (sent sent' : Option (
   worked : (job : Job) (before after : List ToldWorker) (dials dials' : Dials LinkSeen) (lines : List Line) (ends : List WorkerEnd)
       → WorksAs tells (workers_seen (λ port. port) (λ moments. moments)) (λ link. link) job old new before after dials dials' sent sent' faults faults' lines ends ending → ⊥
   worked (Serve workers sessions) before after dials dials' lines ends works = elim works.0 [
-    | inl none ↦ of_vault none.0 (bad_as ending (unopened none.0) none.1 bad)
-    | inr (inl idle) ↦ omega (arith, bad_as ending _ idle.0 bad)
+    | inl none ↦ of_vault none.0 (subst IsBad none.1 bad)
+    | inr (inl idle) ↦ omega (arith, subst IsBad idle.0 bad)
     | inr (inr all) ↦ elim all.1 [
-      | inl failed ↦ omega (arith, bad_as ending _ failed.1 bad)
-      | inr (inl starved) ↦ omega (arith, bad_as ending _ starved.2 bad)
-      | inr (inr closed) ↦ omega (arith, bad_as ending _ closed.1 bad)
+      | inl failed ↦ omega (arith, subst IsBad failed.1 bad)
+      | inr (inl starved) ↦ omega (arith, subst IsBad starved.2 bad)
+      | inr (inr closed) ↦ omega (arith, subst IsBad closed.1 bad)
     ]
   ]
   worked (Buy merchant product limit transaction request) before after dials dials' lines ends works = elim works.0.6 [
-    | inl none ↦ of_journal none.0 (bad_as ending (not_opened none.0) none.1 bad)
-    | inr (inl other) ↦ omega (arith, bad_as ending _ other.1 bad)
-    | inr (inr (inl starved)) ↦ omega (arith, bad_as ending _ starved.0 bad)
-    | inr (inr (inr bought)) ↦ of_purchase bought.0 (bad_as ending _ bought.1 bad)
+    | inl none ↦ of_journal none.0 (subst IsBad none.1 bad)
+    | inr (inl other) ↦ omega (arith, subst IsBad other.1 bad)
+    | inr (inr (inl starved)) ↦ omega (arith, subst IsBad starved.0 bad)
+    | inr (inr (inr bought)) ↦ of_purchase bought.0 (subst IsBad bought.1 bad)
   ]
   worked (Sell links shelf offers) before after dials dials' lines ends works = elim works.0.8 [
-    | inl none ↦ of_journal none.0 (bad_as ending (not_opened none.0) none.1 bad)
-    | inr (inl other) ↦ omega (arith, bad_as ending _ other.1 bad)
-    | inr (inr (inl starved)) ↦ omega (arith, bad_as ending _ starved.0 bad)
-    | inr (inr (inr sold)) ↦ of_sales sold.0 (bad_as ending _ sold.1 bad)
+    | inl none ↦ of_journal none.0 (subst IsBad none.1 bad)
+    | inr (inl other) ↦ omega (arith, subst IsBad other.1 bad)
+    | inr (inr (inl starved)) ↦ omega (arith, subst IsBad starved.0 bad)
+    | inr (inr (inr sold)) ↦ of_sales sold.0 (subst IsBad sold.1 bad)
   ]
 
   pub job_ends : (job : Job) → ComesTo tells job old new sent sent' faults faults' ending → ⊥
   job_ends job comes = elim comes [
-    | inl none ↦ elim none.0 [ inl e ↦ omega (arith, bad_as ending _ e bad) | inr e ↦ omega (arith, bad_as ending _ e bad) ]
+    | inl none ↦ elim none.0 [ inl e ↦ omega (arith, subst IsBad e bad) | inr e ↦ omega (arith, subst IsBad e bad) ]
     | inr is ↦ worked job is.before is.after is.dials is.dials' is.lines is.ends is.works
   ]
