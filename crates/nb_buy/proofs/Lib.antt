@@ -8,4 +8,5 @@ pub mod Rounds
 pub mod NextTime
 pub mod Ends
 pub mod Receipts
+pub mod Opened
 pub mod Coming

@@ -34,7 +34,7 @@ heard_so : (b : Buyer) (read : Result Message ℕ) → RowSo b (heard_as b read)
 heard_so b (Ok message) = call_so b (calls.Hears message)
 heard_so b (Err place) = tt
 
-act_so : (s : Start) (b : Buyer) (a : Act) → RowSo b (act_row s b a)
+pub act_so : (s : Start) (b : Buyer) (a : Act) → RowSo b (act_row s b a)
 unfolding frame_row
 act_so s b Starts = call_so b (calls.Starts s)
 act_so s b (Hears from f) = heard_so b (message_of f.kind f.body)
@@ -62,7 +62,7 @@ acts_stay s b (a ∷ acts) t over =
 abbrev Told : Buyer → ℕ → End → Type 0
 Told b t how = (phase_in (purchase_of b t) ≡ Some (phase_at how)) × (goods_in (purchase_of b t) ≡ goods_at how)
 
-told_row : (b : Buyer) (t : ℕ) (row : Result Deed Reason) (how : End) → RowSo b row → ends_with t row ≡ Some how → Told (after b row) t how
+pub told_row : (b : Buyer) (t : ℕ) (row : Result Deed Reason) (how : End) → RowSo b row → ends_with t row ≡ Some how → Told (after b row) t how
 told_row b t (Err why) how so e = absurd cc
 told_row b t (Ok (deed.Sends whom sent)) how so e = absurd cc
 told_row b t (Ok (deed.Hears n place whom sent)) how so e = absurd cc

@@ -28,6 +28,7 @@ use Rattle.nb_buy.specs.declared.peer.Over.{Over}
 use Rattle.nb_buy.specs.declared.peer.Over.TheVariants as over
 use Rattle.nb_buy.specs.declared.peer.Next.{Next}
 use Rattle.nb_buy.specs.declared.peer.Next.TheVariants as next
+use Rattle.nb_buy.specs.declared.hearing.Heard.{Heard}
 use Rattle.nb_buy.specs.declared.ended.TheConstants.{MOST_FRAMES}
 use Rattle.nb_buy.specs.declared.ended.Lost.{Lost}
 use Rattle.nb_buy.specs.Run.{Act, Starts, Hears, Waits, act_row, asks, step_at, peer_of, bytes_in, frames_on, frames_of, phase_for, IsOrdered, Way, outset, awaited, onward, MayAct, Obeys}
@@ -363,17 +364,17 @@ module _ {D : Type 0} (tells : DiskTells D) (s : Start) where
   count_at House p q acts went = went.house.received.read_count
   count_at Seller p q acts went = went.seller.received.read_count
 
-  pub ran_listened : (p q r : Point D) (asked : Bool) (from : Peer) (n : Next) (read read' : ℕ) → Ran tells s p q asked (next.Awaits from) read → IsOpen (phase_for s q.buyer)
-      → Listens tells s q r from read read' (Ok n) → Ran tells s p r asked n read'
+  pub ran_listened : (p q r : Point D) (asked : Bool) (from : Peer) (x : Heard) (read read' : ℕ) → Ran tells s p q asked (next.Awaits from) read → IsOpen (phase_for s q.buyer)
+      → Listens tells s q r from read read' (Ok x) → Ran tells s p r asked x.next read'
   unfolding traded_still traded_on
-  ran_listened p q r asked from n read read' ran going heard = by heard.0 heard.1 heard.2
+  ran_listened p q r asked from x read read' ran going heard = by heard.0 heard.1 heard.2
     where
-      by : (o : Option Frame) → HeardAs tells s q r from n o → read' ≡ read + frames_heard o → Ran tells s p r asked n read'
+      by : (o : Option Frame) → HeardAs tells s q r from x.next o → read' ≡ read + frames_heard o → Ran tells s p r asked x.next read'
       by None h e =
           let same : q.lines.seller.sent ≡ r.lines.seller.sent = sym (sent_same q.lines.seller.sent r.lines.seller.sent q.lines.seller.wire.link r.lines.seller.wire.link h.0.seller.wrote) in
           record {
             traded = traded_still p q r ran.traded h.0;
-            awaits = ran.awaits ∙ ap (λ (x : Next). Some (peer_in x)) (sym h.1.1);
+            awaits = ran.awaits ∙ ap (λ (y : Next). Some (peer_in y)) (sym h.1.1);
             asked_is = ran.asked_is;
             known = subst (λ (b : Buyer). IsKnown (phase_for s b)) (sym h.0.buyer) ran.known;
             over = subst (OverIs p r ran.traded.acts) (sym h.1.1)
@@ -395,7 +396,7 @@ module _ {D : Type 0} (tells : DiskTells D) (s : Start) where
             asked_is = ap (λ (w : Way). w.asked) way ∙ ran.asked_is;
             known = known_on q r (Hears from f) h.0 ran.known;
             over = l.over;
-            clear = subst (λ (test : Bool). IsClear r.lines test n) (sym (ap (λ (w : Way). w.refused) way)) l.clear;
+            clear = subst (λ (test : Bool). IsClear r.lines test x.next) (sym (ap (λ (w : Way). w.refused) way)) l.clear;
             told = λ spoilt. ⊎_elim (λ before. ⊎_elim (λ is. inl is) (λ now. absurd now) (ran.told before)) (λ now. inr now) (l.spoilt spoilt);
             count = count_on acts (Hears from f) read ran.count ∙ sym e;
           }
@@ -421,15 +422,15 @@ module _ {D : Type 0} (tells : DiskTells D) (s : Start) where
       apart e = cc
 
   -- a frame is read, or nothing more comes
-  pub listened_less : (q r : Point D) (from : Peer) (n : Next) (asked : Bool) (read read' : ℕ) → read < MOST_FRAMES → Listens tells s q r from read read' (Ok n)
-      → (10000 - read') * 4 + asked_rank asked + next_rank n < (10000 - read) * 4 + asked_rank asked + 1
-  listened_less q r from n asked read read' few heard = by heard.0 heard.1 heard.2
+  pub listened_less : (q r : Point D) (from : Peer) (x : Heard) (asked : Bool) (read read' : ℕ) → read < MOST_FRAMES → Listens tells s q r from read read' (Ok x)
+      → (10000 - read') * 4 + asked_rank asked + next_rank x.next < (10000 - read) * 4 + asked_rank asked + 1
+  listened_less q r from x asked read read' few heard = by heard.0 heard.1 heard.2
     where
-      by : (o : Option Frame) → HeardAs tells s q r from n o → read' ≡ read + frames_heard o → (10000 - read') * 4 + asked_rank asked + next_rank n < (10000 - read) * 4 + asked_rank asked + 1
+      by : (o : Option Frame) → HeardAs tells s q r from x.next o → read' ≡ read + frames_heard o → (10000 - read') * 4 + asked_rank asked + next_rank x.next < (10000 - read) * 4 + asked_rank asked + 1
       by None h e =
-          let none : next_rank n ≡ 0 = ap next_rank h.1.1 in
+          let none : next_rank x.next ≡ 0 = ap next_rank h.1.1 in
           omega (arith, e, none)
-      by (Some f) h e = omega (arith, e, few, rank_most n)
+      by (Some f) h e = omega (arith, e, few, rank_most x.next)
 
   -- ---- the ends
 

@@ -22,14 +22,15 @@ use Rattle.nb_wire.specs.declared.receiving.Fetched.{Fetched}
 use Rattle.nb_wire.specs.declared.receiving.Fetched.TheVariants as fetched
 use Rattle.nb_wallet.specs.declared.wallet.Start.{Start}
 use Rattle.nb_consumer.specs.declared.phase.Phase.{Phase}
-use Rattle.nb_consumer.specs.State.{Buyer}
-use Rattle.nb_consumer.specs.Goods.{IsOpen, HasEnded}
+use Rattle.nb_consumer.specs.State.{Buyer, purchase_of}
+use Rattle.nb_consumer.specs.Goods.{IsOpen, HasEnded, goods_at, goods_in}
 use Rattle.nb_msgs.specs.Steps.{kept_in}
 use Rattle.nb_buy.specs.declared.peer.Peer.{Peer}
 use Rattle.nb_buy.specs.declared.peer.Peer.TheVariants.{House, Seller}
 use Rattle.nb_buy.specs.declared.peer.Over.TheVariants as over
 use Rattle.nb_buy.specs.declared.peer.Next.{Next}
 use Rattle.nb_buy.specs.declared.peer.Next.TheVariants as next
+use Rattle.nb_buy.specs.declared.hearing.Heard.{Heard}
 use Rattle.nb_buy.specs.declared.ended.TheConstants.{MOST_FRAMES}
 use Rattle.nb_buy.specs.declared.ended.Lost.{Lost}
 use Rattle.nb_buy.specs.declared.sides.Side.{Side}
@@ -168,9 +169,18 @@ abbrev pub frames_heard : Option Frame → ℕ
 frames_heard (Some f) = 1
 frames_heard None = 0
 
+-- the goods that a step opened, if it did
+abbrev pub goods_told : Step → Option (List ℕ)
+goods_told (step.Ended keep end) = goods_at end
+goods_told other = None
+
+-- goods that were opened are those of the purchase, where it is over
+abbrev pub AreOpened : Start → Buyer → Option (List ℕ) → Type 0
+AreOpened s b opened = (goods : List ℕ) → opened ≡ Some goods → HasEnded (phase_for s b) → goods_in (purchase_of b s.transaction) ≡ Some goods
+
 -- so it went, and so many frames were read before it and behind it; or the frame was read, and what was to be kept of it was not
-abbrev pub Listens : {D : Type 0} → DiskTells D → Start → Point D → Point D → Peer → ℕ → ℕ → Result Next Lost → Type 0
-Listens tells s p q from read read' (Ok n) = (heard : Option Frame) × HeardAs tells s p q from n heard × (read' ≡ read + frames_heard heard)
+abbrev pub Listens : {D : Type 0} → DiskTells D → Start → Point D → Point D → Peer → ℕ → ℕ → Result Heard Lost → Type 0
+Listens tells s p q from read read' (Ok h) = (heard : Option Frame) × HeardAs tells s p q from h.next heard × (read' ≡ read + frames_heard heard)
 Listens tells s p q from read read' (Err why) = (f : Frame) × Loses tells s p q (Hears from f ∷ []) why
 
 -- ---- a trade
@@ -238,9 +248,9 @@ Opens tells s p q (Ok (Some next)) = Ran tells s p q false next 0
 Opens tells s p q (Ok None) = Finished tells s p q
 Opens tells s p q (Err why) = TradeLost tells s p q why
 
--- by the end of a trade: the purchase is over, or it is not and why no more is done, or an act was lost
+-- by the end of a trade: the purchase is over, with the goods that were opened as it ended, or it is not and why no more is done, or an act was lost
 abbrev pub Trades : {D : Type 0} → DiskTells D → Start → Point D → Point D → Result TradeEnd Lost → Type 0
-Trades tells s p q (Ok trades.Finished) = Finished tells s p q
+Trades tells s p q (Ok (trades.Finished opened)) = Finished tells s p q × AreOpened s q.buyer opened
 Trades tells s p q (Ok (trades.Stopped peer why)) = Stopped tells s p q peer why
 Trades tells s p q (Ok trades.Spent) = Spent tells s p q
 Trades tells s p q (Err why) = TradeLost tells s p q why

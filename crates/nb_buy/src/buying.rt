@@ -5,7 +5,7 @@ ghost use Rattle.nb_wallet.specs.Spelling.{StartKeepsRules};
 ghost use Rattle.nb_consumer.specs.Goods.{HasEnded};
 ghost use Rattle.nb_buy.specs.Run.{phase_for};
 ghost use Rattle.nb_buy.specs.Bought.{Bought, IsUnwritten, WritesGoods, around};
-ghost use Rattle.nb_buy.specs.Steps.{Finishes};
+ghost use Rattle.nb_buy.specs.Steps.{AreOpened, Finishes};
 
 use crate::ended::{BuyEnd, Lost};
 use crate::sides::Sides;
@@ -15,6 +15,7 @@ use nb_consumer::Consumer;
 use nb_journal::Journal;
 use nb_link::Link;
 use nb_port::{Disk, Sink};
+use nb_units::Blob;
 use nb_wallet::Start;
 use nb_wire::Sent;
 use std::alloc::Global;
@@ -51,7 +52,7 @@ pub fn buy<D: Disk, L: Link, K: Sink>(
     drop(sides);
     match traded {
         Ok(end) => match end {
-            TradeEnd::Finished => finish(consumer, start, sink),
+            TradeEnd::Finished(opened) => finish(consumer, start, opened, sink),
             TradeEnd::Stopped(peer, why) => BuyEnd::Stopped { peer, why },
             TradeEnd::Spent => BuyEnd::Spent,
         },
@@ -59,19 +60,24 @@ pub fn buy<D: Disk, L: Link, K: Sink>(
     }
 }
 
-// Writes the goods of a purchase that is over, where it was paid.
-fn finish<K: Sink>(consumer: &Consumer, start: &Start, sink: &mut K) -> BuyEnd
-    requires { HasEnded (phase_for start.now consumer.now) }
+// Writes the goods of a purchase that is over, where it was paid. They are opened where they are not yet.
+fn finish<K: Sink>(consumer: &Consumer, start: &Start, opened: Option<Blob>, sink: &mut K) -> BuyEnd
+    requires ended { HasEnded (phase_for start.now consumer.now) }
+    requires opened { AreOpened start.now consumer.now opened }
     ensures finishes { Finishes start.now consumer.now (K.faults sink.old) (K.faults sink.new) (K.sent sink.old) (K.sent sink.new) result }
     ensures unwritten { IsUnwritten result → sink.new ≡ sink.old }
     ensures count { K.faults sink.old ≤ K.faults sink.new }
 {
-    match consumer.goods(start.transaction) {
-        Err(_) => BuyEnd::Lost(Lost::NoMemory),
-        Ok(None) => BuyEnd::Unpaid,
-        Ok(Some(goods)) => match write_out(sink, goods.as_slice()) {
-            Sent::All => BuyEnd::Paid,
-            Sent::Failed => BuyEnd::SinkFault,
+    let goods = match opened {
+        Some(goods) => goods,
+        None => match consumer.goods(start.transaction) {
+            Err(_) => return BuyEnd::Lost(Lost::NoMemory),
+            Ok(None) => return BuyEnd::Unpaid,
+            Ok(Some(goods)) => goods,
         },
+    };
+    match write_out(sink, goods.as_slice()) {
+        Sent::All => BuyEnd::Paid,
+        Sent::Failed => BuyEnd::SinkFault,
     }
 }

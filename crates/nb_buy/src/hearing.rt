@@ -4,12 +4,13 @@ ghost use Rattle.nb_journal.specs.declared.limits.TheConstants.{MAX_ITEM};
 ghost use Rattle.nb_frame.specs.declared.stream.TheConstants.{MAX_PIECE};
 ghost use Rattle.nb_units.specs.declared.frames.TheConstants.{LAST_KIND};
 ghost use Rattle.nb_consumer.specs.Deeds.{Answers};
+ghost use Rattle.nb_consumer.specs.Goods.{IsOpen};
 ghost use Rattle.nb_msgs.specs.Steps.{StepKeepsRules};
 ghost use Rattle.nb_wallet.specs.Spelling.{StartKeepsRules};
 ghost use Rattle.nb_buy.specs.declared.peer.Peer.TheVariants.{House};
-ghost use Rattle.nb_buy.specs.Run.{Starts, Waits, frame_row};
+ghost use Rattle.nb_buy.specs.Run.{Starts, Waits, frame_row, phase_for};
 ghost use Rattle.nb_buy.specs.Bought.{point};
-ghost use Rattle.nb_buy.specs.Steps.{CanRead, IsNear, Carries, Listens, SameReaders, lines_of, next_heard};
+ghost use Rattle.nb_buy.specs.Steps.{AreOpened, CanRead, IsNear, Carries, Listens, SameReaders, goods_told, lines_of, next_heard};
 
 use crate::acting::act;
 use crate::ended::Lost;
@@ -18,13 +19,22 @@ use crate::sides::{Sides, fetch};
 use nb_consumer::Consumer;
 use nb_journal::Journal;
 use nb_link::Link;
-use nb_msgs::{BodyFault, Reason, Step, read_body};
+use nb_msgs::{BodyFault, End, Reason, Step, read_body};
 use nb_port::Disk;
-use nb_units::NoMemory;
 use nb_units::frames::REFUSED_REPLY;
+use nb_units::{Blob, NoMemory};
 use nb_wallet::Start;
 use nb_wire::Fetched;
 use std::alloc::Global;
+
+// What a frame brings, or its want.
+#[derive(Drop)]
+pub struct Heard {
+    // What is done next.
+    pub next: Next,
+    // The goods of a purchase that ended with it, opened.
+    pub opened: Option<Blob>,
+}
 
 // Starts the purchase.
 pub fn begin<D: Disk, L: Link>(
@@ -89,24 +99,33 @@ pub fn listen<D: Disk, L: Link>(
     sides: &mut Sides,
     piece: &mut [u8],
     from: Peer,
-) -> Result<Next, Lost>
+) -> Result<Heard, Lost>
     requires rest { IsAtRest D.tells journal.old }
     requires room { journal.old.room ≡ MAX_ITEM }
     requires piece { length piece.old ≡ MAX_PIECE }
     requires near { CanRead sides.old }
     ensures listens { Listens D.tells _start.now (point journal.old consumer.old (lines_of (L.seen server.old) (L.seen seller.old) sides.old)) (point journal.new consumer.new (lines_of (L.seen server.new) (L.seen seller.new) sides.new)) from sides.old.read sides.new.read result }
+    ensures opened { IfOk result (λ h. IsOpen (phase_for _start.now consumer.old) → AreOpened _start.now consumer.new h.opened) }
     ensures near { IsNear sides.new }
 {
     let f = match fetch(server, seller, sides, piece, from) {
         Fetched::Frame(f) => f,
-        Fetched::End(end) => return Ok(Next::Over(from, Over::Ended(end))),
+        Fetched::End(end) => {
+            return Ok(Heard {
+                next: Next::Over(from, Over::Ended(end)),
+                opened: None,
+            });
+        }
     };
     match hear(alloc, consumer, f.kind, sides.body(from, &f)) {
         Ok(step) => {
             let done = act(alloc, journal, server, seller, sides, from, &step);
-            drop(step);
+            let opened = opened_by(step);
             match done {
-                Ok(next) => Ok(heard(from, f.kind, next)),
+                Ok(next) => Ok(Heard {
+                    next: heard(from, f.kind, next),
+                    opened,
+                }),
                 Err(why) => Err(why),
             }
         }
@@ -130,6 +149,19 @@ fn hear(alloc: Global, consumer: &mut Consumer, kind: u8, body: &[u8]) -> Result
         }
         Err(BodyFault::Malformed { .. }) => Ok(Step::Ignored(Reason::Kind)),
         Err(BodyFault::NoMemory) => Err(NoMemory),
+    }
+}
+
+// The goods that a step opened.
+fn opened_by(step: Step) -> Option<Blob>
+    ensures { result ≡ goods_told step }
+{
+    match step {
+        Step::Ended {
+            keep: _,
+            end: End::Paid(goods),
+        } => Some(goods),
+        _ => None,
     }
 }
 

@@ -15,14 +15,15 @@ use nb_frame::MAX_PIECE;
 use nb_journal::Journal;
 use nb_link::Link;
 use nb_port::Disk;
+use nb_units::Blob;
 use nb_wallet::Start;
 use std::alloc::Global;
 
 // How a trade ended.
-#[derive(Clone, Copy)]
+#[derive(Drop)]
 pub enum TradeEnd {
-    // The purchase is over.
-    Finished,
+    // The purchase is over, with its goods where they were opened as it ended.
+    Finished(Option<Blob>),
     // It is not, and nothing more comes of the peer whose answer was waited for.
     Stopped(Peer, Over),
     // It is not, and as many frames were read as are read for one purchase.
@@ -47,15 +48,16 @@ pub fn trade<D: Disk, L: Link>(
 {
     let mut next = match open(alloc, journal, consumer, start, server, seller, sides) {
         Ok(Some(next)) => next,
-        Ok(None) => return Ok(TradeEnd::Finished),
+        Ok(None) => return Ok(TradeEnd::Finished(None)),
         Err(why) => return Err(why),
     };
     let mut asked = false;
+    let mut opened = None;
     let mut piece = [0u8; MAX_PIECE];
     'trading: loop {
         let stands = standing_of(consumer, start);
         if is_over(stands) {
-            return Ok(TradeEnd::Finished);
+            return Ok(TradeEnd::Finished(opened));
         }
         let peer = match next {
             Next::Over(peer, why) => {
@@ -63,6 +65,7 @@ pub fn trade<D: Disk, L: Link>(
                     return Ok(TradeEnd::Stopped(peer, why));
                 }
                 asked = true;
+                opened = None;
                 match go_on(alloc, journal, consumer, start, server, seller, sides, peer) {
                     Ok(behind) => next = behind,
                     Err(why) => return Err(why),
@@ -77,7 +80,10 @@ pub fn trade<D: Disk, L: Link>(
         match listen(
             alloc, journal, consumer, start, server, seller, sides, &mut piece, peer,
         ) {
-            Ok(behind) => next = behind,
+            Ok(heard) => {
+                next = heard.next;
+                opened = heard.opened;
+            }
             Err(why) => return Err(why),
         }
     }

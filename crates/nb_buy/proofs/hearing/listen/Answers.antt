@@ -1,12 +1,13 @@
-use Rattle.std.proofs.Common.{◌≡◌, ℕ, ◌+◌, arith, None, Some, Ok, Err, refl, ap, subst, ◌∙◌}
+use Rattle.std.proofs.Common.{◌≡◌, ℕ, ◌+◌, arith, None, Some, Ok, Err, refl, sym, ap, subst, ◌∙◌}
 use Rattle.nb_units.specs.Frames.{Frame}
 use Rattle.nb_consumer.specs.Deeds.{Answers}
 use Rattle.nb_buy.specs.Bought.{point}
 use Rattle.nb_buy.specs.Lines.{Lines}
 use Rattle.nb_buy.specs.Run.{Hears, frame_row}
-use Rattle.nb_buy.specs.Steps.{lines_of, next_heard}
+use Rattle.nb_buy.specs.Steps.{AreOpened, lines_of, next_heard}
 use Rattle.nb_buy.proofs.Carrying.{step_short, carried, starved, went_still}
 use Rattle.nb_buy.proofs.OverLines.{at_front, frame_with, frame_is, fetched_house, fetched_seller, none_house, none_seller}
+use Rattle.nb_buy.proofs.Opened.{none_opened, goods_opened}
 use Rattle.nb_buy.proofs.hearing.listen.Goals as goal
 
 none_more : (n : ℕ) → n ≡ n + 0
@@ -66,3 +67,11 @@ returns-in-Err-clause-listens g c =
       starved g.D.Disk.tells c.args._start.now (point c.args.journal.now c.args.consumer.now old) (point c.args.journal.now c.hear.new.consumer new) (Hears c.args.from f) refl c.in-Err.ensures.answers.err
           (fetched_house c.args.from old new c.in-Frame.f c.in-Frame.ensures.fetched) (fetched_seller c.args.from old new c.in-Frame.f c.in-Frame.ensures.fetched),
     )
+
+pub returns-in-Ok-done-clause-opened : goal.returns-in-Ok-done-clause-opened
+returns-in-Ok-done-clause-opened g c = λ going.
+    subst (AreOpened c.args._start.now c.hear.new.consumer) (sym c.opened_by-opened.ensures)
+    (goods_opened c.args._start.now c.args.consumer.now c.hear.new.consumer (frame_with c.in-Frame.f.kind c.body.result.now) c.in-Ok.step c.in-Ok.ensures.answers going)
+
+pub returns-in-End-clause-opened : goal.returns-in-End-clause-opened
+returns-in-End-clause-opened g c = λ going. none_opened c.args._start.now c.args.consumer.now

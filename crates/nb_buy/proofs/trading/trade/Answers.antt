@@ -8,15 +8,18 @@ use Rattle.nb_buy.specs.Bought.{point}
 use Rattle.nb_buy.specs.Steps.{Carries, Ran, lines_of}
 use Rattle.nb_buy.proofs.HowFar.{MayAsk, open_is, over_is, asks_is, turn_is}
 use Rattle.nb_buy.proofs.OverLines.{near_same}
+use Rattle.nb_buy.proofs.Opened.{none_opened}
 use Rattle.nb_buy.proofs.Rounds.{ran_asks, lost_asks, ran_listened, lost_listened, finished, stopped, spent}
 use Rattle.nb_buy.proofs.trading.trade.Goals as goal
 
 pub returns-then-is_over : goal.returns-then-is_over
 returns-then-is_over g c =
     let p = point c.args.journal.now c.args.consumer.now (lines_of (g.L.Link.seen c.args.server.now) (g.L.Link.seen c.args.seller.now) c.args.sides.now) in
-    let q = point c.trading.journal c.trading.consumer (lines_of (g.L.Link.seen c.trading.server) (g.L.Link.seen c.trading.seller) c.trading.sides) in
-    finished g.D.Disk.tells c.args.start.now p q c.trading.asked c.trading.next c.trading.sides.read c.trading.invariant.near.few c.trading.invariant.ran
-    (over_is (phase_for c.args.start.now c.trading.consumer) c.standing_of-stands.result c.standing_of-stands.ensures (sym c.is_over.ensures ∙ c.if-is_over.true))
+    let q = point c.trading.journal c.trading.consumer (lines_of (g.L.Link.seen c.trading.server) (g.L.Link.seen c.trading.seller) c.trading.sides) in (
+      finished g.D.Disk.tells c.args.start.now p q c.trading.asked c.trading.next c.trading.sides.read c.trading.invariant.near.few c.trading.invariant.ran
+          (over_is (phase_for c.args.start.now c.trading.consumer) c.standing_of-stands.result c.standing_of-stands.ensures (sym c.is_over.ensures ∙ c.if-is_over.true)),
+      c.trading.invariant.opened,
+    )
 
 pub returns-then-not-may_ask : goal.returns-then-not-may_ask
 returns-then-not-may_ask g c =
@@ -61,6 +64,7 @@ trading-preserved-in-Over g c =
           (subst (λ (x : Bool × Next). Ran tells s p q x.0 x.1 c.trading.sides.read) (λ i. (may.fresh i, is i)) c.trading.invariant.ran) may.ordered
           (subst (λ (peer : Peer). Carries tells s q r peer Waits (Ok c.in-Ok.behind)) may.seller c.in-Ok.ensures.carries));
       near = near_same c.trading.sides c.go_on.new.sides c.go_on.ensures.readers c.trading.invariant.near;
+      opened = none_opened s c.go_on.new.consumer;
     }
 
 pub returns-then-sides-ge-MOST_FRAMES : goal.returns-then-sides-ge-MOST_FRAMES
@@ -82,11 +86,13 @@ trading-preserved g c =
     let q = point c.trading.journal c.trading.consumer (lines_of (g.L.Link.seen c.trading.server) (g.L.Link.seen c.trading.seller) c.trading.sides) in
     let r = point c.listen.new.journal c.listen.new.consumer (lines_of (g.L.Link.seen c.listen.new.server) (g.L.Link.seen c.listen.new.seller) c.listen.new.sides) in
     record {
-      ran = ran_listened tells s p q r c.trading.asked c.in-Awaits.peer c.in-Ok-listen.behind c.trading.sides.read c.listen.new.sides.read
+      ran = ran_listened tells s p q r c.trading.asked c.in-Awaits.peer c.in-Ok-listen.heard c.trading.sides.read c.listen.new.sides.read
           (subst (λ (n : Next). Ran tells s p q c.trading.asked n c.trading.sides.read) c.in-Awaits.is c.trading.invariant.ran)
           (open_is (phase_for s c.trading.consumer) c.standing_of-stands.result c.standing_of-stands.ensures (sym c.is_over.ensures ∙ c.if-is_over.false) c.trading.invariant.ran.known)
           c.in-Ok-listen.ensures.listens;
       near = c.listen.ensures.near;
+      opened = c.in-Ok-listen.ensures.opened
+          (open_is (phase_for s c.trading.consumer) c.standing_of-stands.result c.standing_of-stands.ensures (sym c.is_over.ensures ∙ c.if-is_over.false) c.trading.invariant.ran.known);
     }
 
 pub returns-in-Err-listen : goal.returns-in-Err-listen
