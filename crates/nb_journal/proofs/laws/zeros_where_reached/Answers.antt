@@ -12,8 +12,8 @@ by : (gate next len : ℕ) (reaches long : Bool) → nat_lt (gate / 131072) (nex
 by gate next len false long is wide = (λ k past reached short. omega (arith, ltb-false (gate / 131072) (next / 131072) is), inl refl)
 by gate next len true true is wide = (λ k past reached short. omega (arith, ltb-true 32768 len wide), inl refl)
 by gate next len true false is wide =
-  let reached = ltb-true (gate / 131072) (next / 131072) is
-  in (λ k past reaches short. refl, inr (ltb-false 32768 len wide, (next / 131072, omega (arith, reached), omega arith)))
+    let reached = ltb-true (gate / 131072) (next / 131072) is
+    in (λ k past reaches short. refl, inr (ltb-false 32768 len wide, (next / 131072, omega (arith, reached), omega arith)))
 
 pub returns : goal.returns
 returns c = λ gate item. by gate (gate + (length item + 5)) (length item) _ _ refl refl
