@@ -28,7 +28,7 @@ use Rattle.nb_buy.specs.declared.peer.Over.{Over}
 use Rattle.nb_buy.specs.declared.peer.Over.TheVariants as over
 use Rattle.nb_buy.specs.declared.peer.Next.{Next}
 use Rattle.nb_buy.specs.declared.peer.Next.TheVariants as next
-use Rattle.nb_buy.specs.declared.hearing.Heard.{Heard}
+use Rattle.nb_buy.specs.declared.hearing.Listened.{Listened}
 use Rattle.nb_buy.specs.declared.ended.TheConstants.{MOST_FRAMES}
 use Rattle.nb_buy.specs.declared.ended.Lost.{Lost}
 use Rattle.nb_buy.specs.Run.{Act, Starts, Hears, Waits, act_row, asks, step_at, peer_of, bytes_in, frames_on, frames_of, phase_for, IsOrdered, Way, outset, awaited, onward, MayAct, Obeys}
@@ -364,7 +364,7 @@ module _ {D : Type 0} (tells : DiskTells D) (s : Start) where
   count_at House p q acts went = went.house.received.read_count
   count_at Seller p q acts went = went.seller.received.read_count
 
-  pub ran_listened : (p q r : Point D) (asked : Bool) (from : Peer) (x : Heard) (read read' : ℕ) → Ran tells s p q asked (next.Awaits from) read → IsOpen (phase_for s q.buyer)
+  pub ran_listened : (p q r : Point D) (asked : Bool) (from : Peer) (x : Listened) (read read' : ℕ) → Ran tells s p q asked (next.Awaits from) read → IsOpen (phase_for s q.buyer)
       → Listens tells s q r from read read' (Ok x) → Ran tells s p r asked x.next read'
   unfolding traded_still traded_on
   ran_listened p q r asked from x read read' ran going heard = by heard.0 heard.1 heard.2
@@ -422,7 +422,7 @@ module _ {D : Type 0} (tells : DiskTells D) (s : Start) where
       apart e = cc
 
   -- a frame is read, or nothing more comes
-  pub listened_less : (q r : Point D) (from : Peer) (x : Heard) (asked : Bool) (read read' : ℕ) → read < MOST_FRAMES → Listens tells s q r from read read' (Ok x)
+  pub listened_less : (q r : Point D) (from : Peer) (x : Listened) (asked : Bool) (read read' : ℕ) → read < MOST_FRAMES → Listens tells s q r from read read' (Ok x)
       → (10000 - read') * 4 + asked_rank asked + next_rank x.next < (10000 - read) * 4 + asked_rank asked + 1
   listened_less q r from x asked read read' few heard = by heard.0 heard.1 heard.2
     where

@@ -30,7 +30,7 @@ use Rattle.nb_buy.specs.declared.peer.Peer.TheVariants.{House, Seller}
 use Rattle.nb_buy.specs.declared.peer.Over.TheVariants as over
 use Rattle.nb_buy.specs.declared.peer.Next.{Next}
 use Rattle.nb_buy.specs.declared.peer.Next.TheVariants as next
-use Rattle.nb_buy.specs.declared.hearing.Heard.{Heard}
+use Rattle.nb_buy.specs.declared.hearing.Listened.{Listened}
 use Rattle.nb_buy.specs.declared.ended.TheConstants.{MOST_FRAMES}
 use Rattle.nb_buy.specs.declared.ended.Lost.{Lost}
 use Rattle.nb_buy.specs.declared.sides.Side.{Side}
@@ -179,7 +179,7 @@ abbrev pub AreOpened : Start → Buyer → Option (List ℕ) → Type 0
 AreOpened s b opened = (goods : List ℕ) → opened ≡ Some goods → HasEnded (phase_for s b) → goods_in (purchase_of b s.transaction) ≡ Some goods
 
 -- so it went, and so many frames were read before it and behind it; or the frame was read, and what was to be kept of it was not
-abbrev pub Listens : {D : Type 0} → DiskTells D → Start → Point D → Point D → Peer → ℕ → ℕ → Result Heard Lost → Type 0
+abbrev pub Listens : {D : Type 0} → DiskTells D → Start → Point D → Point D → Peer → ℕ → ℕ → Result Listened Lost → Type 0
 Listens tells s p q from read read' (Ok h) = (heard : Option Frame) × HeardAs tells s p q from h.next heard × (read' ≡ read + frames_heard heard)
 Listens tells s p q from read read' (Err why) = (f : Frame) × Loses tells s p q (Hears from f ∷ []) why
 

@@ -29,7 +29,7 @@ use std::alloc::Global;
 
 // What a frame brings, or its want.
 #[derive(Drop)]
-pub struct Heard {
+pub struct Listened {
     // What is done next.
     pub next: Next,
     // The goods of a purchase that ended with it, opened.
@@ -99,7 +99,7 @@ pub fn listen<D: Disk, L: Link>(
     sides: &mut Sides,
     piece: &mut [u8],
     from: Peer,
-) -> Result<Heard, Lost>
+) -> Result<Listened, Lost>
     requires rest { IsAtRest D.tells journal.old }
     requires room { journal.old.room ≡ MAX_ITEM }
     requires piece { length piece.old ≡ MAX_PIECE }
@@ -111,7 +111,7 @@ pub fn listen<D: Disk, L: Link>(
     let f = match fetch(server, seller, sides, piece, from) {
         Fetched::Frame(f) => f,
         Fetched::End(end) => {
-            return Ok(Heard {
+            return Ok(Listened {
                 next: Next::Over(from, Over::Ended(end)),
                 opened: None,
             });
@@ -122,7 +122,7 @@ pub fn listen<D: Disk, L: Link>(
             let done = act(alloc, journal, server, seller, sides, from, &step);
             let opened = opened_by(step);
             match done {
-                Ok(next) => Ok(Heard {
+                Ok(next) => Ok(Listened {
                     next: heard(from, f.kind, next),
                     opened,
                 }),

@@ -80,9 +80,9 @@ pub fn trade<D: Disk, L: Link>(
         match listen(
             alloc, journal, consumer, start, server, seller, sides, &mut piece, peer,
         ) {
-            Ok(heard) => {
-                next = heard.next;
-                opened = heard.opened;
+            Ok(listened) => {
+                next = listened.next;
+                opened = listened.opened;
             }
             Err(why) => return Err(why),
         }

@@ -86,7 +86,7 @@ trading-preserved g c =
     let q = point c.trading.journal c.trading.consumer (lines_of (g.L.Link.seen c.trading.server) (g.L.Link.seen c.trading.seller) c.trading.sides) in
     let r = point c.listen.new.journal c.listen.new.consumer (lines_of (g.L.Link.seen c.listen.new.server) (g.L.Link.seen c.listen.new.seller) c.listen.new.sides) in
     record {
-      ran = ran_listened tells s p q r c.trading.asked c.in-Awaits.peer c.in-Ok-listen.heard c.trading.sides.read c.listen.new.sides.read
+      ran = ran_listened tells s p q r c.trading.asked c.in-Awaits.peer c.in-Ok-listen.listened c.trading.sides.read c.listen.new.sides.read
           (subst (λ (n : Next). Ran tells s p q c.trading.asked n c.trading.sides.read) c.in-Awaits.is c.trading.invariant.ran)
           (open_is (phase_for s c.trading.consumer) c.standing_of-stands.result c.standing_of-stands.ensures (sym c.is_over.ensures ∙ c.if-is_over.false) c.trading.invariant.ran.known)
           c.in-Ok-listen.ensures.listens;
