@@ -157,10 +157,10 @@ fn opened_by(step: Step) -> Option<Blob>
     ensures { result ≡ goods_told step }
 {
     match step {
-        Step::Ended {
-            keep: _,
-            end: End::Paid(goods),
-        } => Some(goods),
+        Step::Ended { end, .. } => match end {
+            End::Paid(goods) => Some(goods),
+            _ => None,
+        },
         _ => None,
     }
 }
