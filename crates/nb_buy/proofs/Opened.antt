@@ -1,9 +1,8 @@
 -- Goods that a step opened are those of the purchase that it ended.
-use Rattle.std.proofs.Common.{◌≡◌, ℕ, Bool, true, false, Option, Some, None, Result, Ok, Err, refl, sym, ap, subst, ◌∙◌}
+use Rattle.std.proofs.Common.{◌≡◌, Bool, true, false, Option, Some, None, Result, Ok, Err, refl, sym, ap, subst, ◌∙◌}
 use Rattle.std.specs.Prelude.{◌==◌, if◌then◌else◌}
 use Rattle.std.proofs.lemmas.Bool.{eq-eqb, false≢true}
 use Rattle.nb_units.specs.Frames.{Frame}
-use Rattle.nb_body.specs.declared.end.End.{End}
 use Rattle.nb_msgs.specs.declared.node.Reason.{Reason}
 use Rattle.nb_msgs.specs.declared.node.Step.{Step}
 use Rattle.nb_wallet.specs.declared.wallet.Start.{Start}
@@ -12,7 +11,7 @@ use Rattle.nb_wallet.specs.declared.purchase.Purchase.{Purchase}
 use Rattle.nb_consumer.specs.declared.deed.Deed.{Deed}
 use Rattle.nb_consumer.specs.declared.deed.Deed.TheVariants as deed
 use Rattle.nb_consumer.specs.Deeds.{Answers}
-use Rattle.nb_consumer.specs.Goods.{IsOpen, HasEnded, phase_in, goods_in, goods_at}
+use Rattle.nb_consumer.specs.Goods.{IsOpen, HasEnded, phase_in, goods_in}
 use Rattle.nb_consumer.specs.Laws.{RowSo}
 use Rattle.nb_consumer.specs.State.{Buyer, purchase_of, behind_item}
 use Rattle.nb_consumer.specs.Table.{step_of, after}
