@@ -4,7 +4,7 @@
 //! for, carries the consumer's step out, and goes on, until the purchase is over, or nothing more comes of that peer. A step's message is spelled, then its item is
 //! appended to the journal, and then the message is sent, to the peer that it is for. A frame that is ignored is passed over. Where nothing more comes of the
 //! seller of a purchase that was ordered, its link having ended or failed or given a refusal, the house is asked once what became of the order. The goods of a
-//! purchase that was paid are written at its end, and each time it is made again.
+//! purchase that was paid are written at its end, as its last frame opened them, and each time it is made again, opened anew.
 //!
 //! What is done is seen as a list of acts (`specs/Run.antt`): a start, a frame that is heard, a word that nothing is waited for any more. What each keeps and sends
 //! is the row of the consumer's table, and which may come next is a rule over the acts alone, so that the order in which frames were read is the list itself. What
