@@ -1,5 +1,5 @@
 -- A purchase that links bring to its end comes to it: the acts that were done begin as those that the links bring, as long as nothing fails.
-use Rattle.std.proofs.Common.{◌≡◌, ◌≢◌, ◌⊎◌, inl, inr, ⊎_elim, ℕ, ◌+◌, ◌<◌, ◌≤◌, Bool, true, false, true≢false, List, [], ◌∷◌, ◌++◌, length, Option, Some, None, refl, sym, ap, subst, ◌∙◌, append_assoc, append-nil, length-append, arith}
+use Rattle.std.proofs.Common.{◌≡◌, ◌⊎◌, inl, inr, ⊎_elim, ℕ, ◌+◌, ◌≤◌, Bool, true, false, true≢false, List, [], ◌∷◌, ◌++◌, length, Option, Some, None, refl, sym, ap, subst, ◌∙◌, append_assoc, append-nil, length-append, arith}
 use Rattle.std.specs.List.{flat_map, AllByRecursion}
 use Rattle.std.specs.Io.KnownBytes.{Consumes, IsAtEnd}
 use Rattle.std.proofs.lemmas.Option.{same_Some}
@@ -11,19 +11,16 @@ use Rattle.nb_journal.specs.declared.journal.Journal.{Journal}
 use Rattle.nb_journal.specs.States.{AtRest}
 use Rattle.nb_link.specs.Link.{LinkSeen}
 use Rattle.nb_units.specs.Frames.{Frame, frame, IsFrame, HeaderFault, Whole, Bad, front_of}
-use Rattle.nb_units.specs.declared.frames.TheConstants.{REFUSED_REPLY}
 use Rattle.nb_units.proofs.FrameLaws.{whole_front, bad_stays}
-use Rattle.nb_frame.specs.State.{waiting, unfed}
+use Rattle.nb_frame.specs.State.{waiting}
 use Rattle.nb_frame.specs.Looks.{IsShort}
 use Rattle.nb_msgs.specs.declared.node.Step.{Step}
 use Rattle.nb_msgs.specs.declared.node.Step.TheVariants as step
-use Rattle.nb_msgs.specs.declared.node.To.{To}
-use Rattle.nb_msgs.specs.declared.message.Message.{Message}
-use Rattle.nb_wire.specs.Received.{Wire, Received, EndsAs}
+use Rattle.nb_wire.specs.Received.{EndsAs}
 use Rattle.nb_wire.specs.Reads.{joined}
 use Rattle.nb_wire.specs.Sent.{WroteOn}
 use Rattle.nb_wire.specs.declared.sending.Sent.{Sent}
-use Rattle.nb_wire.specs.declared.sending.Sent.TheVariants.{All, Failed}
+use Rattle.nb_wire.specs.declared.sending.Sent.TheVariants.{All}
 use Rattle.nb_wire.specs.declared.receiving.LinkEnd.{LinkEnd}
 use Rattle.nb_wire.specs.declared.receiving.LinkEnd.TheVariants as wire_end
 use Rattle.nb_wire.proofs.Whole.{received_first}
@@ -48,10 +45,10 @@ use Rattle.nb_buy.specs.declared.ended.Lost.TheVariants as lost
 use Rattle.nb_buy.specs.declared.ended.BuyEnd.{BuyEnd}
 use Rattle.nb_buy.specs.declared.ended.BuyEnd.TheVariants as ends
 use Rattle.nb_buy.specs.Run.{Act, Starts, Hears, Waits, act_row, step_at, peer_of, buyer_behind, kept_by, bytes_to, frames_on, frames_of, phase_for, IsOrdered, Way, outset, awaited, asks, onward, way_behind, MayWait, MayAct, Obeys}
-use Rattle.nb_buy.specs.Lines.{Line, Lines, line_at, begun, LineGoes, HasRefusal, IsOver}
+use Rattle.nb_buy.specs.Lines.{Line, line_at, begun, LineGoes, HasRefusal, IsOver}
 use Rattle.nb_buy.specs.Bought.{Point, Around, first_point, IsLast, Went, way_of, IsOverAt, AskedFor, Traded, Finished, Stopped, Spent, TradeLost, Bought, IsUnpaid, WritesGoods}
 use Rattle.nb_buy.specs.Laws.{AreHeard, AreBrought, Gives, link_at, IsBrought, EndsAsOver, ComesToItsEnd}
-use Rattle.nb_buy.proofs.Runs.{buyer_both, kept_both, frames_both, heard_both, way_both}
+use Rattle.nb_buy.proofs.Runs.{kept_both, frames_both, heard_both, way_both}
 use Rattle.nb_buy.proofs.OverLines.{line_both}
 use Rattle.nb_buy.proofs.NextTime.{over_apart}
 

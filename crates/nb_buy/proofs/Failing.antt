@@ -1,5 +1,5 @@
 -- No peer is heard behind a write to it that failed.
-use Rattle.std.proofs.Common.{◌≡◌, ℕ, Bool, false, List, [], ◌∷◌, ◌++◌, Option, Some, None, refl, sym, ap, subst, ◌∙◌, append_assoc, append-nil}
+use Rattle.std.proofs.Common.{◌≡◌, ℕ, Bool, false, List, [], ◌∷◌, ◌++◌, Option, refl, sym, ap, subst, ◌∙◌, append_assoc, append-nil}
 use Rattle.nb_port.specs.Tells.{DiskTells}
 use Rattle.nb_link.specs.Link.{LinkSeen}
 use Rattle.nb_units.specs.Frames.{Frame}
@@ -16,7 +16,7 @@ use Rattle.nb_buy.specs.declared.peer.Peer.{Peer}
 use Rattle.nb_buy.specs.declared.peer.Peer.TheVariants.{House, Seller}
 use Rattle.nb_buy.specs.declared.sides.Sides.{Sides}
 use Rattle.nb_buy.specs.Run.{Act, Hears, peer_of, buyer_behind, bytes_in, bytes_to, frames_on}
-use Rattle.nb_buy.specs.Lines.{Line, Lines, line_at, LineGoes}
+use Rattle.nb_buy.specs.Lines.{Lines, line_at, LineGoes}
 use Rattle.nb_buy.specs.Bought.{Point, Around, first_point, Went, FailedWithin, Traded}
 use Rattle.nb_buy.specs.Steps.{AreBegun, IsClear, lines_of, next_sent, next_behind}
 use Rattle.nb_buy.proofs.Runs.{buyer_both, bytes_both, frames_both}

@@ -39,7 +39,7 @@ use Rattle.nb_buy.proofs.Runs.{way_both, obeys_both, frames_both, heard_both}
 use Rattle.nb_buy.proofs.OverLines.{sent_same, refusal_either, refusal_later, over_from}
 use Rattle.nb_buy.proofs.Carrying.{went_none, went_both}
 use Rattle.nb_buy.proofs.Failing.{AllSent, sent_or_failed, HearsNoFailed, hears_sent, clear_move, clear_on, line_went, failed_on, failed_still}
-use Rattle.nb_buy.proofs.Rows.{refusal_row, row_known, started_known}
+use Rattle.nb_buy.proofs.Rows.{refusal_row, row_known, started_open, silent_same}
 use Rattle.nb_buy.proofs.HowFar.{open_known}
 
 -- ---- what is done next behind a step
@@ -194,6 +194,13 @@ module _ {D : Type 0} (tells : DiskTells D) (s : Start) where
   unfolding traded_none
   failed_first p q a all went = failed_on tells s p p q (traded_none p all) a went (λ peer fails. absurd (sent_or_failed (all peer) fails))
 
+  -- behind a start the purchase is going on, and so it stays where its last message is sent again
+  pub open_started : (p q : Point D) (n : Next) → phase_for s p.buyer ≡ None → Carries tells s p q House Starts (Ok n) → IsOpen (phase_for s q.buyer)
+  open_started p q n none c = subst (λ (b : Buyer). IsOpen (phase_for s b)) (sym c.0.buyer) (started_open p.buyer s none)
+
+  pub open_waited : (p q : Point D) (peer : Peer) (n : Next) → IsOpen (phase_for s p.buyer) → Carries tells s p q peer Waits (Ok n) → IsOpen (phase_for s q.buyer)
+  open_waited p q peer n going c = subst (λ (b : Buyer). IsOpen (phase_for s b)) (sym (c.0.buyer ∙ silent_same p.buyer s.transaction going)) going
+
   pub ran_started : (p q : Point D) (n : Next) → phase_for s p.buyer ≡ None → AllSent p.lines → Carries tells s p q House Starts (Ok n) → Ran tells s p q false n 0
   ran_started p q n none all c =
       let moves = start_moves p.buyer s none in
@@ -201,7 +208,7 @@ module _ {D : Type 0} (tells : DiskTells D) (s : Start) where
         traded = record { acts = Starts ∷ []; obeys = ((refl, none), tt); went = c.0; failed = failed_first p q Starts all c.0; asked_for = λ is. absurd (false≢true is) };
         awaits = awaits_move None House (step_at s p.buyer Starts) q.lines _ to.Server _ moves ∙ ap (λ (x : Next). Some (peer_in x)) (sym c.1);
         asked_is = refl;
-        known = subst (λ (b : Buyer). IsKnown (phase_for s b)) (sym c.0.buyer) (started_known p.buyer s none);
+        known = open_known (phase_for s q.buyer) (open_started p q n none c);
         over = subst (OverIs p q (Starts ∷ [])) (sym c.1) (over_on p q (Starts ∷ []) House (step_at s p.buyer Starts));
         clear = subst (IsClear q.lines false) (sym c.1) (clear_move House (step_at s p.buyer Starts) q.lines false _ to.Server _ moves refl);
         told = told_first p q Starts n (all Seller) c (λ has. absurd has);

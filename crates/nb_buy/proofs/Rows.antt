@@ -21,16 +21,18 @@ use Rattle.nb_wallet.specs.declared.wallet.Start.{Start}
 use Rattle.nb_wallet.specs.declared.item.Item.{Item}
 use Rattle.nb_wallet.specs.declared.item.Item.TheVariants as item
 use Rattle.nb_wallet.specs.declared.purchase.Purchase.{Purchase}
+use Rattle.nb_wallet.specs.declared.purchase.Stage.{Stage}
+use Rattle.nb_wallet.specs.declared.purchase.Stage.TheVariants as stage
 use Rattle.nb_asking.specs.Messages.{ticket_request}
 use Rattle.nb_wallet.specs.Spelling.{item_bytes}
 use Rattle.nb_consumer.specs.declared.deed.Deed.{Deed}
 use Rattle.nb_consumer.specs.declared.deed.Deed.TheVariants as deed
-use Rattle.nb_consumer.specs.Goods.{phase_in}
+use Rattle.nb_consumer.specs.Goods.{IsOpen, phase_in}
 use Rattle.nb_consumer.specs.State.{Buyer, number_of, place_of, purchase_at, purchase_of, changed, behind_item, fresh, remembered, raised}
-use Rattle.nb_consumer.specs.Table.{started, step_of, after}
+use Rattle.nb_consumer.specs.Table.{started, silent, unheard, step_of, after}
 use Rattle.nb_consumer.proofs.Moving.{start_moves}
-use Rattle.nb_consumer.proofs.Staying.{found_first, changed_other}
-use Rattle.nb_consumer.proofs.Again.{found_behind}
+use Rattle.nb_consumer.proofs.Staying.{found_first, changed_other, unknown}
+use Rattle.nb_consumer.proofs.Again.{found_behind, found_started, silent_is}
 use Rattle.nb_buy.specs.Run.{heard_as, frame_row, phase_for}
 use Rattle.nb_buy.specs.Steps.{IsKnown}
 
@@ -92,10 +94,6 @@ first_known : (o last : Option Purchase) → IsKnown (phase_in o) → IsKnown (p
 first_known None last known = absurd known
 first_known (Some p) last known = tt
 
-last_known : (o : Option Purchase) (p : Purchase) → IsKnown (phase_in (option_or o (Some p)))
-last_known None p = tt
-last_known (Some q) p = tt
-
 pushed_is : (ps : List Purchase) (q : Purchase) (t : ℕ) → purchase_at (ps ++ q ∷ []) (place_of (ps ++ q ∷ []) t) ≡ option_or (find (is_of t) ps) (cond (is_of t q) (Some q) None)
 pushed_is ps q t = found_first (ps ++ q ∷ []) t ∙ find-append (is_of t) ps (q ∷ [])
 
@@ -103,12 +101,6 @@ pushed_known : (ps : List Purchase) (q : Purchase) (t : ℕ) → IsKnown (phase_
 pushed_known ps q t known =
     subst (λ (o : Option Purchase). IsKnown (phase_in o)) (sym (pushed_is ps q t))
     (first_known (find (is_of t) ps) (cond (is_of t q) (Some q) None) (subst (λ (o : Option Purchase). IsKnown (phase_in o)) (found_first ps t) known))
-
-fresh_known : (ps : List Purchase) (q : Purchase) (t : ℕ) → is_of t q ≡ true → IsKnown (phase_in (purchase_at (ps ++ q ∷ []) (place_of (ps ++ q ∷ []) t)))
-fresh_known ps q t is =
-    subst (λ (o : Option Purchase). IsKnown (phase_in o))
-    (sym (pushed_is ps q t ∙ ap (λ (test : Bool). option_or (find (is_of t) ps) (cond test (Some q) None)) is))
-    (last_known (find (is_of t) ps) q)
 
 changed_known : (b : Buyer) (n t : ℕ) (f : Purchase → Purchase) → ((p : Purchase) → number_of (f p) ≡ number_of p) → IsKnown (phase_in (purchase_of b t))
     → IsKnown (phase_in (purchase_at (changed b.purchases n f) (place_of (changed b.purchases n f) t)))
@@ -139,15 +131,34 @@ row_known b t (Ok (deed.Hears n place whom sent)) known = changed_known b n t (r
 row_known b t (Ok (deed.Keeps x whom sent)) known = item_known b x t known
 row_known b t (Ok (deed.Ends n r how)) known = item_known b (item.Ended n r) t known
 
--- and a purchase that is started
-pub started_known : (b : Buyer) (s : Start) → phase_for s b ≡ None → IsKnown (phase_for s (after b (started b s)))
+-- ---- a purchase that is going on
+
+-- a purchase that is started is going on
+pub started_open : (b : Buyer) (s : Start) → phase_for s b ≡ None → IsOpen (phase_for s (after b (started b s)))
 unfolding started
-started_known b s none = by (is_none (place_of b.purchases s.transaction)) refl
+started_open b s none = by (is_none (place_of b.purchases s.transaction)) refl
   where
     by : (test : Bool) → is_none (place_of b.purchases s.transaction) ≡ test
-        → IsKnown (phase_for s (after b (unless test reason.State >>= λ u. Ok (deed.Keeps (item.Started s) to.Server (ticket_request b.wallet s)))))
-    by true is = fresh_known b.purchases (fresh s) s.transaction (eq-eqb s.transaction s.transaction refl)
+        → IsOpen (phase_for s (after b (unless test reason.State >>= λ u. Ok (deed.Keeps (item.Started s) to.Server (ticket_request b.wallet s)))))
+    by true is = subst (λ (o : Option Purchase). IsOpen (phase_in o)) (sym (found_started b.purchases (fresh s) (unknown (place_of b.purchases s.transaction) is))) tt
     by false is = absurd (moved (sym (ap (λ (test : Bool). step_of (unless test reason.State >>= λ u. Ok (deed.Keeps (item.Started s) to.Server (ticket_request b.wallet s)))) is) ∙ start_moves b s none))
       where
         moved : (let stays : Step = step.Ignored reason.State in stays ≡ step.Move (Some (item_bytes (item.Started s))) to.Server (ticket_request b.wallet s)) → ⊥
         moved e = cc
+
+-- and one whose last message is sent again stays as it is
+pub silent_same : (b : Buyer) (t : ℕ) → IsOpen (phase_in (purchase_of b t)) → after b (silent b t) ≡ b
+silent_same b t going = by (purchase_of b t) refl going
+  where
+    by_stage : (p : Purchase) (st : Stage) → after b (unheard b.wallet p st) ≡ b
+    by_stage p stage.Ticketing = refl
+    by_stage p (stage.Asked pass) = refl
+    by_stage p (stage.Wanted pass price head) = refl
+    by_stage p (stage.Ordered pass order least) = refl
+    by_stage p (stage.Paid key) = refl
+    by_stage p (stage.Refused code) = refl
+    by_stage p stage.Foul = refl
+
+    by : (o : Option Purchase) → purchase_of b t ≡ o → IsOpen (phase_in o) → after b (silent b t) ≡ b
+    by None is going = absurd going
+    by (Some p) is going = ap (after b) (silent_is b t p is) ∙ by_stage p p.stage

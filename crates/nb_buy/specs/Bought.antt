@@ -205,14 +205,14 @@ pub record Bought {D : Type 0} (tells : DiskTells D) (s : Start) (old new : Arou
 
 -- ---- the output
 
--- the purchase is over, and was not paid
+-- the purchase is over and has no goods: it was refused, or its key opens nothing
 abbrev pub IsUnpaid : Option Phase → Type 0
 IsUnpaid (Some (phase.Refused code)) = Unit {0}
 IsUnpaid (Some phase.Foul) = Unit {0}
 IsUnpaid other = ⊥
 
 -- What was written, by the counts of failed writes, what had been written, and how the purchase ended: the goods of a purchase that was paid, all of
--- them, or a part from their front and then a write failed. One that is over and was not paid has none
+-- them, or a part from their front and then a write failed. One that ended so without goods has none
 abbrev pub WritesGoods : Start → Buyer → ℕ → ℕ → Option (List ℕ) → Option (List ℕ) → BuyEnd → Type 0
 WritesGoods s b before after old new ends.Paid = (goods : List ℕ) × (goods_in (purchase_of b s.transaction) ≡ Some goods) × Appends old new goods
 WritesGoods s b before after old new ends.SinkFault =

@@ -68,12 +68,12 @@ IsEndOfOver ends.SinkFault = Unit {0}
 IsEndOfOver (ends.Lost lost.NoMemory) = Unit {0}
 IsEndOfOver other = ⊥
 
--- what is done of a purchase that is over: no act, and so nothing is kept, read and sent
+-- what is done of a purchase that is over: no act, and so nothing is kept, no frame is heard and nothing is sent
 abbrev pub OverDoesNothing : {D : Type 0} → DiskTells D → Type 0
 OverDoesNothing {D} tells = (s : Start) (old new : Around D) (end : BuyEnd) (b : Bought tells s old new end) → HasEnded (phase_for s old.buyer)
     → IsEndOfOver end × (acts_of tells s old new end b ≡ []) × (new.buyer ≡ old.buyer)
 
--- a purchase that was paid, made again with a wallet that started again, whatever its other words are: it ends as one that is over, and its goods are the same
+-- a purchase that ended as paid, made again with a wallet that started again, whatever its other words are: it ends as one that is over, and its goods are the same
 abbrev pub PaidAgain : {D : Type 0} → DiskTells D → Type 0
 PaidAgain {D} tells = (s again : Start) (old new old' new' : Around D) (end : BuyEnd) → Bought tells s old new ends.Paid → again.transaction ≡ s.transaction → old'.buyer ≡ untold new.buyer
     → Bought tells again old' new' end

@@ -165,15 +165,15 @@ abbrev pub way_behind : Start → Buyer → Way → List Act → Way
 way_behind s b w [] = w
 way_behind s b w (a ∷ acts) = way_behind s (after b (act_row s b a)) (onward w a (step_at s b a)) acts
 
--- At the outset nothing is waited for, and a purchase that is going on sends its last message again. Later the purchase was ordered, and the house was
+-- At the outset nothing is waited for, and a purchase that is going on sends its last message again, or asks for its order. Later the purchase was ordered, and the house was
 -- not asked yet for want of the seller's answer
 abbrev pub MayWait : Option Phase → Option Peer → Bool → Type 0
 MayWait told None asked = IsOpen told
 MayWait told (Some House) asked = ⊥
 MayWait told (Some Seller) asked = IsOrdered told × (asked ≡ false)
 
--- A purchase that is not known is started, and a frame is read from the peer whose answer is waited for, while the purchase is going on and no refusal came of
--- that peer
+-- A purchase that is not known is started, and a frame is read from the peer whose answer is waited for, while the purchase is going on and the last act heard no
+-- refusal
 abbrev pub MayAct : Option Phase → Way → Act → Type 0
 MayAct told w Starts = (w.awaits ≡ None) × (told ≡ None)
 MayAct told w (Hears from f) = (w.awaits ≡ Some from) × IsOpen told × (w.refused ≡ false)

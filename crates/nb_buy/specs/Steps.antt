@@ -170,17 +170,23 @@ frames_heard (Some f) = 1
 frames_heard None = 0
 
 -- the goods that a step opened, if it did
-abbrev pub goods_told : Step → Option (List ℕ)
-goods_told (step.Ended keep end) = goods_at end
-goods_told other = None
+abbrev pub opened_by : Step → Option (List ℕ)
+opened_by (step.Ended keep end) = goods_at end
+opened_by other = None
 
--- goods that were opened are those of the purchase, where it is over
+-- and the step at a frame of a peer, if one was heard
+abbrev pub opened_at : Start → Buyer → Peer → Option Frame → Option (List ℕ)
+opened_at s b from (Some f) = opened_by (step_at s b (Hears from f))
+opened_at s b from None = None
+
+-- goods that were opened, if any were, are those of the purchase, where it is over
 abbrev pub AreOpened : Start → Buyer → Option (List ℕ) → Type 0
 AreOpened s b opened = (goods : List ℕ) → opened ≡ Some goods → HasEnded (phase_for s b) → goods_in (purchase_of b s.transaction) ≡ Some goods
 
--- so it went, and so many frames were read before it and behind it; or the frame was read, and what was to be kept of it was not
+-- so it went, so many frames were read before it and behind it, and these goods were opened; or the frame was read, and what was to be kept of it was not
 abbrev pub Listens : {D : Type 0} → DiskTells D → Start → Point D → Point D → Peer → ℕ → ℕ → Result Listened Lost → Type 0
-Listens tells s p q from read read' (Ok h) = (heard : Option Frame) × HeardAs tells s p q from h.next heard × (read' ≡ read + frames_heard heard)
+Listens tells s p q from read read' (Ok x) =
+    (heard : Option Frame) × HeardAs tells s p q from x.next heard × (read' ≡ read + frames_heard heard) × (x.opened ≡ opened_at s p.buyer from heard)
 Listens tells s p q from read read' (Err why) = (f : Frame) × Loses tells s p q (Hears from f ∷ []) why
 
 -- ---- a trade
@@ -244,11 +250,11 @@ pub record Ran {D : Type 0} (tells : DiskTells D) (s : Start) (p q : Point D) (a
 
 -- a purchase was begun, or its last message was sent again, or it is over and nothing was done
 abbrev pub Opens : {D : Type 0} → DiskTells D → Start → Point D → Point D → Result (Option Next) Lost → Type 0
-Opens tells s p q (Ok (Some next)) = Ran tells s p q false next 0
+Opens tells s p q (Ok (Some next)) = Ran tells s p q false next 0 × IsOpen (phase_for s q.buyer)
 Opens tells s p q (Ok None) = Finished tells s p q
 Opens tells s p q (Err why) = TradeLost tells s p q why
 
--- by the end of a trade: the purchase is over, with the goods that were opened as it ended, or it is not and why no more is done, or an act was lost
+-- by the end of a trade: the purchase is over, and goods that are handed back are its own, or it is not and why no more is done, or an act was lost
 abbrev pub Trades : {D : Type 0} → DiskTells D → Start → Point D → Point D → Result TradeEnd Lost → Type 0
 Trades tells s p q (Ok (trades.Finished opened)) = Finished tells s p q × AreOpened s q.buyer opened
 Trades tells s p q (Ok (trades.Stopped peer why)) = Stopped tells s p q peer why
@@ -257,7 +263,7 @@ Trades tells s p q (Err why) = TradeLost tells s p q why
 
 -- ---- the output
 
--- the goods of a paid purchase were written, all of them or a part; one that was not paid has none; or there was no memory for them
+-- the goods of a paid purchase were written, all of them or a part; one without goods has none; or there was no memory for them
 abbrev pub Finishes : Start → Buyer → ℕ → ℕ → Option (List ℕ) → Option (List ℕ) → BuyEnd → Type 0
 Finishes s b before after old new ends.Paid = WritesGoods s b before after old new ends.Paid
 Finishes s b before after old new ends.SinkFault = WritesGoods s b before after old new ends.SinkFault

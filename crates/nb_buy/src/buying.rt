@@ -22,7 +22,8 @@ use std::alloc::Global;
 
 /// Makes the purchase that `start` tells, over the links of the house and of the seller, and writes its goods where it was paid. A purchase whose number the wallet
 /// knows goes on from where it is, and of `start` only the number is used. The request and the memo have at most 64 bytes each. The journal is that of the
-/// consumer, has no item in doubt, and was opened with room for the longest item.
+/// consumer, has no item in doubt, and was opened with room for the longest item. Behind [`BuyEnd::Lost`] the two are not used again: the consumer may know a step that its journal has
+/// not.
 pub fn buy<D: Disk, L: Link, K: Sink>(
     alloc: Global,
     journal: &mut Journal<D>,

@@ -21,11 +21,11 @@ pub enum BuyEnd {
     },
     /// It is not over, and [`MOST_FRAMES`] frames were read. Nothing was written.
     Spent,
-    /// A step could not be taken. Nothing of it was sent, and nothing was written.
+    /// A step could not be taken, or there was no memory to begin or for the goods. Nothing of that step was sent, and nothing was written.
     Lost(Lost),
 }
 
-/// Why a step was not taken.
+/// Why nothing more was done.
 #[derive(Clone, Copy)]
 pub enum Lost {
     /// There was no memory.

@@ -10,7 +10,8 @@ ghost use Rattle.nb_wallet.specs.Spelling.{StartKeepsRules};
 ghost use Rattle.nb_buy.specs.declared.peer.Peer.TheVariants.{House};
 ghost use Rattle.nb_buy.specs.Run.{Starts, Waits, frame_row, phase_for};
 ghost use Rattle.nb_buy.specs.Bought.{point};
-ghost use Rattle.nb_buy.specs.Steps.{AreOpened, CanRead, IsNear, Carries, Listens, SameReaders, goods_told, lines_of, next_heard};
+ghost use Rattle.nb_buy.specs.Steps.{AreOpened, CanRead, IsNear, Carries, Listens, SameReaders, lines_of, next_heard};
+ghost use Rattle.nb_buy.specs.Steps as steps;
 
 use crate::acting::act;
 use crate::ended::Lost;
@@ -27,12 +28,12 @@ use nb_wallet::Start;
 use nb_wire::Fetched;
 use std::alloc::Global;
 
-// What a frame brings, or its want.
+// What listening to a peer gives.
 #[derive(Drop)]
 pub struct Listened {
     // What is done next.
     pub next: Next,
-    // The goods of a purchase that ended with it, opened.
+    // The goods that the frame opened, where a purchase ended with it as paid.
     pub opened: Option<Blob>,
 }
 
@@ -154,7 +155,7 @@ fn hear(alloc: Global, consumer: &mut Consumer, kind: u8, body: &[u8]) -> Result
 
 // The goods that a step opened.
 fn opened_by(step: Step) -> Option<Blob>
-    ensures { result ≡ goods_told step }
+    ensures { result ≡ steps.opened_by step }
 {
     match step {
         Step::Ended { end, .. } => match end {

@@ -16,12 +16,12 @@ pub fn goes_on_next_time<D: Disk>()
     ensures { law.GoesOnNextTime D.tells }
 {}
 
-/// A law: of a purchase that is over nothing is done, and nothing is read and sent; its goods are written where it was paid.
+/// A law: of a purchase that is over nothing is done: no frame is heard and nothing is sent; and it ends as one that is over.
 pub fn over_does_nothing<D: Disk>()
     ensures { law.OverDoesNothing D.tells }
 {}
 
-/// A law: a purchase that was paid has the same goods, byte for byte, each time it is made again with a wallet that started again, whatever its other
+/// A law: a purchase that ended as paid has the same goods, byte for byte, each time it is made again with a wallet that started again, whatever its other
 /// words are.
 pub fn paid_again<D: Disk>()
     ensures { law.PaidAgain D.tells }
@@ -34,7 +34,7 @@ pub fn receipt_ends<D: Disk>()
 {}
 
 /// A law: a purchase whose links give the frames that bring it to its end comes to it, where no call fails and the wallet has room for its items: its goods
-/// are written where it was paid, it ends unpaid where it was not; or there was no memory.
+/// are written where it was paid, it ends unpaid where it has none; or there was no memory.
 pub fn comes_to_its_end<D: Disk>()
     ensures { law.ComesToItsEnd D.tells }
 {}

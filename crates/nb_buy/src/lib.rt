@@ -1,24 +1,26 @@
 //! One purchase of a consumer over two links, the house's and the seller's, with the journal in which its wallet stands.
 //!
-//! [`buy`] starts a purchase, or has one that is known send its last message again. From then on it hears the next frame of the peer whose answer is waited
-//! for, carries the consumer's step out, and goes on, until the purchase is over, or nothing more comes of that peer. A step's message is spelled, then its item is
-//! appended to the journal, and then the message is sent, to the peer that it is for. A frame that is ignored is passed over. Where nothing more comes of the
-//! seller of a purchase that was ordered, its link having ended or failed or given a refusal, the house is asked once what became of the order. The goods of a
-//! purchase that was paid are written at its end, as its last frame opened them, and each time it is made again, opened anew.
+//! [`buy`] starts a purchase, or has one that is going on send its last message again, or ask the house what became of its order; of one that is over nothing is
+//! sent. From then on it hears the next frame of the peer whose answer is waited for, carries the consumer's step out, and goes on, until the purchase is over,
+//! nothing more comes of that peer, [`MOST_FRAMES`] were read, or a step cannot be taken. A step's message is spelled, then its item is
+//! appended to the journal, and then the message is sent, over the house's link or over the seller's. A frame that is ignored is passed over. Where nothing more comes
+//! of the seller of a purchase that was ordered, its link having ended, failed, or given what is no frame or a refusal, the house is asked once what became of the
+//! order. The goods of a purchase that was paid are written at its end, and each time it is made again.
 //!
 //! What is done is seen as a list of acts (`specs/Run.antt`): a start, a frame that is heard, a word that nothing is waited for any more. What each keeps and sends
 //! is the row of the consumer's table, and which may come next is a rule over the acts alone, so that the order in which frames were read is the list itself. What
 //! is promised (`specs/Bought.antt`): the journal grew by what the acts of such a list keep; the frames that they hear are the first that came over each link, and
-//! what they send was sent to each, up to a write that failed; no peer is heard behind its refusal or behind a write to it that failed; and each end says exactly
-//! why nothing more was done. Where a step could not be taken nothing of it was sent. [`laws`] say what a stop leaves, also where an append failed, that a wallet goes on from there next time, that a purchase that was paid has the same
-//! goods each time, that one of which a receipt was heard is over as that says, and that one whose links give the frames that bring it to its end comes to it.
+//! what they send was sent to each, up to a write that failed; nothing is heard right behind a refusal, and no peer behind a write to it that failed; and each end
+//! says exactly why nothing more was done. Where a step could not be taken nothing of it was sent. [`laws`] say what a stop leaves, also where an append failed, that a
+//! wallet goes on from there next time, that a purchase that ended as paid has the same goods each time, that one of which a receipt was heard is over as that says, and that one whose links give the frames that bring it to its end comes to it.
 //!
 //! That a message is sent behind its item is said so: where an append fails nothing of that act was sent. Links and disks tell no time that they share.
 //!
 //! Left to others: the opening of the wallet, links and how long they wait, what is told outside of an end. A step of another purchase of the same wallet is carried
 //! out as any.
 //!
-//! Not said: that there is no want of memory where there is memory. The stored run of `deals` shows it.
+//! Not said: that there is no want of memory where there is memory, which the stored run of `deals` shows; and that goods which the last frame opened are not opened
+//! anew to be written.
 #![tactic(auto)]
 
 mod acting;

@@ -6,7 +6,7 @@ ghost use Rattle.nb_buy.specs.Bought.{point};
 ghost use Rattle.nb_buy.specs.Steps.{AreBegun, Opens, SameReaders, Trades, lines_of};
 
 use crate::ended::{Lost, MOST_FRAMES};
-use crate::hearing::{begin, go_on, listen};
+use crate::hearing::{Listened, begin, go_on, listen};
 use crate::peer::{Next, Over, Peer};
 use crate::sides::Sides;
 use crate::standing::{Standing, is_over, may_ask, standing_of};
@@ -22,7 +22,7 @@ use std::alloc::Global;
 // How a trade ended.
 #[derive(Drop)]
 pub enum TradeEnd {
-    // The purchase is over, with its goods where they were opened as it ended.
+    // The purchase is over. Goods are handed back where its last frame opened them.
     Finished(Option<Blob>),
     // It is not, and nothing more comes of the peer whose answer was waited for.
     Stopped(Peer, Over),
@@ -52,20 +52,15 @@ pub fn trade<D: Disk, L: Link>(
         Err(why) => return Err(why),
     };
     let mut asked = false;
-    let mut opened = None;
     let mut piece = [0u8; MAX_PIECE];
     'trading: loop {
-        let stands = standing_of(consumer, start);
-        if is_over(stands) {
-            return Ok(TradeEnd::Finished(opened));
-        }
         let peer = match next {
             Next::Over(peer, why) => {
+                let stands = standing_of(consumer, start);
                 if !may_ask(asked, peer, stands) {
                     return Ok(TradeEnd::Stopped(peer, why));
                 }
                 asked = true;
-                opened = None;
                 match go_on(alloc, journal, consumer, start, server, seller, sides, peer) {
                     Ok(behind) => next = behind,
                     Err(why) => return Err(why),
@@ -81,15 +76,20 @@ pub fn trade<D: Disk, L: Link>(
             alloc, journal, consumer, start, server, seller, sides, &mut piece, peer,
         ) {
             Ok(listened) => {
-                next = listened.next;
-                opened = listened.opened;
+                let Listened { next: then, opened } = listened;
+                let behind = standing_of(consumer, start);
+                if is_over(behind) {
+                    return Ok(TradeEnd::Finished(opened));
+                }
+                drop(opened);
+                next = then;
             }
             Err(why) => return Err(why),
         }
     }
 }
 
-// Begins a purchase that is not known, and has one that is going on send its last message again. Where it is over nothing is done.
+// Begins a purchase that is not known, and has one that is going on send its last message again, or ask for its order. Where it is over nothing is done.
 fn open<D: Disk, L: Link>(
     alloc: Global,
     journal: &mut Journal<D>,

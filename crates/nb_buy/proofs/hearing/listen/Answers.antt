@@ -4,7 +4,7 @@ use Rattle.nb_consumer.specs.Deeds.{Answers}
 use Rattle.nb_buy.specs.Bought.{point}
 use Rattle.nb_buy.specs.Lines.{Lines}
 use Rattle.nb_buy.specs.Run.{Hears, frame_row}
-use Rattle.nb_buy.specs.Steps.{AreOpened, lines_of, next_heard}
+use Rattle.nb_buy.specs.Steps.{AreOpened, lines_of, next_heard, opened_by}
 use Rattle.nb_buy.proofs.Carrying.{step_short, carried, starved, went_still}
 use Rattle.nb_buy.proofs.OverLines.{at_front, frame_with, frame_is, fetched_house, fetched_seller, none_house, none_seller}
 use Rattle.nb_buy.proofs.Opened.{none_opened, goods_opened}
@@ -25,6 +25,7 @@ returns-in-End-clause-listens g c =
         (c.in-End.end, refl, fetched.fetches.1),
       ),
       c.in-End.ensures.read ∙ none_more c.args.sides.now.read,
+      refl,
     )
 
 pub act-done-requires-clause-short : goal.act-done-requires-clause-short
@@ -41,8 +42,12 @@ returns-in-Ok-done-clause-listens g c =
     let answers = subst (λ (x : Frame). Answers c.args.consumer.now c.hear.new.consumer (frame_row c.args.consumer.now x) (Ok c.in-Ok.step))
     (frame_is c.args.from (g.L.Link.seen c.fetch.new.server) (g.L.Link.seen c.fetch.new.seller) c.fetch.new.sides c.in-Frame.f c.body.result.now c.body.ensures) c.in-Ok.ensures.answers in
     let k = carried g.D.Disk.tells c.args._start.now p q mid c.args.from (Hears c.args.from f) c.in-Ok.step (Ok c.in-Ok-done.next) answers
-    (fetched_house c.args.from old mid c.in-Frame.f c.in-Frame.ensures.fetched) (fetched_seller c.args.from old mid c.in-Frame.f c.in-Frame.ensures.fetched) c.in-Ok-done.ensures.acts in
-    (Some f, (k.0, c.heard.ensures ∙ ap (next_heard c.args.from c.in-Frame.f.kind) k.1), c.act-done.ensures.readers.read ∙ c.in-Frame.ensures.read)
+    (fetched_house c.args.from old mid c.in-Frame.f c.in-Frame.ensures.fetched) (fetched_seller c.args.from old mid c.in-Frame.f c.in-Frame.ensures.fetched) c.in-Ok-done.ensures.acts in (
+      Some f,
+      (k.0, c.heard.ensures ∙ ap (next_heard c.args.from c.in-Frame.f.kind) k.1),
+      c.act-done.ensures.readers.read ∙ c.in-Frame.ensures.read,
+      c.opened_by-opened.ensures ∙ ap opened_by answers.told,
+    )
 
 pub returns-in-Err-done-clause-listens : goal.returns-in-Err-done-clause-listens
 returns-in-Err-done-clause-listens g c =

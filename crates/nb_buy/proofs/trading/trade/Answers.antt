@@ -8,17 +8,21 @@ use Rattle.nb_buy.specs.Bought.{point}
 use Rattle.nb_buy.specs.Steps.{Carries, Ran, lines_of}
 use Rattle.nb_buy.proofs.HowFar.{MayAsk, open_is, over_is, asks_is, turn_is}
 use Rattle.nb_buy.proofs.OverLines.{near_same}
-use Rattle.nb_buy.proofs.Opened.{none_opened}
-use Rattle.nb_buy.proofs.Rounds.{ran_asks, lost_asks, ran_listened, lost_listened, finished, stopped, spent}
+use Rattle.nb_buy.proofs.Rounds.{open_waited, ran_asks, lost_asks, ran_listened, lost_listened, finished, stopped, spent}
 use Rattle.nb_buy.proofs.trading.trade.Goals as goal
 
 pub returns-then-is_over : goal.returns-then-is_over
 returns-then-is_over g c =
+    let tells = g.D.Disk.tells in
+    let s = c.args.start.now in
     let p = point c.args.journal.now c.args.consumer.now (lines_of (g.L.Link.seen c.args.server.now) (g.L.Link.seen c.args.seller.now) c.args.sides.now) in
-    let q = point c.trading.journal c.trading.consumer (lines_of (g.L.Link.seen c.trading.server) (g.L.Link.seen c.trading.seller) c.trading.sides) in (
-      finished g.D.Disk.tells c.args.start.now p q c.trading.asked c.trading.next c.trading.sides.read c.trading.invariant.near.few c.trading.invariant.ran
-          (over_is (phase_for c.args.start.now c.trading.consumer) c.standing_of-stands.result c.standing_of-stands.ensures (sym c.is_over.ensures ∙ c.if-is_over.true)),
-      c.trading.invariant.opened,
+    let q = point c.trading.journal c.trading.consumer (lines_of (g.L.Link.seen c.trading.server) (g.L.Link.seen c.trading.seller) c.trading.sides) in
+    let r = point c.listen.new.journal c.listen.new.consumer (lines_of (g.L.Link.seen c.listen.new.server) (g.L.Link.seen c.listen.new.seller) c.listen.new.sides) in
+    let ran = ran_listened tells s p q r c.trading.asked c.in-Awaits.peer c.in-Ok-listen.listened c.trading.sides.read c.listen.new.sides.read
+    (subst (λ (n : Next). Ran tells s p q c.trading.asked n c.trading.sides.read) c.in-Awaits.is c.trading.invariant.ran) c.trading.invariant.going c.in-Ok-listen.ensures.listens in (
+      finished tells s p r c.trading.asked c.in-Ok-listen.listened.next c.listen.new.sides.read c.listen.ensures.near.few ran
+          (over_is (phase_for s c.listen.new.consumer) c.standing_of-behind.result c.standing_of-behind.ensures (sym c.is_over.ensures ∙ c.if-is_over.true)),
+      c.in-Ok-listen.ensures.opened c.trading.invariant.going,
     )
 
 pub returns-then-not-may_ask : goal.returns-then-not-may_ask
@@ -31,7 +35,7 @@ returns-then-not-may_ask g c =
     let stands = c.standing_of-stands.result in
     stopped tells s p q c.trading.asked c.in-Over.peer c.in-Over.why c.trading.sides.read c.trading.invariant.near.few
     (subst (λ (n : Next). Ran tells s p q c.trading.asked n c.trading.sides.read) c.in-Over.is c.trading.invariant.ran)
-    (open_is told stands c.standing_of-stands.ensures (sym c.is_over.ensures ∙ c.if-is_over.false) c.trading.invariant.ran.known)
+    c.trading.invariant.going
     (turn_is told c.trading.asked c.in-Over.peer stands c.standing_of-stands.ensures (sym c.may_ask.ensures ∙ c.if-not-may_ask.true))
 
 pub returns-in-Err-go_on : goal.returns-in-Err-go_on
@@ -64,7 +68,7 @@ trading-preserved-in-Over g c =
           (subst (λ (x : Bool × Next). Ran tells s p q x.0 x.1 c.trading.sides.read) (λ i. (may.fresh i, is i)) c.trading.invariant.ran) may.ordered
           (subst (λ (peer : Peer). Carries tells s q r peer Waits (Ok c.in-Ok.behind)) may.seller c.in-Ok.ensures.carries));
       near = near_same c.trading.sides c.go_on.new.sides c.go_on.ensures.readers c.trading.invariant.near;
-      opened = none_opened s c.go_on.new.consumer;
+      going = open_waited tells s q r c.in-Over.peer c.in-Ok.behind c.trading.invariant.going c.in-Ok.ensures.carries;
     }
 
 pub returns-then-sides-ge-MOST_FRAMES : goal.returns-then-sides-ge-MOST_FRAMES
@@ -75,7 +79,7 @@ returns-then-sides-ge-MOST_FRAMES g c =
     let q = point c.trading.journal c.trading.consumer (lines_of (g.L.Link.seen c.trading.server) (g.L.Link.seen c.trading.seller) c.trading.sides) in
     spent tells s p q c.trading.asked c.in-Awaits.peer c.trading.sides.read
     (subst (λ (n : Next). Ran tells s p q c.trading.asked n c.trading.sides.read) c.in-Awaits.is c.trading.invariant.ran)
-    (open_is (phase_for s c.trading.consumer) c.standing_of-stands.result c.standing_of-stands.ensures (sym c.is_over.ensures ∙ c.if-is_over.false) c.trading.invariant.ran.known)
+    c.trading.invariant.going
     (omega (arith, c.if-sides-ge-MOST_FRAMES.true, c.trading.invariant.near.few))
 
 pub trading-preserved : goal.trading-preserved
@@ -85,14 +89,12 @@ trading-preserved g c =
     let p = point c.args.journal.now c.args.consumer.now (lines_of (g.L.Link.seen c.args.server.now) (g.L.Link.seen c.args.seller.now) c.args.sides.now) in
     let q = point c.trading.journal c.trading.consumer (lines_of (g.L.Link.seen c.trading.server) (g.L.Link.seen c.trading.seller) c.trading.sides) in
     let r = point c.listen.new.journal c.listen.new.consumer (lines_of (g.L.Link.seen c.listen.new.server) (g.L.Link.seen c.listen.new.seller) c.listen.new.sides) in
+    let ran = ran_listened tells s p q r c.trading.asked c.in-Awaits.peer c.in-Ok-listen.listened c.trading.sides.read c.listen.new.sides.read
+    (subst (λ (n : Next). Ran tells s p q c.trading.asked n c.trading.sides.read) c.in-Awaits.is c.trading.invariant.ran) c.trading.invariant.going c.in-Ok-listen.ensures.listens in
     record {
-      ran = ran_listened tells s p q r c.trading.asked c.in-Awaits.peer c.in-Ok-listen.listened c.trading.sides.read c.listen.new.sides.read
-          (subst (λ (n : Next). Ran tells s p q c.trading.asked n c.trading.sides.read) c.in-Awaits.is c.trading.invariant.ran)
-          (open_is (phase_for s c.trading.consumer) c.standing_of-stands.result c.standing_of-stands.ensures (sym c.is_over.ensures ∙ c.if-is_over.false) c.trading.invariant.ran.known)
-          c.in-Ok-listen.ensures.listens;
+      ran = ran;
       near = c.listen.ensures.near;
-      opened = c.in-Ok-listen.ensures.opened
-          (open_is (phase_for s c.trading.consumer) c.standing_of-stands.result c.standing_of-stands.ensures (sym c.is_over.ensures ∙ c.if-is_over.false) c.trading.invariant.ran.known);
+      going = open_is (phase_for s c.listen.new.consumer) c.standing_of-behind.result c.standing_of-behind.ensures (sym c.is_over.ensures ∙ c.if-is_over.false) ran.known;
     }
 
 pub returns-in-Err-listen : goal.returns-in-Err-listen
@@ -104,5 +106,5 @@ returns-in-Err-listen g c =
     let r = point c.listen.new.journal c.listen.new.consumer (lines_of (g.L.Link.seen c.listen.new.server) (g.L.Link.seen c.listen.new.seller) c.listen.new.sides) in
     lost_listened tells s p q r c.trading.asked c.in-Awaits.peer c.in-Err-listen.why c.trading.sides.read c.listen.new.sides.read (omega (arith, c.if-sides-ge-MOST_FRAMES.false))
     (subst (λ (n : Next). Ran tells s p q c.trading.asked n c.trading.sides.read) c.in-Awaits.is c.trading.invariant.ran)
-    (open_is (phase_for s c.trading.consumer) c.standing_of-stands.result c.standing_of-stands.ensures (sym c.is_over.ensures ∙ c.if-is_over.false) c.trading.invariant.ran.known)
+    c.trading.invariant.going
     c.in-Err-listen.ensures.listens

@@ -1,6 +1,8 @@
 use Rattle.std.proofs.Common.{◌+◌, ◌-◌, ◌*◌}
+use Rattle.nb_consumer.specs.Goods.{IsOpen}
 use Rattle.nb_buy.specs.Bought.{point}
-use Rattle.nb_buy.specs.Steps.{AreOpened, IsNear, Ran, lines_of}
+use Rattle.nb_buy.specs.Run.{phase_for}
+use Rattle.nb_buy.specs.Steps.{IsNear, Ran, lines_of}
 use Rattle.nb_buy.proofs.Rounds.{asked_rank, next_rank}
 use Rattle.nb_buy.proofs.trading.trade.Given as goal
 
@@ -10,7 +12,7 @@ invariant-trading g l = record {
   ran : Ran g.D.Disk.tells l.fn.start (point l.fn.journal l.fn.consumer (lines_of (g.L.Link.seen l.fn.server) (g.L.Link.seen l.fn.seller) l.fn.sides))
       (point l.journal l.consumer (lines_of (g.L.Link.seen l.server) (g.L.Link.seen l.seller) l.sides)) l.asked l.next l.sides.read;
   near : IsNear l.sides;
-  opened : AreOpened l.fn.start l.consumer l.opened;
+  going : IsOpen (phase_for l.fn.start l.consumer);
 }
 
 -- a frame is read, the house is asked, or nothing more comes of who was waited for
