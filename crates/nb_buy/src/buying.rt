@@ -1,10 +1,11 @@
-ghost use Rattle.std.specs.Prelude.{◌≡◌, ◌≤◌};
+ghost use Rattle.std.specs.Prelude.{◌≡◌, ◌≤◌, IsTrue, is_some};
 ghost use Rattle.nb_journal.specs.Growing.{IsAtRest};
 ghost use Rattle.nb_journal.specs.declared.limits.TheConstants.{MAX_ITEM};
 ghost use Rattle.nb_wallet.specs.Spelling.{StartKeepsRules};
 ghost use Rattle.nb_consumer.specs.Goods.{HasEnded};
 ghost use Rattle.nb_buy.specs.Run.{phase_for};
 ghost use Rattle.nb_buy.specs.Bought.{Bought, IsUnwritten, WritesGoods, around};
+ghost use Rattle.nb_buy.specs.Laws.{IsCarriedOut};
 ghost use Rattle.nb_buy.specs.Steps.{AreOpened, Finishes};
 
 use crate::ended::{BuyEnd, Lost};
@@ -66,6 +67,8 @@ fn finish<K: Sink>(consumer: &Consumer, start: &Start, opened: Option<Blob>, sin
     requires ended { HasEnded (phase_for start.now consumer.now) }
     requires opened { AreOpened start.now consumer.now opened }
     ensures finishes { Finishes start.now consumer.now (K.faults sink.old) (K.faults sink.new) (K.sent sink.old) (K.sent sink.new) result }
+    // No memory is wanted for goods that are opened.
+    ensures carried { IsTrue (is_some opened) → IsCarriedOut result }
     ensures unwritten { IsUnwritten result → sink.new ≡ sink.old }
     ensures count { K.faults sink.old ≤ K.faults sink.new }
 {
