@@ -9,7 +9,7 @@ ghost use Rattle.nb_run.specs.Run as runs;
 
 use crate::playing::play_input;
 use nb_answers::{Batched, answer_batch, drill};
-use nb_batch::Answerer;
+use nb_batch::Answerer::{House, Standby};
 use nb_commands::{
     BAD_WORDS, Ending, Job, OUT_OF_MEMORY, Outcome, ask_with, grant, make_journal, move_journal,
     promote, rule_on, ship_records, take_offers, take_stock, write_statement,
@@ -127,20 +127,11 @@ fn do_command<S: Source, K: Sink, D: Disk, C: Clock>(
         Command::Statement { acct } => over(write_statement(alloc, acct, sink, disk)),
         Command::Ship { from } => over(ship_records(alloc, from, sink, disk)),
         Command::Promote => over(promote(alloc, sink, disk)),
-        Command::Batch => {
-            let by = Answerer::House;
-            batch_over(answer_batch(alloc, by, source, sink, disk, clock))
-        }
-        Command::Follow => {
-            let by = Answerer::Standby;
-            batch_over(answer_batch(alloc, by, source, sink, disk, clock))
-        }
+        Command::Batch => batch_over(answer_batch(alloc, House, source, sink, disk, clock)),
+        Command::Follow => batch_over(answer_batch(alloc, Standby, source, sink, disk, clock)),
         Command::Drill { seed, orders } => over(drill(alloc, seed, orders, sink, disk)),
-        Command::Judge => (Outcome::Done(rule_on(alloc, source, sink).ending()), disk),
-        Command::Play => (
-            Outcome::Done(play_input(alloc, source, sink).ending()),
-            disk,
-        ),
+        Command::Judge => over((rule_on(alloc, source, sink).ending(), disk)),
+        Command::Play => over((play_input(alloc, source, sink).ending(), disk)),
         Command::Credential {
             consumer,
             until,
@@ -157,10 +148,7 @@ fn do_command<S: Source, K: Sink, D: Disk, C: Clock>(
             product,
             limit,
             transaction,
-        } => {
-            let outcome = buy_alone(merchant, product, limit, transaction);
-            (outcome, disk)
-        }
+        } => (buy_alone(merchant, product, limit, transaction), disk),
         Command::BuyWith {
             merchant,
             product,

@@ -33,7 +33,7 @@ pub returns-in-Play-clause-does : goal.returns-in-Play-clause-does
 returns-in-Play-clause-does g c =
     let p = c.play_input in
     let ending = c.ending-in-Play in
-    subst (Does g.D.Disk.tells _ _ _) (sym c.in-Play.is)
+    rw (c.over-in-Play.ensures) (subst (Does g.D.Disk.tells _ _ _) (sym c.in-Play.is)
     (record {
       came = (p.result, ending.ensures, p.ensures.played);
       disk = refl {a = c.args.disk};
@@ -43,7 +43,7 @@ returns-in-Play-clause-does g c =
           subst (λ (e : Ending). (e.status ≡ CLEAN) ⊎ (e.status ≡ OUT_OF_MEMORY)) (sym ending.ensures)
           (plays_clean (g.S.Source.left c.args.source.now) (g.S.Source.left p.new.source) (g.S.Source.faults c.args.source.now) (g.S.Source.faults p.new.source) (g.K.Sink.sent c.args.sink.now)
           (g.K.Sink.sent p.new.sink) (g.K.Sink.faults c.args.sink.now) (g.K.Sink.faults p.new.sink) input p.result p.ensures.played no_source no_sink);
-    })
+    }))
 
 pub returns-in-Sell-clause-does : goal.returns-in-Sell-clause-does
 returns-in-Sell-clause-does g c =
