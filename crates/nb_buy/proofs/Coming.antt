@@ -50,7 +50,7 @@ use Rattle.nb_buy.specs.Bought.{Point, Around, first_point, IsLast, Went, way_of
 use Rattle.nb_buy.specs.Laws.{AreHeard, AreBrought, Gives, link_at, IsBrought, EndsAsOver, ComesToItsEnd}
 use Rattle.nb_buy.proofs.Runs.{kept_both, frames_both, heard_both, way_both}
 use Rattle.nb_buy.proofs.OverLines.{line_both}
-use Rattle.nb_buy.proofs.NextTime.{over_apart}
+use Rattle.nb_buy.proofs.HowFar.{over_apart}
 
 -- ---- which act may come
 

@@ -1,5 +1,6 @@
 -- What a trade and the writing of its goods come to.
-use Rattle.std.proofs.Common.{◌≡◌, ℕ, List, [], ◌∷◌, Option, refl, inl, sym, subst, append-nil, arith}
+use Rattle.std.proofs.Common.{◌≡◌, ℕ, List, [], ◌∷◌, Option, Some, None, refl, inl, inr, sym, subst, ◌∙◌, append-nil, arith}
+use Rattle.std.specs.Prelude.{IsTrue, is_some}
 use Rattle.nb_port.specs.Tells.{DiskTells}
 use Rattle.nb_journal.specs.declared.journal.Journal.{Journal}
 use Rattle.nb_link.specs.Link.{LinkSeen}
@@ -16,16 +17,17 @@ use Rattle.nb_units.specs.Frames.{Frame}
 use Rattle.nb_buy.specs.declared.peer.Peer.{Peer}
 use Rattle.nb_buy.specs.Run.{Act, Hears, Waits, outset, Obeys}
 use Rattle.nb_buy.specs.Lines.{Lines}
-use Rattle.nb_buy.specs.Bought.{Point, point, Traded, AreFew, Finished, TradeLost, Around, around, first_point, EndsAt, Bought, WritesGoods}
+use Rattle.nb_buy.specs.Bought.{Point, point, way_of, Traded, AreFew, Finished, TradeLost, Around, around, first_point, WantedMemory, EndsAt, Bought, WritesGoods}
+use Rattle.nb_buy.specs.Laws.{IsCarriedOut}
 use Rattle.nb_buy.specs.Steps.{AreBegun, Finishes, lines_of}
 use Rattle.nb_buy.proofs.OverLines.{line_none}
 use Rattle.nb_buy.proofs.Failing.{all_first}
-use Rattle.nb_buy.proofs.Rounds.{traded_none, few_none}
+use Rattle.nb_buy.proofs.Rounds.{traded_none, few_none, acts_none}
 
 module _ {D : Type 0} (tells : DiskTells D) (s : Start) where
-  -- there was no memory behind acts that were carried out
-  lost_nothing : (p q : Point D) (t : Traded tells s p q) → AreFew t.acts → TradeLost tells s p q lost.NoMemory
-  lost_nothing p q t few = record {
+  -- there was no memory before the first act, or behind the last
+  lost_nothing : (p q : Point D) (t : Traded tells s p q) → AreFew t.acts → WantedMemory s p q t.acts → TradeLost tells s p q lost.NoMemory
+  lost_nothing p q t few memory = record {
     mid = q;
     traded = t;
     last = [];
@@ -35,6 +37,7 @@ module _ {D : Type 0} (tells : DiskTells D) (s : Start) where
     loses = record { journal = refl; buyer = inl refl; house = line_none q.lines.house; seller = line_none q.lines.seller };
     asks = λ e awaits. absurd (apart e);
     hears = λ from f e. absurd (silent from f e);
+    memory = λ e. memory;
   }
     where
       silent : (from : Peer) (f : Frame) → ◌≡◌ {A = List Act} [] (Hears from f ∷ []) → ⊥
@@ -47,7 +50,7 @@ module _ {D : Type 0} (tells : DiskTells D) (s : Start) where
   bought_nothing a = record {
     last = first_point a;
     last_is = record { journal = refl; buyer = refl; house = refl; seller = refl };
-    ended = lost_nothing (first_point a) (first_point a) (traded_none tells s (first_point a) (all_first a)) (few_none tells s (first_point a) (all_first a));
+    ended = lost_nothing (first_point a) (first_point a) (traded_none tells s (first_point a) (all_first a)) (few_none tells s (first_point a) (all_first a)) (inl (acts_none tells s (first_point a) (all_first a)));
   }
 
   -- the lines at the outset are those of what is held beside the links then
@@ -67,16 +70,22 @@ module _ {D : Type 0} (tells : DiskTells D) (s : Start) where
         (begun_lines house seller sides (around journal b house seller) refl refl begun) ended;
   }
 
+  -- no goods were opened where there was no memory for them
+  unopened : (opened : Option (List ℕ)) → (IsTrue (is_some opened) → IsCarriedOut (ends.Lost lost.NoMemory)) → opened ≡ None
+  unopened None carried = refl
+  unopened (Some goods) carried = absurd (carried refl)
+
   -- a purchase that is over, whose goods were written or not
-  pub finished_at : (p q : Point D) (before after : ℕ) (old new : Option (List ℕ)) (end : BuyEnd) → Finishes s q.buyer before after old new end → Finished tells s p q → EndsAt tells s p q end
-  finished_at p q before after old new ends.Paid is finished = finished
-  finished_at p q before after old new ends.Unpaid is finished = finished
-  finished_at p q before after old new ends.SinkFault is finished = finished
-  finished_at p q before after old new (ends.Stopped peer why) is finished = absurd is
-  finished_at p q before after old new ends.Spent is finished = absurd is
-  finished_at p q before after old new (ends.Lost lost.NoMemory) is finished = lost_nothing p q finished.traded finished.few
-  finished_at p q before after old new (ends.Lost (lost.Full cap)) is finished = absurd is
-  finished_at p q before after old new (ends.Lost (lost.DiskFault x y)) is finished = absurd is
+  pub finished_at : (p q : Point D) (opened : Option (List ℕ)) (before after : ℕ) (old new : Option (List ℕ)) (end : BuyEnd) → Finishes s q.buyer before after old new end
+      → (IsTrue (is_some opened) → IsCarriedOut end) → (f : Finished tells s p q) → opened ≡ (way_of s p.buyer f.traded.acts).opened → EndsAt tells s p q end
+  finished_at p q opened before after old new ends.Paid is carried f same = f
+  finished_at p q opened before after old new ends.Unpaid is carried f same = f
+  finished_at p q opened before after old new ends.SinkFault is carried f same = f
+  finished_at p q opened before after old new (ends.Stopped peer why) is carried f same = absurd is
+  finished_at p q opened before after old new ends.Spent is carried f same = absurd is
+  finished_at p q opened before after old new (ends.Lost lost.NoMemory) is carried f same = lost_nothing p q f.traded f.few (inr (f.over, sym same ∙ unopened opened carried))
+  finished_at p q opened before after old new (ends.Lost (lost.Full cap)) is carried f same = absurd is
+  finished_at p q opened before after old new (ends.Lost (lost.DiskFault x y)) is carried f same = absurd is
 
 -- what was written then
 pub finished_goods : (s : Start) (b : Buyer) (before after : ℕ) (old new : Option (List ℕ)) (end : BuyEnd) → Finishes s b before after old new end → WritesGoods s b before after old new end

@@ -14,6 +14,7 @@ use Rattle.nb_wallet.specs.declared.wallet.Start.{Start}
 use Rattle.nb_consumer.specs.State.{Buyer}
 use Rattle.nb_buy.specs.declared.peer.Peer.{Peer}
 use Rattle.nb_buy.specs.declared.peer.Peer.TheVariants.{House, Seller}
+use Rattle.nb_buy.specs.declared.peer.Over.TheVariants as over
 use Rattle.nb_buy.specs.declared.sides.Sides.{Sides}
 use Rattle.nb_buy.specs.Run.{Act, Hears, peer_of, buyer_behind, bytes_in, bytes_to, frames_on}
 use Rattle.nb_buy.specs.Lines.{Lines, line_at, LineGoes}
@@ -60,7 +61,10 @@ clear_move from done lines refused keep whom sent is fresh = subst (λ (st : Ste
   where
     by : (so : Sent) → (line_at (peer_of whom) lines).sent ≡ so → IsClear lines refused (next_sent (peer_of whom) so)
     by All is = (is, fresh)
-    by Failed is = tt
+    by Failed is = λ e. absurd (apart e)
+      where
+        apart : over.WriteFault ≡ over.Refused → ⊥
+        apart e = cc
 
 pub clear_on : (from : Peer) (done : Step) (old new : Lines) (refused : Bool)
     → ((peer : Peer) → WroteOn (line_at peer old).sent (line_at peer new).sent (line_at peer old).wire.link (line_at peer new).wire.link (bytes_in peer done ++ []))

@@ -73,3 +73,14 @@ turn_is told asked Seller stands.Ended is test = λ ordered. absurd (ended_apart
 turn_is told asked Seller (stands.Going false) is test = λ ordered. absurd (is.1 ordered)
 turn_is told true Seller (stands.Going true) is test = λ ordered. refl
 turn_is told false Seller (stands.Going true) is test = absurd cc
+
+-- none is over and going on
+pub over_apart : (told : Option Phase) → HasEnded told → IsOpen told → ⊥
+over_apart None over going = going
+over_apart (Some phase.Ticketing) over going = over
+over_apart (Some phase.Asked) over going = over
+over_apart (Some phase.Wanted) over going = over
+over_apart (Some phase.Ordered) over going = over
+over_apart (Some (phase.Paid len)) over going = going
+over_apart (Some (phase.Refused code)) over going = going
+over_apart (Some phase.Foul) over going = going

@@ -41,6 +41,7 @@ use Rattle.nb_buy.specs.declared.ended.BuyEnd.TheVariants as ends
 use Rattle.nb_buy.specs.Run.{Act, Starts, Hears, Waits, heard_as, frame_row, act_row, step_at, buyer_behind, kept_by, AreSpelled, phase_for, outset, Obeys}
 use Rattle.nb_buy.specs.Bought.{Point, Around, Bought, Went, NotKept, Traded, TradeLost, EndsAt, first_point}
 use Rattle.nb_buy.specs.Laws.{acts_at, acts_of, StopLeavesFirst, GoesOn, GoesOnNextTime, IsEndOfOver, OverDoesNothing, PaidAgain}
+use Rattle.nb_buy.proofs.HowFar.{over_apart}
 use Rattle.nb_buy.proofs.Runs.{kept_both, spelled_both}
 
 -- ---- items with the first of some more
@@ -270,16 +271,6 @@ goes_on_next_time {D} tells only_now s old new end b front items rest kept image
     (goes_on_since tells s old new end b front items rest kept (tells.moment old.journal.disk) image (omega arith) left)
 
 -- ---- a purchase that is over
-
-pub over_apart : (told : Option Phase) → HasEnded told → IsOpen told → ⊥
-over_apart None over going = going
-over_apart (Some phase.Ticketing) over going = over
-over_apart (Some phase.Asked) over going = over
-over_apart (Some phase.Wanted) over going = over
-over_apart (Some phase.Ordered) over going = over
-over_apart (Some (phase.Paid len)) over going = going
-over_apart (Some (phase.Refused code)) over going = going
-over_apart (Some phase.Foul) over going = going
 
 -- no act may come
 no_act : (s : Start) (b : Buyer) (acts : List Act) → HasEnded (phase_for s b) → Obeys s b outset acts → acts ≡ []

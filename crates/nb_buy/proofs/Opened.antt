@@ -17,17 +17,17 @@ use Rattle.nb_consumer.specs.State.{Buyer, purchase_of, behind_item}
 use Rattle.nb_consumer.specs.Table.{step_of, after}
 use Rattle.nb_consumer.proofs.Staying.{changed_other}
 use Rattle.nb_buy.specs.declared.peer.Peer.TheVariants.{House}
-use Rattle.nb_buy.specs.Run.{Hears, frame_row, phase_for}
-use Rattle.nb_buy.specs.Steps.{AreOpened, opened_by}
-use Rattle.nb_buy.proofs.NextTime.{over_apart}
+use Rattle.nb_buy.specs.Run.{Hears, frame_row, phase_for, opened_by}
+use Rattle.nb_buy.specs.Steps.{AreItsGoods}
+use Rattle.nb_buy.proofs.HowFar.{over_apart}
 use Rattle.nb_buy.proofs.Receipts.{act_so, told_row}
 
 -- where none were opened, these are
-pub none_opened : (s : Start) (b : Buyer) → AreOpened s b None
+pub none_opened : (s : Start) (b : Buyer) → AreItsGoods s b None
 none_opened s b goods is over = absurd cc
 
 -- behind a row, by which a purchase that was going on is over
-row_opened : (s : Start) (b : Buyer) (row : Result Deed Reason) → RowSo b row → IsOpen (phase_for s b) → AreOpened s (after b row) (opened_by (step_of row))
+row_opened : (s : Start) (b : Buyer) (row : Result Deed Reason) → RowSo b row → IsOpen (phase_for s b) → AreItsGoods s (after b row) (opened_by (step_of row))
 row_opened s b (Err why) so going goods is over = absurd cc
 row_opened s b (Ok (deed.Sends whom sent)) so going goods is over = absurd cc
 row_opened s b (Ok (deed.Hears n place whom sent)) so going goods is over = absurd cc
@@ -42,7 +42,7 @@ row_opened s b (Ok (deed.Ends n r how)) so going goods is over = by (n == s.tran
         absurd (over_apart (phase_for s b) (subst (λ (o : Option Purchase). HasEnded (phase_in o)) stays over) going)
 
 -- behind a frame
-pub goods_opened : (s : Start) (b c : Buyer) (f : Frame) (st : Step) → Answers b c (frame_row b f) (Ok st) → IsOpen (phase_for s b) → AreOpened s c (opened_by st)
+pub goods_opened : (s : Start) (b c : Buyer) (f : Frame) (st : Step) → Answers b c (frame_row b f) (Ok st) → IsOpen (phase_for s b) → AreItsGoods s c (opened_by st)
 goods_opened s b c f st answers going =
-    subst (λ (x : Buyer × Step). AreOpened s x.0 (opened_by x.1)) (λ i. (sym answers.after i, sym answers.told i))
+    subst (λ (x : Buyer × Step). AreItsGoods s x.0 (opened_by x.1)) (λ i. (sym answers.after i, sym answers.told i))
     (row_opened s b (frame_row b f) (act_so s b (Hears House f)) going)

@@ -26,7 +26,7 @@ use Rattle.nb_buy.specs.Run.{Act, Starts, Hears, Waits, heard_as, frame_row, act
 use Rattle.nb_buy.specs.Bought.{Point, Traded, EndsAt, first_point}
 use Rattle.nb_buy.specs.Laws.{acts_at, IsEndOfOver, ends_with, IsCarriedOut, ReceiptEnds}
 use Rattle.nb_buy.proofs.Runs.{buyer_both}
-use Rattle.nb_buy.proofs.NextTime.{over_apart}
+use Rattle.nb_buy.proofs.HowFar.{over_apart}
 
 -- ---- what is over stays over
 

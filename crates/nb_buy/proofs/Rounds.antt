@@ -13,6 +13,7 @@ use Rattle.nb_msgs.specs.declared.node.Step.TheVariants as step
 use Rattle.nb_msgs.specs.declared.node.To.{To}
 use Rattle.nb_msgs.specs.declared.node.To.TheVariants as to
 use Rattle.nb_wire.specs.Sent.{WroteOn}
+use Rattle.nb_wire.specs.declared.receiving.LinkEnd.{LinkEnd}
 use Rattle.nb_wire.specs.declared.sending.Sent.{Sent}
 use Rattle.nb_wire.specs.declared.sending.Sent.TheVariants.{All, Failed}
 use Rattle.nb_wallet.specs.declared.wallet.Start.{Start}
@@ -34,13 +35,13 @@ use Rattle.nb_buy.specs.declared.ended.Lost.{Lost}
 use Rattle.nb_buy.specs.Run.{Act, Starts, Hears, Waits, act_row, asks, step_at, peer_of, bytes_in, frames_on, frames_of, phase_for, IsOrdered, Way, outset, awaited, onward, MayAct, Obeys}
 use Rattle.nb_buy.specs.Lines.{Lines, line_at, HasRefusal}
 use Rattle.nb_buy.specs.Bought.{Point, Went, way_of, AskedFor, IsSpoilt, FailedWithin, HadItsTurn, Traded, AreFew, Finished, Stopped, Spent, Loses, TradeLost}
-use Rattle.nb_buy.specs.Steps.{Carries, HeardAs, Listens, Ran, peer_in, OverIs, IsClear, IsOfSeller, IsKnown, next_sent, next_behind, next_heard, frames_heard}
+use Rattle.nb_buy.specs.Steps.{FinishedOpening, Carries, HeardAs, Listens, Ran, peer_in, OverIs, IsClear, IsOfSeller, IsKnown, next_sent, next_behind, next_heard, frames_heard, opened_at}
 use Rattle.nb_buy.proofs.Runs.{way_both, obeys_both, frames_both, heard_both}
 use Rattle.nb_buy.proofs.OverLines.{sent_same, refusal_either, refusal_later, over_from}
 use Rattle.nb_buy.proofs.Carrying.{went_none, went_both}
 use Rattle.nb_buy.proofs.Failing.{AllSent, sent_or_failed, HearsNoFailed, hears_sent, clear_move, clear_on, line_went, failed_on, failed_still}
 use Rattle.nb_buy.proofs.Rows.{refusal_row, row_known, started_open, silent_same}
-use Rattle.nb_buy.proofs.HowFar.{open_known}
+use Rattle.nb_buy.proofs.HowFar.{open_known, over_apart}
 
 -- ---- what is done next behind a step
 
@@ -79,6 +80,10 @@ ordered_open (Some phase.Wanted) is = absurd is
 ordered_open (Some (phase.Paid len)) is = absurd is
 ordered_open (Some (phase.Refused code)) is = absurd is
 ordered_open (Some phase.Foul) is = absurd is
+
+-- one act is not none
+one_more : (a : Act) → ◌≡◌ {A = List Act} (a ∷ []) [] → ⊥
+one_more a e = cc
 
 abbrev pub next_rank : Next → ℕ
 next_rank (next.Awaits peer) = 1
@@ -123,6 +128,7 @@ module _ {D : Type 0} (tells : DiskTells D) (s : Start) where
     more = went_both tells s was.mid q r (Waits ∷ was.later) more was.more went;
     awaited = was.awaited;
     over_is = was.over_is;
+    refused = was.refused;
   }
 
   -- an act by which the house is not asked for want of an answer
@@ -158,6 +164,10 @@ module _ {D : Type 0} (tells : DiskTells D) (s : Start) where
   pub few_none : (p : Point D) (all : AllSent p.lines) → AreFew (traded_none p all).acts
   unfolding traded_none
   few_none p all = omega arith
+
+  pub acts_none : (p : Point D) (all : AllSent p.lines) → (traded_none p all).acts ≡ []
+  unfolding traded_none
+  acts_none p all = refl
 
   known_on : (q r : Point D) (a : Act) → Went tells s q r (a ∷ []) → IsKnown (phase_for s q.buyer) → IsKnown (phase_for s r.buyer)
   known_on q r a went known = subst (λ (b : Buyer). IsKnown (phase_for s b)) (sym went.buyer) (row_known q.buyer s.transaction (act_row s q.buyer a) known)
@@ -241,6 +251,7 @@ module _ {D : Type 0} (tells : DiskTells D) (s : Start) where
     loses = loses;
     asks = λ e awaits. absurd (apart awaits);
     hears = λ from f e. all from;
+    memory = λ e. absurd (one_more a e);
   }
     where
       apart : ◌≡◌ {A = Option Peer} None (Some Seller) → ⊥
@@ -253,9 +264,9 @@ module _ {D : Type 0} (tells : DiskTells D) (s : Start) where
   lost_waited p q why going all loses = lost_first p q Waits why all (omega arith) going loses
 
   -- nothing is done where the purchase is over at the outset
-  pub finished_first : (p : Point D) → AllSent p.lines → HasEnded (phase_for s p.buyer) → Finished tells s p p
+  pub finished_first : (p : Point D) → AllSent p.lines → HasEnded (phase_for s p.buyer) → FinishedOpening tells s p p None
   unfolding traded_none
-  finished_first p all over = record { traded = traded_none p all; few = omega arith; over = over }
+  finished_first p all over = (record { traded = traded_none p all; few = omega arith; over = over }, refl)
 
   -- ---- the house is asked
 
@@ -265,7 +276,7 @@ module _ {D : Type 0} (tells : DiskTells D) (s : Start) where
       subst (λ (w : Way). MayAct (phase_for s q.buyer) w Waits) (λ i. way (sym ran.awaits i) (sym ran.asked_is i)) (ordered, refl)
     where
       way : Option Peer → Bool → Way
-      way awaits asked = record { awaits = awaits; asked = asked; refused = (way_of s p.buyer ran.traded.acts).refused }
+      way awaits asked = record { awaits = awaits; asked = asked; refused = (way_of s p.buyer ran.traded.acts).refused; opened = (way_of s p.buyer ran.traded.acts).opened }
 
   pub ran_asks : (p q r : Point D) (why : Over) (n : Next) (read : ℕ) → Ran tells s p q false (next.Over Seller why) read → IsOrdered (phase_for s q.buyer)
       → Carries tells s q r Seller Waits (Ok n) → Ran tells s p r true n read
@@ -289,6 +300,7 @@ module _ {D : Type 0} (tells : DiskTells D) (s : Start) where
             more = c.0;
             awaited = ran.awaits;
             over_is = ran.over;
+            refused = ran.clear;
           };
         };
         awaits = ap (λ (w : Way). w.awaits) way ∙ ap (λ (o : Option Peer). awaited o (step_at s q.buyer Waits)) ran.awaits ∙ awaits_on Seller (step_at s q.buyer Waits) r.lines ∙ ap (λ (x : Next). Some (peer_in x)) (sym c.1);
@@ -314,8 +326,9 @@ module _ {D : Type 0} (tells : DiskTells D) (s : Start) where
     few = omega (arith, most, count_on ran.traded.acts Waits read ran.count);
     obeys = obeys_on p q ran.traded.acts Waits ran.traded.obeys ran.traded.went (may_wait p q why read ran ordered);
     loses = loses;
-    asks = λ e awaits. (why, ran.over);
+    asks = λ e awaits. (why, ran.over, ran.clear);
     hears = λ from f e. absurd (apart from f e);
+    memory = λ e. absurd (one_more Waits e);
   }
     where
       apart : (from : Peer) (f : Frame) → Waits ∷ [] ≡ Hears from f ∷ [] → ⊥
@@ -357,7 +370,7 @@ module _ {D : Type 0} (tells : DiskTells D) (s : Start) where
           record {
             awaits = ap (awaited (Some from)) ignored;
             over = subst HasRefusal (sym (frames_both from acts (Hears from f ∷ []))) (refusal_later (frames_on from acts) (frames_on from (Hears from f ∷ [])) (is_refused from kind));
-            clear = tt;
+            clear = λ e. is;
             spoilt = spoilt_on p q r acts (Hears from f) from (next.Over from over.Refused) (λ now. absurd (subst IsOfSeller (ap (λ (st : Step). next_behind from st r.lines) ignored) now)) went (of_seller from);
           }
       by false is = record {
@@ -386,13 +399,16 @@ module _ {D : Type 0} (tells : DiskTells D) (s : Start) where
             known = subst (λ (b : Buyer). IsKnown (phase_for s b)) (sym h.0.buyer) ran.known;
             over = subst (OverIs p r ran.traded.acts) (sym h.1.1)
                 (over_from (line_at from p.lines) (line_at from q.lines) (line_at from r.lines) (frames_on from ran.traded.acts) [] (over.Ended h.1.0) (count_at from p q ran.traded.acts ran.traded.went) h.1.2);
-            clear = subst (IsClear r.lines (way_of s p.buyer ran.traded.acts).refused) (sym h.1.1) tt;
+            clear = subst (IsClear r.lines (way_of s p.buyer ran.traded.acts).refused) (sym h.1.1) (λ refusal. absurd (no_refusal refusal));
             told = λ spoilt. ⊎_elim (λ is. inl is) (λ now. absurd now) (ran.told (⊎_elim (λ has. inl has) (λ fails. inr (same ∙ fails)) spoilt));
             count = ran.count ∙ sym (e ∙ none_more read);
           }
         where
           none_more : (k : ℕ) → k + 0 ≡ k
           none_more k = omega arith
+
+          no_refusal : {end : LinkEnd} → over.Ended end ≡ over.Refused → ⊥
+          no_refusal e = cc
       by (Some f) h e =
           let acts = ran.traded.acts in
           let l = subst (Led p q r acts from f) (sym h.1) (led p q r acts from f h.0 ran.clear.0) in
@@ -420,6 +436,7 @@ module _ {D : Type 0} (tells : DiskTells D) (s : Start) where
     loses = heard.1;
     asks = λ e awaits. absurd (apart e);
     hears = λ peer f e. subst (λ (x : Peer). (line_at x q.lines).sent ≡ All) (same peer f e) ran.clear.0;
+    memory = λ e. absurd (one_more (Hears from heard.0) e);
   }
     where
       same : (peer : Peer) (f : Frame) → Hears from heard.0 ∷ [] ≡ Hears peer f ∷ [] → from ≡ peer
@@ -441,8 +458,23 @@ module _ {D : Type 0} (tells : DiskTells D) (s : Start) where
 
   -- ---- the ends
 
-  pub finished : (p q : Point D) (asked : Bool) (n : Next) (read : ℕ) → read ≤ MOST_FRAMES → Ran tells s p q asked n read → HasEnded (phase_for s q.buyer) → Finished tells s p q
-  finished p q asked n read most ran over = record { traded = ran.traded; few = omega (arith, most, ran.count); over = over }
+  -- where the purchase is over behind a frame, the goods that it opened are those of the last act
+  listened_opened : (p q r : Point D) (asked : Bool) (from : Peer) (x : Listened) (read read' : ℕ) (ran : Ran tells s p q asked (next.Awaits from) read) (going : IsOpen (phase_for s q.buyer))
+      (heard : Listens tells s q r from read read' (Ok x)) → HasEnded (phase_for s r.buyer)
+      → x.opened ≡ (way_of s p.buyer (ran_listened p q r asked from x read read' ran going heard).traded.acts).opened
+  unfolding traded_still traded_on ran_listened
+  listened_opened p q r asked from x read read' ran going heard over = by heard.0 heard.1 heard.2 heard.3
+    where
+      by : (o : Option Frame) (h : HeardAs tells s q r from x.next o) (e : read' ≡ read + frames_heard o) (is : x.opened ≡ opened_at s q.buyer from o)
+          → x.opened ≡ (way_of s p.buyer (ran_listened p q r asked from x read read' ran going (o, h, e, is)).traded.acts).opened
+      by None h e is = absurd (over_apart (phase_for s r.buyer) over (subst (λ (b : Buyer). IsOpen (phase_for s b)) (sym h.0.buyer) going))
+      by (Some f) h e is = is ∙ sym (ap (λ (w : Way). w.opened) (way_on p q ran.traded.acts (Hears from f) ran.traded.went))
+
+  pub finished : (p q r : Point D) (asked : Bool) (from : Peer) (x : Listened) (read read' : ℕ) → read' ≤ MOST_FRAMES → Ran tells s p q asked (next.Awaits from) read → IsOpen (phase_for s q.buyer)
+      → Listens tells s q r from read read' (Ok x) → HasEnded (phase_for s r.buyer) → FinishedOpening tells s p r x.opened
+  finished p q r asked from x read read' most ran going heard over =
+      let on = ran_listened p q r asked from x read read' ran going heard in
+      (record { traded = on.traded; few = omega (arith, most, on.count); over = over }, listened_opened p q r asked from x read read' ran going heard over)
 
   pub stopped : (p q : Point D) (asked : Bool) (peer : Peer) (why : Over) (read : ℕ) → read ≤ MOST_FRAMES → Ran tells s p q asked (next.Over peer why) read → IsOpen (phase_for s q.buyer)
       → HadItsTurn (phase_for s q.buyer) asked peer → Stopped tells s p q peer why
@@ -452,6 +484,7 @@ module _ {D : Type 0} (tells : DiskTells D) (s : Start) where
     going = going;
     awaited = ran.awaits;
     over = ran.over;
+    refused = ran.clear;
     turn = subst (λ (was : Bool). HadItsTurn (phase_for s q.buyer) was peer) (sym ran.asked_is) turn;
   }
 

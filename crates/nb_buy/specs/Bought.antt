@@ -1,5 +1,5 @@
 -- What buying does: to the journal, the consumer, the two links and the output.
-use Rattle.std.specs.Prelude.{◌≡◌, ◌⊎◌, ℕ, ◌≤◌, Bool, true, List, [], ◌∷◌, ◌++◌, Option, Some, length}
+use Rattle.std.specs.Prelude.{◌≡◌, ◌⊎◌, ℕ, ◌≤◌, Bool, true, List, [], ◌∷◌, ◌++◌, Option, Some, None, length}
 use Rattle.std.specs.Io.KnownBytes.{Appends}
 use Rattle.nb_port.specs.Tells.{DiskTells}
 use Rattle.nb_port.specs.Faults.{Rose}
@@ -18,6 +18,7 @@ use Rattle.nb_wire.specs.declared.sending.Sent.TheVariants.{All, Failed}
 use Rattle.nb_buy.specs.declared.peer.Peer.{Peer}
 use Rattle.nb_buy.specs.declared.peer.Peer.TheVariants.{House, Seller}
 use Rattle.nb_buy.specs.declared.peer.Over.{Over}
+use Rattle.nb_buy.specs.declared.peer.Over.TheVariants as over
 use Rattle.nb_buy.specs.declared.ended.TheConstants.{MOST_FRAMES}
 use Rattle.nb_buy.specs.declared.ended.Lost.{Lost}
 use Rattle.nb_buy.specs.declared.ended.Lost.TheVariants as lost
@@ -54,6 +55,10 @@ way_of s b acts = way_behind s b outset acts
 abbrev pub IsOverAt : {D : Type 0} → Point D → Point D → List Act → Peer → Over → Type 0
 IsOverAt p q acts peer why = IsOver (line_at peer p.lines) (line_at peer q.lines) (frames_on peer acts) why
 
+-- where that is because of a refusal, it is the last frame that was heard
+abbrev pub IsLastRefusal : Start → Buyer → List Act → Over → Type 0
+IsLastRefusal s b acts why = why ≡ over.Refused → (way_of s b acts).refused ≡ true
+
 -- ---- the house is asked
 
 -- why the house was asked: what was done before, behind which the seller's answer was waited for and nothing more came of it, and what was done later
@@ -67,6 +72,7 @@ pub record AskedFor {D : Type 0} (tells : DiskTells D) (s : Start) (p q : Point 
   pub more : Went tells s mid q (Waits ∷ later)
   pub awaited : (way_of s p.buyer before).awaits ≡ Some Seller
   pub over_is : IsOverAt p mid before Seller why
+  pub refused : IsLastRefusal s p.buyer before why
 
 -- a refusal came from the seller, or a write to it failed
 abbrev pub IsSpoilt : {D : Type 0} → Point D → List Act → Type 0
@@ -116,6 +122,7 @@ pub record Stopped {D : Type 0} (tells : DiskTells D) (s : Start) (p q : Point D
   pub going : IsOpen (phase_for s q.buyer)
   pub awaited : (way_of s p.buyer traded.acts).awaits ≡ Some peer
   pub over : IsOverAt p q traded.acts peer why
+  pub refused : IsLastRefusal s p.buyer traded.acts why
   pub turn : HadItsTurn (phase_for s q.buyer) (way_of s p.buyer traded.acts).asked peer
 
 -- it is not, and as many frames were heard as are read; where a refusal came from the seller, or a write to it failed, the house had its turn
@@ -151,8 +158,12 @@ pub record Loses {D : Type 0} (tells : DiskTells D) (s : Start) (p q : Point D) 
   pub house : LineGoes p.lines.house q.lines.house (frames_on House acts) []
   pub seller : LineGoes p.lines.seller q.lines.seller (frames_on Seller acts) []
 
+-- there was no memory to begin, or none for the goods of a purchase that is over, which the last act did not open
+abbrev pub WantedMemory : {D : Type 0} → Start → Point D → Point D → List Act → Type 0
+WantedMemory s p q acts = (acts ≡ []) ⊎ (HasEnded (phase_for s q.buyer) × ((way_of s p.buyer acts).opened ≡ None))
+
 -- Acts were carried out, and the last, if there is one, was not. Where it asks the house for want of the seller's answer, nothing more came of that, and where it
--- hears a peer, no write to that failed
+-- hears a peer, no write to that failed. Where there is none, memory was wanted before the first act or behind the last
 pub record TradeLost {D : Type 0} (tells : DiskTells D) (s : Start) (p q : Point D) (why : Lost) : Type 0 where
   pub mid : Point D
   pub traded : Traded tells s p mid
@@ -161,8 +172,9 @@ pub record TradeLost {D : Type 0} (tells : DiskTells D) (s : Start) (p q : Point
   pub few : AreFew (traded.acts ++ last)
   pub obeys : Obeys s p.buyer outset (traded.acts ++ last)
   pub loses : Loses tells s mid q last why
-  pub asks : last ≡ Waits ∷ [] → (way_of s p.buyer traded.acts).awaits ≡ Some Seller → (over : Over) × IsOverAt p mid traded.acts Seller over
+  pub asks : last ≡ Waits ∷ [] → (way_of s p.buyer traded.acts).awaits ≡ Some Seller → (why : Over) × IsOverAt p mid traded.acts Seller why × IsLastRefusal s p.buyer traded.acts why
   pub hears : (from : Peer) (f : Frame) → last ≡ Hears from f ∷ [] → (line_at from mid.lines).sent ≡ All
+  pub memory : last ≡ [] → WantedMemory s p mid traded.acts
 
 -- ---- buying
 

@@ -84,7 +84,7 @@ abbrev pub ends_with : ℕ → Result Deed Reason → Option End
 ends_with transaction (Ok (deed.Ends number receipt how)) = if number == transaction then Some how else None
 ends_with transaction other = None
 
--- each of its acts was carried out
+-- it did not end for want of memory or of the disk
 abbrev pub IsCarriedOut : BuyEnd → Type 0
 IsCarriedOut (ends.Lost why) = ⊥
 IsCarriedOut other = Unit {0}

@@ -19,7 +19,7 @@ use Rattle.nb_consumer.specs.declared.phase.Phase.TheVariants as phase
 use Rattle.nb_consumer.specs.State.{Buyer, purchase_of}
 use Rattle.nb_consumer.specs.Table.{started, heard, silent, step_of, after}
 use Rattle.nb_consumer.specs.Deeds.{DeedIsSpelled}
-use Rattle.nb_consumer.specs.Goods.{phase_in, IsOpen}
+use Rattle.nb_consumer.specs.Goods.{phase_in, goods_at, IsOpen}
 use Rattle.nb_msgs.specs.Steps.{kept_in}
 use Rattle.nb_buy.specs.declared.peer.Peer.{Peer}
 use Rattle.nb_buy.specs.declared.peer.Peer.TheVariants.{House, Seller}
@@ -126,15 +126,16 @@ abbrev pub IsOrdered : Option Phase → Type 0
 IsOrdered (Some phase.Ordered) = Unit {0}
 IsOrdered other = ⊥
 
--- whose answer is waited for, whether the house was asked for want of the seller's, and whether a refusal came just now
+-- whose answer is waited for, whether the house was asked for want of the seller's, whether the last act heard a refusal, and the goods that it opened
 pub record Way : Type 0 where
   pub awaits : Option Peer
   pub asked : Bool
   pub refused : Bool
+  pub opened : Option (List ℕ)
 
 -- nothing was done yet
 abbrev pub outset : Way
-outset = record { awaits = None; asked = false; refused = false }
+outset = record { awaits = None; asked = false; refused = false; opened = None }
 
 -- behind a step: the answer of the peer that a message is sent to, and else of the one before
 abbrev pub awaited : Option Peer → Step → Option Peer
@@ -156,17 +157,22 @@ is_refusal Starts = false
 is_refusal (Hears from f) = f.kind == REFUSED_REPLY
 is_refusal Waits = false
 
+-- the goods that a step opened, if it did, whichever purchase it ended
+abbrev pub opened_by : Step → Option (List ℕ)
+opened_by (step.Ended keep end) = goods_at end
+opened_by other = None
+
 -- behind one act, which does this
 abbrev pub onward : Way → Act → Step → Way
-onward w a done = record { awaits = awaited w.awaits done; asked = asks w.asked a w.awaits; refused = is_refusal a }
+onward w a done = record { awaits = awaited w.awaits done; asked = asks w.asked a w.awaits; refused = is_refusal a; opened = opened_by done }
 
 -- behind acts
 abbrev pub way_behind : Start → Buyer → Way → List Act → Way
 way_behind s b w [] = w
 way_behind s b w (a ∷ acts) = way_behind s (after b (act_row s b a)) (onward w a (step_at s b a)) acts
 
--- At the outset nothing is waited for, and a purchase that is going on sends its last message again, or asks for its order. Later the purchase was ordered, and the house was
--- not asked yet for want of the seller's answer
+-- At the outset nothing is waited for, and a purchase that is going on sends its last message again, or asks for its order. Later the purchase was ordered,
+-- and the house was not asked yet for want of the seller's answer
 abbrev pub MayWait : Option Phase → Option Peer → Bool → Type 0
 MayWait told None asked = IsOpen told
 MayWait told (Some House) asked = ⊥

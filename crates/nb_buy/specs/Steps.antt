@@ -23,7 +23,7 @@ use Rattle.nb_wire.specs.declared.receiving.Fetched.TheVariants as fetched
 use Rattle.nb_wallet.specs.declared.wallet.Start.{Start}
 use Rattle.nb_consumer.specs.declared.phase.Phase.{Phase}
 use Rattle.nb_consumer.specs.State.{Buyer, purchase_of}
-use Rattle.nb_consumer.specs.Goods.{IsOpen, HasEnded, goods_at, goods_in}
+use Rattle.nb_consumer.specs.Goods.{IsOpen, HasEnded, goods_in}
 use Rattle.nb_msgs.specs.Steps.{kept_in}
 use Rattle.nb_buy.specs.declared.peer.Peer.{Peer}
 use Rattle.nb_buy.specs.declared.peer.Peer.TheVariants.{House, Seller}
@@ -42,7 +42,7 @@ use Rattle.nb_buy.specs.declared.trading.TradeEnd.{TradeEnd}
 use Rattle.nb_buy.specs.declared.trading.TradeEnd.TheVariants as trades
 use Rattle.nb_buy.specs.declared.standing.Standing.{Standing}
 use Rattle.nb_buy.specs.declared.standing.Standing.TheVariants as stands
-use Rattle.nb_buy.specs.Run.{Act, Hears, step_at, peer_of, bytes_in, frames_of, phase_for, IsOrdered}
+use Rattle.nb_buy.specs.Run.{Act, Hears, step_at, peer_of, bytes_in, frames_of, phase_for, IsOrdered, opened_by}
 use Rattle.nb_buy.specs.Lines.{Line, Lines, line_at}
 use Rattle.nb_buy.specs.Bought.{Point, Went, NotKept, Loses, IsOverAt, IsSpoilt, way_of, Traded, Finished, Stopped, Spent, TradeLost, WritesGoods}
 
@@ -169,21 +169,17 @@ abbrev pub frames_heard : Option Frame → ℕ
 frames_heard (Some f) = 1
 frames_heard None = 0
 
--- the goods that a step opened, if it did
-abbrev pub opened_by : Step → Option (List ℕ)
-opened_by (step.Ended keep end) = goods_at end
-opened_by other = None
-
--- and the step at a frame of a peer, if one was heard
+-- the goods that the step at a frame of a peer opened, if one was heard
 abbrev pub opened_at : Start → Buyer → Peer → Option Frame → Option (List ℕ)
 opened_at s b from (Some f) = opened_by (step_at s b (Hears from f))
 opened_at s b from None = None
 
 -- goods that were opened, if any were, are those of the purchase, where it is over
-abbrev pub AreOpened : Start → Buyer → Option (List ℕ) → Type 0
-AreOpened s b opened = (goods : List ℕ) → opened ≡ Some goods → HasEnded (phase_for s b) → goods_in (purchase_of b s.transaction) ≡ Some goods
+abbrev pub AreItsGoods : Start → Buyer → Option (List ℕ) → Type 0
+AreItsGoods s b opened = (goods : List ℕ) → opened ≡ Some goods → HasEnded (phase_for s b) → goods_in (purchase_of b s.transaction) ≡ Some goods
 
--- so it went, so many frames were read before it and behind it, and these goods were opened; or the frame was read, and what was to be kept of it was not
+-- a frame of the peer was heard, or none comes any more, with so many frames read before it and behind it, and these goods were opened; or a frame was read, and could not be
+-- taken in: there was no memory, or what was to be kept of it was not
 abbrev pub Listens : {D : Type 0} → DiskTells D → Start → Point D → Point D → Peer → ℕ → ℕ → Result Listened Lost → Type 0
 Listens tells s p q from read read' (Ok x) =
     (heard : Option Frame) × HeardAs tells s p q from x.next heard × (read' ≡ read + frames_heard heard) × (x.opened ≡ opened_at s p.buyer from heard)
@@ -221,10 +217,10 @@ abbrev pub OverIs : {D : Type 0} → Point D → Point D → List Act → Next �
 OverIs p q acts (next.Awaits peer) = Unit {0}
 OverIs p q acts (next.Over peer why) = IsOverAt p q acts peer why
 
--- an answer that is waited for was asked for: no write to its peer failed, and the last frame was no refusal
+-- an answer that is waited for was asked for: no write to its peer failed, and the last frame was no refusal. Where a refusal ended that, it was
 abbrev pub IsClear : Lines → Bool → Next → Type 0
 IsClear lines refused (next.Awaits peer) = ((line_at peer lines).sent ≡ All) × (refused ≡ false)
-IsClear lines refused (next.Over peer why) = Unit {0}
+IsClear lines refused (next.Over peer why) = why ≡ over.Refused → refused ≡ true
 
 -- nothing more comes of the seller
 abbrev pub IsOfSeller : Next → Type 0
@@ -248,15 +244,19 @@ pub record Ran {D : Type 0} (tells : DiskTells D) (s : Start) (p q : Point D) (a
   pub told : IsSpoilt q traded.acts → (asked ≡ true) ⊎ IsOfSeller next
   pub count : length (frames_of traded.acts) ≡ read
 
--- a purchase was begun, or its last message was sent again, or it is over and nothing was done
-abbrev pub Opens : {D : Type 0} → DiskTells D → Start → Point D → Point D → Result (Option Next) Lost → Type 0
-Opens tells s p q (Ok (Some next)) = Ran tells s p q false next 0 × IsOpen (phase_for s q.buyer)
-Opens tells s p q (Ok None) = Finished tells s p q
-Opens tells s p q (Err why) = TradeLost tells s p q why
+-- a purchase is over, and the last act opened these goods, or none
+abbrev pub FinishedOpening : {D : Type 0} → DiskTells D → Start → Point D → Point D → Option (List ℕ) → Type 0
+FinishedOpening tells s p q opened = (f : Finished tells s p q) × (opened ≡ (way_of s p.buyer f.traded.acts).opened)
 
--- by the end of a trade: the purchase is over, and goods that are handed back are its own, or it is not and why no more is done, or an act was lost
+-- a purchase was started, or its last message was sent again, or it is over and no goods were opened
+abbrev pub StartsOrResumes : {D : Type 0} → DiskTells D → Start → Point D → Point D → Result (Option Next) Lost → Type 0
+StartsOrResumes tells s p q (Ok (Some next)) = Ran tells s p q false next 0 × IsOpen (phase_for s q.buyer)
+StartsOrResumes tells s p q (Ok None) = FinishedOpening tells s p q None
+StartsOrResumes tells s p q (Err why) = TradeLost tells s p q why
+
+-- how a trade ended: the purchase is over, and the goods that its last act opened are its own; it is not over, and why no more is done; or memory or the disk was wanting
 abbrev pub Trades : {D : Type 0} → DiskTells D → Start → Point D → Point D → Result TradeEnd Lost → Type 0
-Trades tells s p q (Ok (trades.Finished opened)) = Finished tells s p q × AreOpened s q.buyer opened
+Trades tells s p q (Ok (trades.Finished opened)) = FinishedOpening tells s p q opened × AreItsGoods s q.buyer opened
 Trades tells s p q (Ok (trades.Stopped peer why)) = Stopped tells s p q peer why
 Trades tells s p q (Ok trades.Spent) = Spent tells s p q
 Trades tells s p q (Err why) = TradeLost tells s p q why

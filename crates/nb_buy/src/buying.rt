@@ -6,7 +6,7 @@ ghost use Rattle.nb_consumer.specs.Goods.{HasEnded};
 ghost use Rattle.nb_buy.specs.Run.{phase_for};
 ghost use Rattle.nb_buy.specs.Bought.{Bought, IsUnwritten, WritesGoods, around};
 ghost use Rattle.nb_buy.specs.Laws.{IsCarriedOut};
-ghost use Rattle.nb_buy.specs.Steps.{AreOpened, Finishes};
+ghost use Rattle.nb_buy.specs.Steps.{AreItsGoods, Finishes};
 
 use crate::ended::{BuyEnd, Lost};
 use crate::sides::Sides;
@@ -65,7 +65,7 @@ pub fn buy<D: Disk, L: Link, K: Sink>(
 // Writes the goods of a purchase that is over, where it was paid. They are opened where they are not yet.
 fn finish<K: Sink>(consumer: &Consumer, start: &Start, opened: Option<Blob>, sink: &mut K) -> BuyEnd
     requires ended { HasEnded (phase_for start.now consumer.now) }
-    requires opened { AreOpened start.now consumer.now opened }
+    requires opened { AreItsGoods start.now consumer.now opened }
     ensures finishes { Finishes start.now consumer.now (K.faults sink.old) (K.faults sink.new) (K.sent sink.old) (K.sent sink.new) result }
     // No memory is wanted for goods that are opened.
     ensures carried { IsTrue (is_some opened) → IsCarriedOut result }

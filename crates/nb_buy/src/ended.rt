@@ -21,7 +21,7 @@ pub enum BuyEnd {
     },
     /// It is not over, and [`MOST_FRAMES`] frames were read. Nothing was written.
     Spent,
-    /// A step could not be taken, or there was no memory to begin or for the goods. Nothing of that step was sent, and nothing was written.
+    /// A step could not be taken, or there was no memory to begin, or for goods that no frame had just opened. Nothing of that step was sent, and nothing was written.
     Lost(Lost),
 }
 

@@ -6,12 +6,13 @@ ghost use Rattle.nb_units.specs.declared.frames.TheConstants.{LAST_KIND};
 ghost use Rattle.nb_consumer.specs.Deeds.{Answers};
 ghost use Rattle.nb_consumer.specs.Goods.{IsOpen};
 ghost use Rattle.nb_msgs.specs.Steps.{StepKeepsRules};
+ghost use Rattle.nb_wallet.specs.declared.wallet.Start.{Start};
 ghost use Rattle.nb_wallet.specs.Spelling.{StartKeepsRules};
 ghost use Rattle.nb_buy.specs.declared.peer.Peer.TheVariants.{House};
 ghost use Rattle.nb_buy.specs.Run.{Starts, Waits, frame_row, phase_for};
 ghost use Rattle.nb_buy.specs.Bought.{point};
-ghost use Rattle.nb_buy.specs.Steps.{AreOpened, CanRead, IsNear, Carries, Listens, SameReaders, lines_of, next_heard};
-ghost use Rattle.nb_buy.specs.Steps as steps;
+ghost use Rattle.nb_buy.specs.Steps.{AreItsGoods, CanRead, IsNear, Carries, Listens, SameReaders, lines_of, next_heard};
+ghost use Rattle.nb_buy.specs.Run as runs;
 
 use crate::acting::act;
 use crate::ended::Lost;
@@ -89,12 +90,11 @@ pub fn go_on<D: Disk, L: Link>(
     }
 }
 
-// Hears the next frame of a peer, and does what the consumer does at it.
+// Hears the next frame of a peer, does what the consumer does at it, and hands goods back that it opened: of this purchase, or of another of the same wallet.
 pub fn listen<D: Disk, L: Link>(
     alloc: Global,
     journal: &mut Journal<D>,
     consumer: &mut Consumer,
-    _start: &Start,
     server: &mut L,
     seller: &mut L,
     sides: &mut Sides,
@@ -105,8 +105,10 @@ pub fn listen<D: Disk, L: Link>(
     requires room { journal.old.room ≡ MAX_ITEM }
     requires piece { length piece.old ≡ MAX_PIECE }
     requires near { CanRead sides.old }
-    ensures listens { Listens D.tells _start.now (point journal.old consumer.old (lines_of (L.seen server.old) (L.seen seller.old) sides.old)) (point journal.new consumer.new (lines_of (L.seen server.new) (L.seen seller.new) sides.new)) from sides.old.read sides.new.read result }
-    ensures opened { IfOk result (λ h. IsOpen (phase_for _start.now consumer.old) → AreOpened _start.now consumer.new h.opened) }
+    // By the table, whichever purchase is asked about.
+    ensures listens { (s : Start) → Listens D.tells s (point journal.old consumer.old (lines_of (L.seen server.old) (L.seen seller.old) sides.old)) (point journal.new consumer.new (lines_of (L.seen server.new) (L.seen seller.new) sides.new)) from sides.old.read sides.new.read result }
+    // Where they end a purchase that was going on they are its own.
+    ensures goods { (s : Start) → IsOpen (phase_for s consumer.old) → IfOk result (λ x. AreItsGoods s consumer.new x.opened) }
     ensures near { IsNear sides.new }
 {
     let f = match fetch(server, seller, sides, piece, from) {
@@ -155,7 +157,7 @@ fn hear(alloc: Global, consumer: &mut Consumer, kind: u8, body: &[u8]) -> Result
 
 // The goods that a step opened.
 fn opened_by(step: Step) -> Option<Blob>
-    ensures { result ≡ steps.opened_by step }
+    ensures { result ≡ runs.opened_by step }
 {
     match step {
         Step::Ended { end, .. } => match end {

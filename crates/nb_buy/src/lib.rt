@@ -5,7 +5,8 @@
 //! nothing more comes of that peer, [`MOST_FRAMES`] were read, or a step cannot be taken. A step's message is spelled, then its item is
 //! appended to the journal, and then the message is sent, over the house's link or over the seller's. A frame that is ignored is passed over. Where nothing more comes
 //! of the seller of a purchase that was ordered, its link having ended, failed, or given what is no frame or a refusal, the house is asked once what became of the
-//! order. The goods of a purchase that was paid are written at its end, and each time it is made again.
+//! order. The goods of a purchase that was paid are written at its end, and each time it is made again. Goods that
+//! a frame just opened want no memory to be written.
 //!
 //! What is done is seen as a list of acts (`specs/Run.antt`): a start, a frame that is heard, a word that nothing is waited for any more. What each keeps and sends
 //! is the row of the consumer's table, and which may come next is a rule over the acts alone, so that the order in which frames were read is the list itself. What
@@ -19,8 +20,8 @@
 //! Left to others: the opening of the wallet, links and how long they wait, what is told outside of an end. A step of another purchase of the same wallet is carried
 //! out as any.
 //!
-//! Not said: that there is no want of memory where there is memory, which the stored run of `deals` shows; and that goods which the last frame opened are not opened
-//! anew to be written.
+//! Not said: that there is no want of memory where there is memory, which the stored run of `deals` shows; that a link is read no further than up to the frame that is
+//! waited for; and that goods which a frame just opened are not opened anew.
 #![tactic(auto)]
 
 mod acting;

@@ -3,7 +3,7 @@ ghost use Rattle.nb_journal.specs.Growing.{IsAtRest};
 ghost use Rattle.nb_journal.specs.declared.limits.TheConstants.{MAX_ITEM};
 ghost use Rattle.nb_wallet.specs.Spelling.{StartKeepsRules};
 ghost use Rattle.nb_buy.specs.Bought.{point};
-ghost use Rattle.nb_buy.specs.Steps.{AreBegun, Opens, SameReaders, Trades, lines_of};
+ghost use Rattle.nb_buy.specs.Steps.{AreBegun, StartsOrResumes, SameReaders, Trades, lines_of};
 
 use crate::ended::{Lost, MOST_FRAMES};
 use crate::hearing::{Listened, begin, go_on, listen};
@@ -22,7 +22,7 @@ use std::alloc::Global;
 // How a trade ended.
 #[derive(Drop)]
 pub enum TradeEnd {
-    // The purchase is over. Goods are handed back where its last frame opened them.
+    // The purchase is over, with its goods where its last frame opened them.
     Finished(Option<Blob>),
     // It is not, and nothing more comes of the peer whose answer was waited for.
     Stopped(Peer, Over),
@@ -46,7 +46,7 @@ pub fn trade<D: Disk, L: Link>(
     requires begun { AreBegun sides.old }
     ensures { Trades D.tells start.now (point journal.old consumer.old (lines_of (L.seen server.old) (L.seen seller.old) sides.old)) (point journal.new consumer.new (lines_of (L.seen server.new) (L.seen seller.new) sides.new)) result }
 {
-    let mut next = match open(alloc, journal, consumer, start, server, seller, sides) {
+    let mut next = match start_or_resume(alloc, journal, consumer, start, server, seller, sides) {
         Ok(Some(next)) => next,
         Ok(None) => return Ok(TradeEnd::Finished(None)),
         Err(why) => return Err(why),
@@ -73,7 +73,7 @@ pub fn trade<D: Disk, L: Link>(
             return Ok(TradeEnd::Spent);
         }
         match listen(
-            alloc, journal, consumer, start, server, seller, sides, &mut piece, peer,
+            alloc, journal, consumer, server, seller, sides, &mut piece, peer,
         ) {
             Ok(listened) => {
                 let Listened { next: then, opened } = listened;
@@ -89,8 +89,8 @@ pub fn trade<D: Disk, L: Link>(
     }
 }
 
-// Begins a purchase that is not known, and has one that is going on send its last message again, or ask for its order. Where it is over nothing is done.
-fn open<D: Disk, L: Link>(
+// Starts a purchase that is not known, and resumes one that is going on: its last message is sent again, or its order asked for. Where it is over nothing is done.
+fn start_or_resume<D: Disk, L: Link>(
     alloc: Global,
     journal: &mut Journal<D>,
     consumer: &mut Consumer,
@@ -103,7 +103,7 @@ fn open<D: Disk, L: Link>(
     requires room { journal.old.room ≡ MAX_ITEM }
     requires start { StartKeepsRules start.now }
     requires begun { AreBegun sides.old }
-    ensures opens { Opens D.tells start.now (point journal.old consumer.old (lines_of (L.seen server.old) (L.seen seller.old) sides.old)) (point journal.new consumer.new (lines_of (L.seen server.new) (L.seen seller.new) sides.new)) result }
+    ensures resumes { StartsOrResumes D.tells start.now (point journal.old consumer.old (lines_of (L.seen server.old) (L.seen seller.old) sides.old)) (point journal.new consumer.new (lines_of (L.seen server.new) (L.seen seller.new) sides.new)) result }
     ensures readers { SameReaders sides.old sides.new }
 {
     match standing_of(consumer, start) {

@@ -13,15 +13,15 @@ returns-in_default-clause-bought g c =
 
 pub returns-in-Finished-clause-bought : goal.returns-in-Finished-clause-bought
 returns-in-Finished-clause-bought g c =
+    let traded = subst (λ (r : Result TradeEnd Lost). Trades g.D.Disk.tells c.args.start.now (point c.args.journal.now c.args.consumer.now (lines_of (g.L.Link.seen c.args.server.now) (g.L.Link.seen c.args.seller.now) c.in-Ok.sides)) (point c.trade-traded.new.journal c.trade-traded.new.consumer (lines_of (g.L.Link.seen c.trade-traded.new.server) (g.L.Link.seen c.trade-traded.new.seller) c.trade-traded.new.sides)) r) (ap Ok c.in-Finished.is) c.in-Ok-traded.ensures in
     bought_at g.D.Disk.tells c.args.start.now c.args.journal.now c.trade-traded.new.journal c.args.consumer.now c.trade-traded.new.consumer
     (g.L.Link.seen c.args.server.now) (g.L.Link.seen c.args.seller.now) (g.L.Link.seen c.trade-traded.new.server) (g.L.Link.seen c.trade-traded.new.seller)
     c.in-Ok.sides c.trade-traded.new.sides c.finish.result c.in-Ok.ensures
     (finished_at g.D.Disk.tells c.args.start.now
     (point c.args.journal.now c.args.consumer.now (lines_of (g.L.Link.seen c.args.server.now) (g.L.Link.seen c.args.seller.now) c.in-Ok.sides))
     (point c.trade-traded.new.journal c.trade-traded.new.consumer (lines_of (g.L.Link.seen c.trade-traded.new.server) (g.L.Link.seen c.trade-traded.new.seller) c.trade-traded.new.sides))
-    (g.K.Sink.faults c.args.sink.now) (g.K.Sink.faults c.finish.new.sink) (g.K.Sink.sent c.args.sink.now) (g.K.Sink.sent c.finish.new.sink)
-    c.finish.result c.finish.ensures.finishes
-    (subst (λ (r : Result TradeEnd Lost). Trades g.D.Disk.tells c.args.start.now (point c.args.journal.now c.args.consumer.now (lines_of (g.L.Link.seen c.args.server.now) (g.L.Link.seen c.args.seller.now) c.in-Ok.sides)) (point c.trade-traded.new.journal c.trade-traded.new.consumer (lines_of (g.L.Link.seen c.trade-traded.new.server) (g.L.Link.seen c.trade-traded.new.seller) c.trade-traded.new.sides)) r) (ap Ok c.in-Finished.is) c.in-Ok-traded.ensures).0)
+    c.in-Finished.opened (g.K.Sink.faults c.args.sink.now) (g.K.Sink.faults c.finish.new.sink) (g.K.Sink.sent c.args.sink.now) (g.K.Sink.sent c.finish.new.sink)
+    c.finish.result c.finish.ensures.finishes c.finish.ensures.carried traded.0.0 traded.0.1)
 
 pub returns-in-Stopped-clause-bought : goal.returns-in-Stopped-clause-bought
 returns-in-Stopped-clause-bought g c =

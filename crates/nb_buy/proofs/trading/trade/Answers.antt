@@ -8,7 +8,7 @@ use Rattle.nb_buy.specs.Bought.{point}
 use Rattle.nb_buy.specs.Steps.{Carries, Ran, lines_of}
 use Rattle.nb_buy.proofs.HowFar.{MayAsk, open_is, over_is, asks_is, turn_is}
 use Rattle.nb_buy.proofs.OverLines.{near_same}
-use Rattle.nb_buy.proofs.Rounds.{open_waited, ran_asks, lost_asks, ran_listened, lost_listened, finished, stopped, spent}
+use Rattle.nb_buy.proofs.Rounds.{next_rank, open_waited, ran_asks, lost_asks, ran_listened, lost_listened, listened_less, finished, stopped, spent}
 use Rattle.nb_buy.proofs.trading.trade.Goals as goal
 
 pub returns-then-is_over : goal.returns-then-is_over
@@ -17,12 +17,11 @@ returns-then-is_over g c =
     let s = c.args.start.now in
     let p = point c.args.journal.now c.args.consumer.now (lines_of (g.L.Link.seen c.args.server.now) (g.L.Link.seen c.args.seller.now) c.args.sides.now) in
     let q = point c.trading.journal c.trading.consumer (lines_of (g.L.Link.seen c.trading.server) (g.L.Link.seen c.trading.seller) c.trading.sides) in
-    let r = point c.listen.new.journal c.listen.new.consumer (lines_of (g.L.Link.seen c.listen.new.server) (g.L.Link.seen c.listen.new.seller) c.listen.new.sides) in
-    let ran = ran_listened tells s p q r c.trading.asked c.in-Awaits.peer c.in-Ok-listen.listened c.trading.sides.read c.listen.new.sides.read
-    (subst (λ (n : Next). Ran tells s p q c.trading.asked n c.trading.sides.read) c.in-Awaits.is c.trading.invariant.ran) c.trading.invariant.going c.in-Ok-listen.ensures.listens in (
-      finished tells s p r c.trading.asked c.in-Ok-listen.listened.next c.listen.new.sides.read c.listen.ensures.near.few ran
+    let r = point c.listen.new.journal c.listen.new.consumer (lines_of (g.L.Link.seen c.listen.new.server) (g.L.Link.seen c.listen.new.seller) c.listen.new.sides) in (
+      finished tells s p q r c.trading.asked c.in-Awaits.peer c.in-Ok-listen.listened c.trading.sides.read c.listen.new.sides.read c.listen.ensures.near.few
+          (subst (λ (n : Next). Ran tells s p q c.trading.asked n c.trading.sides.read) c.in-Awaits.is c.trading.invariant.ran) c.trading.invariant.going (c.in-Ok-listen.ensures.listens s)
           (over_is (phase_for s c.listen.new.consumer) c.standing_of-behind.result c.standing_of-behind.ensures (sym c.is_over.ensures ∙ c.if-is_over.true)),
-      c.in-Ok-listen.ensures.opened c.trading.invariant.going,
+      c.in-Ok-listen.ensures.goods s c.trading.invariant.going,
     )
 
 pub returns-then-not-may_ask : goal.returns-then-not-may_ask
@@ -90,12 +89,24 @@ trading-preserved g c =
     let q = point c.trading.journal c.trading.consumer (lines_of (g.L.Link.seen c.trading.server) (g.L.Link.seen c.trading.seller) c.trading.sides) in
     let r = point c.listen.new.journal c.listen.new.consumer (lines_of (g.L.Link.seen c.listen.new.server) (g.L.Link.seen c.listen.new.seller) c.listen.new.sides) in
     let ran = ran_listened tells s p q r c.trading.asked c.in-Awaits.peer c.in-Ok-listen.listened c.trading.sides.read c.listen.new.sides.read
-    (subst (λ (n : Next). Ran tells s p q c.trading.asked n c.trading.sides.read) c.in-Awaits.is c.trading.invariant.ran) c.trading.invariant.going c.in-Ok-listen.ensures.listens in
+    (subst (λ (n : Next). Ran tells s p q c.trading.asked n c.trading.sides.read) c.in-Awaits.is c.trading.invariant.ran) c.trading.invariant.going (c.in-Ok-listen.ensures.listens s) in
     record {
       ran = ran;
       near = c.listen.ensures.near;
       going = open_is (phase_for s c.listen.new.consumer) c.standing_of-behind.result c.standing_of-behind.ensures (sym c.is_over.ensures ∙ c.if-is_over.false) ran.known;
     }
+
+pub trading-smaller : goal.trading-smaller
+trading-smaller g c =
+    let tells = g.D.Disk.tells in
+    let s = c.args.start.now in
+    let q = point c.trading.journal c.trading.consumer (lines_of (g.L.Link.seen c.trading.server) (g.L.Link.seen c.trading.seller) c.trading.sides) in
+    let r = point c.listen.new.journal c.listen.new.consumer (lines_of (g.L.Link.seen c.listen.new.server) (g.L.Link.seen c.listen.new.seller) c.listen.new.sides) in
+    omega (
+      arith,
+      ap next_rank c.in-Awaits.is,
+      listened_less tells s q r c.in-Awaits.peer c.in-Ok-listen.listened c.trading.asked c.trading.sides.read c.listen.new.sides.read (omega (arith, c.if-sides-ge-MOST_FRAMES.false)) (c.in-Ok-listen.ensures.listens s),
+    )
 
 pub returns-in-Err-listen : goal.returns-in-Err-listen
 returns-in-Err-listen g c =
@@ -107,4 +118,4 @@ returns-in-Err-listen g c =
     lost_listened tells s p q r c.trading.asked c.in-Awaits.peer c.in-Err-listen.why c.trading.sides.read c.listen.new.sides.read (omega (arith, c.if-sides-ge-MOST_FRAMES.false))
     (subst (λ (n : Next). Ran tells s p q c.trading.asked n c.trading.sides.read) c.in-Awaits.is c.trading.invariant.ran)
     c.trading.invariant.going
-    c.in-Err-listen.ensures.listens
+    (c.in-Err-listen.ensures.listens s)
