@@ -3,8 +3,6 @@ use Rattle.std.proofs.Common.{◌≡◌, ℕ, ◌+◌, ◌<◌, ◌^◌, List, [
 use Rattle.nb_msgs.specs.declared.node.Reason.{Reason}
 use Rattle.nb_msgs.specs.declared.node.Step.{Step}
 use Rattle.nb_msgs.specs.Steps.{kept_in}
-use Rattle.nb_wallet.specs.declared.item.Item.{Item}
-use Rattle.nb_wallet.specs.declared.item.Item.TheVariants as item
 use Rattle.nb_wallet.specs.declared.purchase.Purchase.{Purchase}
 use Rattle.nb_wallet.specs.declared.purchase.Stage.{Stage}
 use Rattle.nb_wallet.specs.declared.purchase.Stage.TheVariants as stage
@@ -17,6 +15,7 @@ use Rattle.nb_consumer.specs.Restart.{restarted, untold_stage, untold_purchase, 
 use Rattle.nb_consumer.specs.Runs.{Call, row_of}
 use Rattle.nb_consumer.specs.State.{Buyer, remembered}
 use Rattle.nb_consumer.specs.Table.{after}
+use Rattle.nb_consumer.proofs.Restoring.{same_wallet}
 use Rattle.nb_packets.proofs.Keeping.{few_more}
 
 stage_twice : (t : Stage) → untold_stage (untold_stage t) ≡ untold_stage t
@@ -47,19 +46,10 @@ pub restart_keeps : (items : List (List ℕ)) (b core : Buyer) → Kept items b 
 restart_keeps items b core kept again =
     subst (Kept items) (sym (restart_is items b core kept again)) (kept ∙ ap Ok (sym (untold_twice b)))
 
-remembers_wallet : (b : Buyer) (x : Item) → (remembered b x).wallet ≡ b.wallet
-remembers_wallet b (item.Started start) = refl
-remembers_wallet b (item.Granted transaction pass) = refl
-remembers_wallet b (item.Wanted transaction price) = refl
-remembers_wallet b (item.Ordered transaction order part) = refl
-remembers_wallet b (item.Ended transaction receipt) = refl
-remembers_wallet b (item.Part head part) = refl
-remembers_wallet b (item.Forgotten transaction) = refl
-
 after_wallet : (b : Buyer) (row : Result Deed Reason) → (after b row).wallet ≡ b.wallet
 after_wallet b (Ok (deed.Sends to message)) = refl
 after_wallet b (Ok (deed.Hears transaction place to message)) = refl
-after_wallet b (Ok (deed.Keeps x to message)) = remembers_wallet b x
+after_wallet b (Ok (deed.Keeps x to message)) = same_wallet b x
 after_wallet b (Ok (deed.Ends transaction receipt end)) = refl
 after_wallet b (Err why) = refl
 
