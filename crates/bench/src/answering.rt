@@ -5,6 +5,7 @@ ghost use Rattle.std.specs.List.{All};
 ghost use Rattle.nb_vault.specs.Asking.{IsWithin};
 
 use anyhow::anyhow;
+use nb_book::SlotHasher;
 use nb_endorse::KeptStates;
 use nb_escrow::OpenedOrder;
 use nb_msgs::{Draft, REPLY_ROOM, write_each};
@@ -176,13 +177,13 @@ impl Caller {
     }
 
     // Opens what may be opened of each request.
-    fn open_each(&mut self, bytes: &[u8], asks: &[AskAt]) -> anyhow::Result<()>
+    fn open_each(&mut self, bytes: &[u8], asks: &[AskAt], hasher: &SlotHasher) -> anyhow::Result<()>
         requires { All (IsWithin bytes.now) asks.now }
     {
         for ask in asks {
             let body = bytes.split_at(ask.start).1.split_at(ask.len).0;
             let memo = if ask.kind == ORDER_REQUEST {
-                OpenedOrder::of(body, &self.kept)
+                OpenedOrder::of(body, &self.kept, hasher)
             } else {
                 None
             };
@@ -204,7 +205,7 @@ impl Caller {
             return Err(anyhow!("a turn has from 1 to 32 requests"));
         }
         if opens {
-            self.open_each(bytes, asks)?;
+            self.open_each(bytes, asks, &vault.order_hasher())?;
         }
         self.ats.clear();
         self.ats.reserve(MAX_REQUESTS)?;

@@ -17,6 +17,7 @@ use crate::limits::{MAX_CAP, MAX_TOTAL};
 use crate::list::EntryList;
 use crate::party::Party;
 use nb_entry::Entry;
+use nb_index::{HashedKey, SlotHasher};
 use nb_units::{AcctId, Epoid, NoMemory, PartyId};
 use std::alloc::Global;
 use std::marker::Model;
@@ -124,6 +125,20 @@ impl Book {
         ensures legal { Legal self.now.entries }
     {
         self.list.order(epoid)
+    }
+
+    /// What hashes identifiers of orders, the 16 bytes that they are written as, for the look-ups of this book.
+    pub fn order_hasher(&self) -> SlotHasher {
+        self.list.order_hasher()
+    }
+
+    /// Keeps what was hashed of an identifier by [`Book::order_hasher`], in place of the one before: looking that order up and applying its entry then make
+    /// no hash. This takes no memory.
+    pub fn remember_order(&mut self, identifier: &HashedKey)
+        // No answer depends on what is kept.
+        ensures { self.new ≡ self.old }
+    {
+        self.list.remember_order(identifier);
     }
 
     /// The entry at this place, counted from 0, if there are so many.

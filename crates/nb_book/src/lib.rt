@@ -14,7 +14,8 @@
 //! Left to others: what an entry is and its bytes (`nb_entry`), where it is kept, and who may ask for it.
 //!
 //! Not said: that [`Book::new`] finds memory where there is some; what its key does, by which the keys of look-ups fall on slots: no public
-//! clause shows these, and none counts steps; and how a look-up finds its answer: a scan of the list would meet the contract.
+//! clause shows these, and none counts steps; for which book an identifier was hashed, and that what is remembered is not hashed anew; and how a look-up finds its answer: a scan of the
+//! list would meet the contract.
 #![tactic(auto)]
 
 mod account;
@@ -37,4 +38,5 @@ pub use fee::fee_of;
 pub use funded::Funded;
 pub use kept::Kept;
 pub use limits::{MAX_AGE, MAX_AHEAD, MAX_CAP, MAX_PRICE, MAX_RATE, MAX_TOTAL};
+pub use nb_index::{HashedKey, SlotHasher};
 pub use party::Party;

@@ -17,7 +17,7 @@ use crate::kept::Kept;
 use crate::keys::{keys_of, name_key};
 use crate::party::Party;
 use nb_entry::Entry;
-use nb_index::FixedIndex;
+use nb_index::{FixedIndex, HashedKey, SlotHasher};
 use nb_units::{AcctId, Epoid, NoMemory, PartyId};
 use std::alloc::Global;
 
@@ -534,6 +534,18 @@ impl EntryList {
             Some(at) => order_at(&self.entries[at as usize], at, epoid),
             None => None,
         }
+    }
+
+    // What hashes identifiers for the index of orders.
+    pub(crate) fn order_hasher(&self) -> SlotHasher {
+        self.orders.hasher()
+    }
+
+    // Keeps the slot of an identifier that was hashed so.
+    pub(crate) fn remember_order(&mut self, identifier: &HashedKey)
+        ensures { self.new ≡ self.old }
+    {
+        self.orders.remember(identifier);
     }
 
     // The first fund under this reference.

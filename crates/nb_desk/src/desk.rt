@@ -19,6 +19,7 @@ ghost use Rattle.nb_desk.specs.Desks.{IsAt, IsSameDesk, MeetsVault};
 
 use crate::asked::{Asked, AskedAll};
 use crate::handed::DeskVault;
+use nb_book::SlotHasher;
 use nb_escrow::OpenedOrder;
 use nb_msgs::Draft;
 use nb_port::Disk;
@@ -36,6 +37,8 @@ pub type Pass<D> = nb_turn::Pass<DeskVault<D>>;
 #[derive(Drop)]
 pub struct Desk<D: Disk> {
     turn: Turn<DeskVault<D>>,
+    // The vault's.
+    hasher: SlotHasher,
 }
 
 impl<D: Disk + Drop> Desk<D> {
@@ -47,10 +50,16 @@ impl<D: Disk + Drop> Desk<D> {
         ensures ok { IfOk result (λ r. IsAt r.1 r.0 × (r.1.number ≡ 0) × (sees r.1 ≡ fresh_view vault.origin)) }
         ensures err { IfErr result (λ e. e.1 ≡ vault) }
     {
+        let hasher = vault.order_hasher();
         match Turn::open(alloc, DeskVault::of(vault)) {
-            Ok((turn, pass)) => Ok((Desk { turn }, pass)),
+            Ok((turn, pass)) => Ok((Desk { turn, hasher }, pass)),
             Err((fault, vault)) => Err((fault, vault.into_vault())),
         }
+    }
+
+    /// What hashes identifiers of orders for the vault's book, before a turn. No clause says for which: no answer depends on it.
+    pub fn order_hasher(&self) -> &SlotHasher {
+        &self.hasher
     }
 
     /// Splits a pass of this number off. It takes no memory.
@@ -97,7 +106,8 @@ impl<D: Disk + Drop> Desk<D> {
         ensures meets { MeetsVault (sees pass) result }
         ensures keeps { Keeps D.tells result }
     {
-        self.turn.close(rt, pass).into_vault()
+        let Desk { turn, hasher: _ } = self;
+        turn.close(rt, pass).into_vault()
     }
 
     /// Asks for one request, as [`Vault::answer`] does, in the name of the pass's number, at a moment in seconds since 1970-01-01 00:00

@@ -11,6 +11,7 @@ ghost use Rattle.nb_escrow.specs.Checks.{right_tag};
 ghost use Rattle.nb_escrow.specs.Orders as orders;
 
 use nb_body::EndorsedBytes;
+use nb_book::{HashedKey, SlotHasher};
 use nb_endorse::refusal::{IN_ENDORSEMENT, IN_HIDDEN, IN_ORDER, MALFORMED, NOT_SEALED, WRONG_TAG};
 use nb_endorse::{
     DigestedEndorsement, EndorsementBytes, KeptStates, MAX_SEALED, Refusal, SealedFault,
@@ -22,8 +23,8 @@ use nb_units::{Buffer, MAX_HIDDEN, Malformed, Secret, Small};
 use std::marker::Model;
 
 /// What was opened of an endorsed order before its turn, under the keys that were known then: what its sealed endorsement gave, and the
-/// tests of the order in it, refusals too. It promises nothing of the request that it was made of: what it holds of its own bytes and keys is its
-/// invariant, and what is decided does not depend on it. Where a turn has other bytes, or parties of other keys, the work is done there.
+/// tests of the order in it, refusals too, with the order's identifier, hashed. It promises nothing of the request that it was made of: what it holds of its own bytes and keys is
+/// its invariant, and what is decided does not depend on it. Where a turn has other bytes, or parties of other keys, the work is done there.
 pub struct OpenedOrder {
     endorsement: OpenedEndorsement,
     order: Option<TestedOrder>,
@@ -40,15 +41,24 @@ impl Drop for OpenedOrder {
 
 impl OpenedOrder {
     /// Opens what a body asks for, with the states of keys that are kept. `None` where the body is no endorsed order, or where no state is kept
-    /// for the merchant that it names. The order is tested where its endorsement opened and a state is kept for its consumer.
-    pub fn of(body: &[u8], kept: &KeptStates) -> Option<OpenedOrder> {
+    /// for the merchant that it names. The order is tested, and its identifier hashed for the house's book, where its endorsement opened and a state is
+    /// kept for its consumer.
+    pub fn of(body: &[u8], kept: &KeptStates, hasher: &SlotHasher) -> Option<OpenedOrder> {
         let Ok(asked) = EndorsedBytes::read(body) else {
             return None;
         };
         let key = kept.kept_merchant(asked.merchant())?;
         let endorsement = OpenedEndorsement::of(asked.sealed(), key);
-        let order = endorsement.tested(kept);
+        let order = endorsement.tested(kept, hasher);
         Some(OpenedOrder { endorsement, order })
+    }
+
+    /// The identifier of the order, hashed, where the order was tested. No clause says so, and nothing decided depends on it.
+    pub fn identifier(&self) -> Option<&HashedKey> {
+        match &self.order {
+            Some(order) => Some(&order.identifier),
+            None => None,
+        }
     }
 }
 
@@ -85,21 +95,23 @@ impl OpenedEndorsement {
     }
 
     // The order in it, tested, where it was read and a state is kept for the order's consumer.
-    fn tested(&self, kept: &KeptStates) -> Option<TestedOrder> {
+    fn tested(&self, kept: &KeptStates, hasher: &SlotHasher) -> Option<TestedOrder> {
         match &self.read {
-            Ok(read) => TestedOrder::of(&read.endorsement.order, kept),
+            Ok(read) => TestedOrder::of(&read.endorsement.order, kept, hasher),
             Err(_) => None,
         }
     }
 }
 
-// What testing the tag of the order that these bytes spell, and opening its hidden part, gave under this key.
+// What testing the tag of the order that these bytes spell, and opening its hidden part, gave under this key; and the order's identifier,
+// hashed, of which the invariant says nothing.
 #[derive(Drop)]
 struct TestedOrder {
     bytes: Small,
     key: KeyState,
     tag: Result<(), Refusal>,
     hidden: Result<Hidden, Refusal>,
+    identifier: HashedKey,
 }
 
 impl Model for TestedOrder {
@@ -114,7 +126,7 @@ impl Model for TestedOrder {
 }
 
 impl TestedOrder {
-    fn of(bytes: &Small, kept: &KeptStates) -> Option<TestedOrder> {
+    fn of(bytes: &Small, kept: &KeptStates, hasher: &SlotHasher) -> Option<TestedOrder> {
         let Ok(order) = read_order(bytes.as_slice()) else {
             return None;
         };
@@ -124,6 +136,7 @@ impl TestedOrder {
             key: key.copy(),
             tag: check_order_tag(bytes.as_slice(), &order, key),
             hidden: open_hidden(&order.hidden, key),
+            identifier: hasher.hash(&order.epoid.write()),
         })
     }
 }

@@ -2,11 +2,17 @@
 use Rattle.std.specs.Prelude.{◌≡◌, ℕ, ◌+◌, ◌%◌, ◌<◌, ◌==◌, ◌||◌, nat_lt, List, [], ◌∷◌, ◌++◌, map, take, length, slice_index, if◌then◌else◌}
 use Rattle.std.specs.Int.{w64, from_be_bytes}
 use Rattle.sha2.specs.Sha256.{sha256}
+use Rattle.nb_index.specs.declared.hashed.KeySlot.{KeySlot}
 use Rattle.nb_index.specs.declared.put.Put.{Put}
 
 -- the first 8 bytes of the digest of the index's key and the key, as a big-endian number, modulo the number of slots
 unfoldable pub slot_of : List ℕ → ℕ → List ℕ → ℕ
 slot_of index slots k = from_be_bytes w64 (take 8 (sha256 (index ++ k))) % slots
+
+-- a key stands beside the slot on which it falls
+pub record FallsOn (index : List ℕ) (slots : ℕ) (at : KeySlot) : Type 0 where
+  pub slot : at.slot ≡ slot_of index slots at.key
+  pub within : at.slot < slots
 
 -- the slot of each put
 abbrev pub slots_of : List ℕ → ℕ → List Put → List ℕ

@@ -2,10 +2,10 @@ ghost use Rattle.std.specs.Prelude.{◌≡◌, ◌≤◌, ◌<◌, ◌*◌, ◌-
 ghost use Rattle.nb_index.specs.declared.limits.TheConstants.{MAX_SLOTS};
 ghost use Rattle.nb_index.specs.Puts.{value_in, AreNew, IsLast, IsShaped};
 
+use crate::hashed::{HashedKey, KeySlot, SlotHasher};
 use crate::limits::MAX_SLOTS;
 use crate::memory::NoMemory;
 use crate::put::Put;
-use crate::slot::slot_of;
 use std::alloc::Global;
 use std::marker::Model;
 
@@ -19,6 +19,8 @@ pub struct FixedIndex {
     puts: Vec<Put>,
     // For each put the number of the one before it at its slot.
     before: Vec<u32>,
+    // The key that was remembered last, with its slot; at first 16 zero bytes. No answer depends on it.
+    remembered: KeySlot,
 }
 
 impl Drop for FixedIndex {
@@ -28,6 +30,7 @@ impl Drop for FixedIndex {
             lasts: _,
             puts: _,
             before: _,
+            remembered: _,
         } = self;
     }
 }
@@ -36,7 +39,7 @@ impl Model for FixedIndex {
     ghost use Rattle.std.specs.Prelude.{◌≤◌, ◌+◌, ◌*◌, [], ◌∷◌, vec_len, vec_capacity};
     ghost use Rattle.nb_index.specs.declared.limits.TheConstants.{MAX_SLOTS};
     ghost use Rattle.nb_index.specs.Puts.{Indexed, AreNew};
-    ghost use Rattle.nb_index.specs.Slots.{Chains, slots_of};
+    ghost use Rattle.nb_index.specs.Slots.{Chains, FallsOn, slots_of};
 
     ghost Value = { Indexed };
 
@@ -50,6 +53,7 @@ impl Model for FixedIndex {
       room_before : vec_len x.lasts + 1 ≤ 2 * vec_capacity x.before;
       new : AreNew x.puts.items;
       chains : Chains x.lasts.items x.before.items (slots_of x.key (vec_len x.lasts) x.puts.items);
+      remembered : FallsOn x.key (vec_len x.lasts) x.remembered;
     } };
 }
 
@@ -71,7 +75,27 @@ impl FixedIndex {
             lasts: vec![in alloc; 0; slots as usize]?,
             puts: Vec::with_capacity(alloc, most)?,
             before: Vec::with_capacity(alloc, most)?,
+            remembered: KeySlot::of(key, slots, &[0; 16]),
         })
+    }
+
+    /// What hashes keys for this index.
+    pub fn hasher(&self) -> SlotHasher
+        // It has the index's own key.
+        ensures { result ≡ self.now.shape.key }
+    {
+        SlotHasher::of(&self.key, self.lasts.len() as u32)
+    }
+
+    /// Keeps the slot of a key that [`FixedIndex::hasher`] hashed, in place of the one before: calls with that key then hash it no more. A key that was
+    /// hashed for another index is passed over. This takes no memory.
+    pub fn remember(&mut self, key: &HashedKey)
+        // Puts and shape are as before: no answer depends on what is kept.
+        ensures { self.new ≡ self.old }
+    {
+        if let Some(at) = key.place_in(&self.key, self.lasts.len() as u32) {
+            self.remembered = at;
+        }
     }
 
     /// The number that was put under this key, if one was.
@@ -81,7 +105,9 @@ impl FixedIndex {
         // each key was absent when it was put
         ensures new { AreNew self.now.puts }
     {
-        let slot = slot_of(&self.key, self.lasts.len() as u32, key);
+        let slot = self
+            .remembered
+            .slot_for(&self.key, self.lasts.len() as u32, key);
         let mut number = self.lasts[slot as usize];
         while number != 0 {
             let at = number as usize - 1;
@@ -94,7 +120,7 @@ impl FixedIndex {
         None
     }
 
-    /// Puts a number under a key that has none, where fewer than half of the slots are used. This takes no memory.
+    /// Puts a number under a key that has none, where there are fewer puts than half the slots. This takes no memory.
     pub fn put(&mut self, key: &[u8; 16], value: u32)
         // the key was not put, and there are fewer puts than half the number of slots
         requires absent { IsNone (value_in self.old.puts key.now) }
@@ -104,7 +130,9 @@ impl FixedIndex {
         // the shape is as before: none of the three lists took memory
         ensures shape { self.new.shape ≡ self.old.shape }
     {
-        let slot = slot_of(&self.key, self.lasts.len() as u32, key) as usize;
+        let slot = self
+            .remembered
+            .slot_for(&self.key, self.lasts.len() as u32, key) as usize;
         self.before.push_reserved(self.lasts[slot]);
         self.puts.push_reserved(Put { key: *key, value });
         self.lasts[slot] = self.puts.len() as u32;
@@ -119,7 +147,9 @@ impl FixedIndex {
         ensures puts { self.new.puts ≡ take (length self.old.puts - 1) self.old.puts }
         ensures shape { self.new.shape ≡ self.old.shape }
     {
-        let slot = slot_of(&self.key, self.lasts.len() as u32, key) as usize;
+        let slot = self
+            .remembered
+            .slot_for(&self.key, self.lasts.len() as u32, key) as usize;
         let before = self.before.pop();
         let _ = self.puts.pop();
         if let Some(number) = before {

@@ -2,8 +2,8 @@
 
 ghost use Rattle.nb_index.specs.Laws as law;
 
-/// A put index finds what was put, and nothing else: where each key was absent when it was put, a number is found under a key
-/// exactly where it was put under that key, and none where none was.
+/// Of a list of puts, as `find` sees an index: where each key was absent when it was put, a number is found under a key exactly where it
+/// was put under that key, and none where none was.
 pub fn finds_what_was_put()
     ensures { law.FindsWhatWasPut }
 {}

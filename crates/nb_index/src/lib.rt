@@ -9,17 +9,21 @@
 //! choose keys that all fall on one slot. A slot has the number of the last put that fell on it, and beside each put stands the
 //! number of the one before it at its slot; `find` goes along these.
 //!
+//! A key can be hashed without its index, by a [`SlotHasher`]. [`FixedIndex::remember`] has the index keep the slot of one key that was hashed so: calls with that key
+//! make no hash until another is kept.
+//!
 //! What the words mean stands in `specs/`: puts in `Puts.antt`, slots in `Slots.antt`. What holds of every index stands in
 //! `specs/Laws.antt` and is proved by the functions of [`laws`].
 //!
 //! Left to others: what the numbers mean, and how a key is made.
 //!
-//! Not said: on which slot a key falls, which a clause of the private `slot_of` tells; the keys that the stored run of `books` puts fall on one slot by
-//! another program's reckoning, which what it prints does not show; that slots are chosen by the key that the shape shows, which is the invariant of the type (`specs/Slots.antt`), since what is found does not
-//! depend on it; how many puts a call goes over, since no clause counts steps: there are at most half as many puts as slots, rounded up; that
-//! [`FixedIndex::new`] does not answer [`NoMemory`] where memory is there, since no clause can say that memory is left.
+//! Not said, since no clause counts steps, and what is found does not depend on it: on which slot a key falls, which a clause of the private `slot_of` tells, and
+//! that slots are chosen by the key that the shape shows, which is the invariant of the type (`specs/Slots.antt`); for how many slots a hasher hashes, and that a key whose slot is kept is not hashed
+//! anew; how many puts a call goes over, at most half as many as slots, rounded up. That [`FixedIndex::new`] does not answer [`NoMemory`] where memory is there
+//! no clause can say. The stored run of `books` puts keys that, as another program reckons, fall on one slot; what it prints does not show that.
 #![tactic(auto)]
 
+mod hashed;
 mod index;
 pub mod laws;
 mod limits;
@@ -27,6 +31,7 @@ mod memory;
 mod put;
 mod slot;
 
+pub use hashed::{HashedKey, SlotHasher};
 pub use index::FixedIndex;
 pub use limits::MAX_SLOTS;
 pub use memory::NoMemory;

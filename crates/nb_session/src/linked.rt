@@ -198,8 +198,11 @@ fn turn<R: Wait, D: Disk + Drop, L: Link, C: Clock, G: Gate>(
     if work.asks.is_empty() {
         return (pass, gathered, Sent::All);
     }
-    work.outside
-        .open_each(work.frames.bytes(), work.asks.as_slice());
+    work.outside.open_each(
+        work.frames.bytes(),
+        work.asks.as_slice(),
+        desk.order_hasher(),
+    );
     gate.at(worker, number, Point::BeforeTurn);
     let pass = answer(
         rt,

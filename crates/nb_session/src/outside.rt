@@ -4,6 +4,7 @@ ghost use Rattle.nb_turns.specs.declared.limits.TheConstants.{MAX_REQUESTS};
 ghost use Rattle.nb_vault.specs.Asking.{IsWithin};
 ghost use Rattle.nb_session.specs.Steps.{HasPlaces};
 
+use nb_book::SlotHasher;
 use nb_endorse::KeptStates;
 use nb_escrow::OpenedOrder;
 use nb_msgs::Draft;
@@ -34,9 +35,9 @@ impl Outside {
         })
     }
 
-    /// Opens each order among the requests of a turn, as far as the keys are known. No clause says what is opened: what a turn answers does not
+    /// Opens each order among the requests of a turn, and hashes its identifier, as far as the keys are known. No clause says what is opened: what a turn answers does not
     /// depend on it.
-    pub fn open_each(&mut self, bytes: &[u8], asks: &[AskAt])
+    pub fn open_each(&mut self, bytes: &[u8], asks: &[AskAt], hasher: &SlotHasher)
         requires places { HasPlaces self.old }
         requires most { length asks.now ≤ MAX_REQUESTS }
         requires within { All (IsWithin bytes.now) asks.now }
@@ -46,7 +47,7 @@ impl Outside {
         for ask in asks {
             let body = bytes.split_at(ask.start).1.split_at(ask.len).0;
             let opened = if ask.kind == ORDER_REQUEST {
-                OpenedOrder::of(body, &self.kept)
+                OpenedOrder::of(body, &self.kept, hasher)
             } else {
                 None
             };

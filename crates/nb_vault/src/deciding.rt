@@ -14,6 +14,7 @@ ghost use Rattle.nb_vault.specs.Rules.{house_of, house_rules};
 
 use crate::answer::AskAt;
 use crate::records::Records;
+use nb_book::Book;
 use nb_endorse::KeptStates;
 use nb_escrow::{Head, OpenedOrder, decide_with};
 use nb_msgs::Draft;
@@ -81,12 +82,24 @@ impl<D: Disk> Records<D> {
         ensures drafts { drafts.new.items ≡ drafts.old.items ++ (house_rules head.now self.old.book.cap self.old.book.entries (request_of kind body.now moment)).reply ∷ [] }
         ensures room { vec_capacity drafts.new ≡ vec_capacity drafts.old }
     {
+        remember(&mut self.book, opened);
         let at = u64::from(self.book.len());
         let decision = decide_with(&self.book, head, kind, body, moment, opened, kept);
         self.places.push_reserved(at);
         drafts.push_reserved(Draft::of(decision.reply, decision.keys));
         if let Some(entry) = decision.entry {
             self.gather(&entry);
+        }
+    }
+}
+
+// Has the book keep what was hashed of an order before the turn, if it was.
+fn remember(book: &mut Book, opened: Option<&OpenedOrder>)
+    ensures { book.new ≡ book.old }
+{
+    if let Some(order) = opened {
+        if let Some(identifier) = order.identifier() {
+            book.remember_order(identifier);
         }
     }
 }

@@ -16,6 +16,7 @@ mod opening;
 use crate::answer::{Answer, AnswerAll, AskAt};
 use crate::parts::Parts;
 use crate::taking::TakeIn;
+use nb_book::SlotHasher;
 use nb_endorse::KeptStates;
 use nb_entry::Entry;
 use nb_escrow::OpenedOrder;
@@ -240,6 +241,11 @@ impl<D: Disk> Vault<D> {
         ensures { result ≡ slice_get (entries_in self.now) i }
     {
         self.parts.records.book.entry(i)
+    }
+
+    /// What hashes identifiers of orders for this vault's book, before a turn. No clause says for which: no answer depends on it.
+    pub fn order_hasher(&self) -> SlotHasher {
+        self.parts.records.book.order_hasher()
     }
 
     /// The house's key, 32 bytes, as its head has it.

@@ -5,6 +5,7 @@ use crate::batch::{Batch, are_within};
 use crate::house::House;
 use crate::names::Names;
 use crate::telling;
+use nb_book::SlotHasher;
 use nb_endorse::KeptStates;
 use nb_escrow::OpenedOrder;
 use nb_lines::Told;
@@ -23,10 +24,11 @@ impl House {
             (Some(vault), [by, words @ ..]) => {
                 let mut names: Vec<&str> = Vec::new(told.alloc());
                 let mut memos = Vec::new(told.alloc());
+                let hasher = vault.order_hasher();
                 for word in words {
                     let (name, other) = word.split_once(':').unwrap_or((*word, *word));
                     names.push(name)?;
-                    memos.push(opened(&self.names, other, &self.kept))?;
+                    memos.push(opened(&self.names, other, &self.kept, &hasher))?;
                 }
                 let batch = Batch::of(self.alloc, &self.names, names.as_slice())?;
                 let by = nb_lines::number(*by);
@@ -41,8 +43,13 @@ impl House {
 }
 
 // What is opened of the request of this name, if there is one.
-fn opened(names: &Names, name: &str, kept: &KeptStates) -> Option<OpenedOrder> {
-    OpenedOrder::of(names.request(name)?.body(), kept)
+fn opened(
+    names: &Names,
+    name: &str,
+    kept: &KeptStates,
+    hasher: &SlotHasher,
+) -> Option<OpenedOrder> {
+    OpenedOrder::of(names.request(name)?.body(), kept, hasher)
 }
 
 // Whether something was asked, which it is where these are from 1 to 32 requests.

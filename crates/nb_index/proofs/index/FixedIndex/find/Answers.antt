@@ -9,9 +9,9 @@ use Rattle.nb_index.proofs.index.FixedIndex.find.Goals as goal
 
 pub loop-number-init : goal.loop-number-init
 loop-number-init c =
-    let within : c.slot_of-slot.result < length c.self.inside.lasts.items = omega (arith, c.slot_of-slot.ensures.within, c.len.ensures, c.self.inside.lasts.ok.0) in
+    let within : c.slot_for-slot.result < length c.self.inside.lasts.items = omega (arith, c.slot_for-slot.ensures.within, c.len.ensures, c.self.inside.lasts.ok.0) in
     rw (get_or_read _ _ _ within c.index-number.ensures 0)
-    (starts _ _ _ _ _ _ _ c.self.invariant.chains within (c.slot_of-slot.ensures.slot ∙ ap (λ (n : ℕ). slot_of c.self.inside.key n c.args.key.now) c.len.ensures))
+    (starts _ _ _ _ _ _ _ c.self.invariant.chains within (c.slot_for-slot.ensures.slot ∙ ap (λ (n : ℕ). slot_of c.self.inside.key n c.args.key.now) c.len.ensures))
 
 pub returns-then-eq-clause-found : goal.returns-then-eq-clause-found
 returns-then-eq-clause-found c =
@@ -31,7 +31,7 @@ loop-number-smaller c =
     omega (arith, count, c.loop-number.invariant.within, c.self.invariant.chains.as_many, length-map c.self.inside.puts.items (λ p. slot_of c.self.inside.key c.self.inside.lasts.len p.key)) in
     rw (get_or_read _ _ _ within c.index-number-in-loop-number.ensures 0)
     (goes_on _ _ _ _ _ _ _ _ _ c.index.result.now c.loop-number.invariant c.self.invariant.chains
-    (c.slot_of-slot.ensures.slot ∙ ap (λ (n : ℕ). slot_of c.self.inside.key n c.args.key.now) c.len.ensures) count
+    (c.slot_for-slot.ensures.slot ∙ ap (λ (n : ℕ). slot_of c.self.inside.key n c.args.key.now) c.len.ensures) count
     (λ same. other (ap (λ (p : Put). p.key) c.index.ensures ∙ same))).0
 
 pub loop-number-preserved : goal.loop-number-preserved
@@ -43,5 +43,5 @@ loop-number-preserved c =
     omega (arith, count, c.loop-number.invariant.within, c.self.invariant.chains.as_many, length-map c.self.inside.puts.items (λ p. slot_of c.self.inside.key c.self.inside.lasts.len p.key)) in
     rw (get_or_read _ _ _ within c.index-number-in-loop-number.ensures 0)
     (goes_on _ _ _ _ _ _ _ _ _ c.index.result.now c.loop-number.invariant c.self.invariant.chains
-    (c.slot_of-slot.ensures.slot ∙ ap (λ (n : ℕ). slot_of c.self.inside.key n c.args.key.now) c.len.ensures) count
+    (c.slot_for-slot.ensures.slot ∙ ap (λ (n : ℕ). slot_of c.self.inside.key n c.args.key.now) c.len.ensures) count
     (λ same. other (ap (λ (p : Put). p.key) c.index.ensures ∙ same))).1

@@ -11,7 +11,7 @@ invariant_of-self c =
     let puts_long = c.self.inside.puts.ok.0 in
     let room = rw (← c.self.view_is) at c.requires.room in
     let absent = rw (← c.self.view_is) at c.requires.absent in
-    let within : c.slot_of-slot.result < length c.self.inside.lasts.items = omega (arith, c.slot_of-slot.ensures.within, c.len.ensures, slots_long) in
+    let within : c.slot_for-slot.result < length c.self.inside.lasts.items = omega (arith, c.slot_for-slot.ensures.within, c.len.ensures, slots_long) in
     record {
       some = c.self.invariant.some;
       most = c.self.invariant.most;
@@ -22,6 +22,7 @@ invariant_of-self c =
       chains =
           rw (c.push_reserved-2.ensures.items, c.push_reserved.ensures.items, get_or_read _ _ _ within c.index.ensures 0)
           (put_chains _ _ _ _ _ _ _ _ c.self.invariant.chains within
-          (c.slot_of-slot.ensures.slot ∙ ap (λ (n : ℕ). slot_of c.self.inside.key n c.args.key.now) c.len.ensures)
+          (c.slot_for-slot.ensures.slot ∙ ap (λ (n : ℕ). slot_of c.self.inside.key n c.args.key.now) c.len.ensures)
           (omega (arith, c.len-2.ensures, c.push_reserved-2.ensures.len, puts_long)));
+      remembered = c.self.invariant.remembered;
     }

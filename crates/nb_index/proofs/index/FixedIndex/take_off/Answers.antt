@@ -22,7 +22,7 @@ invariant_of-self c =
       c.self.invariant.chains.as_many,
       length-map c.self.inside.puts.items (λ p. slot_of c.self.inside.key c.self.inside.lasts.len p.key),
     ) in
-    let within : c.slot_of-slot.result < length c.self.inside.lasts.items = omega (arith, c.slot_of-slot.ensures.within, c.len.ensures, slots_long) in
+    let within : c.slot_for-slot.result < length c.self.inside.lasts.items = omega (arith, c.slot_for-slot.ensures.within, c.len.ensures, slots_long) in
     let number : c.in-Some.number ≡ get_or c.self.inside.before.items (c.self.inside.puts.len - 1) 0 =
     same_Some _ _
     (sym c.in-Some.is
@@ -38,8 +38,9 @@ invariant_of-self c =
       chains =
           rw (c.pop.ensures.rest, c.pop-before.ensures.rest, same, number)
           (off_chains _ _ _ _ _ _ _ d c.self.invariant.chains (omega (arith, some, puts_long))
-          (c.slot_of-slot.ensures.slot
+          (c.slot_for-slot.ensures.slot
           ∙ ap (λ (n : ℕ). slot_of c.self.inside.key n c.args.key.now) c.len.ensures
           ∙ ap (λ (k : List ℕ). slot_of c.self.inside.key c.self.inside.lasts.len k) (sym (last d)))
           within);
+      remembered = c.self.invariant.remembered;
     }

@@ -12,4 +12,10 @@ decide_with-decision-requires g c =
 
 pub gather-requires-clause-legal : goal.gather-requires-clause-legal
 gather-requires-clause-legal g c =
-    subst (λ (h : Head). NextUnder h.version h.rate c.args.self.now.book.entries c.in-Some.entry) c.requires.keys (search rules)
+    subst (λ (h : Head). NextUnder h.version h.rate c.remember.new.book.entries c.in-Some.entry) c.requires.keys (search rules)
+
+pub gather-requires-clause-gathers : goal.gather-requires-clause-gathers
+gather-requires-clause-gathers g c = rw c.remember.ensures (search rules)
+
+pub returns-in_default-clause-gathers : goal.returns-in_default-clause-gathers
+returns-in_default-clause-gathers g c = rw c.remember.ensures (search rules)
