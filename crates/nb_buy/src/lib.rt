@@ -4,8 +4,8 @@
 //! sent. From then on it hears the next frame of the peer whose answer is waited for, carries the consumer's step out, and goes on, until the purchase is over,
 //! nothing more comes of that peer, [`MOST_FRAMES`] were read, or a step cannot be taken. A step's message is spelled, then its item is
 //! appended to the journal, and then the message is sent, over the house's link or over the seller's. A frame that is ignored is passed over. Where nothing more comes
-//! of the seller of a purchase that was ordered, its link having ended, failed, or given what is no frame or a refusal, the house is asked once what became of the
-//! order. The goods of a purchase that was paid are written at its end, and each time it is made again. Goods that
+//! of the seller of a purchase that was ordered, since its link ended, a read of it or a write to it failed, or what it gave is no frame or a refusal, the house is asked what
+//! became of the order, once for that reason. The goods of a purchase that was paid are written at its end, and each time it is made again. Goods that
 //! a frame just opened want no memory to be written.
 //!
 //! What is done is seen as a list of acts (`specs/Run.antt`): a start, a frame that is heard, a word that nothing is waited for any more. What each keeps and sends
