@@ -2,6 +2,8 @@
 takes a connection."""
 
 import contextlib
+import errno
+import os
 import re
 import socket
 
@@ -33,6 +35,16 @@ def address(word):
     return host, port
 
 
+def dialled(host, port):
+    """A connection to a port. Where nobody listens at a port from which the system takes those of connections, it may join a socket to itself: that is no
+    connection."""
+    link = socket.create_connection((host, port), timeout=LONGEST_DIAL)
+    if link.getsockname() == link.getpeername():
+        link.close()
+        raise ConnectionRefusedError(errno.ECONNREFUSED, os.strerror(errno.ECONNREFUSED))
+    return link
+
+
 class House:
     """A house at an address, and the connection to it, if there is one."""
 
@@ -43,7 +55,7 @@ class House:
         """Connects to the first port that takes a connection, from the one that was named on."""
         for port in range(self.port, min(self.port + PORTS, 65536)):
             with contextlib.suppress(OSError):
-                self.link = socket.create_connection((self.host, port), timeout=LONGEST_DIAL)
+                self.link = dialled(self.host, port)
                 self.link.settimeout(LONGEST_REPLY)
                 return
         raise Unanswered(f"nobody takes a connection at port {self.port} of {self.host}, or at one of the {PORTS - 1} behind it")
