@@ -8,7 +8,7 @@ layouts of docs/FORMATS.md. The test holds the program to this:
   next time, at an honest seller, to the goods. Where the order was sent the house is asked, and the purchase ends by its answer.
 - A seller that endorses with a wrong key, and one whose buyer has too little money: status 10. A house that refuses: 12.
 - A wallet of cap 1 that is full, and one that is full behind its order: 14. One that holds something else, one damaged at any place of its front and its items, and one of a house: 8.
-  A wallet that another process holds, an address where nobody listens, a wallet that is not there: 17.
+  A wallet that another process holds, an address where nobody listens, also where the system joins who dials it to itself, a wallet that is not there: 17.
 - An output that fails: 4, and the goods next time.
 - The program is killed at 20 moments, before and behind each message of a purchase, and started again, until the goods are there.
 
@@ -42,6 +42,18 @@ MOST_FRAMES = 10_000
 
 # In seconds: the whole test.
 SECONDS = 300
+
+# A network of a process's own, where a seller listens at 7000, and whose system has two ports for connections: who dials the first of them is joined to itself.
+NETWORK = ["unshare", "--map-root-user", "--net", sys.executable, "-c", """
+import fcntl, os, socket, struct, sys
+with socket.socket() as link:
+    fcntl.ioctl(link, 0x8914, struct.pack("16sH22x", b"lo", 1))
+with open("/proc/sys/net/ipv4/ip_local_port_range", "w") as ports:
+    ports.write("40000 40001")
+seller = socket.create_server(("127.0.0.1", 7000))
+seller.set_inheritable(True)
+os.execv(sys.argv[1], sys.argv[1:])
+"""]
 
 PRICE_ASKED, QUOTE, GOODS_ASKED, GOODS, ORDER, PASSED_ON = 0x01, 0x02, 0x03, 0x04, 0x05, 0x08
 
@@ -187,9 +199,9 @@ class Shop:
         self.wallets += 1
         return wallet(self.folder / f"wallet{self.wallets}", party, cap)
 
-    def words(self, wallet, tid, limit=400, server=None, seller=None):
+    def words(self, wallet, tid, limit=400, server=None, seller=None, network=()):
         at = seller or f"127.0.0.1:{self.seller.port}"
-        return [PROGRAM, "buy", wallet, server or self.server, at, str(MERCHANT.id), str(PRODUCT), str(limit), str(tid)]
+        return [*network, PROGRAM, "buy", wallet, server or self.server, at, str(MERCHANT.id), str(PRODUCT), str(limit), str(tid)]
 
     def buys(self, wallet, tid, wanted, place=0, **more):
         """A run of the program that has to end with this status. It writes the goods, at status 0, and else nothing."""
@@ -307,6 +319,10 @@ def wallets(shop, tid):
     shop.buys(good, tid + 3, 17, seller=f"127.0.0.1:{port}")
     shop.buys(good, tid + 3, 17, server=f"127.0.0.1:{port}")
     shop.buys(shop.folder / "nowhere", tid + 3, 17)
+    if subprocess.run([*NETWORK, "/bin/true"], stderr=subprocess.DEVNULL).returncode == 0:
+        shop.buys(good, tid + 3, 17, server="127.0.0.1:40000", seller="127.0.0.1:7000", network=NETWORK)
+    else:
+        print("tests/buy: a network of its own cannot be had: that nobody is joined to itself is left out", file=sys.stderr)
     return tid + 5
 
 

@@ -222,12 +222,26 @@ impl<R: Net<Stream = TcpStream> + Drop> Dialler for StdDialler<R> {
 
     ghost failed = { λ _. ⊤ };
 
+    /// Where nobody listens at an address, the system may join who dials it to itself. That is no connection.
     fn dial(&mut self, millis: u32) -> DialOut<StdSocket> {
         let limit = Duration::from_millis(u64::from(millis));
         match TcpStream::connect_timeout(&self.rt, &self.address, limit) {
-            Ok(stream) => DialOut::Joined(StdSocket::over(stream)),
+            Ok(stream) => {
+                if is_joined_to_itself(&stream) {
+                    return DialOut::Failed;
+                }
+                DialOut::Joined(StdSocket::over(stream))
+            }
             Err(_) => DialOut::Failed,
         }
+    }
+}
+
+// Whether both ends of a stream have one address.
+fn is_joined_to_itself(stream: &TcpStream) -> bool {
+    match (stream.local_addr(), stream.peer_addr()) {
+        (Ok(here), Ok(there)) => here == there,
+        _ => false,
     }
 }
 
