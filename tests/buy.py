@@ -43,13 +43,19 @@ MOST_FRAMES = 10_000
 # In seconds: the whole test.
 SECONDS = 300
 
-# A network of a process's own, where a seller listens at 7000, and whose system has two ports for connections: who dials the first of them is joined to itself.
+# A network of a process's own, where a seller listens at 7000, and whose system has two ports for connections: who dials the first of them is joined to itself, which a
+# socket shows first. It is closed by a reset, so that the port is free again.
 NETWORK = ["unshare", "--map-root-user", "--net", sys.executable, "-c", """
 import fcntl, os, socket, struct, sys
+SIOCSIFFLAGS, IFF_UP = 0x8914, 1
 with socket.socket() as link:
-    fcntl.ioctl(link, 0x8914, struct.pack("16sH22x", b"lo", 1))
+    fcntl.ioctl(link, SIOCSIFFLAGS, struct.pack("16sH22x", b"lo", IFF_UP))
 with open("/proc/sys/net/ipv4/ip_local_port_range", "w") as ports:
     ports.write("40000 40001")
+with socket.create_connection(("127.0.0.1", 40000)) as link:
+    if link.getsockname() != link.getpeername():
+        sys.exit("no socket is joined to itself")
+    link.setsockopt(socket.SOL_SOCKET, socket.SO_LINGER, struct.pack("ii", 1, 0))
 seller = socket.create_server(("127.0.0.1", 7000))
 seller.set_inheritable(True)
 os.execv(sys.argv[1], sys.argv[1:])
