@@ -25,15 +25,16 @@ ordered_open (Some (phase.Paid len)) ordered = absurd ordered
 ordered_open (Some (phase.Refused code)) ordered = absurd ordered
 ordered_open (Some phase.Foul) ordered = absurd ordered
 
-ended_apart : (told : Option Phase) → HasEnded told → IsOrdered told → ⊥
-ended_apart None over ordered = ordered
-ended_apart (Some phase.Ticketing) over ordered = ordered
-ended_apart (Some phase.Asked) over ordered = ordered
-ended_apart (Some phase.Wanted) over ordered = ordered
-ended_apart (Some phase.Ordered) over ordered = over
-ended_apart (Some (phase.Paid len)) over ordered = ordered
-ended_apart (Some (phase.Refused code)) over ordered = ordered
-ended_apart (Some phase.Foul) over ordered = ordered
+-- none is over and going on
+pub over_apart : (told : Option Phase) → HasEnded told → IsOpen told → ⊥
+over_apart None over going = going
+over_apart (Some phase.Ticketing) over going = over
+over_apart (Some phase.Asked) over going = over
+over_apart (Some phase.Wanted) over going = over
+over_apart (Some phase.Ordered) over going = over
+over_apart (Some (phase.Paid len)) over going = going
+over_apart (Some (phase.Refused code)) over going = going
+over_apart (Some phase.Foul) over going = going
 
 -- a purchase that is going on
 pub going_is : (told : Option Phase) (ordered : Bool) → StandsAs told (stands.Going ordered) → IsOpen told
@@ -69,18 +70,7 @@ asks_is told false Seller (stands.Going true) is test = record { fresh = refl; s
 pub turn_is : (told : Option Phase) (asked : Bool) (peer : Peer) (standing : Standing) → StandsAs told standing → may_ask_for asked peer standing ≡ false → HadItsTurn told asked peer
 turn_is told asked House standing is test = tt
 turn_is told asked Seller stands.Unknown is test = λ ordered. absurd (subst IsOrdered is ordered)
-turn_is told asked Seller stands.Ended is test = λ ordered. absurd (ended_apart told is ordered)
+turn_is told asked Seller stands.Ended is test = λ ordered. absurd (over_apart told is (ordered_open told ordered))
 turn_is told asked Seller (stands.Going false) is test = λ ordered. absurd (is.1 ordered)
 turn_is told true Seller (stands.Going true) is test = λ ordered. refl
 turn_is told false Seller (stands.Going true) is test = absurd cc
-
--- none is over and going on
-pub over_apart : (told : Option Phase) → HasEnded told → IsOpen told → ⊥
-over_apart None over going = going
-over_apart (Some phase.Ticketing) over going = over
-over_apart (Some phase.Asked) over going = over
-over_apart (Some phase.Wanted) over going = over
-over_apart (Some phase.Ordered) over going = over
-over_apart (Some (phase.Paid len)) over going = going
-over_apart (Some (phase.Refused code)) over going = going
-over_apart (Some phase.Foul) over going = going

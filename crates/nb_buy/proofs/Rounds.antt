@@ -17,8 +17,6 @@ use Rattle.nb_wire.specs.declared.receiving.LinkEnd.{LinkEnd}
 use Rattle.nb_wire.specs.declared.sending.Sent.{Sent}
 use Rattle.nb_wire.specs.declared.sending.Sent.TheVariants.{All, Failed}
 use Rattle.nb_wallet.specs.declared.wallet.Start.{Start}
-use Rattle.nb_consumer.specs.declared.phase.Phase.{Phase}
-use Rattle.nb_consumer.specs.declared.phase.Phase.TheVariants as phase
 use Rattle.nb_consumer.specs.Goods.{IsOpen, HasEnded}
 use Rattle.nb_consumer.specs.State.{Buyer}
 use Rattle.nb_consumer.specs.Table.{step_of}
@@ -41,7 +39,7 @@ use Rattle.nb_buy.proofs.OverLines.{sent_same, refusal_either, refusal_later, ov
 use Rattle.nb_buy.proofs.Carrying.{went_none, went_both}
 use Rattle.nb_buy.proofs.Failing.{AllSent, sent_or_failed, HearsNoFailed, hears_sent, clear_move, clear_on, line_went, failed_on, failed_still}
 use Rattle.nb_buy.proofs.Rows.{refusal_row, row_known, started_open, silent_same}
-use Rattle.nb_buy.proofs.HowFar.{open_known, over_apart}
+use Rattle.nb_buy.proofs.HowFar.{open_known, ordered_open, over_apart}
 
 -- ---- what is done next behind a step
 
@@ -69,17 +67,6 @@ sent_on from (step.Ignored why) old new wrote fails = inl (sym (sent_same old.se
 sent_on from (step.Move keep to.Server sent) old new wrote fails = inl (sym (sent_same old.seller.sent new.seller.sent old.seller.wire.link new.seller.wire.link wrote) ∙ fails)
 sent_on from (step.Move keep (to.Merchant party) sent) old new wrote fails = inr (subst (λ (so : Sent). IsOfSeller (next_sent Seller so)) (sym fails) tt)
 sent_on from (step.Move keep (to.Consumer party) sent) old new wrote fails = inr (subst (λ (so : Sent). IsOfSeller (next_sent Seller so)) (sym fails) tt)
-
--- a purchase that was ordered is going on
-ordered_open : (told : Option Phase) → IsOrdered told → IsOpen told
-ordered_open (Some phase.Ordered) is = tt
-ordered_open None is = absurd is
-ordered_open (Some phase.Ticketing) is = absurd is
-ordered_open (Some phase.Asked) is = absurd is
-ordered_open (Some phase.Wanted) is = absurd is
-ordered_open (Some (phase.Paid len)) is = absurd is
-ordered_open (Some (phase.Refused code)) is = absurd is
-ordered_open (Some phase.Foul) is = absurd is
 
 -- one act is not none
 one_more : (a : Act) → ◌≡◌ {A = List Act} (a ∷ []) [] → ⊥

@@ -55,7 +55,7 @@ way_of s b acts = way_behind s b outset acts
 abbrev pub IsOverAt : {D : Type 0} → Point D → Point D → List Act → Peer → Over → Type 0
 IsOverAt p q acts peer why = IsOver (line_at peer p.lines) (line_at peer q.lines) (frames_on peer acts) why
 
--- where that is because of a refusal, it is the last frame that was heard
+-- where that is because of a refusal, the last act heard it
 abbrev pub IsLastRefusal : Start → Buyer → List Act → Over → Type 0
 IsLastRefusal s b acts why = why ≡ over.Refused → (way_of s b acts).refused ≡ true
 

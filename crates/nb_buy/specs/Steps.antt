@@ -217,7 +217,8 @@ abbrev pub OverIs : {D : Type 0} → Point D → Point D → List Act → Next �
 OverIs p q acts (next.Awaits peer) = Unit {0}
 OverIs p q acts (next.Over peer why) = IsOverAt p q acts peer why
 
--- an answer that is waited for was asked for: no write to its peer failed, and the last frame was no refusal. Where a refusal ended that, it was
+-- An answer that is waited for was asked for: no write to its peer failed, and the last act heard no refusal. One that is waited for no more because of a refusal: the
+-- last act heard that
 abbrev pub IsClear : Lines → Bool → Next → Type 0
 IsClear lines refused (next.Awaits peer) = ((line_at peer lines).sent ≡ All) × (refused ≡ false)
 IsClear lines refused (next.Over peer why) = why ≡ over.Refused → refused ≡ true
