@@ -15,7 +15,7 @@ use Rattle.nb_commands.specs.Ending.{at_no_place}
 use Rattle.nb_words.specs.Words.{AreServed}
 use Rattle.nb_work.specs.declared.working.Dials.{Dials}
 use Rattle.nb_work.specs.Work.{IsStaffed, IsDialled, WorksAs, workers_seen}
-use Rattle.nb_platform.specs.declared.jobs.TheConstants.{NO_FILE}
+use Rattle.nb_platform.specs.declared.jobs.TheConstants.{NOT_OPENED}
 
 -- the job's numbers, and the length of its request, are what those of a command may be
 abbrev pub FitsWork : Job → Type 0
@@ -25,7 +25,7 @@ FitsWork (Sell links shelf offers) = Unit {0}
 
 -- the two ways in which it ends where something could not be opened
 abbrev pub EndsUnopened : Ending → Type 0
-EndsUnopened ending = (ending ≡ at_no_place NO_FILE) ⊎ (ending ≡ at_no_place OUT_OF_MEMORY)
+EndsUnopened ending = (ending ≡ at_no_place NOT_OPENED) ⊎ (ending ≡ at_no_place OUT_OF_MEMORY)
 
 -- ---- what was opened
 

@@ -11,14 +11,14 @@ use std::thread::Threads;
 
 /// The status where the journal's file or its folder could not be opened or made its owner's, or another process holds it; where an address is none, a worker
 /// has no port or could not listen, or a link not be dialled; or where /dev/null could not be opened.
-pub const NO_FILE: u8 = 17;
+pub const NOT_OPENED: u8 = 17;
 
 /// Does the job that is left, over the disk, the output, and the links that the words of its command name; the workers' threads are started over
 /// `threads`. The disk is handed back. The words are counted from 0, which is the command's name. To serve, each worker listens on a port of its own: that of word 2, and
 /// those behind it. To buy, the house is dialled at word 2 and the seller at word 3. To sell, consumers come to word 2, and the house is dialled
 /// at word 3. Each of these is an address in numbers, with a port that is not 0.
 ///
-/// First these are opened: the status is [`NO_FILE`] where a word is no such address, where a worker has no port or cannot listen there, and where a link
+/// First these are opened: the status is [`NOT_OPENED`] where a word is no such address, where a worker has no port or cannot listen there, and where a link
 /// cannot be dialled, for want of memory too; and 6 where there is no memory to hold what was opened, or to listen. The job is not begun then, the disk is the one
 /// handed in, and nothing is sent; the place is 0. Else disk, status and place are those of [`work`]. Who buys at a terminal is told there how many bytes came of the
 /// seller. No clause tells the two statuses apart, speaks of the words, nor of the threads.
@@ -68,5 +68,5 @@ fn unopened(e: io::Error) -> Ending
     if e.kind() == io::ErrorKind::OutOfMemory {
         return Ending::at_no_place(OUT_OF_MEMORY);
     }
-    Ending::at_no_place(NO_FILE)
+    Ending::at_no_place(NOT_OPENED)
 }

@@ -3,7 +3,7 @@
 //! [`open_journal`] opens the file of a journal for this process alone, and its folder, and gives the disk over both. [`do_job`] does a
 //! [`Job`](nb_commands::Job) over what the words of the job name: to serve it listens on a port for each worker, to buy it dials the house and
 //! the seller, and to sell it listens on one port and dials the house. Where one of these cannot be opened the job is not begun, and the
-//! status is [`NO_FILE`], or 6 for want of memory. Else [`nb_work::work`] does the job, over the adapters of `nb_net` and of `nb_system`. Who buys at a terminal is told there how many bytes came of the seller.
+//! status is [`NOT_OPENED`], or 6 for want of memory. Else [`nb_work::work`] does the job, over the adapters of `nb_net` and of `nb_system`. Who buys at a terminal is told there how many bytes came of the seller.
 //!
 //! What a job comes to is said in `specs/Doing.antt`: something could not be opened, and the disk is the one handed in; or it was worked as [`nb_work::work`]
 //! says, over as many workers and new ports that give as many links as it names, and the new links that it needs.
@@ -22,4 +22,4 @@ mod links;
 mod watched;
 
 pub use files::open_journal;
-pub use jobs::{NO_FILE, do_job};
+pub use jobs::{NOT_OPENED, do_job};
