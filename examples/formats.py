@@ -66,22 +66,22 @@ CODES = {
 # How the program ends, by its status: what it means, what P is, and what to do.
 STATUSES = {
     0: ("all requests were answered, or the journal was made", "", "look into the replies: codes 50 and 51 say that the disk failed"),
-    1: ("the program was not built", "", "look at the end of netbill.log, which the launcher shows"),
+    1: ("the program was not built", "", "do what the line of the launcher says; where it shows the end of netbill.log, read that"),
     2: ("the words are none of the program's", "", "compare them with docs/netbill.1"),
     3: ("the input failed", "", "send it again: what was answered is recorded, and is told again"),
     4: ("the output failed", "", "send the input again: what was recorded is told again"),
     5: ("the input ended within a frame, or holds what is no frame, or is not what the command reads: a head, a journal without a rate, a case, a script, a shelf, offers, a key or a request", "where the input is bad, which each command counts in a way of its own: the words of the command behind this say how", "mend the input from there on; the frames before it were answered"),
     6: ("there was no memory", "", "give the process more: docs/OPERATING.md says how much a journal takes"),
     7: ("the journal's disk failed as it was opened or made, or as a wallet or a stall kept an item", "", "look at the disk and its free room, then start again"),
-    8: ("the file is no journal, has a bad entry, or is damaged, or, of sell, the shelf has not what the stall sold", "place of the damage in the file, and else 0", "move the file aside, see what it holds with examples/show journal, and only then take the last copy: docs/OPERATING.md says what that forgets"),
+    8: ("the file is no journal, has a bad entry, or is damaged, or, of sell, the shelf has not what the stall sold", "place of the damage in the file, and else 0", "see first that the right file is named and, of sell, that the shelf has each product that the stall sold, with its goods; only else move the file aside, see what it holds with examples/show, and only then take the last copy, of a stall none: docs/OPERATING.md says what that forgets"),
     9: ("no journal is made: there is one, or the cap is out of its range", "", "take another file, or a cap from 1 to 1,000,000"),
     10: ("a purchase is over and was not paid: the house refused it, or the key does not open the goods", "", "examples/show wallet says which; for a dispute examples/case writes the evidence"),
     11: ("as many frames were answered as one run answers", "", "start again with the rest of the input"),
-    12: ("a purchase is not over, and nothing more came of the house or the seller", "", "run it again: it goes on from the wallet"),
+    12: ("a purchase is not over, and nothing more came of the house or the seller", "", "run it again: it goes on from the wallet; where it ends so at once each time, see the product, the merchant's number, and the number and key of the wallet; where the price is above the limit, buy under another number, since a purchase keeps its limit"),
     13: ("a port failed, with connections left, or, of sell, the connection to the house did", "", "start again; of sell, see that the house listens: it goes on from the stall"),
     14: ("the wallet or the stall holds as many items as its cap says", "", "of a wallet, begin another one under the same head for further purchases, with numbers that no purchase had; of a stall, begin one for another merchant's number, and let the old one answer who bought there: under the same number its sales would have the keys of the old ones again"),
     15: ("nobody holds the account, and it is not the house's", "", "look for its number: examples/show journal has all accounts, and 0 is the house's"),
-    16: ("the place from which records were asked for is above the number of entries", "how many entries stand", "ship from the number that the standby's last acknowledgement told; where that is above this, the standby is ahead: this is no primary of it"),
+    16: ("the place from which records were asked for is above the number of entries", "how many entries stand", "ship from one below the number that the standby's last acknowledgement told; where that is above this, the standby is ahead: this is no primary of it"),
     17: ("a file or a port could not be opened, or another process holds the journal, or nobody listens at an address that is dialled", "", "see who holds it, its mode, whether the port is free, and whether the other side runs"),
 }
 
