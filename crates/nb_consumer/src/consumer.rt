@@ -101,7 +101,7 @@ impl Consumer {
         self.known.answer(deed)
     }
 
-    /// Hears nothing of a purchase for long: its last message is sent again, and of an order the house is asked for the status.
+    /// Hears nothing of a purchase for long: where it is known and not over its last message is sent again, and of an order the house is asked for the status.
     pub fn quiet(&mut self, transaction: u64) -> Result<Step, NoMemory>
         // The row of the table; nothing changes.
         ensures answers { Answers self.old self.new (table.silent self.old transaction) result }

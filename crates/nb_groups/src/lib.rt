@@ -10,7 +10,7 @@
 //! shelf, the offers, the product, the consumer, the request and the moment: no state stands behind it. What follows from these is proved by the
 //! functions of [`laws`].
 //!
-//! [`credential`] and [`quote`] take no memory. A look-up of an offer is one in a map, however many there are.
+//! [`credential`] and [`quote`] take no memory. That a look-up of an offer is one in a map, however many there are, is how it is built: no clause says it.
 //!
 //! Left to others: whose the keeper's key is, whether the consumer who asks is the one of a ticket, the clock, and what becomes of a price that was
 //! quoted.

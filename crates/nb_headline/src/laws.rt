@@ -13,7 +13,7 @@ pub fn desk_turns_are_of_house<D: Disk>()
 {}
 
 /// The six sentences, of every run of a real house and every world of real parties that is tied to it, behind every list of events. Premised are
-/// the contracts of the disk and the tie: a first vault with nothing in doubt, which made the turns; a set-up of Legal entries, with no packet, call or turn; and
+/// the contracts of the disk and the tie: a first vault that keeps what every vault keeps, with nothing in doubt, which made the turns; a set-up of Legal entries, with no packet, call or turn; and
 /// events from it that lead the world to that vault's entries and have a packet made for each request. Nothing is premised of the network, of injectors and of keys.
 pub fn headline<D: Disk>()
     ensures { law.HeadlineLaw D.tells }

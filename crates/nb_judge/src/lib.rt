@@ -3,7 +3,7 @@
 //! A case is the house's key, the consumer's key, the order, the receipt and the sealed goods ([`Case`]; its bytes stand in
 //! `specs/Layout.antt`). [`judge`] rules on it by six tests in order (`specs/Ruling.antt`): whether the consumer made the order, whether the house
 //! made the receipt, whether it is of that order, whether it says paid, whether these are the goods that were ordered, and whether the key
-//! of the receipt opens them. [`CaseBytes`] is a case that stays where it was read: nothing of it is copied, and ruling takes no memory.
+//! of the receipt opens them. [`CaseBytes`] is a case that stays where it was read: its receipt and its goods are not copied, and ruling takes no memory.
 //!
 //! Each case has one ruling, whoever finds it ([`laws::one_ruling`]).
 //!

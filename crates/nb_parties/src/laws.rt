@@ -9,7 +9,7 @@ ghost use Rattle.nb_parties.specs.Worked as worked;
 
 /// A purchase that ended by a receipt which the house made for its consumer is, then and behind every later event, what the durable entry of its
 /// order says: paid with the goods that the entry's key opens, foul where that key opens nothing, or refused with the entry's code; and the receipt
-/// is the one that the entry gives. Premised of merchants, of the network and of keys is nothing. `M` is what merchants are.
+/// is what is read of the bytes that the entry gives. Premised of merchants, of the network and of keys is nothing. `M` is what merchants are.
 pub fn purchases_end_as_entries_say<M>()
     ensures ends { ends.EndsLaw M }
     ensures real { ends.RealIsOne }
@@ -27,7 +27,7 @@ pub fn endorsed_goods_open()
 /// Each payment in the house's list has the call that it came by. Where a merchant made the packet of that call, it is an endorsement of that
 /// merchant's, the key of the payment is the endorsement's, and what any consumer held when it kept the order with those bytes opens under it to the
 /// goods of the product, or is a collision. So it is of each payment behind the entries of a set-up, and of each one where the set-up has enrolments
-/// and funds alone.
+/// and funds alone. Premise: the set-up's merchants are enrolled, and what they kept may stand as it does.
 pub fn payments_open_goods()
     ensures behind { goods.GoodsLaw }
     ensures each { goods.GoodsOfEachPayment }
@@ -37,7 +37,8 @@ pub fn payments_open_goods()
 }
 
 /// A purchase that ended as a payment in the house's list says, whose order a merchant endorsed with the key of that payment, is paid with the goods
-/// of the product, or what its consumer holds is a collision with them as they were sealed: it is not foul.
+/// of the product, or what its consumer holds is a collision with them as they were sealed: it is not foul. Premise: each consumer of the set-up knew nothing, or started
+/// again with what it kept.
 pub fn paid_holds_goods()
     ensures { held.BuyersHoldGoods }
 {}

@@ -9,7 +9,7 @@ pub fn stop_leaves_first<D: Disk>()
     ensures { law.StopLeavesFirst D.tells }
 {}
 
-/// A law: whatever a stop at any moment leaves, a merchant that starts again with it is as it was behind the first frames that it heard, and goes on from there.
+/// A law: where the journal held what the merchant kept, whatever a stop at any moment leaves, a merchant that starts again with it is as it was behind the first frames that it heard, and goes on from there.
 pub fn goes_on_next_time<D: Disk>()
     ensures { law.GoesOnNextTime D.tells }
 {}

@@ -40,7 +40,7 @@ pub fn stops_keep_prefix()
 {}
 
 /// The key of each payment behind the set-up's entries, where a merchant's step made the request, opens what any consumer held of that order to the goods of
-/// the product; or that is a collision.
+/// the product; or that is a collision. Premise: the numbers of the merchants have their widths.
 pub fn payments_open_goods()
     ensures { law.PaymentsOpenGoods }
 {

@@ -110,7 +110,7 @@ impl Model for World {
 }
 
 impl World {
-    /// The world of a set-up, before anything happened in it, or [`SetupFault::Unlawful`] exactly where the set-up is not as it must be: its version is
+    /// The world of a set-up, before anything happened in it, or [`SetupFault::NoMemory`] where there is none, or else [`SetupFault::Unlawful`] exactly where the set-up is not as it must be: its version is
     /// one of the two, its rate and its cap are within their limits; the entries are at most as many as the cap, and Legal under the version and the rate;
     /// each consumer and each merchant is listed once, and enrolled as it is there.
     pub fn try_new(alloc: Global, setup: Setup) -> Result<World, SetupFault>

@@ -25,7 +25,8 @@ pub fn acknowledged_spells_back()
     ensures { law.AcknowledgedSpellsBack }
 {}
 
-/// Over every list of events the standby's list is a front of the primary's, and so it is with what is in doubt, also behind a stop.
+/// Over every list of events the standby's list is a front of the primary's, and so it is with what is in doubt, also behind a stop, where it began so, with
+/// nothing in doubt and what was shipped the primary's.
 pub fn stays_front()
     ensures { law.StaysFront }
 {}
@@ -61,7 +62,8 @@ pub fn one_acknowledging()
     ensures { law.OneAcknowledging }
 {}
 
-/// Where nothing is in doubt at first and the disk never fails, the frames that a house ships of the entries behind those of a standby are all taken in.
+/// Where nothing is in doubt at first and the disk never fails, the frames that a house ships of the entries behind those of a standby are all taken in: it is not worn, and
+/// its journal may have them and has room.
 pub fn takes_all()
     ensures { law.TakesAll }
 {}

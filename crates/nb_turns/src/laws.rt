@@ -39,7 +39,7 @@ pub fn each_is_answered()
     ensures { law.EachIsAnswered }
 {}
 
-/// A turn that failed leaves something in doubt. Where nothing was, its verdicts over the entries record it.
+/// A turn that failed leaves something in doubt. Where nothing was, its verdicts over the entries record something.
 pub fn failure_leaves_doubt()
     ensures { law.FailureLeavesDoubt }
 {}
@@ -54,14 +54,14 @@ pub fn run_grows()
     ensures { law.RunGrows }
 {}
 
-/// A turn keeps the entries, also with those in doubt, Legal and within the cap.
+/// Where what a house records may come next and has room, a turn keeps the entries, also with those in doubt, Legal and within the cap.
 pub fn turn_keeps_legal()
     ensures { law.TurnKeepsLegal }
 {
     nb_book::laws::stays_legal();
 }
 
-/// So they are in each state of a run.
+/// So they are in each state of a run of such a house from a state that is so.
 pub fn run_keeps_legal()
     ensures { law.RunKeepsLegal }
 {
@@ -78,7 +78,7 @@ pub fn run_keeps_rate()
     ensures { law.RunKeepsRate }
 {}
 
-/// In each state of a run money is neither made nor lost.
+/// In each state of such a run money is neither made nor lost.
 pub fn run_keeps_money()
     ensures { law.RunKeepsMoney }
 {
@@ -105,7 +105,7 @@ pub fn turn_adds_lines()
     ensures { law.TurnAddsLines }
 {}
 
-/// Lines keep what they record, also with what they tell to be in doubt, Legal and within the cap.
+/// Behind lines that do not end in a doubt, the lines of turns of such a house keep what they record, also with what they tell to be in doubt, Legal and within the cap.
 pub fn lines_keep_legal()
     ensures { law.LinesKeepLegal }
 {

@@ -23,7 +23,7 @@ pub fn item_kinds()
     ensures { law.ItemKindsAre }
 {}
 
-/// A law: no item has more than 1,000,297 bytes.
+/// A law: no item whose fields are within their limits has more than 1,000,297 bytes.
 pub fn item_is_short()
     ensures { law.ItemIsShort }
 {}

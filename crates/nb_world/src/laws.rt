@@ -1,4 +1,4 @@
-//! What holds of every list of events, whatever nodes do and whatever the verdict is. Each function here does nothing but to cite
+//! What holds of every list of events, whatever nodes do; some laws ask of the verdict that it records only what may come next. Each function here does nothing but to cite
 //! laws of the book: its contract is the law. `C` and `M` are what consumers and merchants are.
 
 ghost use Rattle.nb_world.specs.Headline as headline;
@@ -20,7 +20,7 @@ pub fn unfit_changes_nothing<C, M>()
 /// Over every list of events from a set-up, injections among them: the durable entries are Legal and those that the house works
 /// on; each entry behind the set-up's is what the verdict over those before it records for the call that it came by; each acknowledged
 /// entry stands at its place; and each packet that the house made is the verdict's reply over the first durable entries, as many as its place
-/// says, for the node that asked.
+/// says, for the node that asked. Premise: the verdict records only what may come next.
 pub fn world_law<C, M>()
     ensures { law.WorldLaw C M }
 {
@@ -42,13 +42,13 @@ pub fn entries_have_origins<C, M>()
     ensures { law.EntriesHaveOrigins C M }
 {}
 
-/// A call has the phase of the turn exactly where the turn is its: at most one call has the turn.
+/// In each world of a run from one without a call and a turn, a call has the phase of the turn exactly where the turn is its: at most one call has the turn.
 pub fn turn_is_of_one_call<C, M>()
     ensures { law.TurnIsOfOneCall C M }
 {}
 
 /// A turn is of a call that has its phase, and its verdict is that on what the call asks over the first durable entries, as many as its
-/// place says; before it is opened these are all of them, and one that is written has an entry.
+/// place says; before it is opened these are all of them, and one that is written has an entry. Premise: the verdict records only what may come next.
 pub fn turn_is_of_its_call<C, M>()
     ensures { law.TurnIsOfItsCall C M }
 {
@@ -111,14 +111,15 @@ pub fn others_acknowledge_nothing<C, M>()
     ensures { law.OthersAcknowledgeNothing C M }
 {}
 
-/// An order moves its price at most once along every run: at most one durable entry settles it, and stays the one that does.
+/// An order moves its price at most once along every run from a set-up: at most one durable entry settles it, and stays the one that does. Premise: the verdict
+/// records only what may come next.
 pub fn order_moves_once<C, M>()
     ensures { headline.OrderMovesOnce C M }
 {
     nb_book::laws::stays_legal();
 }
 
-/// No money is made or lost along any run: the balances and the fees sum to the total of the funds, and no account is overdrawn; also with an
+/// No money is made or lost along any run from a set-up, where the verdict records only what may come next: the balances and the fees sum to the total of the funds, and no account is overdrawn; also with an
 /// entry that is written and not opened.
 pub fn money_is_conserved<C, M>()
     ensures { headline.MoneyIsConserved C M }
