@@ -9,6 +9,7 @@ one. Records and acknowledgements are those of examples/formats.py. The test hol
 - Records in another order, twice, from ahead, of another house, of another kind, with each byte turned, and of an entry that may not come next; a full standby;
   one that is ahead; one with a rate; a stream that is cut; a disk that is full: the code of each, how many entries stand, and the status.
 - `ship` from the last place, and from above it; an output that is full; a file that is no journal, and one that another process holds.
+- `examples/show` tells from where to ship next by what was told last, and nothing where that says that another entry stands there, or was under another key.
 
 A kill leaves what the program gave to the system. What a failure of power leaves is not tried here.
 """
@@ -214,6 +215,15 @@ def ships(folder, entries):
     see("the journal", primary.read_bytes(), formats.journal(HEAD, CAP, few))
 
 
+def shows(folder):
+    """From where `examples/show` would ship next, by what a standby told last."""
+    path = folder / "told"
+    for answers, wanted in ([], ""), ([(0, 1), (0, 2)], "ship from 1 next time"), ([(3, 0)], "ship from 0 next time"), ([(0, 3), (2, 3)], ""), ([(4, 0)], ""):
+        path.write_bytes(b"".join(told(*answer) for answer in answers))
+        lines = subprocess.run([TOP / "examples/show", "acknowledgements", path], stdout=subprocess.PIPE, check=True, text=True).stdout.splitlines()
+        see(f"what is shown of {answers}", ([line for line in lines if line.startswith("ship")], len(lines)), ([wanted] if wanted else [], len(answers) + (wanted != "")))
+
+
 def late(number, frame):
     """Ends a test that takes too long."""
     fail(f"not done after {SECONDS} seconds")
@@ -232,6 +242,7 @@ def main():
         takes_over(primary, standby, entries, orders)
         harm(folder, entries)
         ships(folder, entries)
+        shows(folder)
     print(f"tests/standby: seed {seed}, {KILLS} kills, {within} rounds that were cut; {len(entries)} entries")
     if 3 * within < KILLS:
         fail("fewer than a third of the kills fell within a round")

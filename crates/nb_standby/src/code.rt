@@ -1,5 +1,5 @@
-//! What an acknowledgement tells of a record: of [`BAD_RECORD`], [`BAD_TAG`] and [`WORN`] the first that holds, before the disk is touched; and else the first of
-//! the others. What is in doubt is settled before the entry is looked at.
+//! What an acknowledgement tells of a record: of [`BAD_RECORD`], [`BAD_TAG`] and [`WORN`] the first that holds, before the disk is touched; and else what became
+//! of its entry, which is one of the others. What is in doubt is settled before the entry is looked at.
 
 ghost use Rattle.std.specs.Prelude.{◌≡◌};
 ghost use Rattle.nb_standby.specs.Following.{code_of};

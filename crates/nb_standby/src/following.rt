@@ -21,7 +21,7 @@ use nb_vault::Vault;
 /// tells how many entries stand behind this call. It needs room for [`ACKNOWLEDGED_ROOM`](crate::ACKNOWLEDGED_ROOM) bytes, and takes no memory.
 pub fn follow<D: Disk>(vault: &mut Vault<D>, body: &[u8], out: &mut Vec<u8>) -> u8
     requires { ACKNOWLEDGED_ROOM ≤ spare_of out.old }
-    // The first code that holds, and what was done to the vault.
+    // The code, and what was done to the vault.
     ensures follows { FollowsAs D.tells vault.old vault.new (shipped_of body.now) result }
     // The acknowledgement is made behind that, of the code and of how many entries stand then.
     ensures acknowledged { out.new.items ≡ out.old.items ++ frame (record { kind = ACKNOWLEDGED_FRAME; body = acknowledged_bytes (told (house_key vault.old) result (length (entries_in vault.new))) }) }

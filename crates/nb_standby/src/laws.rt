@@ -62,8 +62,8 @@ pub fn one_acknowledging()
     ensures { law.OneAcknowledging }
 {}
 
-/// Where nothing is in doubt at first and the disk never fails, the frames that a house ships of the entries behind those of a standby are all taken in: it is not worn, and
-/// its journal may have them and has room.
+/// Where nothing is in doubt at first, the disk never fails, and a standby is not worn and may have the entries behind its own and has room for them, the
+/// frames that a house ships of these are all taken in.
 pub fn takes_all()
     ensures { law.TakesAll }
 {}

@@ -11,7 +11,9 @@
 //! fails and which stops at any moment. In every such world the standby's list is the front of the primary's, and what was acknowledged as taken
 //! in stays; a whole run of [`follow`] over records that were shipped is such a run (`specs/Laws.antt`).
 //!
-//! Left to others: how frames come and go, which records are shipped when, and that nobody but the house has its key. No memory is taken.
+//! Left to others: how frames come and go, which records are shipped when, and that nobody but the house has its key.
+//!
+//! Not said: that no memory is taken, beyond that what a call appends to keeps its capacity: none is given an allocator.
 #![tactic(auto)]
 
 mod acknowledged;

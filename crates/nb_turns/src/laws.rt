@@ -61,7 +61,7 @@ pub fn turn_keeps_legal()
     nb_book::laws::stays_legal();
 }
 
-/// So they are in each state of a run of such a house from a state that is so.
+/// So they are in each state of a run of such a house from a state in which they are.
 pub fn run_keeps_legal()
     ensures { law.RunKeepsLegal }
 {
@@ -78,7 +78,8 @@ pub fn run_keeps_rate()
     ensures { law.RunKeepsRate }
 {}
 
-/// In each state of such a run money is neither made nor lost.
+/// Where what a house records may come next and has room, money is neither made nor lost in each state of a run from a state whose entries, also
+/// with those in doubt, are Legal and within the cap.
 pub fn run_keeps_money()
     ensures { law.RunKeepsMoney }
 {
@@ -95,17 +96,18 @@ pub fn lines_are_of()
     ensures { law.LinesAreOf }
 {}
 
-/// The lines of a turn tell a turn from a state over the lines before it to a state over those behind it.
+/// The lines of a turn, behind lines that do not end in a doubt, tell a turn from a state over the lines before it to a state over those behind it.
 pub fn lines_tell_turn()
     ensures { law.LinesTellTurn }
 {}
 
-/// Each turn from a state over the lines before it has lines that tell it.
+/// Each turn from a state over lines that do not end in a doubt, with no more in doubt than a turn has requests, has lines that tell it.
 pub fn turn_adds_lines()
     ensures { law.TurnAddsLines }
 {}
 
-/// Behind lines that do not end in a doubt, the lines of turns of such a house keep what they record, also with what they tell to be in doubt, Legal and within the cap.
+/// Where what a house records may come next and has room, the lines of a turn, behind lines that do not end in a doubt, keep what is recorded, also
+/// with what they tell to be in doubt, Legal and within the cap.
 pub fn lines_keep_legal()
     ensures { law.LinesKeepLegal }
 {
