@@ -22,7 +22,8 @@ pub struct Batched<D> {
     pub ending: Ending,
     /// The disk that was handed in.
     pub disk: D,
-    /// What was done in it, in order: which entries were recorded, which were in doubt, and where the disk failed. Where the journal was not opened, nothing.
+    /// What was done in it, in order. The entries that they record, behind those at the opening, are those at its end; what they tell of doubts and of faults
+    /// no clause ties to the disk. Where the journal was not opened there are none.
     pub lines: Vec<Line>,
 }
 
@@ -42,7 +43,7 @@ pub fn answer_batch<S: Source, K: Sink, D: Disk, C: Clock>(
     clock: &mut C,
 ) -> Batched<D>
     // The journal was not opened, or these frames were answered and those replies sent, with what a stop at any moment leaves of the disk; and the lines
-    // are those of what was done.
+    // record what was recorded behind the opening.
     ensures batch { batches.BatchLines D.tells by disk result.disk
         (record { left = S.left source.old; sent = K.sent sink.old; moments = C.moments clock.old })
         (record { left = S.left source.new; sent = K.sent sink.new; moments = C.moments clock.new }) result.lines.items result.ending }

@@ -15,6 +15,9 @@
 //! [`ship_from`] sends the records of a vault's entries, for a standby to follow, in pieces of at most 64 KiB.
 //!
 //! Left to others: opening the vault, what of a batch's end is told outside, and the words of the program.
+//!
+//! Not said: into how many writes replies and records are cut, and when more is read: a source and a sink tell their bytes, and not their calls. That a write which failed is not tried
+//! again. That there is memory.
 #![tactic(auto)]
 
 mod answering;

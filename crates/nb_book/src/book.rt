@@ -198,7 +198,7 @@ impl Book {
         is_next_under(e, self, version, rate)
     }
 
-    /// Appends the entry, which may come next under some version and rate. This takes no memory.
+    /// Appends the entry, which may come next under some version and rate, where fewer are held than the cap says. This takes no memory.
     pub fn apply(&mut self, e: &Entry)
         requires legal { LegalAfter self.old.entries e.now }
         requires room { length self.old.entries < self.old.cap }

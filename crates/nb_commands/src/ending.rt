@@ -22,8 +22,8 @@ pub const SOURCE_FAILED: u8 = 3;
 /// The sink failed.
 pub const SINK_FAILED: u8 = 4;
 
-/// The input ended within a frame, or holds what is no frame, or is no head of 80 bytes, no journal that can be moved, no shelf, no offers, no key of 32 bytes,
-/// or longer than a request.
+/// The input ended within a frame, or holds what is no frame; or it is no head of 80 bytes, no journal that can be moved, no case, no script, no shelf, no offers, or no key
+/// of 32 bytes, or is longer than one of these, or than a request, may be.
 pub const BAD_INPUT: u8 = 5;
 
 /// There was no memory.

@@ -12,7 +12,7 @@
 //!
 //! Not said: what [`make_journal`] leaves on a disk without a journal where the disk failed, and
 //! what a stop leaves there within it, and within [`move_journal`] up to where the journal is laid: there was no entry to lose, or it stands in the
-//! input. How many calls of the disk these two make, and in which order, which the trials of `runs` count. That there is memory. The bytes of a source that
+//! input. How many calls of the disk these two make, and in which order, which the trials of `runs` count. That there is memory, and how much a call holds, also [`rule_on`] of its case. The bytes of a source that
 //! does not tell; that a count rises only where a call fails: one that was interrupted and worked has raised it too.
 #![tactic(auto)]
 

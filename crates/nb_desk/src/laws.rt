@@ -14,14 +14,14 @@ pub fn place_is_count<D: Disk>()
     ensures { PlaceIsCount D.tells }
 {}
 
-/// A key that one pass was told by an authentic status query is told to every pass whose seen list begins with what that one has
-/// seen, where its own status query is authentic, asks for the same order and the same party, and for at most as many entries as are held.
+/// Of two status queries that were served: a key that one pass was told by an authentic one is told to every pass whose seen list begins with what that
+/// one has seen, where its own is authentic and asks for the same order and the same party; each asks for at most as many entries as are held.
 pub fn keys_stay<D: Disk>()
     ensures { KeysStay D.tells }
 {}
 
-/// The result of an order that one pass was told is told to every such pass that presents the order, with the same receipts, under the same keys; and
-/// nothing more is recorded.
+/// Of two turns of an order that were served: the result that one pass was told is told to every such pass that presents the order, with the same receipts,
+/// under the same keys; and nothing more is recorded.
 pub fn results_stay<D: Disk>()
     ensures { ResultsStay D.tells }
 {}

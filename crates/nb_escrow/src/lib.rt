@@ -19,7 +19,7 @@
 //! Left to others: recording the entry, the bytes of the reply, and the moment's clock. Worked cases of every refusal stand in
 //! the stored run of `runs`, whose lines `examples/runs` writes.
 //!
-//! Not said: that a ticket is granted once: each request for one is granted, and those of one moment and number get one session key. That the
+//! Not said: that no memory is taken: no call is given an allocator. That a ticket is granted once: each request for one is granted, and those of one moment and number get one session key. That the
 //! parties of a kept result are those of the order that comes again: two endorsements with one digest are taken for one, and that there are no
 //! two is no claim of the proofs. What the order's checksum, its two other digests and the memos say: the order's tag or the endorsement's digest
 //! is over them, and nothing else is tested of them. That the key in an endorsement opens the goods, which the house never sees; and whether the

@@ -26,7 +26,7 @@
 //! holds after a [`lay`] or a [`crown`] that failed: the bytes are a copy, and can be laid again. That an image which is laid is a journal: they take any bytes, and [`laws::crown_stands`] says what becomes of one that is.
 //! Content and images of a disk that does not tell: what is asked of an append, the limits, the counts and what is in doubt are promised of it
 //! too. That [`Journal::open`] finds memory; that an append or [`Journal::settle`] comes to its end where the disk works: an interrupted call may
-//! raise the count and then work; how many calls of the disk a call makes, and how many bytes a read asks for: the trials of `books` count them,
+//! raise the count and then work; how many calls of the disk a call makes, also into how many writes [`lay`] cuts an image, and how many bytes a read asks for: the trials of `books` count them,
 //! and opening asks for 65,536 bytes at once but for an item that is longer. Which bytes an append that failed leaves in its range, beyond what
 //! they stand for, and which of its two writes failed; when an item in doubt is settled: none can be appended before, and a journal that is opened anew has none in doubt; what
 //! stands behind the last gate beyond the zeros that the last append which was done wrote there: what was written of an item that was dropped may stay till other items are written over it; and what an item and a head say: they are bytes.

@@ -180,7 +180,7 @@ impl Merchant {
     }
 
     /// What the merchant does where it heard nothing of a purchase for long: it endorses the kept order again, or passes the kept result
-    /// on again.
+    /// on again. One that it does not know, or has no order of, it ignores.
     pub fn quiet(&mut self, consumer: PartyId, transaction: u64) -> Result<Step, NoMemory>
         // The same, where nothing was heard of a purchase for long.
         ensures step { IfOk result (λ step. step ≡ table.step_of (table.silent self.old (table.purchase_by consumer transaction))) }

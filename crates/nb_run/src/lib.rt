@@ -13,8 +13,8 @@
 //!
 //! Left to others: the real terminal, file and clock, and the lock on the file.
 //!
-//! Not said: what `nb_platform` and `main` do: they open, make and lock the file, read the words and print the line. What `nb_commands` and `nb_answers` do not say is not
-//! said here either.
+//! Not said: what `nb_platform` and `main` do: they open, make and lock the file, read the words and print the line. That nothing of a report is written before all of the script was played: what is written is said,
+//! and not when. What `nb_commands` and `nb_answers` do not say is not said here either.
 #![tactic(auto)]
 
 pub mod laws;

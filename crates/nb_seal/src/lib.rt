@@ -9,8 +9,8 @@
 //! A seal hides a text under a key and binds it to a label. It is the code of the label followed by the
 //! text, its iv, and behind that the text combined with the keystream of a key made from the iv. Bytes
 //! open to a text exactly where they are its seal, and to one text at most. [`unseal`] and [`unseal_to`]
-//! give that text or say that there is none. Each call over a key has one over its state beside it, a method of [`KeyState`] with the
-//! same clauses, and is that over a fresh one.
+//! give that text or say that there is none. [`seal_spare`], [`seal_to`] and [`unseal_to`] have one over the state of their key beside them, a method of
+//! [`KeyState`] with the same clauses, and are that over a fresh one; [`KeyState::code`] is [`hmac`] so.
 //!
 //! Digests, codes, ivs, and the keys of seals and of keystreams have 32 bytes ([`CODE_BYTES`]), blocks of
 //! the hash 64 ([`BLOCK_BYTES`]), labels 4. A text that is sealed has at most 2^39 bytes ([`MAX_TEXT`]),

@@ -28,7 +28,8 @@ pub fn quote_message(alloc: Global, session: &KeyState, quote: &Quote) -> Result
     })
 }
 
-/// The part of sealed goods at a place, and what is said of it, sealed under the session key. Answers [`NoMemory`] where there is none for them.
+/// The part at a place of these goods, sealed as their parts say, and what is said of it, sealed under the session key. A part begins there: it is a multiple of
+/// the bytes of one, below the bytes of all. Answers [`NoMemory`] where there is none for them.
 pub fn goods_message(
     alloc: Global,
     session: &KeyState,

@@ -14,7 +14,7 @@
 //! are exactly the value's lines of that number. The same is so at `close`. After `give` the pass has seen all lines.
 //!
 //! What holds of the words, the slot and all views between any two steps stands in `specs/Rule.antt`. A crate above cites
-//! `specs/Passes.antt` (which also hands on the `TableId` that tells turns apart), `Told`, `Views` and `Lines`, and of the lemmas
+//! `specs/Passes.antt` (which also hands on the `TableId` that tells turns apart), `Told`, `Views`, `Lines` and `Faults`, and of the lemmas
 //! `number_at` of `proofs/Rules.antt` and `first_again` and `lone_own` of `proofs/Lists.antt`.
 //!
 //! Left to others: that a pass gets on. No clause says that a turn is ever given back, that `take` ends, or that a thread is not
@@ -25,7 +25,7 @@
 //! step that the code names, so that a [`Turn::try_take`] that is always Busy, or a [`Turn::split`] that is always Taken, is refused by tests
 //! alone. That two passes of one turn have different numbers, that one [`Held`] is out at a time and that all passes have one origin: the rule
 //! has it, and no clause of a call. How long `try_take` looks; that [`Turn::open`] finds memory; and of lines that others made before another
-//! pass took the turn a pass knows nothing until it takes it or is joined. Only [`Turn::take`] and [`Turn::close`] may wait. `T: Drop` is asked
+//! pass took the turn a pass knows nothing until it takes it or is joined. Only [`Turn::take`] and [`Turn::close`] may wait. That [`Turn::split`] takes no memory: it is given no allocator. `T: Drop` is asked
 //! of the value since a slot is emptied and filled by exchanges, which drop nothing when they run.
 #![tactic(auto)]
 

@@ -8,7 +8,7 @@ use std::alloc::Global;
 use std::snapshot::Snapshot;
 use std::sync::atomic::AtomicU64;
 
-/// A value that passes take in turn. It waits for nobody, and no lock is in it.
+/// A value that passes take in turn. No lock is in it, and only [`Turn::take`] and [`Turn::close`] may wait.
 #[derive(Drop)]
 pub struct Turn<T: Chronicle> {
     pub(crate) table: Table<Option<T>, View<T::Origin, T::Line>, Snapshot<T>, Law<T>, Global>,

@@ -17,7 +17,7 @@
 //! Not said: that the disk is not called where nothing is in doubt and the verdicts record nothing: a read or a sync is let through; how many
 //! calls of the disk an answer makes, which the trials of `vaults` count, and a worn vault makes none; what stands behind the last gate, but that
 //! what an answer writes is said byte for byte; that [`Vault::open`] finds memory; that what was opened before a turn saves a hash in it, and
-//! that replies are made behind it, which `bench/run` shows; and that [`Vault::answer`], [`Vault::answer_all`] and [`Vault::decide_all`] take no
+//! that replies are made behind it, which `bench/run` shows; and that [`Vault::answer`], [`Vault::answer_all`], [`Vault::decide_all`] and [`Vault::take_in`] take no
 //! memory: they are given no allocator and have no answer for want of it, and each append has its room proved.
 #![tactic(auto)]
 

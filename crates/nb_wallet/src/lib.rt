@@ -14,7 +14,7 @@
 //!
 //! Left to others: which purchases there are, what is sent and how what comes is opened (`nb_asking`), and what is done at a message.
 //!
-//! Not said: that there is memory for an item, an order or a part; that parts are held once and hashed once: the clauses see the bytes joined,
+//! Not said: that there is memory for an item, an order or a part; that parts are copied once, held once and hashed once: the clauses see the bytes joined,
 //! and the state of the digest is held beside the parts.
 #![tactic(auto)]
 
