@@ -45,7 +45,7 @@ is_refused other = false
 abbrev pub held : List Entry → ℕ
 held entries = sum_by (balance entries) (accounts entries) + fees entries
 
--- how many orders there were, how many of them the entries pay and refuse, and what the entries leave in all accounts, with a line feed
+-- how many orders there were, how many of them the entries pay and refuse, and what the entries leave in all accounts and to the house, with a line feed
 abbrev pub line_of : ℕ → List Entry → List ℕ
 line_of orders entries =
     codes "orders " ++ decimal orders ++ codes " paid " ++ decimal (count_by is_paid entries) ++ codes " refused " ++ decimal (count_by is_refused entries)
@@ -118,7 +118,7 @@ DrillIs tells old new sent sent' seed orders ending = (NotMade tells old new see
 abbrev pub recorded : List Line → List Entry
 recorded lines = filter_map entry_of lines
 
--- the tally of these entries. What came in is what all balances sum to, in a Legal list
+-- the tally of these entries. What came in is what all balances and the fees that the house keeps sum to, in a Legal list
 abbrev pub tally : List Entry → Tally
 tally entries = record { paid = count_by is_paid entries; refused = count_by is_refused entries; total = total entries }
 

@@ -59,7 +59,7 @@ pub fn answer_batch<S: Source, K: Sink, D: Disk, C: Clock>(
     ensures closed { EndsEarly result.ending → (source.new ≡ source.old) × (sink.new ≡ sink.old) × (clock.new ≡ clock.old) }
     // And nothing is written to the disk.
     ensures unwritten { EndsEarly result.ending → Unwritten D.tells disk result.disk }
-    // Whole frames alone, fewer than are answered at most, are no bad input, and do not reach the limit.
+    // Whole frames alone, fewer than are answered at most, are no bad input, and do not reach the limit, where the sink's count does not rise.
     ensures whole { batches.IsWholeInput (S.left source.old) → (Rose (K.faults sink.old) (K.faults sink.new) → ⊥) → batches.EndsWhole result.ending }
     // A journal is opened, unless the disk fails or memory is wanting.
     ensures opens { IsJournal (D.tells.content disk) → (Rose (D.tells.faults disk) (D.tells.faults result.disk) → ⊥)

@@ -33,7 +33,8 @@ pub fn drill<K: Sink, D: Disk>(
     disk: D,
 ) -> (Ending, D)
     requires { orders ≤ MAX_ORDERS }
-    // No journal was made, or one was, and its frames were answered, each at the one moment; and the line is that of the last list.
+    // No journal was made; or one was made and not opened; or its frames were answered. Then, unless memory was wanting, all were, each at the one moment, and the
+    // line is that of the last list, or a part of it where the sink failed, where the disk tells its content.
     ensures drill { drills.DrillIs D.tells disk result.1 (K.sent sink.old) (K.sent sink.new) seed orders result.0 }
     // Nothing is written over a journal that is there.
     ensures spares { SparesJournal D.tells disk result.1 }

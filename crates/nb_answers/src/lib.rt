@@ -11,7 +11,7 @@
 //!
 //! Left to others: the words, and at which of them this is done (`nb_run`); the real terminal, file and clock, and the lock on the file.
 //!
-//! Not said: an order between the bytes sent and
+//! Not said: that [`answer_batch`] and [`drill`] find memory where there is some; an order between the bytes sent and
 //! the disk's moments: that an entry is durable before its reply is sent is said for each request by `Vault::answer` and `send_reply`. That a
 //! fault is told in the turn in which the disk failed, and that settling goes by the byte of the gate: the contract of `Vault::answer` says both
 //! of each turn. What stands behind the last gate, free by the format. What a real file keeps: `tests/kill`

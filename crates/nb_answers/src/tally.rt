@@ -8,7 +8,7 @@ use nb_units::NoMemory;
 use std::alloc::Global;
 
 /// What a drill tells of the entries that it came to: how many pay an order and how many refuse one, and what came in, in the house's
-/// smallest unit of money: in a Legal list that is the sum of all balances.
+/// smallest unit of money: in a Legal list that is the sum of all balances and of the fees that the house keeps.
 #[derive(Clone, Copy)]
 pub struct Tally {
     pub paid: u64,

@@ -16,7 +16,7 @@ pub fn acknowledged_stays<D: Disk>()
 {}
 
 /// A law: the entries that a standby's acknowledgement counts, whatever its code is, stand in what every stop since leaves; where it tells that the record is
-/// taken in, or stood there, that record is one of them, at its place.
+/// taken in, or stood there, that record is one of them, at its place. The cap is below 2^64, and has room for the entries at the start, also with those in doubt.
 pub fn told_stays<D: Disk>()
     ensures { ToldStays D.tells }
 {}

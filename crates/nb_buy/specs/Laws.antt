@@ -138,7 +138,7 @@ pub record NoneFails {D : Type 0} (tells : DiskTells D) (old new : Around D) (be
   pub writes : (peer : Peer) → Rose (link_at peer old).write_faults (link_at peer new).write_faults → ⊥
   pub output : Rose before after → ⊥
 
--- how a purchase ends that is over: with its goods where it was paid, and else without
+-- how a purchase ends that is over: with its goods where it has some, and else without
 abbrev pub EndsAsOver : Option Phase → BuyEnd → Type 0
 EndsAsOver (Some (phase.Paid len)) end = end ≡ ends.Paid
 EndsAsOver (Some (phase.Refused code)) end = end ≡ ends.Unpaid
@@ -146,7 +146,7 @@ EndsAsOver (Some phase.Foul) end = end ≡ ends.Unpaid
 EndsAsOver other end = ⊥
 
 -- A purchase that the links bring to its end, with a wallet that has room for the items, where nothing fails, comes to that end: the consumer knows then what it
--- knows behind these acts, and the goods are written where it was paid; or there was no memory
+-- knows behind these acts, and the goods are written where it has some; or there was no memory
 abbrev pub ComesToItsEnd : {D : Type 0} → DiskTells D → Type 0
 ComesToItsEnd {D} tells = (s : Start) (old new : Around D) (end : BuyEnd) → Bought tells s old new end
     → (before after : ℕ) (sent sent' : Option (List ℕ)) → WritesGoods s new.buyer before after sent sent' end

@@ -34,7 +34,7 @@ pub fn receipt_ends<D: Disk>()
 {}
 
 /// A law: a purchase whose links give the frames that bring it to its end comes to it, where no call fails and the wallet has room for its items: its goods
-/// are written where it was paid, it ends unpaid where it has none; or there was no memory.
+/// are written where it has some, it ends as `Unpaid` where it has none; or there was no memory.
 pub fn comes_to_its_end<D: Disk>()
     ensures { law.ComesToItsEnd D.tells }
 {}

@@ -29,16 +29,17 @@ pub const BAD_INPUT: u8 = 5;
 /// There was no memory.
 pub const OUT_OF_MEMORY: u8 = 6;
 
-/// The disk failed as the journal was opened or made.
+/// The disk failed as the journal was opened or made, or as a buyer or a seller kept an item.
 pub const DISK_FAILED: u8 = 7;
 
-/// The disk holds no journal, or one that is damaged, or entries that are not legal one after the other.
+/// The disk holds no journal, or one that is damaged, or entries that are not legal one after the other or are more than its cap; or, of a buyer, items that are none
+/// of a wallet's, and of a seller none of a stall's with this shelf.
 pub const NO_JOURNAL: u8 = 8;
 
 /// No journal is made: the disk has one, or its cap is 0 or above 1,000,000.
 pub const NOT_MADE: u8 = 9;
 
-/// A purchase is over and was not paid: it was refused, or the key of its receipt does not open the goods. Work alone ends so.
+/// A purchase is over and no goods were had: it was refused, or it was paid and the key of its receipt does not open the goods. Work alone ends so.
 pub const UNPAID: u8 = 10;
 
 /// As many frames were answered as one run answers, 10,000,000.
@@ -47,7 +48,7 @@ pub const FRAME_LIMIT: u8 = 11;
 /// Nothing more comes over a link with a purchase that is not over, or as many frames were read as are read for one. Work alone ends so.
 pub const LINK_FAILED: u8 = 12;
 
-/// A port failed, with links left. Work alone ends so.
+/// A port failed, with links left; or, as one sells, the link to the house failed. Work alone ends so.
 pub const PORT_FAILED: u8 = 13;
 
 /// The journal of a buyer or of a seller holds as many items as its cap says, and one more was to be kept. Work alone ends so.

@@ -60,7 +60,7 @@ KeysStay {D} tells = (by by' : ℕ) (v w u z : View Origin Line) (body body' : L
     → GivesKey (verdict_in a.1.old a.0 STATUS_REQUEST body moment).reply key
     → GivesKey (verdict_in b.1.old b.0 STATUS_REQUEST body' moment').reply key
 
--- and the result of an order that one was told is told to each of them that presents the order, with the same receipts, under the same keys;
+-- and the result of an order that one was told is told to each of them that asks with the same body, with the same receipts, under the same keys;
 -- and nothing more is recorded
 abbrev pub ResultsStay : {D : Type 0} → DiskTells D → Type 0
 ResultsStay {D} tells = (by by' : ℕ) (v w u z : View Origin Line) (body : List ℕ) (moment moment' : ℕ) (found found' out out' more more' : List ℕ)

@@ -20,7 +20,7 @@ pub fn keys_stay<D: Disk>()
     ensures { KeysStay D.tells }
 {}
 
-/// Of two turns of an order that were served: the result that one pass was told is told to every such pass that presents the order, with the same receipts,
+/// Of two turns of an order that were served: the result that one pass was told is told to every such pass that asks with the same body, with the same receipts,
 /// under the same keys; and nothing more is recorded.
 pub fn results_stay<D: Disk>()
     ensures { ResultsStay D.tells }

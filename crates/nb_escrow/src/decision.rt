@@ -61,7 +61,7 @@ pub fn decide(book: &Book, head: &Head, kind: u8, body: &[u8], moment: u64) -> D
 }
 
 /// Decides as [`decide`] does, with what was opened of an order before, and with the states of keys that are kept. The state of a key that is not
-/// kept is made once for all codes of the request, and is kept then. What is decided depends neither on what was opened nor on what is kept.
+/// kept is made once for all codes of the request, and is kept then: no clause says so. What is decided depends neither on what was opened nor on what is kept.
 pub fn decide_with(
     book: &Book,
     head: &Head,

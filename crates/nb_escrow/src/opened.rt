@@ -42,7 +42,7 @@ impl Drop for OpenedOrder {
 impl OpenedOrder {
     /// Opens what a body asks for, with the states of keys that are kept. `None` where the body is no endorsed order, or where no state is kept
     /// for the merchant that it names. The order is tested, and its identifier hashed for the house's book, where its endorsement opened and a state is
-    /// kept for its consumer.
+    /// kept for its consumer. No clause says so, and nothing decided depends on it.
     pub fn of(body: &[u8], kept: &KeptStates, hasher: &SlotHasher) -> Option<OpenedOrder> {
         let Ok(asked) = EndorsedBytes::read(body) else {
             return None;

@@ -26,8 +26,8 @@ pub struct RefusalReason {
 #[derive(Clone, Copy)]
 pub enum PaymentOutcome {
     /// The price moved from the consumer's account, `cacct`, to the merchant's, `macct`. The key, 32 bytes, is the one that
-    /// the merchant gave for the goods. The fee, in the house's smallest unit of money, is what the house kept of the price, where its journal
-    /// has the version with fees.
+    /// the merchant gave for the goods. The fee, in the house's smallest unit of money, is what the house kept of the price; there is none where
+    /// the payment was recorded without one.
     Paid {
         cacct: AcctId,
         macct: AcctId,

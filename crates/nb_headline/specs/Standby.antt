@@ -48,7 +48,7 @@ ShipsAreShipped = (charter : Charter) (cap : ℕ) (world : World) (from : ℕ) �
 
 -- ---- what an acknowledgement shows
 
--- where the standby's list began as a front of its primary's, no acknowledgement of a record of the primary's tells that another entry stands at its place: code 2 shows
+-- where the standby's list began as a front of its primary's within the cap, with nothing in doubt, no acknowledgement of a record of the primary's tells that another entry stands at its place: code 2 shows
 -- that the two lists have parted
 abbrev pub OtherIsNeverTold : Type 0
 OtherIsNeverTold = (charter : Charter) (cap : ℕ) (world : World) (answered : List Answered) (states : List State)

@@ -29,7 +29,8 @@ pub fn ships_are_shipped()
     ensures { standby.ShipsAreShipped }
 {}
 
-/// A standby whose list began as a front of its primary's tells code 2 of none of the primary's records.
+/// A standby whose list began as a front of its primary's within the cap, which has 64 bits, with nothing in doubt and what was shipped the primary's, tells code 2 of
+/// none of the records that were shipped when its run began.
 pub fn other_is_never_told()
     ensures { standby.OtherIsNeverTold }
 {}

@@ -10,7 +10,7 @@ use Rattle.nb_journal.specs.Layout.{magic, front_bytes, AreTerms, IsItem, item_b
 use Rattle.nb_journal.specs.Reading.{Holds, IsDamaged, IsUnborn}
 use Rattle.nb_journal.specs.Stands.{Stands}
 
--- an image that stands for items, none of them too long and no more than the cap, is read as a journal with these items
+-- an image that stands for items, none of them too long and no more than the cap, behind terms that a journal may have, is read as a journal with these items
 abbrev pub StandsIsRead : Type 0
 StandsIsRead = (image : List ℕ) (charter : Charter) (cap : ℕ) (items : List (List ℕ)) → AreTerms cap charter → AllByRecursion IsItem items → length items ≤ cap
     → Stands (front_bytes cap charter) items image → Holds image cap charter items
@@ -25,7 +25,7 @@ pub record IsRead (image : List ℕ) (cap : ℕ) (charter : Charter) (items : Li
 abbrev pub ReadStands : Type 0
 ReadStands = (image : List ℕ) (charter : Charter) (cap : ℕ) (items : List (List ℕ)) → AreBytes image → Holds image cap charter items → IsRead image cap charter items
 
--- an image is read as one journal
+-- an image is read as at most one journal
 abbrev pub OneJournal : Type 0
 OneJournal = (image : List ℕ) (charter charter' : Charter) (cap cap' : ℕ) (items items' : List (List ℕ)) → Holds image cap charter items → Holds image cap' charter' items'
     → (cap ≡ cap') × (charter ≡ charter') × (items ≡ items')
@@ -34,7 +34,7 @@ OneJournal = (image : List ℕ) (charter charter' : Charter) (cap cap' : ℕ) (i
 abbrev pub WholeNotDamaged : Type 0
 WholeNotDamaged = (image : List ℕ) (charter : Charter) (cap item place : ℕ) (items : List (List ℕ)) → Holds image cap charter items → IsDamaged image item place → ⊥
 
--- there is one first fault
+-- there is at most one first fault
 abbrev pub OneFault : Type 0
 OneFault = (image : List ℕ) (item item' place place' : ℕ) → IsDamaged image item place → IsDamaged image item' place' → (item ≡ item') × (place ≡ place')
 

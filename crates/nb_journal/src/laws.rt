@@ -6,7 +6,8 @@ ghost use Rattle.nb_journal.specs.Laws.{StandsIsRead, ReadStands, OneJournal, Wh
 
 use nb_port::Disk;
 
-/// A law: an image that stands for items is read as a journal with these items.
+/// A law: an image that stands for items, none of them too long and no more than the cap, behind a cap, a head and a rate that a journal may have, is read as a
+/// journal with these items.
 pub fn stands_is_read()
     ensures { StandsIsRead }
 {}
@@ -16,7 +17,7 @@ pub fn read_stands()
     ensures { ReadStands }
 {}
 
-/// A law: an image is read as one journal.
+/// A law: an image is read as at most one journal.
 pub fn one_journal()
     ensures { OneJournal }
 {}
@@ -26,7 +27,7 @@ pub fn whole_not_damaged()
     ensures { WholeNotDamaged }
 {}
 
-/// A law: there is one first fault.
+/// A law: there is at most one first fault.
 pub fn one_fault()
     ensures { OneFault }
 {}

@@ -13,7 +13,7 @@
 //!
 //! Left to others: words, files and sockets.
 //!
-//! Not said: that workers run side by side; that each line has the number of a pass that a worker asked with, and that no number is found to have
+//! Not said: that [`serve_all`] and its sessions find memory where there is some; that workers run side by side; that each line has the number of a pass that a worker asked with, and that no number is found to have
 //! been given before; that a link which was given comes back, where the port does not tell its links: that none stays out is said, and a link can
 //! not be dropped; that the gate is passed under the worker's number and the session's; that a server returns: a turn of the desk may wait for
 //! ever; that a worker stops at once where its port failed, and gives each link back before it takes the next: a port is seen at entry and at

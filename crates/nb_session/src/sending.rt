@@ -9,8 +9,8 @@ use nb_port::Disk;
 use nb_units::frames::HEADER;
 use nb_wire::{Sent, send};
 
-/// Sends the replies of the last turn of `pass`. What they tell of is recorded in the house that it left, and each image that a stop may leave
-/// stands for the entries of that house, unless the turn did not decide.
+/// Sends replies of a turn that may be sent from the house that `pass` left. What they tell of is recorded in that house, and each image that a stop may
+/// leave stands for its entries, unless the turn did not decide. That they are those of the last turn of `pass` is said by `session`.
 pub fn send_replies<D: Disk, L: Link>(_pass: &Pass<D>, link: &mut L, replies: &[u8]) -> Sent
     requires durable { LeftToSend D.tells _pass.now.number (sees _pass.now) replies.now }
     ensures sent { Sends (L.seen link.old) (L.seen link.new) replies.now result }

@@ -57,8 +57,8 @@ StandbyLimitsAre =
 
 -- ---- every list of events
 
--- in each world that comes of any events the standby's list is a front of the primary's, and so it is with what is in doubt: also behind a stop,
--- which is one of the events
+-- in each world that comes of any events the standby's list is a front of the primary's, and so it is with what is in doubt, where it began so, with nothing
+-- in doubt: also behind a stop, which is one of the events
 abbrev pub StaysFront : Type 0
 StaysFront = (charter : Charter) (cap : ℕ) (first : World) (events : List Event) (worlds : List World)
     → Starts first → Happens charter cap first events worlds → AllByRecursion IsFront (first ∷ worlds)
@@ -159,7 +159,7 @@ FollowIsDeliveries = (charter : Charter) (cap : ℕ) (world : World) (answered :
     → AreShippedIn charter world answered → AcknowledgesAll charter cap world.standby answered states
     → HearsAll charter cap world answered (map (with_standby world) states)
 
--- where the standby began as a front of the primary, it is one in each state of the run, and so it is with what is in doubt
+-- where the standby began as a front of the primary, with nothing in doubt, it is one in each state of the run, and so it is with what is in doubt
 abbrev pub FollowedStaysFront : Type 0
 FollowedStaysFront = (charter : Charter) (cap : ℕ) (world : World) (answered : List Answered) (states : List State)
     → Starts world → AreShippedIn charter world answered → AcknowledgesAll charter cap world.standby answered states

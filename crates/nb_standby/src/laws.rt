@@ -41,7 +41,8 @@ pub fn taken_stays()
     ensures { law.TakenStays }
 {}
 
-/// What `follow` does with a record that a primary of the same house shipped is a delivery in each such world.
+/// What `follow` does with a record that a primary of the same house shipped is a delivery in each world that has shipped it and whose standby is in the state of
+/// the vault.
 pub fn follow_is_step<D: Disk>()
     ensures { law.FollowIsStep D.tells }
 {}
@@ -52,7 +53,7 @@ pub fn follow_is_deliveries()
     ensures { law.FollowIsDeliveries }
 {}
 
-/// Each state of such a run is a front of the primary's list, also with what is in doubt, where it began so.
+/// Each state of such a run is a front of the primary's list, also with what is in doubt, where it began so, with nothing in doubt and what was shipped the primary's.
 pub fn followed_stays_front()
     ensures { law.FollowedStaysFront }
 {}

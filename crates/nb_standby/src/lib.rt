@@ -8,8 +8,8 @@
 //! The layouts stand in `specs/Spelling.antt`, each as a function of the value, and in `specs/Reading.antt`, field by field with the place of
 //! each; that they are the two sides of one thing is proved by the functions of [`laws`]. What following does stands in `specs/Following.antt`.
 //! `specs/World.antt` has a primary that grows, the records that it ever shipped, and a standby that any of these reach in any order, whose disk
-//! fails and which stops at any moment. In every such world the standby's list is the front of the primary's, and what was acknowledged as taken
-//! in stays; a whole run of [`follow`] over records that were shipped is such a run (`specs/Laws.antt`).
+//! fails and which stops at any moment. In every such world the standby's list is a front of the primary's, where it began so, with nothing in doubt
+//! and what was shipped the primary's; and what was acknowledged as taken in stays. A whole run of [`follow`] over records that were shipped is such a run (`specs/Laws.antt`).
 //!
 //! Left to others: how frames come and go, which records are shipped when, and that nobody but the house has its key.
 //!

@@ -75,7 +75,8 @@ impl<T: Chronicle + Drop> Turn<T> {
         ensures turn { Belongs result self.now }
         ensures number { result.number ≡ held.hold.number }
         ensures seen { (sees result).seen ≡ T.history held.value }
-        // That it has seen them is all that has changed of what it knows, and its first part has seen them too: so the new lines are among its own.
+        // That it has seen them, and has the turn no more, is all that has changed of what it knows, and its first part has seen them too: so the new lines are
+        // among its own.
         ensures view { sees result ≡ gave (reseen (T.history held.value) (held_sees held)) }
     {
         let Held { value, hold } = held;

@@ -89,7 +89,7 @@ ThreeAtOnce =
     × (places (answered_in small_house rounds) ≡ 0 ∷ 1 ∷ 2 ∷ [])
     × (replies (answered_in small_house rounds) ≡ 1 ∷ 0 ∷ 0 ∷ 2 ∷ 1 ∷ 0 ∷ 1 ∷ 2 ∷ 500 ∷ [])
 
--- the last call of the disk fails in that turn, and then the three come again: three refusals; three lines that adopt; the replies to
+-- the disk fails in that turn, what it records is kept, and then the three come again: three refusals; three lines that adopt; the replies to
 -- what is held, the first with the balance by then
 abbrev pub KeptTogether : Type 0
 KeptTogether =
@@ -101,7 +101,7 @@ KeptTogether =
     × AnsweredTurns small_house [] 0 [] (own_turn first told ∷ own_turn again adopted ∷ []) (told ++ adopted)
     × (replies (answered_in small_house (first ∷ again ∷ [])) ≡ 50 ∷ 0 ∷ 1 ∷ 50 ∷ 0 ∷ 1 ∷ 50 ∷ 0 ∷ 1 ∷ 1 ∷ 0 ∷ 500 ∷ 2 ∷ 1 ∷ 0 ∷ 1 ∷ 2 ∷ 500 ∷ [])
 
--- the fund alone over the two enrolments, and an early call of the disk fails: it is dropped, and comes again as a new entry
+-- the fund alone over the two enrolments, and the disk fails: it is dropped, and comes again as a new entry
 abbrev pub DroppedAndRecorded : Type 0
 DroppedAndRecorded =
     let first : Round = record { requests = fund_one ∷ []; outcome = Fails 0 1 } in
@@ -112,7 +112,7 @@ DroppedAndRecorded =
     × AnsweredTurns small_house two_entries 0 [] (own_turn first told ∷ own_turn again recorded ∷ []) (told ++ recorded)
     × (replies (answered_in small_house (first ∷ again ∷ [])) ≡ 50 ∷ 0 ∷ 1 ∷ 1 ∷ 2 ∷ 500 ∷ [])
 
--- the last call fails: it is kept, and told again
+-- the disk fails: it is kept, and told again
 abbrev pub KeptAndTold : Type 0
 KeptAndTold =
     let first : Round = record { requests = fund_one ∷ []; outcome = Fails 0 1 } in

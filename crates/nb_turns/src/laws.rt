@@ -54,14 +54,15 @@ pub fn run_grows()
     ensures { law.RunGrows }
 {}
 
-/// Where what a house records may come next and has room, a turn keeps the entries, also with those in doubt, Legal and within the cap.
+/// Where what a house records may come next and has room, a turn of 1 to 32 requests keeps this of a state: the entries, also with those in doubt, are Legal and
+/// within the cap, at most 32 are in doubt, and at most 1,000 turns failed.
 pub fn turn_keeps_legal()
     ensures { law.TurnKeepsLegal }
 {
     nb_book::laws::stays_legal();
 }
 
-/// So they are in each state of a run of such a house from a state in which they are.
+/// So it is in each state of a run of such a house from a state in which it is so.
 pub fn run_keeps_legal()
     ensures { law.RunKeepsLegal }
 {
@@ -79,7 +80,7 @@ pub fn run_keeps_rate()
 {}
 
 /// Where what a house records may come next and has room, money is neither made nor lost in each state of a run from a state whose entries, also
-/// with those in doubt, are Legal and within the cap.
+/// with those in doubt, are Legal and within the cap, with at most 32 in doubt and at most 1,000 turns that failed.
 pub fn run_keeps_money()
     ensures { law.RunKeepsMoney }
 {
@@ -169,18 +170,18 @@ pub fn three_at_once()
     ensures { worked.ThreeAtOnce }
 {}
 
-/// The last call of the disk fails in that turn, and then the three come again: three refusals, three lines that adopt, and the
+/// The disk fails in that turn, what it records is kept, and then the three come again: three refusals, three lines that adopt, and the
 /// replies to what is held.
 pub fn kept_together()
     ensures { worked.KeptTogether }
 {}
 
-/// The fund alone, and an early call of the disk fails: it is dropped, and comes again as a new entry.
+/// The fund alone, and the disk fails: it is dropped, and comes again as a new entry.
 pub fn dropped_and_recorded()
     ensures { worked.DroppedAndRecorded }
 {}
 
-/// The last call fails: the fund is kept, and told again.
+/// The disk fails: the fund is kept, and told again.
 pub fn kept_and_told()
     ensures { worked.KeptAndTold }
 {}

@@ -47,7 +47,7 @@ abbrev pub TearsItem : Charter → ℕ → List Entry → List Entry → Option 
 TearsItem charter cap entries group old new =
     (gate : ℕ) × IsGate charter cap entries old gate × MayTear old new gate (length (entries_bytes group) + 6 + zeros_behind gate (entries_bytes group))
 
--- an image stands for one list
+-- an image stands for at most one list
 abbrev pub OneList : Type 0
 OneList = (image : List ℕ) (charter charter' : Charter) (cap cap' : ℕ) (entries entries' : List Entry) → StandsFor charter cap entries image → StandsFor charter' cap' entries' image
     → (cap ≡ cap') × (charter ≡ charter') × (entries ≡ entries')

@@ -9,7 +9,7 @@ ghost use Rattle.nb_vault.specs.Vaults.{LinesFit};
 
 use nb_port::Disk;
 
-/// An image stands for one list of entries, with one charter and one cap.
+/// An image stands for at most one list of entries, with one charter and one cap.
 pub fn one_list()
     ensures { OneList }
 {}

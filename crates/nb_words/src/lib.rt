@@ -9,6 +9,8 @@
 //! [`port_of`] says which port is that of a worker, behind the first one's.
 //!
 //! Left to others: which file the words name, and what is done.
+//!
+//! Not said: that [`command_of`] finds memory where there is some.
 #![tactic(auto)]
 
 pub mod laws;

@@ -98,7 +98,7 @@ pub fn limits()
 
 /// The command that the words are, where they are one. A name is not empty and does not begin with `-`, and so is an address; a number is
 /// decimal, and has no sign and no leading zero: a cap, an account, a consumer, a merchant, a product, a group and how many links a seller takes are below 2^32, the limit and the number of a
-/// purchase and the last second of a credential below 2^64, a rate at most [`MAX_RATE`](nb_units::MAX_RATE) and a seed below 2^64, a
+/// purchase, the last second of a credential and the place of `ship` below 2^64, a rate at most [`MAX_RATE`](nb_units::MAX_RATE) and a seed below 2^64, a
 /// drill has at most [`nb_play::MAX_ORDERS`] orders, and a server from 1 to [`MAX_WORKERS`] workers, of at least one link each and at most
 /// [`MAX_LINKS`] over all. The groups of a credential are as [`Groups::named`](nb_groups::Groups::named) has them.
 pub fn command_of(alloc: Global, words: &[String]) -> Result<Option<Command>, NoMemory>

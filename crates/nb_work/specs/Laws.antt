@@ -75,7 +75,7 @@ pub record NothingFails {D : Type 0} (tells : DiskTells D) (old new : Outside D)
   pub seller_writes : Rose old.seller.write_faults new.seller.write_faults → ⊥
   pub output : Rose old.faults new.faults → ⊥
 
--- how it ends, by how far the purchase is: its goods were written, or it was not paid
+-- how it ends, by how far the purchase is: its goods were written, or none were had
 abbrev pub EndsPaid : Option (List ℕ) → Option (List ℕ) → Option (List ℕ) → Option Phase → Ending → Type 0
 EndsPaid goods sent sent' (Some (phase.Paid len)) ending = (ending ≡ at_no_place CLEAN) × IfSome goods (λ bytes. Appends sent sent' bytes)
 EndsPaid goods sent sent' (Some (phase.Refused code)) ending = ending ≡ at_no_place UNPAID
@@ -83,7 +83,7 @@ EndsPaid goods sent sent' (Some phase.Foul) ending = ending ≡ at_no_place UNPA
 EndsPaid goods sent sent' other ending = ⊥
 
 -- A purchase with a wallet that has room for the items, over links whose frames bring it to its end, ends as it is behind those acts, where no count
--- rises: with 0 and its goods where it was paid, with 10 where it was not; or with 6 for want of memory
+-- rises: with 0 and its goods where it has some, with 10 where it was refused or its key opens nothing; or with 6 for want of memory
 abbrev pub PurchasesComplete : {D : Type 0} → DiskTells D → Type 0
 PurchasesComplete {D} tells = (s : Start) (old new : Outside D) (ending : Ending) → BuysAs tells s old new ending
     → (image : List ℕ) (cap : ℕ) (items : List (List ℕ)) (buyer : Buyer) → tells.content old.disk ≡ Some image → IsWallet image cap items buyer

@@ -19,8 +19,8 @@ pub fn stops_go_on<D: Disk>()
     ensures { law.StopsGoOn D.tells }
 {}
 
-/// A law: a purchase with a wallet that has room, over links that give the frames which bring it to its end, ends with 0 and its goods where it was paid and with
-/// 10 where it was not, where no count of the disk, a link or the output rises; or with 6 for want of memory.
+/// A law: a purchase with a wallet that has room, over links that give the frames which bring it to its end, ends with 0 and its goods where it was paid and
+/// their key opens them, and with 10 where it was refused or the key does not, where no count of the disk, a link or the output rises; or with 6 for want of memory.
 pub fn purchases_complete<D: Disk>()
     ensures { law.PurchasesComplete D.tells }
 {}

@@ -2,7 +2,7 @@
 //!
 //! [`work`] does a [`Job`](nb_commands::Job). For `serve` it opens the vault on the disk and serves the links of all workers
 //! ([`nb_server::serve_all`]). Its contract (`specs/Work.antt`) says what stands after each status: over a journal that was not opened,
-//! or where there was no memory to begin, nothing was touched; else every line of the vault is told, with what came of each worker.
+//! or where there was no memory to begin, no byte was written and the workers are those handed in; else every line of the vault is told, with what came of each worker.
 //! For `buy` it opens the wallet on the disk and makes the purchase over the dialled links ([`nb_buy::buy`]). What stands then
 //! (`specs/Buying.antt`) is what that says, from what the wallet's items make a consumer again. For `sell` it opens the stall on the
 //! disk and sells on the links that its one worker's port gives, one after the other, over the dialled link to the house

@@ -68,7 +68,7 @@ pub struct Worked<D, P, L, C> {
 ///
 /// `Buy`: opens the wallet on the disk, starts its consumer again, and makes the purchase with its request by [`nb_buy::buy`] over the two dialled links. The status is that of a
 /// journal that was not opened, 7, 8 or 6; 8 where an item of it is none of a wallet's, and 6 where there is no memory, both with nothing begun; else 0 where the
-/// goods were written, 4 where the output failed, 10 where the purchase is over and was not paid, 12 where it is not over and nothing more came of a
+/// goods were written, 4 where the output failed, 10 where the purchase is over and no goods were had, 12 where it is not over and nothing more came of a
 /// link or 10,000 frames were read, 14 where the wallet is full, 7 where its disk failed and 6 where there was no memory. The workers, each with its clock, are not touched.
 ///
 /// `Sell`: opens the stall on the disk, starts its merchant again with the shelf and the offers, if there are some, and sells by [`nb_sell::sell_link`] on the links that the port of the one worker
