@@ -12,11 +12,11 @@
 //!
 //! Left to others: frames, sending the replies, the clock, and that a pass gets on: no clause says that a turn is ever given back.
 //!
-//! Not said: that [`Desk::open`] finds memory where there is some; that a try is not always Busy, since found words are told by the step that the code names; that anyone gives the turn back, that
-//! [`Desk::ask`] ends, who is next; that [`Desk::try_ask`] waits for nobody: it has no bound `Wait`, and it returns; that asking takes no memory:
-//! the calls are given no allocator; what was opened before does: what is answered does not depend on it, and `bench/run` counts the hashes that
-//! it takes out of a turn; and that the disk stood still between two turns of a pass: others asked meanwhile. A trial of `vaults` has a try that
-//! is served.
+//! Not said: that [`Desk::open`] finds memory where there is some; that a try is not always Busy, since found words are told by the step that
+//! the code names; that anyone gives the turn back, that [`Desk::ask`] ends, who is next; that [`Desk::try_ask`] waits for nobody: it has no
+//! bound `Wait`, and it returns; that asking takes no memory: the calls are given no allocator; what was opened before does: what is answered
+//! does not depend on it, and `bench/run` counts the hashes that it takes out of a turn; and that the disk stood still between two turns of a
+//! pass: others asked meanwhile. A trial of `vaults` has a try that is served.
 #![tactic(auto)]
 
 mod asked;

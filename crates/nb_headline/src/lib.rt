@@ -11,7 +11,8 @@
 //! that settles it, and a refusal is true; a key is given exactly where the payment stands, sealed for who asks; replies are those of one list.
 //!
 //! Of a standby three laws join what `nb_standby` has in its world with what the commands write (`specs/Standby.antt`): the frames that are shipped are of what the world has shipped; code 2
-//! is told of none of them, where the standby's list began as a front of the primary's within its cap, with nothing in doubt; and what is promoted after a stop tells of all that was acknowledged before it.
+//! is told of none of them, where the standby's list began as a front of the primary's within its cap, with nothing in doubt and what was shipped the primary's;
+//! and what is promoted after a stop tells of all that was acknowledged before it.
 //!
 //! Left to others: inputs, outputs and connections (`nb_run::run`, `nb_session::session`, `nb_server::serve_all`); that all turns of one server are one run: each is
 //! of the form of such a turn, their lines stand in one list (`nb_server::serve_all`), and no law joins them; in which order the turns of many callers come; what the

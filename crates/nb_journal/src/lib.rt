@@ -11,7 +11,7 @@
 //! a stop at any moment of an append or of settling leaves the items before it or those with the item, never a part of it,
 //! and once it is appended, kept or dropped, nothing is in doubt. What a journal that was made and an append that is done
 //! leave in the content is said byte for byte. Opening and settling write nothing. Opening gives exactly what the content
-//! holds, or the first fault (`specs/Reading.antt`); that what stands for items that a journal may have is read as these items, and that an
+//! holds, or the first fault (`specs/Reading.antt`); that what stands for a front and items that a journal may have is read as these, and that an
 //! image has at most one reading, is proved by the functions of [`laws`]; so is what a journal grew by and what a stop leaves meanwhile, over any
 //! number of appends (`specs/Growing.antt`).
 //!

@@ -19,13 +19,13 @@
 //!
 //! Left to others: where links come from, and several sessions, one after another and beside one another.
 //!
-//! Not said: that [`session`] finds memory where there is some; that each reply goes out by writes of its own, that the replies of a turn are sent before more is read, and that a call which failed
-//! is not tried again: a link tells its bytes and its reads that gave some, and no other call. What is opened of orders before their turn, and that replies are written when
-//! the turn was given back: what is answered does not depend on it. That each turn passes both points of the gate, the one before any write and
-//! the other behind all: a gate has no clauses. That memory is taken at the start alone: the calls behind it are given no allocator. That a
-//! session ends: a turn of the desk may wait for ever, and each round gets on by a frame or a byte, or ends it. That frames which record nothing
-//! share a turn with others, which no line tells. The trials of `houses` show the writes, the points and what is opened before; in one each call
-//! of the link fails in turn.
+//! Not said: that [`session`] finds memory where there is some; that each reply goes out by writes of its own, that the replies of a turn are
+//! sent before more is read, and that a call which failed is not tried again: a link tells its bytes and its reads that gave some, and no other
+//! call. What is opened of orders before their turn, and that replies are written when the turn was given back: what is answered does not
+//! depend on it. That each turn passes both points of the gate, the one before any write and the other behind all: a gate has no clauses. That
+//! memory is taken at the start alone: the calls behind it are given no allocator. That a session ends: a turn of the desk may wait for ever,
+//! and each round gets on by a frame or a byte, or ends it. That frames which record nothing share a turn with others, which no line tells. The
+//! trials of `houses` show the writes, the points and what is opened before; in one each call of the link fails in turn.
 #![tactic(auto)]
 
 mod answering;
