@@ -60,7 +60,7 @@ GoesOnNextTime {D} tells = (s : Start) (old new : Around D) (end : BuyEnd) (b : 
     → Kept items old.buyer
     → (image : List ℕ) → tells.left new.journal.disk (tells.moment old.journal.disk) image → GoesOn s old.buyer items (acts_of tells s old new end b) front image
 
--- a purchase that is over ends so
+-- a purchase that is over ends so, or there was no memory
 abbrev pub IsEndOfOver : BuyEnd → Type 0
 IsEndOfOver ends.Paid = Unit {0}
 IsEndOfOver ends.Unpaid = Unit {0}

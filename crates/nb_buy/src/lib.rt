@@ -8,12 +8,15 @@
 //! became of the order, once for that reason. The goods of a purchase that was paid are written at its end, and each time it is made again. Goods that
 //! a frame just opened want no memory to be written.
 //!
-//! What is done is seen as a list of acts (`specs/Run.antt`): a start, a frame that is heard, a word that nothing is waited for any more. What each keeps and sends
-//! is the row of the consumer's table, and which may come next is a rule over the acts alone, so that the order in which frames were read is the list itself. What
-//! is promised (`specs/Bought.antt`): the journal grew by what the acts of such a list keep; the frames that they hear are the first that came over each link, and
-//! what they send was sent to each, up to a write that failed; nothing is heard right behind a refusal, and no peer behind a write to it that failed; and each end
-//! says exactly why nothing more was done. Where a step could not be taken nothing of it was sent. [`laws`] say what a stop leaves, also where an append failed, that a
-//! wallet goes on from there next time, that a purchase that ended as paid has the same goods each time, that one of which a receipt was heard is over as that says, and that one whose links give the frames that bring it to its end comes to it.
+//! What is done is seen as a list of acts (`specs/Run.antt`): a start, a frame that is heard, a word that nothing is waited for any more. What each
+//! keeps and sends is the row of the consumer's table, and which may come next is a rule over the acts alone, so that the order in which frames were
+//! read is the list itself. What is promised (`specs/Bought.antt`): the journal grew by what the acts of such a list keep; the frames that they hear
+//! are the first that came over each link, and what they send was sent to each, up to a write that failed; nothing is heard right behind a refusal,
+//! and no peer behind a write to it that failed; and each end says exactly why nothing more was done. Where a step could not be taken nothing of it
+//! was sent. [`laws`] say what a stop leaves, also where an append failed, that a wallet whose journal held what its consumer kept goes on from there
+//! next time, that a purchase that ended as paid has the same goods each time, that one of which a receipt was heard is over as that says, and that
+//! one whose links give the frames that bring it to its end, at most [`MOST_FRAMES`] and none of them a refusal, comes to it, where no call fails,
+//! the wallet has room and there is memory.
 //!
 //! That a message is sent behind its item is said so: where an append fails nothing of that act was sent. Links and disks tell no time that they share.
 //!

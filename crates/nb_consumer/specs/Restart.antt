@@ -1,4 +1,5 @@
--- How a consumer starts again with the items of its journal: each must be the spelling of one that a row keeps behind those before it.
+-- How a consumer starts again with the items of its journal: each must be the spelling of one that a row keeps behind those before it. Of an order
+-- the account digest, the hidden part and the tag are not tested.
 use Rattle.std.specs.Prelude.{◌≡◌, ℕ, ◌+◌, ◌-◌, ◌==◌, ◌&&◌, nat_lt, nat_le, if◌then◌else◌, Bool, true, false, is_ok, is_some, is_none, List, [], ◌∷◌, ◌++◌, map, length, Option, Some, None, Result, Ok, Err, ⊤}
 use Rattle.std.specs.Option.{option_map_or}
 use Rattle.std.specs.Str.{bytes_eq}

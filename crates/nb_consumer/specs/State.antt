@@ -1,4 +1,4 @@
--- What a consumer is seen as: its wallet, and what its kept items say of each purchase.
+-- What a consumer is seen as: its wallet, and what its kept items and the places that it was told say of each purchase.
 use Rattle.std.specs.Prelude.{ℕ, List, [], ◌∷◌, ◌++◌, map, set, position, slice_get, nat_eq, is_some, if◌then◌else◌, Option, Some, None}
 pub use Rattle.nb_units.specs.Epoid.{epoid_bytes}
 use Rattle.std.specs.Cmp.Lexicographic.{pointwise}

@@ -207,7 +207,7 @@ told_status b sealed = do
   o ← found reason.State (owing_in p.stage)
   status_told transaction p o t.place t.receipt
 
--- ---- nothing was heard for long: the last message again, and the status of an order
+-- ---- nothing was heard for long: the last message again; an order is not, and its status is asked for instead
 
 -- what is said again at each stage of a purchase
 abbrev pub unheard : Wallet → Purchase → Stage → Result Deed Reason

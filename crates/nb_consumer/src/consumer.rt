@@ -17,7 +17,8 @@ use nb_wallet::{Stage, Start, Wallet};
 use std::alloc::Global;
 use std::marker::Model;
 
-/// A consumer: its wallet, and what its kept items say of each of its purchases. It is seen as these (`specs/State.antt`).
+/// A consumer: its wallet, and what its kept items and the places that it was told say of each of its purchases. It is seen as these
+/// (`specs/State.antt`).
 pub struct Consumer {
     known: Knowledge,
 }
@@ -50,7 +51,8 @@ impl Consumer {
     }
 
     /// A consumer that starts again with the items of its journal, fewer than 2^32. It answers [`RestartFault::BadItem`] at the first item that is not
-    /// the spelling of one that a row keeps behind the items before it, counted from 0 on. What it was told of the house's entries is not kept.
+    /// the spelling of one that a row keeps behind the items before it, counted from 0 on; of an order the account digest, the hidden part and the tag
+    /// are not tested. What it was told of the house's entries is not kept.
     pub fn restart(alloc: Global, wallet: Wallet, items: &[Blob]) -> Result<Consumer, RestartFault>
         requires { length items.now < 2 ^ 32 }
         ensures { Restarts wallet items.now result }
@@ -101,7 +103,8 @@ impl Consumer {
         self.known.answer(deed)
     }
 
-    /// Hears nothing of a purchase for long: where it is known and not over its last message is sent again, and of an order the house is asked for the status.
+    /// Hears nothing of a purchase for long: where it is known and not over its last message is sent again; an order is not, and the house is asked for its
+    /// status instead.
     pub fn quiet(&mut self, transaction: u64) -> Result<Step, NoMemory>
         // The row of the table; nothing changes.
         ensures answers { Answers self.old self.new (table.silent self.old transaction) result }

@@ -28,7 +28,8 @@ use std::alloc::Global;
 use std::collections::BTreeMap;
 use std::marker::Model;
 
-// What a consumer knows: its wallet, and what its kept items say of each of its purchases. It is seen as these (`specs/State.antt`).
+// What a consumer knows: its wallet, and what its kept items and the places that it was told say of each of its purchases. It is seen as these
+// (`specs/State.antt`).
 #[derive(Drop)]
 pub(crate) struct Knowledge {
     alloc: Global,

@@ -231,7 +231,8 @@ impl Merchant {
         }
     }
 
-    /// What this merchant kept may stand in a stall's journal as it does: so a [`restart`](Merchant::restart) over it finds no bad item.
+    /// What this merchant kept may stand in a stall's journal as it does: so a [`restart`](Merchant::restart) over it with its own stall and catalogue finds
+    /// no bad item.
     pub fn witness(&self)
         // Each item may stand where it does, and is within its limits.
         ensures kept { IsKept self.now }

@@ -49,7 +49,7 @@ pub enum Reason {
     Field(u8),
     /// It takes no messages of this kind.
     Kind,
-    /// The house refused, for the reason that this code, one byte wide, has in `nb_endorse`.
+    /// A refusal came, from whomever. Its code, one byte wide, has its reason in `nb_endorse`.
     Refused(u8),
     /// A merchant has no serial number left.
     Spent,
@@ -58,7 +58,7 @@ pub enum Reason {
 /// Why a node does not start again with the items of its journal.
 #[derive(Clone, Copy)]
 pub enum RestartFault {
-    /// This is the first item that a node could not have kept behind those before it, counted from 0 on, 4 bytes wide.
+    /// This is the first item that the node does not take up behind those before it, counted from 0 on, 4 bytes wide.
     BadItem { item: u32 },
     /// There is no memory for what it holds.
     NoMemory,

@@ -42,7 +42,7 @@ use Rattle.nb_parties.specs.Rules.{house_verdict, real_rules}
 -- ---- what a merchant endorsed
 
 -- Where a merchant endorses an order, at whatever it hears, bytes with the order's checksum open under the endorsement's key to the goods of the
--- product, or are a collision with these goods as they were sealed.
+-- product, or are a collision with these goods as they were sealed. Premise: what it kept may stand as it does.
 abbrev pub EndorsedGoodsOpen : Type 0
 EndorsedGoodsOpen = (shop : Shop) (w : Word) (a : Answer) (merchant : PartyId) (sealed : List ℕ) → AllFollow shop → done_at shop w ≡ Ok a
     → a.message ≡ message.Endorsed merchant sealed
@@ -59,7 +59,7 @@ pub record IsEnrolled (entries : List Entry) (stall : Stall) : Type 0 where
   pub id : stall.id.0 < 2 ^ 32
   pub acct : stall.acct.0 < 2 ^ 32
 
--- each merchant is enrolled, and what it kept may stand as it does: it kept nothing, or begins with what a restart takes up
+-- each merchant is enrolled, its numbers have their widths, and what it kept may stand as it does: it kept nothing, or begins with what a restart takes up
 abbrev pub MerchantsAreEnrolled : World Buyer Shop → Type 0
 MerchantsAreEnrolled w = (i : ℕ) (shop : Shop) → slice_get w.merchants i ≡ Some shop → IsEnrolled w.durable shop.stall × AllFollow shop
 

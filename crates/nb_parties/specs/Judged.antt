@@ -64,7 +64,8 @@ OrdersAreJudged = (H : List Entry) (head : Head) (cap : ℕ) (body : List ℕ) (
     → IsReceipt consumer → IsJudged H entry body consumer keys head.house
 
 -- Where a merchant endorses an order, at whatever it hears, and evidence has that order's checksum and goods with it, it is ruled on by the endorsement's
--- key as goods that it opens, with their length, or the goods are a collision with those of the product as they were sealed.
+-- key as goods that it opens, with their length, or the goods are a collision with those of the product as they were sealed. Premise: what the
+-- merchant kept may stand as it does.
 abbrev pub EndorsedGoodsAreJudged : Type 0
 EndorsedGoodsAreJudged = (shop : Shop) (w : Word) (a : Answer) (merchant : PartyId) (sealed : List ℕ) → AllFollow shop → done_at shop w ≡ Ok a
     → a.message ≡ message.Endorsed merchant sealed

@@ -19,7 +19,7 @@ pub fn purchases_end_as_entries_say<M>()
 }
 
 /// Where a merchant endorses an order, bytes with the order's checksum open under the endorsement's key to the goods of the product, or are a
-/// collision.
+/// collision. Premise: what the merchant kept may stand as it does.
 pub fn endorsed_goods_open()
     ensures { goods.EndorsedGoodsOpen }
 {}
@@ -27,7 +27,7 @@ pub fn endorsed_goods_open()
 /// Each payment in the house's list has the call that it came by. Where a merchant made the packet of that call, it is an endorsement of that
 /// merchant's, the key of the payment is the endorsement's, and what any consumer held when it kept the order with those bytes opens under it to the
 /// goods of the product, or is a collision. So it is of each payment behind the entries of a set-up, and of each one where the set-up has enrolments
-/// and funds alone. Premise: the set-up's merchants are enrolled, and what they kept may stand as it does.
+/// and funds alone. Premise: the set-up's merchants are enrolled, their numbers have their widths, and what they kept may stand as it does.
 pub fn payments_open_goods()
     ensures behind { goods.GoodsLaw }
     ensures each { goods.GoodsOfEachPayment }
@@ -59,7 +59,7 @@ pub fn orders_are_judged()
 {}
 
 /// Evidence with the checksum of an order that a merchant endorsed, and goods that have it, is ruled on by the endorsement's key as goods that it opens, with the length of
-/// the product's goods; or the goods are a collision with those as they were sealed.
+/// the product's goods; or the goods are a collision with those as they were sealed. Premise: what the merchant kept may stand as it does.
 pub fn endorsed_goods_are_judged()
     ensures { judged.EndorsedGoodsAreJudged }
 {}

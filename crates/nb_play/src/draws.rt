@@ -11,14 +11,14 @@ pub(crate) const INCREMENT: u64 = 1_442_695_040_888_963_407;
 // A draw leaves so many low bits of a number out.
 const LOW_BITS: u32 = 33;
 
-/// Number `k` of the generator, from 0 on; the first one is the seed. It takes as many steps as `k` has bits.
+/// Number `k` of the generator, from 0 on; the first one is the seed. It takes as many steps as `k` has bits: no clause says this.
 pub fn number_at(seed: u64, k: u64) -> u64
     ensures { result ≡ number MULTIPLIER INCREMENT seed k }
 {
     jump(MULTIPLIER, INCREMENT, seed, k)
 }
 
-/// Draw `k` of the generator, from 0 on: the 31 high bits of number `k + 1`.
+/// Draw `k` of the generator, from 0 on and below 2^64 - 1: the 31 high bits of number `k + 1`.
 pub fn draw(seed: u64, k: u64) -> u64
     requires { k + 1 < 2 ^ 64 }
     ensures draw { result ≡ draw_of seed k }

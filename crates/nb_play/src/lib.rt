@@ -5,7 +5,7 @@
 //! each frame is stands in `specs/Drill.antt`, as a function of the seed and the place. [`DrillSource`] gives all of them one behind the other, as bytes;
 //! [`DrillClock`] stands at the moment of each request, and [`NullSink`] takes the replies.
 //!
-//! Not said: that there is memory for a frame; and what a house answers to these frames, which its decision says.
+//! Not said: that there is memory for a frame; how many steps a number takes; and what a house answers to these frames, which its decision says.
 #![tactic(auto)]
 
 mod clock;

@@ -9,6 +9,8 @@
 //! by their order, and not by how they were found; by a function of [`laws`] a world has one report.
 //!
 //! Left to others: where a script comes from and where a report goes.
+//!
+//! Not said: that there is memory for the script's world, its events or the report.
 #![tactic(auto)]
 
 mod happening;

@@ -51,14 +51,14 @@ pub record Point (D : Type 0) : Type 0 where
 abbrev pub point : {D : Type 0} → Journal D → Way → Lines → Option (List ℕ) → Point D
 point journal way lines clock = record { journal = journal; way = way; lines = lines; clock = clock }
 
--- a clock gave these moments
+-- a clock gave these moments, where it tells
 abbrev pub Gave : Option (List ℕ) → Option (List ℕ) → List ℕ → Type 0
 Gave old None moments = ⊤
 Gave None (Some given) moments = ⊥
 Gave (Some before) (Some given) moments = given ≡ before ++ moments
 
 -- These acts were carried out, and nothing else: the journal grew by what they keep, the frames that they hear are those that came over each link, in order,
--- and no read was for another, what they send was sent to each, up to a write that failed, and their moments are what the clock gave
+-- and no read was for another, what they send was sent to each, up to a write that failed, and their moments are what the clock gave, where the clock tells
 pub record Went {D : Type 0} (tells : DiskTells D) (p q : Point D) (acts : List Act) : Type 0 where
   pub journal : Grows tells p.journal q.journal (map item_bytes (kept p.way acts))
   pub way : q.way ≡ behind p.way acts

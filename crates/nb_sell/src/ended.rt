@@ -13,6 +13,6 @@ pub enum SellEnd {
     DiskFault { before: u64, after: u64 },
     /// The stall's journal holds as many items as it may hold, and a step keeps one. Nothing of the step was sent.
     Full { cap: u32 },
-    /// There was no memory. Nothing of the step stands in the journal, and nothing was sent; the merchant may know its item.
+    /// There was no memory. Nothing of the step stands in the journal, and nothing of it was sent; the merchant may know its item.
     NoMemory,
 }

@@ -5,12 +5,13 @@
 //! the consumer's next. A message for another consumer than the one whose message was last read is not sent; it stays kept, and is passed on where that consumer
 //! sends its order again. A frame that is ignored, also for a body that spells no message, ends the link, and so does a refusal ([`laws::refusal_ends`]).
 //!
-//! What is done is seen as a list of acts (`specs/Run.antt`): a frame of the consumer's with its moment, a frame of the house's. What each keeps and sends is the
-//! row of the merchant's table, and whose frame comes next follows from the row before, so that the order in which frames were read is the list itself. What is
-//! promised (`specs/Sold.antt`): the journal grew by what the acts of such a list keep; the frames that they hear are the first that came over each link; their
-//! moments are what the clock gave; what they send was sent to each, up to a write that failed, behind which nothing is done; and each end says exactly why no more
-//! was. The acts were carried out one by one, each from where the one before it came to, and no bytes of a link were read but for a frame that was heard, or up to where
-//! none came any more. Where a step could not be taken nothing of it was sent.
+//! What is done is seen as a list of acts (`specs/Run.antt`): a frame of the consumer's with its moment, a frame of the house's. What each keeps and
+//! sends is the row of the merchant's table, and whose frame comes next follows from the row before, so that the order in which frames were read is
+//! the list itself. What is promised (`specs/Sold.antt`): the journal grew by what the acts of such a list keep; the frames that they hear are the
+//! first that came over each link; their moments are what the clock gave, where the clock tells; what they send was sent to each, up to a write that
+//! failed, behind which nothing is done; and each end says exactly why no more was. The acts were carried out one by one, each from where the one
+//! before it came to, and no bytes of a link were read but for a frame that was heard, or up to where none came any more. Where a step could not be
+//! taken nothing of it was sent.
 //!
 //! [`laws`] say what a stop leaves, also where an append failed, that a merchant goes on from there next time, that behind every link on which no item was lost
 //! the journal holds what the merchant kept, where it did before, that what was carried out is never more than its cap and is told as full only where it holds as much, and that what was endorsed is

@@ -2,11 +2,13 @@
 //!
 //! [`Sellers`] are seen as the list of the merchants of a world of `nb_world`: a call takes the one at a place on, and its contract says how by the rules of
 //! `nb_parties` (`Doing.antt` of `nb_packets/specs`). What it did is a [`Did`](nb_packets::Did). Each keeps the items of its journal, and a restart starts it
-//! again with these (`selling.rt`). That merchants are found by their numbers, without going through the others, is how it is built: no
-//! contract promises it. What is promised of a call without memory is that nothing changed.
+//! again with these (`selling.rt`). That a restart reads these, and that merchants are found by their numbers, without going through the others, is how it is
+//! built: no contract promises it. What is promised of a call without memory is that nothing changed.
 //!
 //! Left to others: the packets (`nb_packets`), the consumers (`nb_buyers`), the house, the network and the clock, and which packet reaches whom
 //! (`nb_simulator`).
+//!
+//! Not said: that there is memory for a merchant more or for a step.
 #![tactic(auto)]
 
 mod sellers;

@@ -10,6 +10,8 @@
 //! promised of a step without memory is that nothing changed.
 //!
 //! Left to others: which events happen, and what is told of a world.
+//!
+//! Not said: that there is memory for a world or an event.
 #![tactic(auto)]
 
 pub mod laws;

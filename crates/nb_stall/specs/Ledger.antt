@@ -17,7 +17,7 @@ abbrev pub or_held : Option Divided → Option Divided → Option Divided
 or_held (Some new) old = Some new
 or_held None old = old
 
--- what is held of a purchase with an item of it more
+-- what is held of a purchase with an item of it more: where nothing was held a told price alone is noted
 abbrev pub noted : Option Held → Item → Option Divided → Option Held
 noted (Some held) x parts = Some (record { sale = record held.sale { progress = progressed held.sale.progress x }; parts = or_held parts held.parts })
 noted None (item.Quoted p product price request) parts = Some (record { sale = record { product = product; price = price; request = request; progress = progress.Quoted }; parts = parts })

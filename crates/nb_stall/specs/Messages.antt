@@ -1,4 +1,4 @@
--- What a merchant sends, and the keys of its goods.
+-- What a merchant sends, but for a result that is passed on, and the keys of its goods.
 use Rattle.std.specs.Prelude.{ℕ, List, [], codes, length}
 use Rattle.sha2.specs.Sha256.{sha256}
 use Rattle.nb_units.specs.declared.epoid.Epoid.{Epoid}

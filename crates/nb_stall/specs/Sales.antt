@@ -32,7 +32,7 @@ progressed (progress.Delivered epoid) (item.Endorsed p order) = progress.Endorse
 progressed (progress.Endorsed epoid order) (item.Settled p part) = progress.Settled epoid order part
 progressed before other = before
 
--- what is known of a purchase with an item of it more
+-- what is known of a purchase with an item of it more: where nothing was known a told price alone is noted
 abbrev pub moved : Option Sale → Item → Option Sale
 moved (Some sale) x = Some (record sale { progress = progressed sale.progress x })
 moved None (item.Quoted p product price request) = Some (record { product = product; price = price; request = request; progress = progress.Quoted })

@@ -11,15 +11,15 @@ use nb_goods::Parts;
 use nb_units::{Epoid, NoMemory};
 use std::collections::BTreeMap;
 
-/// Notes an item at its purchase, with what the parts of the goods are made from where they were sealed with it. Answers [`NoMemory`] where
-/// there is none for a purchase more: nothing is noted then.
+/// Notes an item at its purchase, with what the parts of the goods are made from where they were sealed with it; of a purchase that is not held a told
+/// price alone is noted. Answers [`NoMemory`] where there is none for a purchase more: nothing is noted then.
 pub fn note(
     sales: &mut BTreeMap<Purchase, Held>,
     item: &Item,
     parts: Option<Parts>,
 ) -> Result<(), NoMemory>
-    // After Ok what is held at the item's purchase is what was held, with the item more and with the parts where there are some (`noted`); at every
-    // other purchase it is what was held.
+    // After Ok what is held at the item's purchase is what was held, with the item more and with the parts where there are some (`noted`); where nothing
+    // was held a told price alone is noted. At every other purchase it is what was held.
     ensures noted { OnOk result ((q : Purchase) → get purchase_cmp sales.new q ≡ noted_at item.now parts q (get purchase_cmp sales.old q)) }
     ensures same { OnErr result (sales.new.entries ≡ sales.old.entries) }
 {

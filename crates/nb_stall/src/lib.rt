@@ -8,10 +8,12 @@
 //! What the kept items say of a purchase, a [`Sale`], and under which identifiers goods were sealed, stands in `specs/Sales.antt`. [`note`],
 //! [`note_delivery`] and [`delivery_at`] keep both beside the items, so that neither is searched for (`specs/Ledger.antt`).
 //!
-//! What a merchant sends stands in `specs/Messages.antt`, a call for each message; what is sealed for it is opened by a call for each text
-//! (`specs/Tests.antt`). Goods are sealed part by part as they are asked for; what the parts are made from is held with the sale.
+//! What a merchant sends stands in `specs/Messages.antt`, a call for each message, but for a result that is passed on; a ticket, and what is sealed
+//! under its session key, is opened by a call for each text (`specs/Tests.antt`). Goods are sealed part by part as they are asked for; what the parts are
+//! made from is held with the sale.
 //!
-//! Left to others: what is done at a message, and which items may stand one behind the other.
+//! Left to others: what is done at a message, which items may stand one behind the other, the message that passes a result on (`nb_merchant`), and the
+//! opening of a receipt (`nb_msgs`).
 //!
 //! Not said: that there is memory for a message or for a purchase more; and how much time a look-up takes: a purchase is looked up in an ordered
 //! map, an identifier by its serial number.

@@ -10,7 +10,7 @@ use nb_units::{Digest, Epoid, Price, Small};
 pub enum Stage {
     /// A price was told.
     Quoted,
-    /// The goods were sent, sealed.
+    /// The goods were sealed.
     Delivered,
     /// The consumer's order was endorsed.
     Endorsed,

@@ -8,8 +8,8 @@ use nb_journal::{AppendFault, Journal};
 use nb_port::Disk;
 use nb_units::Blob;
 
-/// Appends an item to a journal, where there is one. The journal has no item in doubt, and was opened with room for the longest item. It takes no memory:
-/// [`Lost::NoMemory`] never comes.
+/// Appends an item of at most [`MAX_ITEM`](nb_journal::MAX_ITEM) bytes to a journal, where there is one. The journal has no item in doubt, and was opened
+/// with room for the longest item. It takes no memory: [`Lost::NoMemory`] never comes.
 pub fn keep_some<D: Disk>(journal: &mut Journal<D>, item: &Option<Blob>) -> Result<(), Lost>
     requires rest { IsAtRest D.tells journal.old }
     requires room { journal.old.room ≡ MAX_ITEM }

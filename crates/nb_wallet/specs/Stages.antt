@@ -54,7 +54,7 @@ abbrev pub ordered_from : Stage → Order → Stage
 ordered_from (stage.Wanted pass price head) order = stage.Ordered pass order 0
 ordered_from other order = other
 
--- with the greater of two places
+-- with the greater of two places, where it was ordered
 abbrev pub raised_from : Stage → ℕ → Stage
 raised_from (stage.Ordered pass order least) place = stage.Ordered pass order (max least place)
 raised_from other place = other

@@ -82,8 +82,8 @@ pub enum Item {
 
 impl Item {
     /// The item that the bytes spell. It answers [`BodyFault::Malformed`] exactly where they spell none, with the place of the first field that
-    /// fails, in bytes from their front; an order in which a field fails is told behind all fields of the item, and a receipt at that of its own
-    /// bad field. A part of goods is copied once.
+    /// fails, in bytes from their front; the fields of an order are tested behind all others of the item, and a bad one of an order or of a receipt is told at
+    /// its own place. A part of goods is copied once.
     pub fn read(alloc: Global, bytes: &[u8]) -> Result<Item, BodyFault>
         // The fields in their order, and the first that fails. There is want of memory only where the bytes spell an item.
         ensures reads { ReadsBody result (reading.item_of bytes.now) }

@@ -9,8 +9,8 @@
 //! an order or a status it is at the stage that `specs/Stages.antt` says. Sealed goods come in parts. One copy of them is held, with the state of
 //! their digest, so that no part is hashed twice.
 //!
-//! What a price is asked for ([`price_text`], its digest [`request_digest`]), and the order of a purchase ([`order_for`], its bytes [`order_text`]), stand
-//! in `specs/Orders.antt`.
+//! What a price is asked for ([`price_text`], its digest [`request_digest`]), and the order of a purchase ([`order_for`]), stand in `specs/Orders.antt`. An
+//! order's bytes ([`order_text`]) are those of `nb_epo`.
 //!
 //! Left to others: which purchases there are, what is sent and how what comes is opened (`nb_asking`), and what is done at a message.
 //!

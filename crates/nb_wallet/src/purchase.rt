@@ -129,7 +129,7 @@ pub fn stage_ended(receipt: &Receipt, end: &End) -> Stage
     }
 }
 
-/// The stage behind a quote that was taken.
+/// The stage behind a quote that was taken, where a price was asked for; any other stage stays.
 pub fn wanted_from(stage: &Stage, price: Price) -> Stage
     ensures { result ≡ state.wanted_from stage.now price }
 {
@@ -143,7 +143,7 @@ pub fn wanted_from(stage: &Stage, price: Price) -> Stage
     }
 }
 
-/// The stage with what was said of the last part that is held, or none.
+/// The stage with what was said of the last part that is held, or none, where goods are wanted; any other stage stays.
 pub fn with_head(stage: &Stage, head: Option<GoodsHead>) -> Stage
     ensures { result ≡ state.with_head stage.now head }
 {
@@ -157,7 +157,7 @@ pub fn with_head(stage: &Stage, head: Option<GoodsHead>) -> Stage
     }
 }
 
-/// The stage behind an order.
+/// The stage behind an order, where goods were wanted; any other stage stays.
 pub fn ordered_from(stage: &Stage, order: &Order) -> Stage
     ensures stage { result ≡ state.ordered_from stage.now order.now }
     // It keeps to its limits where the stage before and the order do.
@@ -173,7 +173,7 @@ pub fn ordered_from(stage: &Stage, order: &Order) -> Stage
     }
 }
 
-/// The stage with the greater of two places, 8 bytes wide.
+/// The stage with the greater of two places, 8 bytes wide, where it was ordered; any other stage stays.
 pub fn raised_from(stage: &Stage, place: u64) -> Stage
     ensures { result ≡ state.raised_from stage.now place }
 {

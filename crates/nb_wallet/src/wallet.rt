@@ -26,6 +26,6 @@ pub struct Start {
     pub limit: Price,
     /// What is said of it to the merchant: at most [`MAX_REQUEST`](nb_body::MAX_REQUEST) bytes.
     pub request: Small,
-    /// The consumer's own note, which the house alone can read: at most [`MAX_MEMO`](nb_units::MAX_MEMO) bytes.
+    /// The consumer's own note, sealed in the order under the key that it shares with the house: at most [`MAX_MEMO`](nb_units::MAX_MEMO) bytes.
     pub memo: Small,
 }

@@ -48,8 +48,8 @@ MoneyIsConserved C M = (p : Rules C M) (w : World C M) → RecordsLegal p.verdic
 abbrev pub RecordsOfRate : (List Entry → Request → Verdict) → ℕ → ℕ → Type 0
 RecordsOfRate verdict version rate = (entries : List Entry) (request : Request) (entry : Entry) → (verdict entries request).entry ≡ Some entry → IsOfRate version rate entry
 
--- where that is so, and a journal of this version and this rate may have each entry of the set-up, the durable entries are Legal under them, and so
--- is the commit list
+-- where that is so, it records only what may come next, and a journal of this version and this rate may have each entry of the set-up, the durable
+-- entries are Legal under them, and so is the commit list
 abbrev pub RateIsKept : Type 0 → Type 0 → Type 0
 RateIsKept C M = (p : Rules C M) (w : World C M) (version rate : ℕ) → RecordsLegal p.verdict → RecordsOfRate p.verdict version rate
     → IsSetUp w → AllByRecursion (IsOfRate version rate) w.durable → (es : List Event)

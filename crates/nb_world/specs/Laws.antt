@@ -174,7 +174,8 @@ abbrev pub TurnIsOfItsCall : Type 0 → Type 0 → Type 0
 TurnIsOfItsCall C M = (p : Rules C M) (w : World C M) → RecordsLegal p.verdict → IsSetUp w → (es : List Event) (t : Turning)
     → (run p w es).turn ≡ Some t → IsTurnOf p.verdict (run p w es) t
 
--- a reply to a call that was delivered behind some events says a place at which none of the entries durable by then stands: it was read over all of them
+-- from a world without packets and without a turn, whose house works on the durable entries, a reply to a call that was delivered behind some events says a
+-- place at which none of the entries durable by then stands: it was read over all of them
 abbrev pub RepliesReadAll : Type 0 → Type 0 → Type 0
 RepliesReadAll C M = (p : Rules C M) (w : World C M) → w.server ≡ w.durable → w.packets ≡ [] → w.turn ≡ None → (before more : List Event) (k c at : ℕ) (made : Packet)
     → slice_get (run p w (before ++ more)).packets k ≡ Some made → made.maker ≡ by.Server c at

@@ -1,5 +1,5 @@
 //! What holds of every list of events, whatever nodes do; some laws ask of the verdict that it records only what may come next. Each function here does nothing but to cite
-//! laws of the book: its contract is the law. `C` and `M` are what consumers and merchants are.
+//! laws of the book and of the verdict: its contract is the law. `C` and `M` are what consumers and merchants are.
 
 ghost use Rattle.nb_world.specs.Headline as headline;
 ghost use Rattle.nb_world.specs.Laws as law;
@@ -55,7 +55,8 @@ pub fn turn_is_of_its_call<C, M>()
     nb_book::laws::stays_legal();
 }
 
-/// The reply to a call that was delivered behind some events was read over at least the entries that were durable by then.
+/// In each run from a world without packets and without a turn, whose house works on the durable entries, the reply to a call that was delivered behind some
+/// events was read over at least the entries that were durable by then.
 pub fn replies_read_all<C, M>()
     ensures { law.RepliesReadAll C M }
 {}
@@ -127,8 +128,8 @@ pub fn money_is_conserved<C, M>()
     nb_book::laws::stays_legal();
 }
 
-/// Where a verdict records only what a journal of some version and rate may have, and the set-up has such entries alone, the durable entries are
-/// Legal under that version and that rate behind every list of events; also with an entry that is written and not opened.
+/// Where a verdict records only what may come next and what a journal of some version and rate may have, and the set-up has such entries alone, the
+/// durable entries are Legal under that version and that rate behind every list of events; also with an entry that is written and not opened.
 pub fn rate_is_kept<C, M>()
     ensures { headline.RateIsKept C M }
 {
