@@ -28,7 +28,7 @@ use Rattle.nb_wallet.specs.declared.wallet.Start.{Start}
 use Rattle.nb_consumer.specs.declared.phase.Phase.{Phase}
 use Rattle.nb_consumer.specs.declared.phase.Phase.TheVariants as phase
 use Rattle.nb_consumer.specs.State.{Buyer, purchase_of}
-use Rattle.nb_wallet.specs.declared.purchase.Purchase.{Purchase}
+use Rattle.nb_wallet.specs.Purchases.{Purchase}
 use Rattle.nb_wallet.specs.declared.purchase.Stage.{Stage}
 use Rattle.nb_wallet.specs.declared.purchase.Stage.TheVariants as stage
 use Rattle.nb_msgs.specs.Steps.{kept_in}

@@ -18,7 +18,7 @@ use Rattle.nb_msgs.specs.declared.node.Step.TheVariants as step
 use Rattle.nb_wallet.specs.declared.wallet.Start.{Start}
 use Rattle.nb_wallet.specs.declared.wallet.Wallet.{Wallet}
 use Rattle.nb_wallet.specs.declared.item.Item.TheVariants as item
-use Rattle.nb_wallet.specs.declared.purchase.Purchase.{Purchase}
+use Rattle.nb_wallet.specs.Purchases.{Purchase}
 use Rattle.nb_consumer.specs.declared.deed.Deed.{Deed}
 use Rattle.nb_consumer.specs.declared.deed.Deed.TheVariants as deed
 use Rattle.nb_consumer.specs.declared.phase.Phase.{Phase}

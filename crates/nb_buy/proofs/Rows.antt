@@ -20,7 +20,7 @@ use Rattle.nb_msgs.specs.declared.node.To.TheVariants as to
 use Rattle.nb_wallet.specs.declared.wallet.Start.{Start}
 use Rattle.nb_wallet.specs.declared.item.Item.{Item}
 use Rattle.nb_wallet.specs.declared.item.Item.TheVariants as item
-use Rattle.nb_wallet.specs.declared.purchase.Purchase.{Purchase}
+use Rattle.nb_wallet.specs.Purchases.{Purchase}
 use Rattle.nb_wallet.specs.declared.purchase.Stage.{Stage}
 use Rattle.nb_wallet.specs.declared.purchase.Stage.TheVariants as stage
 use Rattle.nb_asking.specs.Messages.{ticket_request}

@@ -31,7 +31,7 @@ use Rattle.nb_wallet.specs.declared.item.Item.TheVariants as item
 use Rattle.nb_wallet.specs.declared.item.SessionTicket.{SessionTicket}
 use Rattle.nb_wallet.specs.declared.purchase.Stage.{Stage}
 use Rattle.nb_wallet.specs.declared.purchase.Stage.TheVariants as stage
-use Rattle.nb_wallet.specs.declared.purchase.Purchase.{Purchase}
+use Rattle.nb_wallet.specs.Purchases.{Purchase}
 use Rattle.nb_asking.specs.Messages.{goods_request}
 use Rattle.nb_wallet.specs.Stages.{wanted_from, with_head, ordered_from, stage_ended, stage_with, stage_opened, end_of, end_with, end_opened}
 use Rattle.nb_msgs.specs.Tests.{unless, field, found, opened}

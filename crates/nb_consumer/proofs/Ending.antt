@@ -15,7 +15,7 @@ use Rattle.nb_msgs.specs.declared.status.StatusText.{StatusText}
 use Rattle.nb_msgs.specs.StatusText.{text_of}
 use Rattle.nb_ticket.specs.declared.granted.Granted.{Granted}
 use Rattle.nb_ticket.specs.Reading.{granted_of}
-use Rattle.nb_wallet.specs.declared.purchase.Purchase.{Purchase}
+use Rattle.nb_wallet.specs.Purchases.{Purchase}
 use Rattle.nb_msgs.specs.Tests.{unless, field, found, opened}
 use Rattle.nb_consumer.specs.declared.deed.Deed.{Deed}
 use Rattle.nb_consumer.specs.declared.deed.Deed.TheVariants as deed

@@ -25,7 +25,7 @@ use Rattle.nb_wallet.specs.declared.item.Item.TheVariants as item
 use Rattle.nb_wallet.specs.declared.item.SessionTicket.{SessionTicket}
 use Rattle.nb_wallet.specs.declared.purchase.Stage.{Stage}
 use Rattle.nb_wallet.specs.declared.purchase.Stage.TheVariants as stage
-use Rattle.nb_wallet.specs.declared.purchase.Purchase.{Purchase}
+use Rattle.nb_wallet.specs.Purchases.{Purchase}
 use Rattle.nb_wallet.specs.Stages.{wanted_from, with_head, ordered_from, stage_ended, stage_with, stage_opened}
 use Rattle.nb_wallet.specs.Orders.{price_request_of_start}
 use Rattle.nb_wallet.specs.Reading.{item_of}

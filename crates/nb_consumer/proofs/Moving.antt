@@ -13,7 +13,7 @@ use Rattle.nb_msgs.specs.declared.node.To.TheVariants as to
 use Rattle.nb_wallet.specs.declared.item.Item.TheVariants as item
 use Rattle.nb_wallet.specs.declared.purchase.Stage.{Stage}
 use Rattle.nb_wallet.specs.declared.purchase.Stage.TheVariants as stage
-use Rattle.nb_wallet.specs.declared.purchase.Purchase.{Purchase}
+use Rattle.nb_wallet.specs.Purchases.{Purchase}
 use Rattle.nb_asking.specs.Messages.{ticket_request, price_request, goods_request, status_query}
 use Rattle.nb_msgs.specs.Tests.{unless}
 use Rattle.nb_consumer.specs.declared.deed.Deed.TheVariants as deed

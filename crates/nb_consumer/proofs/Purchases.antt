@@ -1,22 +1,23 @@
 -- How the purchases of a consumer change.
 use Rattle.std.proofs.Common.{◌≡◌, ℕ, zero, suc, ◌+◌, Bool, true, false, cond, List, [], ◌∷◌, ◌++◌, map, length, set, Option, Some, None, Ok, Err, Result, refl, sym, ap, subst, ◌∙◌, arith}
-use Rattle.std.specs.Prelude.{OnOk, OnErr, slice_get, nat_eq, nat_lt, not}
+use Rattle.std.specs.Prelude.{OnOk, OnErr, codes, slice_get, nat_eq, nat_lt, not, ◌==◌}
 use Rattle.std.specs.List.{AllByRecursion, position_or_len, prefix_len}
 use Rattle.std.proofs.lemmas.List.{map-append}
 use Rattle.std.proofs.lemmas.Bool.{eqb-true}
 use Rattle.nb_units.specs.declared.memory.NoMemory.{NoMemory}
 use Rattle.nb_msgs.specs.declared.node.Reason.{Reason}
 use Rattle.nb_msgs.specs.Tests.{found}
-use Rattle.nb_wallet.specs.declared.wallet.Start.{Start}
 use Rattle.nb_wallet.specs.declared.purchase.Stage.{Stage}
 use Rattle.nb_wallet.specs.declared.purchase.Stage.TheVariants as stage
-use Rattle.nb_wallet.specs.declared.purchase.Purchase.{Purchase}
+use Rattle.nb_wallet.specs.Purchases.{Purchase}
 use Rattle.nb_wallet.specs.declared.purchase.Change.{Change}
 use Rattle.nb_wallet.specs.declared.purchase.Change.TheVariants as change
 use Rattle.nb_epo.specs.declared.order.Order.{Order}
 use Rattle.nb_wallet.specs.declared.item.Item.TheVariants as item
-use Rattle.nb_wallet.specs.Stages.{ordered_from}
-use Rattle.nb_consumer.specs.State.{Buyer, number_of, place_of, purchase_at, purchase_of, changed, changed_at, changed_with, noted, fresh, behind_item, remembered, epoid_bytes}
+use Rattle.nb_seal.specs.Seal.{text_in}
+use Rattle.nb_endorse.specs.declared.receipt.Receipt.{Receipt}
+use Rattle.nb_wallet.specs.Stages.{ordered_from, stage_ended, stage_opened, stage_with}
+use Rattle.nb_consumer.specs.State.{Buyer, number_of, place_of, purchase_at, purchase_of, changed, changed_at, changed_with, noted, behind_item, remembered, epoid_bytes}
 use Rattle.nb_wallet.specs.Changes.{changed_to, Sound, StageIsSound}
 
 pub no_some : {A : Type 0} {B : Type 0} (x : A) → ◌≡◌ {A = Option A} None (Some x) → B
@@ -48,21 +49,47 @@ numbers_set [] i p q e same = refl
 numbers_set (r ∷ ps) zero p q e same = ap (λ (n : ℕ). n ∷ map number_of ps) (same ∙ sym (ap number_of (some_is r p e)))
 numbers_set (r ∷ ps) (suc i) p q e same = ap (λ (ns : List ℕ). number_of r ∷ ns) (numbers_set ps i p q e same)
 
--- a change to a sound stage leaves the numbers and keeps all sound
-changed_keeps : (ps : List Purchase) (i : ℕ) (stage : Stage) (parts : Change) (o : Option Purchase) → slice_get ps i ≡ o → StageIsSound stage → AllByRecursion Sound ps
-    → (map number_of ps ≡ map number_of (changed_with ps i (changed_to stage parts) o)) × AllByRecursion Sound (changed_with ps i (changed_to stage parts) o)
-changed_keeps ps i stage parts None is sound all = (refl, all)
-changed_keeps ps i stage parts (Some p) is sound all =
-    (sym (numbers_set ps i p (changed_to stage parts p) is refl), sound_set ps i (changed_to stage parts p) all ((sound_at ps i p all is).0, sound))
+-- a change that leaves the number and keeps a purchase sound does so among others
+changed_keeps : (ps : List Purchase) (i : ℕ) (change : Purchase → Purchase) (o : Option Purchase) → slice_get ps i ≡ o
+    → ((p : Purchase) → number_of (change p) ≡ number_of p) → ((p : Purchase) → Sound p → Sound (change p)) → AllByRecursion Sound ps
+    → (map number_of ps ≡ map number_of (changed_with ps i change o)) × AllByRecursion Sound (changed_with ps i change o)
+changed_keeps ps i change None is number sound all = (refl, all)
+changed_keeps ps i change (Some p) is number sound all =
+    (sym (numbers_set ps i p (change p) is (number p)), sound_set ps i (change p) all (sound p (sound_at ps i p all is)))
 
 pub change_keeps : (r : Result (Unit {0}) NoMemory) (keys : List ℕ) (old new : List Purchase) (i : ℕ) (stage : Stage) (parts : Change)
     → keys ≡ map number_of old → AllByRecursion Sound old → StageIsSound stage
     → OnOk r (new ≡ changed_at old (Some i) (changed_to stage parts)) → OnErr r (new ≡ old)
     → (keys ≡ map number_of new) × AllByRecursion Sound new
 change_keeps (Ok done) keys old new i stage parts numbers all sound ok err =
-    let k = changed_keeps old i stage parts (slice_get old i) refl sound all in
+    let k = changed_keeps old i (changed_to stage parts) (slice_get old i) refl (λ p. refl) (λ p so. (so.0, sound)) all in
     (numbers ∙ k.0 ∙ sym (ap (map number_of) ok), subst (AllByRecursion Sound) (sym ok) k.1)
 change_keeps (Err none) keys old new i stage parts numbers all sound ok err = (numbers ∙ sym (ap (map number_of) err), subst (AllByRecursion Sound) (sym err) all)
+
+-- ---- an end
+
+-- no stage behind a receipt has a text
+ended_sound : (r : Receipt) (held : List ℕ) → StageIsSound (stage_ended r held)
+ended_sound r held = by_code (r.code == 0)
+  where
+    by_text : (key : List ℕ) (o : Option (List ℕ)) → StageIsSound (stage_opened key o)
+    by_text key (Some goods) = tt
+    by_text key None = tt
+
+    by_key : (o : Option (List ℕ)) → StageIsSound (stage_with o held)
+    by_key (Some key) = by_text key (text_in key (codes "good") held)
+    by_key None = tt
+
+    by_code : (test : Bool) → StageIsSound (cond test (stage_with r.key held) (stage.Refused r.code))
+    by_code true = by_key r.key
+    by_code false = tt
+
+pub end_keeps : (keys : List ℕ) (old new : List Purchase) (i : ℕ) (r : Receipt) → keys ≡ map number_of old → AllByRecursion Sound old
+    → new ≡ changed_at old (Some i) (λ p. record p { stage = stage_ended r p.held })
+    → (keys ≡ map number_of new) × AllByRecursion Sound new
+end_keeps keys old new i r numbers all is =
+    let k = changed_keeps old i (λ p. record p { stage = stage_ended r p.held }) (slice_get old i) refl (λ p. refl) (λ p so. (so.0, ended_sound r p.held)) all in
+    (numbers ∙ k.0 ∙ sym (ap (map number_of) is), subst (AllByRecursion Sound) (sym is) k.1)
 
 -- ---- one purchase more
 
@@ -73,9 +100,8 @@ add_keeps keys more old new q numbers all added pushed sound = (
   subst (AllByRecursion Sound) (sym pushed) (sound_push old q all sound),
 )
 
-pub pushed_so : (old held new : List Purchase) (start : Start) (none : List ℕ) → held ≡ old → none ≡ [] → new ≡ held ++ (record { start = start; stage = stage.Ticketing; held = none }) ∷ []
-    → new ≡ old ++ fresh start ∷ []
-pushed_so old held new start none a b c = c ∙ rw (a, b) refl
+pub pushed_so : (old held new : List Purchase) (p q : Purchase) → held ≡ old → p ≡ q → new ≡ held ++ p ∷ [] → new ≡ old ++ q ∷ []
+pushed_so old held new p q a b c = c ∙ rw (a, b) refl
 
 -- ---- an order
 

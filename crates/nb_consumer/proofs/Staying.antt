@@ -14,7 +14,7 @@ use Rattle.nb_wallet.specs.declared.item.Item.{Item}
 use Rattle.nb_wallet.specs.declared.item.Item.TheVariants as item
 use Rattle.nb_wallet.specs.declared.purchase.Stage.{Stage}
 use Rattle.nb_wallet.specs.declared.purchase.Stage.TheVariants as stage
-use Rattle.nb_wallet.specs.declared.purchase.Purchase.{Purchase}
+use Rattle.nb_wallet.specs.Purchases.{Purchase}
 use Rattle.nb_consumer.specs.declared.deed.Deed.{Deed}
 use Rattle.nb_consumer.specs.declared.deed.Deed.TheVariants as deed
 use Rattle.nb_consumer.specs.declared.rows.Wanting.{Wanting}

@@ -10,7 +10,7 @@ use Rattle.nb_wallet.specs.declared.item.Item.{Item}
 use Rattle.nb_wallet.specs.declared.item.Item.TheVariants as item
 use Rattle.nb_wallet.specs.declared.purchase.Stage.{Stage}
 use Rattle.nb_wallet.specs.declared.purchase.Stage.TheVariants as stage
-use Rattle.nb_wallet.specs.declared.purchase.Purchase.{Purchase}
+use Rattle.nb_wallet.specs.Purchases.{Purchase}
 use Rattle.nb_wallet.specs.Stages.{wanted_from, with_head, ordered_from}
 use Rattle.nb_wallet.specs.Reading.{item_of}
 use Rattle.nb_consumer.specs.declared.phase.Phase.TheVariants as phase

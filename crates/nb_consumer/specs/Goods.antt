@@ -1,6 +1,5 @@
 -- What a consumer tells of a purchase.
-use Rattle.std.specs.Prelude.{◌≡◌, ℕ, ◌-◌, List, length, codes, Option, Some, None}
-use Rattle.nb_seal.specs.Seal.{text_in}
+use Rattle.std.specs.Prelude.{◌≡◌, ℕ, ◌-◌, List, length, Option, Some, None}
 use Rattle.nb_units.specs.declared.width.TheConstants.{SEAL}
 use Rattle.nb_goods.specs.Goods.{OpensTo}
 use Rattle.nb_body.specs.declared.end.End.{End}
@@ -9,7 +8,8 @@ use Rattle.nb_consumer.specs.declared.phase.Phase.{Phase}
 use Rattle.nb_consumer.specs.declared.phase.Phase.TheVariants as phase
 use Rattle.nb_wallet.specs.declared.purchase.Stage.{Stage}
 use Rattle.nb_wallet.specs.declared.purchase.Stage.TheVariants as stage
-use Rattle.nb_wallet.specs.declared.purchase.Purchase.{Purchase}
+use Rattle.nb_wallet.specs.Purchases.{Purchase}
+pub use Rattle.nb_wallet.specs.Purchases.{goods_of}
 
 -- the goods have 32 bytes less than the sealed goods
 abbrev pub phase_of : Stage → List ℕ → Phase
@@ -46,11 +46,6 @@ HasEnded (Some (phase.Paid len)) = Unit {0}
 HasEnded (Some (phase.Refused code)) = Unit {0}
 HasEnded (Some phase.Foul) = Unit {0}
 HasEnded other = ⊥
-
--- the goods of a purchase that was paid
-abbrev pub goods_of : Stage → List ℕ → Option (List ℕ)
-goods_of (stage.Paid key) sealed = text_in key (codes "good") sealed
-goods_of other sealed = None
 
 -- the goods that an end tells
 abbrev pub goods_at : End → Option (List ℕ)

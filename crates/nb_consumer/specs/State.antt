@@ -5,11 +5,11 @@ use Rattle.std.specs.Cmp.Lexicographic.{pointwise}
 use Rattle.std.specs.Map.{lookup}
 use Rattle.nb_wallet.specs.Stages.{stage_ended, wanted_from, with_head, ordered_from, raised_from}
 use Rattle.nb_wallet.specs.declared.wallet.Wallet.{Wallet}
-use Rattle.nb_wallet.specs.declared.wallet.Start.{Start}
 use Rattle.nb_wallet.specs.declared.item.Item.{Item}
 use Rattle.nb_wallet.specs.declared.item.Item.TheVariants as item
 use Rattle.nb_wallet.specs.declared.purchase.Stage.TheVariants as stage
-use Rattle.nb_wallet.specs.declared.purchase.Purchase.{Purchase}
+use Rattle.nb_wallet.specs.Purchases.{Purchase}
+pub use Rattle.nb_wallet.specs.Purchases.{fresh}
 
 -- what a consumer is seen as: its wallet, the purchases that it knows, and which was ordered with which identifier
 pub record Buyer : Type 0 where
@@ -81,10 +81,6 @@ number_in (item.Ordered transaction order part) = transaction
 number_in (item.Ended transaction receipt) = transaction
 number_in (item.Part head part) = head.transaction
 number_in (item.Forgotten transaction) = transaction
-
--- a purchase that was just started
-abbrev pub fresh : Start → Purchase
-fresh start = record { start = start; stage = stage.Ticketing; held = [] }
 
 -- an identifier that has no purchase gets this one
 abbrev pub noted : List (List ℕ × ℕ) → List ℕ → ℕ → List (List ℕ × ℕ)

@@ -121,13 +121,13 @@ impl Consumer {
         ensures { result ≡ phase_in (purchase_of self.now transaction) }
     {
         let purchase = self.known.purchase_of(transaction)?;
-        Some(match purchase.stage {
+        Some(match purchase.stage() {
             Stage::Ticketing => Phase::Ticketing,
             Stage::Asked { .. } => Phase::Asked,
             Stage::Wanted { .. } => Phase::Wanted,
             Stage::Ordered { .. } => Phase::Ordered,
             Stage::Paid { .. } => Phase::Paid {
-                len: purchase.held.len().saturating_sub(SEAL as u64),
+                len: purchase.held().len().saturating_sub(SEAL as u64),
             },
             Stage::Refused { code } => Phase::Refused { code },
             Stage::Foul => Phase::Foul,

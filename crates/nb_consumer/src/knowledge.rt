@@ -6,7 +6,7 @@ ghost use Rattle.nb_consumer.specs.Goods.{goods_in};
 ghost use Rattle.nb_wallet.specs.Changes as changes;
 ghost use Rattle.nb_consumer.specs.State as state;
 ghost use Rattle.nb_wallet.specs.Spelling.{IsItem, ItemKeepsRules, item_bytes};
-ghost use Rattle.nb_wallet.specs.Stages.{end_of};
+ghost use Rattle.nb_wallet.specs.Stages.{end_of, stage_ended};
 ghost use Rattle.nb_msgs.specs.Steps.{StepKeepsRules};
 ghost use Rattle.nb_msgs.specs.Tests.{found};
 ghost use Rattle.nb_msgs.specs.declared.node.Reason.TheVariants.{Unknown};
@@ -21,7 +21,7 @@ use nb_msgs::{End, Message, Reason, Step, To};
 use nb_numbers::Numbers;
 use nb_units::{Blob, Epoid, NoMemory, Price};
 use nb_wallet::{
-    Change, Held, Item, Purchase, Stage, Start, Wallet, ordered_from, raised_from, stage_ended,
+    Change, Item, Purchase, Stage, Start, Wallet, ordered_from, raised_from, stage_ended,
     wanted_from, with_head,
 };
 use std::alloc::Global;
@@ -75,6 +75,14 @@ fn change_at(
     ensures err { OnErr result (purchases.new.items ≡ purchases.old.items) }
 {
     purchases[at].change(stage, parts)
+}
+
+// Ends the purchase at a place with a receipt.
+fn close_at(purchases: &mut Vec<Purchase>, at: usize, receipt: &Signed)
+    requires { at < length purchases.old.items }
+    ensures { purchases.new.items ≡ state.changed_at purchases.old.items (Some at) (λ p. record p { stage = stage_ended receipt.now.receipt p.held }) }
+{
+    purchases[at].close(&receipt.receipt);
 }
 
 // Changes the purchase at a place where goods are ordered: an identifier that has no purchase gets this one. After want of memory all is as before.
@@ -196,11 +204,8 @@ impl Knowledge {
     {
         self.purchases.reserve(1)?;
         self.numbers.add(start.transaction)?;
-        self.purchases.push_reserved(Purchase {
-            start,
-            stage: Stage::Ticketing,
-            held: Held::new(self.alloc),
-        });
+        self.purchases
+            .push_reserved(Purchase::new(self.alloc, start));
         Ok(())
     }
 
@@ -237,7 +242,10 @@ impl Knowledge {
             Item::Ended {
                 transaction,
                 receipt,
-            } => self.close(transaction, &receipt),
+            } => {
+                self.close(transaction, &receipt);
+                Ok(())
+            }
             Item::Part { head, part } => self.part(head, part),
             Item::Forgotten { transaction } => self.forget(transaction),
         }
@@ -251,7 +259,7 @@ impl Knowledge {
         let Some(p) = self.purchase_of(transaction) else {
             return Ok(());
         };
-        let stage = wanted_from(&p.stage, price);
+        let stage = wanted_from(&p.stage(), price);
         self.change(transaction, stage, Change::Same)
     }
 
@@ -265,7 +273,7 @@ impl Knowledge {
         let Some(p) = self.purchase_of(transaction) else {
             return Ok(());
         };
-        let stage = with_head(&p.stage, Some(head));
+        let stage = with_head(&p.stage(), Some(head));
         self.change(transaction, stage, Change::More(part))
     }
 
@@ -277,7 +285,7 @@ impl Knowledge {
         let Some(p) = self.purchase_of(transaction) else {
             return Ok(());
         };
-        let stage = with_head(&p.stage, None);
+        let stage = with_head(&p.stage(), None);
         self.change(transaction, stage, Change::Forgotten)
     }
 
@@ -290,7 +298,7 @@ impl Knowledge {
         let Some(purchase) = self.purchase_of(transaction) else {
             unreachable!()
         };
-        let stage = ordered_from(&purchase.stage, &order);
+        let stage = ordered_from(&purchase.stage(), &order);
         let Some(at) = self.numbers.place_of(transaction) else {
             unreachable!()
         };
@@ -306,16 +314,13 @@ impl Knowledge {
         )
     }
 
-    // A receipt came.
-    fn close(&mut self, transaction: u64, receipt: &Signed) -> Result<(), NoMemory>
-        ensures remembered { OnOk result (self.new ≡ state.remembered self.old (items.Ended transaction receipt.now)) }
-        ensures err { OnErr result (self.new ≡ self.old) }
+    // A receipt came, with which nothing is opened.
+    fn close(&mut self, transaction: u64, receipt: &Signed)
+        ensures { self.new ≡ state.remembered self.old (items.Ended transaction receipt.now) }
     {
-        let Some(purchase) = self.purchase_of(transaction) else {
-            return Ok(());
-        };
-        let end = purchase.end(self.alloc, &receipt.receipt)?;
-        self.finish(transaction, receipt, &end)
+        if let Some(at) = self.numbers.place_of(transaction) {
+            close_at(&mut self.purchases, at, receipt);
+        }
     }
 
     // A receipt came, with which the purchase ends so. After want of memory all is as before.
@@ -341,7 +346,7 @@ impl Knowledge {
         let Some(p) = self.purchase_of(transaction) else {
             return Ok(());
         };
-        let stage = raised_from(&p.stage, place);
+        let stage = raised_from(&p.stage(), place);
         self.change(transaction, stage, Change::Same)
     }
 
@@ -462,9 +467,6 @@ impl Knowledge {
         let Some(purchase) = self.purchase_of(transaction) else {
             return Ok(None);
         };
-        match &purchase.stage {
-            Stage::Paid { key } => purchase.held.open(self.alloc, key),
-            _ => Ok(None),
-        }
+        purchase.goods(self.alloc)
     }
 }

@@ -61,9 +61,9 @@ fn part_follows(purchase: &Purchase, head: &GoodsHead, part: &[u8], wanting: &Wa
     ensures within { IsTrue result → (length purchase.now.held + length part.now ≤ MAX_SEALED) × (head.now.total ≤ MAX_SEALED) }
 {
     part_fits(
-        purchase.start.merchant,
+        purchase.start().merchant,
         &wanting.head,
-        purchase.held.len(),
+        purchase.held().len(),
         head,
         part,
     )
@@ -83,12 +83,12 @@ fn order_names(
     ensures { result ≡ again.order_names wallet.now purchase.now wanting.now.price order.now (purchase.now.held ++ part.now) }
 {
     order.consumer == wallet.id
-        && order.merchant == purchase.start.merchant
-        && order.product == purchase.start.product
+        && order.merchant == purchase.start().merchant
+        && order.product == purchase.start().product
         && order.price == wanting.price
-        && order.request == request_digest(&purchase.start)
-        && order.checksum == purchase.held.digest_with(part)
-        && order.epoid.merchant == purchase.start.merchant
+        && order.request == request_digest(purchase.start())
+        && order.checksum == purchase.held().digest_with(part)
+        && order.epoid.merchant == purchase.start().merchant
 }
 
 // Whether a part is the rest of what is held, where parts are held.
@@ -115,7 +115,7 @@ fn order_follows(
     ensures follows { result ≡ again.order_follows wallet.now purchase.now order.now part.now wanting.now }
     ensures within { IsTrue result → length purchase.now.held + length part.now ≤ MAX_SEALED }
 {
-    let len = purchase.held.len();
+    let len = purchase.held().len();
     order_names(wallet, purchase, wanting, order, part)
         && is_rest(&wanting.head, len, order, part)
         && len + part.len() as u64 <= MAX_SEALED as u64
@@ -126,7 +126,7 @@ impl Knowledge {
         ensures { result ≡ again.holds_for (purchase_of self.now transaction) (λ p. is_ticketing p.stage) }
     {
         match self.purchase_of(transaction) {
-            Some(purchase) => is_ticketing(&purchase.stage),
+            Some(purchase) => is_ticketing(purchase),
             None => false,
         }
     }
@@ -135,9 +135,7 @@ impl Knowledge {
         ensures { result ≡ again.allows self.now (items.Wanted transaction price) }
     {
         match self.purchase_of(transaction) {
-            Some(purchase) => {
-                asked(&purchase.stage).is_ok() && is_price(price, purchase.start.limit)
-            }
+            Some(purchase) => { asked(purchase).is_ok() && is_price(price, purchase.start().limit) }
             None => false,
         }
     }
@@ -147,7 +145,7 @@ impl Knowledge {
         ensures fits { IsTrue result → deeds.ItemFits self.now (items.Part head.now part.now) }
     {
         match self.purchase_of(head.transaction) {
-            Some(purchase) => match wanted_as(&purchase.stage) {
+            Some(purchase) => match wanted_as(purchase) {
                 Ok(wanting) => part_follows(purchase, head, part, &wanting),
                 Err(_) => false,
             },
@@ -159,7 +157,7 @@ impl Knowledge {
         ensures { result ≡ again.allows self.now (items.Forgotten transaction) }
     {
         match self.purchase_of(transaction) {
-            Some(purchase) => match wanted_as(&purchase.stage) {
+            Some(purchase) => match wanted_as(purchase) {
                 Ok(wanting) => wanting.head.is_some(),
                 Err(_) => false,
             },
@@ -172,7 +170,7 @@ impl Knowledge {
         ensures fits { IsTrue result → IsItem (items.Ordered transaction order.now part.now) → deeds.ItemFits self.now (items.Ordered transaction order.now part.now) }
     {
         match self.purchase_of(transaction) {
-            Some(purchase) => match wanted_as(&purchase.stage) {
+            Some(purchase) => match wanted_as(purchase) {
                 Ok(wanting) => order_follows(self.wallet(), purchase, order, part, &wanting),
                 Err(_) => false,
             },
@@ -184,7 +182,7 @@ impl Knowledge {
         ensures { result ≡ again.allows self.now (items.Ended transaction receipt.now) }
     {
         match self.purchase_of(transaction) {
-            Some(purchase) => match ordered_as(&purchase.stage) {
+            Some(purchase) => match ordered_as(purchase) {
                 Ok(owing) => receipt_fits(&owing.order, &receipt.receipt).is_ok(),
                 Err(_) => false,
             },

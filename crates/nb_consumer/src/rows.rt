@@ -47,20 +47,20 @@ pub(crate) fn field(number: u8, test: bool) -> Result<(), Reason>
 
 // ---- stages
 
-pub(crate) fn is_ticketing(stage: &Stage) -> bool
-    ensures { result ≡ table.is_ticketing stage.now }
+pub(crate) fn is_ticketing(purchase: &Purchase) -> bool
+    ensures { result ≡ table.is_ticketing purchase.now.stage }
 {
-    matches!(stage, Stage::Ticketing)
+    matches!(purchase.unpaid(), Some(Stage::Ticketing))
 }
 
 // The ticket of a purchase that a price was asked for.
-pub(crate) fn asked(stage: &Stage) -> Result<SessionTicket, Reason>
-    requires { StageIsSound stage.now }
-    ensures pass { result ≡ tests.found reasons.State (table.pass_of_asked stage.now) }
+pub(crate) fn asked(purchase: &Purchase) -> Result<SessionTicket, Reason>
+    requires { Sound purchase.now }
+    ensures pass { result ≡ tests.found reasons.State (table.pass_of_asked purchase.now.stage) }
     ensures sound { IfOk result PassKeepsRules }
 {
-    match stage {
-        Stage::Asked { pass } => Ok(*pass),
+    match purchase.unpaid() {
+        Some(Stage::Asked { pass }) => Ok(*pass),
         _ => Err(Reason::State),
     }
 }
@@ -73,13 +73,13 @@ pub(crate) struct Wanting {
     pub(crate) head: Option<GoodsHead>,
 }
 
-pub(crate) fn wanted_as(stage: &Stage) -> Result<Wanting, Reason>
-    requires { StageIsSound stage.now }
-    ensures wanting { result ≡ tests.found reasons.State (table.wanting_in stage.now) }
+pub(crate) fn wanted_as(purchase: &Purchase) -> Result<Wanting, Reason>
+    requires { Sound purchase.now }
+    ensures wanting { result ≡ tests.found reasons.State (table.wanting_in purchase.now.stage) }
     ensures sound { IfOk result (λ w. PassKeepsRules w.pass × HeadIsSound w.head) }
 {
-    match stage {
-        Stage::Wanted { pass, price, head } => Ok(Wanting {
+    match purchase.unpaid() {
+        Some(Stage::Wanted { pass, price, head }) => Ok(Wanting {
             pass: *pass,
             price: *price,
             head: *head,
@@ -96,13 +96,13 @@ pub(crate) struct Owing {
     pub(crate) least: u64,
 }
 
-pub(crate) fn ordered_as(stage: &Stage) -> Result<Owing, Reason>
-    requires { StageIsSound stage.now }
-    ensures owing { result ≡ tests.found reasons.State (table.owing_in stage.now) }
+pub(crate) fn ordered_as(purchase: &Purchase) -> Result<Owing, Reason>
+    requires { Sound purchase.now }
+    ensures owing { result ≡ tests.found reasons.State (table.owing_in purchase.now.stage) }
     ensures sound { IfOk result (λ o. PassKeepsRules o.pass × (length o.order.hidden ≤ MAX_HIDDEN)) }
 {
-    match stage {
-        Stage::Ordered { pass, order, least } => Ok(Owing {
+    match purchase.unpaid() {
+        Some(Stage::Ordered { pass, order, least }) => Ok(Owing {
             pass: *pass,
             order: *order,
             least: *least,
@@ -200,11 +200,11 @@ fn head_told(
     ensures within { IfOk result (λ h. (h.place ≡ length purchase.now.held) × (h.place + length part.now ≤ h.total) × (h.total ≤ MAX_SEALED) × (length part.now ≤ PART_BYTES)) }
 {
     let told = open_head(&wanting.pass.session, head)?;
-    field(1, told.transaction == purchase.start.transaction)?;
+    field(1, told.transaction == purchase.start().transaction)?;
     part_fits(
-        purchase.start.merchant,
+        purchase.start().merchant,
         &wanting.head,
-        purchase.held.len(),
+        purchase.held().len(),
         &told,
         part,
     )?;
@@ -255,19 +255,19 @@ impl Knowledge {
     {
         let granted = open_granted(&self.wallet().key, sealed)?;
         let purchase = self.known(granted.nonce)?;
-        unless(is_ticketing(&purchase.stage), Reason::State)?;
-        field(1, granted.merchant == purchase.start.merchant)?;
+        unless(is_ticketing(purchase), Reason::State)?;
+        field(1, granted.merchant == purchase.start().merchant)?;
         let pass = SessionTicket {
             session: granted.session,
             ticket: granted.ticket,
         };
-        let message = price_request(self.alloc(), &pass, &purchase.start)?;
+        let message = price_request(self.alloc(), &pass, purchase.start())?;
         Ok(Deed::Keeps {
             item: Item::Granted {
                 transaction: granted.nonce,
                 pass,
             },
-            to: To::Merchant(purchase.start.merchant),
+            to: To::Merchant(purchase.start().merchant),
             message,
         })
     }
@@ -280,12 +280,12 @@ impl Knowledge {
         ensures fits { IfOk result (DeedFits self.now) }
     {
         let purchase = self.known(transaction)?;
-        let pass = asked(&purchase.stage)?;
-        let price = price_quoted(&purchase.start, &pass, sealed)?;
-        let message = goods_request(self.alloc(), &pass, &purchase.start, 0)?;
+        let pass = asked(purchase)?;
+        let price = price_quoted(purchase.start(), &pass, sealed)?;
+        let message = goods_request(self.alloc(), &pass, purchase.start(), 0)?;
         Ok(Deed::Keeps {
             item: Item::Wanted { transaction, price },
-            to: To::Merchant(purchase.start.merchant),
+            to: To::Merchant(purchase.start().merchant),
             message,
         })
     }
@@ -298,7 +298,7 @@ impl Knowledge {
         ensures fits { IfOk result (DeedFits self.now) }
     {
         let purchase = self.known(transaction)?;
-        let wanting = wanted_as(&purchase.stage)?;
+        let wanting = wanted_as(purchase)?;
         let told = head_told(purchase, &wanting, head, part)?;
         self.take(transaction, purchase, &wanting, &told, part)
     }
@@ -311,7 +311,7 @@ impl Knowledge {
         ensures fits { IfOk result (DeedFits self.now) }
     {
         let purchase = self.known(transaction)?;
-        let owing = ordered_as(&purchase.stage)?;
+        let owing = ordered_as(purchase)?;
         let receipt = open_receipt(&self.wallet().key, part)?;
         self.conclude(transaction, purchase, &owing, &receipt)
     }
@@ -337,16 +337,16 @@ impl Knowledge {
         if next < told.total {
             return self.keep_part(purchase, wanting, told, next, part);
         }
-        if purchase.held.digest_with(part) == told.checksum {
+        if purchase.held().digest_with(part) == told.checksum {
             return self.order_goods(transaction, purchase, wanting, told, part);
         }
         match wanting.head {
             None => Err(Halt::Ignored(Reason::Field(4))),
             Some(_) => {
-                let message = goods_request(self.alloc(), &wanting.pass, &purchase.start, 0)?;
+                let message = goods_request(self.alloc(), &wanting.pass, purchase.start(), 0)?;
                 Ok(Deed::Keeps {
                     item: Item::Forgotten { transaction },
-                    to: To::Merchant(purchase.start.merchant),
+                    to: To::Merchant(purchase.start().merchant),
                     message,
                 })
             }
@@ -370,13 +370,13 @@ impl Knowledge {
         ensures halt { IfErr result (λ why. why ≡ halts.NoMemory) }
         ensures fits { IfOk result (DeedFits self.now) }
     {
-        let message = goods_request(self.alloc(), &wanting.pass, &purchase.start, next)?;
+        let message = goods_request(self.alloc(), &wanting.pass, purchase.start(), next)?;
         Ok(Deed::Keeps {
             item: Item::Part {
                 head: *told,
                 part: Blob::of(self.alloc(), part)?,
             },
-            to: To::Merchant(purchase.start.merchant),
+            to: To::Merchant(purchase.start().merchant),
             message,
         })
     }
@@ -400,19 +400,19 @@ impl Knowledge {
     {
         let order = order_for(
             self.wallet(),
-            &purchase.start,
+            purchase.start(),
             wanting.price,
             told.epoid,
             &told.checksum,
         );
-        let message = payment(self.alloc(), &wanting.pass, &purchase.start, &order)?;
+        let message = payment(self.alloc(), &wanting.pass, purchase.start(), &order)?;
         Ok(Deed::Keeps {
             item: Item::Ordered {
                 transaction,
                 order,
                 part: Blob::of(self.alloc(), part)?,
             },
-            to: To::Merchant(purchase.start.merchant),
+            to: To::Merchant(purchase.start().merchant),
             message,
         })
     }
@@ -450,7 +450,7 @@ impl Knowledge {
         let text = open_status(&self.wallet().key, sealed)?;
         let transaction = self.ordered(&text.epoid)?;
         let purchase = self.known(transaction)?;
-        let owing = ordered_as(&purchase.stage)?;
+        let owing = ordered_as(purchase)?;
         self.hear_told(transaction, purchase, &owing, text.place, &text.receipt)
     }
 
@@ -472,11 +472,11 @@ impl Knowledge {
         match told {
             Some(receipt) => self.conclude(transaction, purchase, owing, receipt),
             None => {
-                let message = payment(self.alloc(), &owing.pass, &purchase.start, &owing.order)?;
+                let message = payment(self.alloc(), &owing.pass, purchase.start(), &owing.order)?;
                 Ok(Deed::Hears {
                     transaction,
                     place,
-                    to: To::Merchant(purchase.start.merchant),
+                    to: To::Merchant(purchase.start().merchant),
                     message,
                 })
             }
@@ -499,22 +499,22 @@ impl Knowledge {
         ensures row { Gives result (table.unheard self.now.wallet purchase.now purchase.now.stage) }
         ensures fits { IfOk result (DeedFits self.now) }
     {
-        let start = &purchase.start;
+        let start = purchase.start();
         let seller = To::Merchant(start.merchant);
-        match &purchase.stage {
-            Stage::Ticketing => Ok(Deed::Sends {
+        match purchase.unpaid() {
+            Some(Stage::Ticketing) => Ok(Deed::Sends {
                 to: To::Server,
                 message: ticket_request(self.wallet(), start),
             }),
-            Stage::Asked { pass } => Ok(Deed::Sends {
+            Some(Stage::Asked { pass }) => Ok(Deed::Sends {
                 to: seller,
                 message: price_request(self.alloc(), pass, start)?,
             }),
-            Stage::Wanted { pass, .. } => Ok(Deed::Sends {
+            Some(Stage::Wanted { pass, .. }) => Ok(Deed::Sends {
                 to: seller,
-                message: goods_request(self.alloc(), pass, start, purchase.held.len())?,
+                message: goods_request(self.alloc(), pass, start, purchase.held().len())?,
             }),
-            Stage::Ordered { order, least, .. } => Ok(Deed::Sends {
+            Some(Stage::Ordered { order, least, .. }) => Ok(Deed::Sends {
                 to: To::Server,
                 message: status_query(self.wallet(), order.epoid, *least),
             }),

@@ -2,6 +2,7 @@
 use Rattle.std.proofs.Common.{◌≡◌, ℕ, ◌+◌, ◌-◌, ◌*◌, ◌≤◌, ◌<◌, min, List, [], ◌∷◌, ◌++◌, length, take, drop, get_or, replicate, bit_xor, refl, sym, ap, ◌∙◌, zero, suc, arith, add-zero, append-nil, append_assoc, length-drop, take-append-drop}
 use Rattle.std.proofs.lemmas.Grind.{common_steps, flat_map-append}
 use Rattle.std.proofs.lemmas.List.{length-take, length-take-le, take_all, take_more, take-append-le, drop-append-le}
+use borrow.Rule.Slice.PartMut.{put_mid}
 use Rattle.std.proofs.Math.Nat.{suc-mul}
 use Rattle.std.proofs.Math.Seq.{take-add, take-append-add, drop-append-add}
 use Rattle.nb_seal.specs.Keystream.{stream_byte, xored}
@@ -30,11 +31,12 @@ drop-xored_first key n bytes =
     let e : 0 + n ≡ n = omega arith in
     drop-xored key 0 n bytes ∙ ap (λ (m : ℕ). xored key m (drop n bytes)) e
 
--- two lists xored from the keystream's first byte on
-xored_first-append : (key front rest : List ℕ) (at : ℕ) → at ≡ length front → xored key 0 (front ++ rest) ≡ xored key 0 front ++ xored key at rest
-xored_first-append key front rest at h =
-    let e : 0 + length front ≡ at = omega (arith, h) in
-    xored-append key 0 front rest ∙ ap (λ (m : ℕ). xored key 0 front ++ xored key m rest) e
+-- two lists xored from a place on, behind what was there
+pub more_xored : (key before front rest : List ℕ) (from at : ℕ) → at ≡ from + length front
+    → (before ++ xored key from front) ++ xored key at rest ≡ before ++ xored key from (front ++ rest)
+more_xored key before front rest from at h =
+    append_assoc before (xored key from front) (xored key at rest)
+    ∙ ap (λ (bytes : List ℕ). before ++ bytes) (ap (λ (m : ℕ). xored key from front ++ xored key m rest) h ∙ sym (xored-append key from front rest))
 
 -- so many bytes as are there, at most n
 pub take-least : (n m : ℕ) (bytes : List ℕ) → m ≡ min (length bytes) n → take m bytes ≡ take n bytes
@@ -65,23 +67,19 @@ slice_of key front text lead left piece size place cut from n cut_is lead_is fro
     )
 
 -- one piece more of a text, xored behind the pieces before it
-pub piece_xored : (key front text left piece : List ℕ) (at next n : ℕ)
-    → at ≤ length text → left ≡ drop at text → piece ≡ take n left → next ≡ at + n
-    → (front ++ xored key 0 (take at text)) ++ xored key at piece ≡ front ++ xored key 0 (take next text)
-piece_xored key front text left piece at next n h left_is piece_is next_is =
-    let long : length (take at text) ≡ at = length-take-le at text h in
-    let both : take next text ≡ take at text ++ piece = ap (λ (m : ℕ). take m text) next_is ∙ take-add at n text ∙ rw (piece_is, left_is) refl in
-    append_assoc front (xored key 0 (take at text)) (xored key at piece)
-    ∙ ap (λ (bytes : List ℕ). front ++ bytes) (sym (ap (xored key 0) both ∙ xored_first-append key (take at text) piece at (sym long)))
+pub piece_xored : (key before text left piece : List ℕ) (from at place next n : ℕ)
+    → at ≤ length text → place ≡ from + at → left ≡ drop at text → piece ≡ take n left → next ≡ at + n
+    → (before ++ xored key from (take at text)) ++ xored key place piece ≡ before ++ xored key from (take next text)
+piece_xored key before text left piece from at place next n h place_is left_is piece_is next_is =
+    more_xored key before (take at text) piece from place (place_is ∙ ap (λ (m : ℕ). from + m) (sym (length-take-le at text h)))
+    ∙ ap (λ (bytes : List ℕ). before ++ xored key from bytes) (sym (ap (λ (m : ℕ). take m text) next_is ∙ take-add at n text ∙ rw (piece_is, left_is) refl))
 
 -- the last piece of it
-pub rest_xored_behind : (key front text rest : List ℕ) (at : ℕ) → at ≤ length text → rest ≡ drop at text
-    → (front ++ xored key 0 (take at text)) ++ xored key at rest ≡ front ++ xored key 0 text
-rest_xored_behind key front text rest at h rest_is =
-    let long : length (take at text) ≡ at = length-take-le at text h in
-    let both : take at text ++ rest ≡ text = ap (λ (bytes : List ℕ). take at text ++ bytes) rest_is ∙ take-append-drop at text in
-    append_assoc front (xored key 0 (take at text)) (xored key at rest)
-    ∙ ap (λ (bytes : List ℕ). front ++ bytes) (sym (xored_first-append key (take at text) rest at (sym long)) ∙ ap (xored key 0) both)
+pub rest_xored_behind : (key before text rest : List ℕ) (from at place : ℕ) → at ≤ length text → place ≡ from + at → rest ≡ drop at text
+    → (before ++ xored key from (take at text)) ++ xored key place rest ≡ before ++ xored key from text
+rest_xored_behind key before text rest from at place h place_is rest_is =
+    more_xored key before (take at text) rest from place (place_is ∙ ap (λ (m : ℕ). from + m) (sym (length-take-le at text h)))
+    ∙ ap (λ (bytes : List ℕ). before ++ xored key from bytes) (ap (λ (bytes : List ℕ). take at text ++ bytes) rest_is ∙ take-append-drop at text)
 
 -- the first pieces joined are the front of the list
 pub first_pieces_join : (size : ℕ) (bytes : List ℕ) (n : ℕ) → joined (first_pieces size bytes n) ≡ take (n * size) bytes
@@ -169,3 +167,14 @@ front_shows bytes front is = front_shown 32 bytes front is
 -- a vector that was written over whole
 pub written_all : (len : ℕ) (new items : List ℕ) → len ≡ length items → length new ≡ length items → take len (new ++ drop (length new) items) ≡ new
 written_all len new items e f = grind (arith, common_steps)
+
+-- a text that was put behind a front, and xored with it, is there xored from that place on
+pub behind_xored : (key room put buf : List ℕ) (before from at : ℕ) → before + length put ≡ length room → at ≡ from + before
+    → buf ≡ xored key from (put_mid before (length room - before) room put) → take (length buf - before) (drop before buf) ≡ xored key at put
+behind_xored key room put buf before from at long at_is buf_is =
+    let behind : drop before (take before room ++ (put ++ drop (length room - before) (drop before room))) ≡ put = grind (arith, common_steps) in
+    take_all (length buf - before) (drop before buf) (omega (arith, length-drop before buf))
+    ∙ ap (drop before) buf_is
+    ∙ drop-xored key from before _
+    ∙ ap (xored key (from + before)) behind
+    ∙ ap (λ (m : ℕ). xored key m put) (sym at_is)

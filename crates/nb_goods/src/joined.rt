@@ -59,7 +59,7 @@ fn divided(alloc: Global, parts: &[Blob]) -> Result<(Vec<u8>, Vec<u8>), NoMemory
 }
 
 // At most 32 bytes, with zeros behind them where there are fewer.
-fn padded(front: &[u8]) -> [u8; SEAL]
+pub(crate) fn padded(front: &[u8]) -> [u8; SEAL]
     requires { length front.now ≤ SEAL }
     ensures { result ≡ iv_shown front.now }
 {

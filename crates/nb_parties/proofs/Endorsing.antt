@@ -13,7 +13,7 @@ use Rattle.nb_msgs.specs.declared.message.Message.TheVariants as message
 use Rattle.nb_msgs.specs.declared.node.Reason.{Reason}
 use Rattle.nb_msgs.specs.declared.node.To.{To}
 use Rattle.nb_wallet.specs.declared.item.Item.TheVariants as item
-use Rattle.nb_wallet.specs.declared.purchase.Purchase.{Purchase}
+use Rattle.nb_wallet.specs.Purchases.{Purchase}
 use Rattle.nb_escrow.specs.declared.head.Head.{Head}
 use Rattle.nb_consumer.specs.Laws.{RowSo}
 use Rattle.nb_consumer.specs.State.{Buyer}

@@ -72,7 +72,7 @@ use Rattle.nb_asking.specs.Messages.{ticket_request, price_request, goods_reques
 use Rattle.nb_wallet.specs.Stages.{end_of}
 use Rattle.nb_wallet.specs.declared.item.Item.TheVariants as keeps
 use Rattle.nb_wallet.specs.declared.item.SessionTicket.{SessionTicket}
-use Rattle.nb_wallet.specs.declared.purchase.Purchase.{Purchase}
+use Rattle.nb_wallet.specs.Purchases.{Purchase}
 use Rattle.nb_wallet.specs.declared.purchase.Stage.{Stage}
 use Rattle.nb_wallet.specs.declared.purchase.Stage.TheVariants as stage
 use Rattle.nb_stall.specs.Messages.{quote_message, endorsement_for, endorsed_message}

@@ -29,7 +29,7 @@ use Rattle.nb_body.specs.declared.end.End.{End}
 use Rattle.nb_msgs.specs.declared.node.To.TheVariants as to
 use Rattle.nb_msgs.specs.declared.status.StatusText.{StatusText}
 use Rattle.nb_wallet.specs.declared.item.SessionTicket.{SessionTicket}
-use Rattle.nb_wallet.specs.declared.purchase.Purchase.{Purchase}
+use Rattle.nb_wallet.specs.Purchases.{Purchase}
 use Rattle.nb_wallet.specs.declared.purchase.Stage.TheVariants as stage
 use Rattle.nb_escrow.specs.Head.{IsRuling}
 use Rattle.nb_escrow.specs.Settlements.{settlement_in, receipt_in_role, receipt_of_party}

@@ -16,7 +16,7 @@ use Rattle.nb_msgs.specs.declared.message.Message.{Message}
 use Rattle.nb_msgs.specs.declared.message.Message.TheVariants as message
 use Rattle.nb_msgs.specs.declared.node.To.{To}
 use Rattle.nb_wallet.specs.declared.item.Item.TheVariants as item
-use Rattle.nb_wallet.specs.declared.purchase.Purchase.{Purchase}
+use Rattle.nb_wallet.specs.Purchases.{Purchase}
 use Rattle.nb_stall.specs.declared.stall.Stall.{Stall}
 use Rattle.nb_escrow.specs.Head.{IsRuling}
 use Rattle.nb_escrow.specs.Laws.{IsEnrolment, IsFund}

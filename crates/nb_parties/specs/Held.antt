@@ -7,7 +7,7 @@ use Rattle.nb_epo.specs.Spelling.{order_bytes}
 use Rattle.nb_endorse.specs.declared.receipt.Signed.{Signed}
 use Rattle.nb_goods.specs.Collision.{Collision}
 use Rattle.nb_goods.specs.Goods.{sealed_goods}
-use Rattle.nb_wallet.specs.declared.purchase.Purchase.{Purchase}
+use Rattle.nb_wallet.specs.Purchases.{Purchase}
 use Rattle.nb_escrow.specs.declared.head.Head.{Head}
 use Rattle.nb_escrow.specs.declared.settlement.PaymentOutcome.TheVariants.{Paid}
 use Rattle.nb_consumer.specs.Known.{AllSo}

@@ -10,7 +10,7 @@ use Rattle.nb_endorse.specs.declared.receipt.Signed.{Signed}
 use Rattle.nb_escrow.specs.declared.head.Head.{Head}
 use Rattle.nb_escrow.specs.declared.settlement.PaymentOutcome.TheVariants.{Paid}
 use Rattle.nb_escrow.specs.Head.{IsRuling}
-use Rattle.nb_wallet.specs.declared.purchase.Purchase.{Purchase}
+use Rattle.nb_wallet.specs.Purchases.{Purchase}
 use Rattle.nb_consumer.specs.State.{Buyer, purchase_of}
 use Rattle.nb_merchant.specs.Shop.{Shop}
 use Rattle.nb_world.specs.declared.event.Event.{Event}

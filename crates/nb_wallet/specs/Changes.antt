@@ -5,7 +5,7 @@ use Rattle.nb_body.specs.declared.goods_head.GoodsHead.{GoodsHead}
 use Rattle.nb_goods.specs.declared.limits.TheConstants.{MAX_SEALED}
 use Rattle.nb_wallet.specs.declared.purchase.Stage.{Stage}
 use Rattle.nb_wallet.specs.declared.purchase.Stage.TheVariants as stage
-use Rattle.nb_wallet.specs.declared.purchase.Purchase.{Purchase}
+use Rattle.nb_wallet.specs.Purchases.{Purchase}
 use Rattle.nb_wallet.specs.declared.purchase.Change.{Change}
 use Rattle.nb_wallet.specs.declared.purchase.Change.TheVariants as change
 use Rattle.nb_wallet.specs.Spelling.{StartKeepsRules, PassKeepsRules}

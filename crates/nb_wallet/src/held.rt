@@ -1,9 +1,9 @@
-ghost use Rattle.std.specs.Prelude.{◌≡◌, ◌≤◌, ◌+◌, ◌++◌, [], length, IfOk, OnOk, OnErr, codes};
+ghost use Rattle.std.specs.Prelude.{◌≡◌, ◌≤◌, ◌+◌, ◌++◌, [], length, is_some, IfOk, OnOk, OnErr, codes};
 ghost use Rattle.sha2.specs.Sha256.{sha256};
 ghost use Rattle.nb_seal.specs.Seal.{text_in};
 ghost use Rattle.nb_goods.specs.declared.limits.TheConstants.{MAX_SEALED};
 
-use nb_goods::{OpenGoods, open_parts};
+use nb_goods::{OpenGoods, open_parts, opens_parts};
 use nb_units::{Blob, Digest, NoMemory, Secret};
 use sha2::{Digest as _, Sha256};
 use std::alloc::Global;
@@ -95,6 +95,13 @@ impl Held {
         self.parts.clear();
         self.len = 0;
         self.hasher = Sha256::new();
+    }
+
+    /// Whether the bytes are sealed goods under the key. They are read once, and no memory is taken.
+    pub fn opens(&self, key: &Secret) -> bool
+        ensures { result ≡ is_some (text_in key.now (codes "good") self.now) }
+    {
+        opens_parts(key, self.parts.as_slice())
     }
 
     /// The goods that the bytes are sealed from under the key, or `None` where they are no sealed goods under it. Answers [`NoMemory`] where there is

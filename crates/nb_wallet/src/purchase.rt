@@ -1,8 +1,10 @@
-ghost use Rattle.std.specs.Prelude.{◌≡◌, ◌≤◌, ℕ, List, length, IfOk, OnOk, OnErr};
+ghost use Rattle.std.specs.Prelude.{◌≡◌, ◌≤◌, ℕ, List, length, option_copied, IfOk, OnOk, OnErr};
 ghost use Rattle.nb_units.specs.declared.limits.TheConstants.{MAX_HIDDEN};
 ghost use Rattle.nb_wallet.specs.Stages.{end_of};
 ghost use Rattle.nb_wallet.specs.Stages as state;
+ghost use Rattle.nb_wallet.specs.Purchases.{fresh, goods_of, unpaid_stage};
 ghost use Rattle.nb_wallet.specs.Changes.{ChangeFits, StageIsSound, changed_to};
+ghost use Rattle.nb_wallet.specs.declared.purchase.Change.TheVariants as same;
 
 use crate::held::Held;
 use crate::item::SessionTicket;
@@ -12,6 +14,7 @@ use nb_endorse::{PAID_CODE, Receipt};
 use nb_epo::Order;
 use nb_units::{Blob, NoMemory, Price, Secret};
 use std::alloc::Global;
+use std::marker::Model;
 
 /// How far a purchase has come, with what the rest of it needs.
 #[derive(Clone, Copy)]
@@ -55,15 +58,30 @@ pub enum Stage {
     Foul,
 }
 
-/// What a consumer knows of one purchase.
+// How far a purchase has come, as it was told.
+#[derive(Clone, Copy)]
+pub enum Reached {
+    // This far.
+    Told(Stage),
+    // It was paid, and this is the key of the receipt: whether that opens the goods nobody has looked yet.
+    Keyed(Secret),
+}
+
+/// What a consumer knows of one purchase: how it was started, how far it has come, and the sealed goods that came. It is seen as these
+/// (`specs/Purchases.antt`). Whether the key of a receipt opens the goods is looked up where it is asked for.
 #[derive(Drop)]
 pub struct Purchase {
-    /// How it was started.
-    pub start: Start,
-    /// How far it has come.
-    pub stage: Stage,
-    /// The sealed goods that came.
-    pub held: Held,
+    start: Start,
+    reached: Reached,
+    held: Held,
+}
+
+impl Model for Purchase {
+    ghost use Rattle.nb_wallet.specs.Purchases as seen;
+
+    ghost Value = { seen.Purchase };
+
+    ghost view = { λ p. record { start = p.start; stage = seen.stage_reached p.reached p.held; held = p.held } };
 }
 
 /// What becomes of the parts of a purchase.
@@ -78,6 +96,81 @@ pub enum Change {
 }
 
 impl Purchase {
+    /// A purchase that was started so: a ticket is asked for, and nothing came. It takes no memory now.
+    pub fn new(alloc: Global, start: Start) -> Purchase
+        ensures { result ≡ fresh start }
+    {
+        Purchase {
+            start,
+            reached: Reached::Told(Stage::Ticketing),
+            held: Held::new(alloc),
+        }
+    }
+
+    /// How it was started.
+    pub fn start(&self) -> &Start
+        ensures { result.now ≡ self.now.start }
+    {
+        &self.start
+    }
+
+    /// The sealed goods that came.
+    pub fn held(&self) -> &Held
+        ensures { result.now ≡ self.now.held }
+    {
+        &self.held
+    }
+
+    /// How far it has come. Behind [`close`](Purchase::close) with a key the goods are opened for it, each time, and no memory is taken.
+    pub fn stage(&self) -> Stage
+        ensures { result ≡ self.now.stage }
+    {
+        match self.reached {
+            Reached::Told(stage) => stage,
+            Reached::Keyed(key) => {
+                if self.held.opens(&key) {
+                    Stage::Paid { key }
+                } else {
+                    Stage::Foul
+                }
+            }
+        }
+    }
+
+    /// How far it has come, where it was not paid. Nothing is opened for it.
+    pub fn unpaid(&self) -> Option<&Stage>
+        ensures { option_copied result ≡ unpaid_stage self.now.stage }
+    {
+        match &self.reached {
+            Reached::Told(Stage::Paid { .. } | Stage::Foul) | Reached::Keyed(_) => None,
+            Reached::Told(stage) => Some(stage),
+        }
+    }
+
+    /// The goods, where it was paid and the key of its receipt opens them; else `None`. Answers [`NoMemory`] where there is none for the goods.
+    pub fn goods(&self, alloc: Global) -> Result<Option<Blob>, NoMemory>
+        ensures { IfOk result (λ goods. goods ≡ goods_of self.now.stage self.now.held) }
+    {
+        match &self.reached {
+            Reached::Told(Stage::Paid { key }) | Reached::Keyed(key) => self.held.open(alloc, key),
+            Reached::Told(_) => Ok(None),
+        }
+    }
+
+    /// Ends with a receipt. Nothing is opened for it.
+    pub fn close(&mut self, receipt: &Receipt)
+        ensures { self.new ≡ changed_to (state.stage_ended receipt.now self.old.held) same.Same self.old }
+    {
+        self.reached = if receipt.code != PAID_CODE {
+            Reached::Told(Stage::Refused { code: receipt.code })
+        } else {
+            match receipt.key {
+                None => Reached::Told(Stage::Foul),
+                Some(key) => Reached::Keyed(key),
+            }
+        };
+    }
+
     /// Goes on to a stage, and changes the parts, of which there are at most [`MAX_SEALED`](nb_goods::MAX_SEALED) bytes then. Answers [`NoMemory`] where
     /// there is none for a part more, and then all is as before.
     pub fn change(&mut self, stage: Stage, parts: Change) -> Result<(), NoMemory>
@@ -90,7 +183,7 @@ impl Purchase {
             Change::More(part) => self.held.push(part)?,
             Change::Forgotten => self.held.forget(),
         }
-        self.stage = stage;
+        self.reached = Reached::Told(stage);
         Ok(())
     }
 

@@ -14,6 +14,6 @@ pub invariant_of-self-2 : goal.invariant_of-self-2
 invariant_of-self-2 c =
     let k = add_keeps c.self.inside.numbers c.add.new.self c.self.inside.purchases.items c.push_reserved.new.self.items (fresh c.args.start)
     c.self.invariant.numbers c.self.invariant.sound c.in_ok-add.ensures.added
-    (pushed_so c.self.inside.purchases.items c.reserve.new.self.items c.push_reserved.new.self.items c.args.start c.new.result c.in_ok-reserve.ensures.items c.new.ensures c.push_reserved.ensures.items)
+    (pushed_so c.self.inside.purchases.items c.reserve.new.self.items c.push_reserved.new.self.items c.new.result (fresh c.args.start) c.in_ok-reserve.ensures.items c.new.ensures c.push_reserved.ensures.items)
     (c.requires.0, tt) in
     record { numbers = k.0; sound = k.1; firsts = c.self.invariant.firsts }

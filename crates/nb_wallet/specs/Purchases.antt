@@ -1,0 +1,35 @@
+-- What a purchase is seen as, and at what stage it is while nobody asked whether a key opens its goods.
+use Rattle.std.specs.Prelude.{ℕ, List, [], codes, Option, Some, None}
+use Rattle.nb_seal.specs.Seal.{text_in}
+use Rattle.nb_wallet.specs.Stages.{stage_opened}
+use Rattle.nb_wallet.specs.declared.wallet.Start.{Start}
+use Rattle.nb_wallet.specs.declared.purchase.Stage.{Stage}
+use Rattle.nb_wallet.specs.declared.purchase.Stage.TheVariants as stage
+use Rattle.nb_wallet.specs.declared.purchase.Reached.{Reached}
+use Rattle.nb_wallet.specs.declared.purchase.Reached.TheVariants as reached
+
+-- what is known of one purchase: how it was started, how far it has come, and the sealed goods that came
+pub record Purchase : Type 0 where
+  pub start : Start
+  pub stage : Stage
+  pub held : List ℕ
+
+-- a purchase that was just started
+abbrev pub fresh : Start → Purchase
+fresh start = record { start = start; stage = stage.Ticketing; held = [] }
+
+-- the stage of a purchase: it is told, or a key was, and the sealed goods say whether it opens them
+abbrev pub stage_reached : Reached → List ℕ → Stage
+stage_reached (reached.Told stage) held = stage
+stage_reached (reached.Keyed key) held = stage_opened key (text_in key (codes "good") held)
+
+-- the stage of a purchase that was not paid
+abbrev pub unpaid_stage : Stage → Option Stage
+unpaid_stage (stage.Paid key) = None
+unpaid_stage stage.Foul = None
+unpaid_stage other = Some other
+
+-- the goods of a purchase at this stage, with these sealed goods
+abbrev pub goods_of : Stage → List ℕ → Option (List ℕ)
+goods_of (stage.Paid key) held = text_in key (codes "good") held
+goods_of other held = None
