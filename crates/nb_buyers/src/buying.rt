@@ -57,7 +57,7 @@ impl Buying {
     pub(crate) fn knows(&self, transaction: u64) -> bool
         ensures { result ≡ is_some (purchase_of self.now transaction) }
     {
-        self.core.state(transaction).is_some()
+        self.core.knows(transaction)
     }
 
     // Its number, and those of its purchases.

@@ -1,4 +1,4 @@
-ghost use Rattle.std.specs.Prelude.{◌≡◌, ◌<◌, ◌^◌, length, map, IfOk};
+ghost use Rattle.std.specs.Prelude.{◌≡◌, ◌<◌, ◌^◌, length, map, is_some, IfOk};
 ghost use Rattle.nb_msgs.specs.Bodies.{MessageKeepsRules};
 ghost use Rattle.nb_consumer.specs.Deeds.{Answers};
 ghost use Rattle.nb_msgs.specs.Steps.{StepKeepsRules};
@@ -74,6 +74,13 @@ impl Consumer {
         ensures { result.now ≡ map number_of self.now.purchases }
     {
         self.known.numbers()
+    }
+
+    /// Whether there is a purchase of this number. Nothing is opened for it.
+    pub fn knows(&self, transaction: u64) -> bool
+        ensures { result ≡ is_some (purchase_of self.now transaction) }
+    {
+        self.known.purchase_of(transaction).is_some()
     }
 
     /// Starts a purchase: a ticket is asked for. The request and the memo have at most 64 bytes each. A number that is known is ignored
