@@ -6,7 +6,8 @@
 //!
 //! The layouts stand in `specs/Spelling.antt`, each as a function of the value, and in `specs/Reading.antt`, field by field with the place
 //! of each. That they are the two sides of one thing is proved by the functions of [`laws`]: what was spelled is read as that value, and
-//! what was read is spelled as those bytes. Which values fields may have, and how long the records are, stands in `src/limits.rt`.
+//! what was read is spelled as those bytes. Which values fields may have, and how long some
+//! records are, stands in `src/limits.rt`; how long the others are is said by [`laws::lengths`].
 //!
 //! Two types more stand here, since both messages and what a consumer keeps speak of them, and neither of these stands on the other: [`BodyFault`], why
 //! bytes were not read by a reader that takes memory (`specs/Reads.antt`), and [`End`], how a purchase ended.

@@ -1,4 +1,4 @@
-//! The values and the lengths that fields may have, and how long the records are. Each length is a sum of these and of the widths of
+//! The values and the lengths that fields may have, and how long some records are. Each length is a sum of these and of the widths of
 //! fields.
 
 use nb_units::width::{ACCOUNT, DIGEST, EPOID, LENGTH, MONEY, PRODUCT, SEAL, SECRET};

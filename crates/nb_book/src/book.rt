@@ -55,8 +55,8 @@ impl Model for Book {
 #[tactic(auto, using(crate::proofs::Summing::total_fits))]
 impl Book {
     /// An empty book for at most `cap` entries, from 1 to [`MAX_CAP`]. It takes the memory for all of them, and answers
-    /// [`NoMemory`] where there is none. By the key, 16 bytes, its look-ups are spread: who does not know it cannot choose
-    /// numbers and identifiers that make them slow.
+    /// [`NoMemory`] where there is none. By the key, 16 bytes, its look-ups are spread. That who does not know it cannot choose
+    /// numbers and identifiers that make them slow is no claim of the proofs.
     pub fn new(alloc: Global, cap: u32, key: &[u8; 16]) -> Result<Book, NoMemory>
         requires some { 1 ≤ cap }
         requires most { cap ≤ MAX_CAP }

@@ -18,8 +18,9 @@ struct Slot {
     state: KeyState,
 }
 
-/// States of keys that were asked for before: one on each slot, and a number falls on the slot of its remainder. A state is given only
-/// for its own key. Where the slot has the state of another, the one that was asked for is made and takes the slot.
+/// States of keys that were asked for before: one on each slot, and a number falls on the slot of its remainder. [`StateCache::state`]
+/// gives a state only for its own key: where the slot has that of another, the one that was asked for is made and takes the slot.
+/// [`StateCache::kept`] gives whatever is kept for a number.
 #[derive(Drop)]
 pub struct StateCache {
     // What is kept on each slot. None: nothing is.

@@ -109,7 +109,7 @@ impl Receipt {
     }
 }
 
-/// A receipt, and the house's tag over it: the HMAC-SHA-256 (RFC 2104) of "rcpt" and the receipt's bytes.
+/// A receipt, and what should be the house's tag over it: the HMAC-SHA-256 (RFC 2104) of "rcpt" and the receipt's bytes. Reading does not test it.
 #[derive(Clone, Copy, Debug)]
 pub struct Signed {
     pub receipt: Receipt,

@@ -20,7 +20,7 @@ const HIDE_LABEL: [u8; 4] = *b"hide";
 pub struct Hidden {
     /// The account that pays, 4 bytes wide.
     pub acct: AcctId,
-    /// The nonce that the account was enrolled with, 8 bytes wide.
+    /// What should be the nonce that the account was enrolled with, 8 bytes wide. Revealing does not test it.
     pub nonce: u64,
     /// The consumer's own note: at most [`MAX_MEMO`] bytes.
     pub memo: Small,
@@ -219,7 +219,7 @@ impl<'a> HiddenBytes<'a> {
         self.acct
     }
 
-    /// The nonce that the account was enrolled with, 8 bytes wide.
+    /// What should be the nonce that the account was enrolled with, 8 bytes wide. Revealing does not test it.
     pub fn nonce(&self) -> u64
         ensures { result ≡ self.now.nonce }
     {

@@ -32,7 +32,7 @@ pub fn one_hidden()
     ensures { law.OneHidden }
 {}
 
-/// A law: an order has 168 bytes more than its hidden part, and a hidden part 16 more than its memo.
+/// A law: an order has 168 bytes more than its sealed hidden part, and a hidden part, before it is sealed, 16 more than its memo.
 pub fn lengths()
     ensures { law.LengthsAre }
 {}

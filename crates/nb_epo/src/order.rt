@@ -16,7 +16,7 @@ use nb_units::{
 // What the tag of an order is over begins with this.
 const ORDER_LABEL: [u8; 4] = *b"ordr";
 
-/// A consumer's promise to pay for one product.
+/// A consumer's promise to pay for one product. What is said of its digests and of its tag is what they should be: reading does not test it.
 #[derive(Clone, Copy, Debug)]
 pub struct Order {
     /// Who pays, 4 bytes wide.

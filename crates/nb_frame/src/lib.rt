@@ -2,7 +2,7 @@
 //!
 //! [`Frames`] is fed one piece after another and gives out the frames of what it was fed, in order. Behind them it tells that
 //! more is wanted, or the first fault with its place in the stream. It is seen as the bytes since the last feed, how many of them
-//! were given out, and how many were given out in all (`specs/Collected.antt`). That what it gives out are the frames, the rest
+//! were given out, and how many were given out in all (`specs/State.antt`). That what it gives out are the frames, the rest
 //! and the fault of all pieces joined, whatever the pieces were, is proved by the functions of [`laws`].
 //!
 //! All memory is taken by [`Frames::new`]. What waits is moved to the front at most once a feed.

@@ -14,6 +14,8 @@
 //!
 //! Left to others: whose the keeper's key is, whether the consumer who asks is the one of a ticket, the clock, and what becomes of a price that was
 //! quoted.
+//!
+//! Not said: that there is memory for offers.
 #![tactic(auto)]
 
 mod fault;

@@ -13,7 +13,8 @@ use nb_units::{PartyId, Price};
 #[derive(Clone, Copy, Debug)]
 pub struct Quoted {
     pub price: Price,
-    /// The smallest of the asker's groups with an offer of this price, or `None` where it is the shelf's.
+    /// The smallest of the asker's groups with an offer of this price, or `None` where it is the shelf's, also where
+    /// an offer is as low.
     pub group: Option<u32>,
     /// Why no offer for a group counted, or `None` where one did.
     pub denied: Option<Denial>,

@@ -59,8 +59,8 @@ impl Model for FixedIndex {
 
 impl FixedIndex {
     /// An index with no puts and so many slots, from 2 to [`MAX_SLOTS`], and memory for all puts that it may have. Its key, 16 bytes,
-    /// decides on which slot a key falls: who does not know it cannot choose keys that all fall on one. Answers [`NoMemory`] where there
-    /// is none for it.
+    /// decides on which slot a key falls. That who does not know it cannot choose keys that all fall on one is no claim of the proofs.
+    /// Answers [`NoMemory`] where there is none for it.
     pub fn new(alloc: Global, slots: u32, key: &[u8; 16]) -> Result<FixedIndex, NoMemory>
         requires some { 2 ≤ slots }
         requires most { slots ≤ MAX_SLOTS }

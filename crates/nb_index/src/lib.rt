@@ -5,8 +5,8 @@
 //! appends a put, and [`FixedIndex::take_off`] takes the last one off, so that the list is as before it. All memory is taken by
 //! [`FixedIndex::new`]: the other calls take none and cannot fail. A put is taken where there are fewer puts than half the slots.
 //!
-//! A key falls on one slot, by the SHA-256 (FIPS 180-4) of the index's own key and the key. Who does not know the index's key can not
-//! choose keys that all fall on one slot. A slot has the number of the last put that fell on it, and beside each put stands the
+//! A key falls on one slot, by the SHA-256 (FIPS 180-4) of the index's own key and the key. That who does not know the index's key cannot
+//! choose keys that all fall on one slot is no claim of the proofs. A slot has the number of the last put that fell on it, and beside each put stands the
 //! number of the one before it at its slot; `find` goes along these.
 //!
 //! A key can be hashed without its index, by a [`SlotHasher`]. [`FixedIndex::remember`] has the index keep the slot of one key that was hashed so: calls with that key

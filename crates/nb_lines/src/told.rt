@@ -58,12 +58,12 @@ impl Told {
         }
     }
 
-    /// Words, and bytes behind them in hexadecimal; of more than 1,000 their number and their SHA-256 (FIPS 180-4).
+    /// Words, and bytes behind them in hexadecimal; of none the word nothing; of more than 1,000 their number and their SHA-256 (FIPS 180-4).
     pub fn bytes(&mut self, words: &str, bytes: &[u8]) -> &mut Told {
         self.bytes_up_to(words, bytes, SHOWN)
     }
 
-    /// Words, and bytes behind them in hexadecimal; of more than `most` their number and their SHA-256 (FIPS 180-4).
+    /// Words, and bytes behind them in hexadecimal; of none the word nothing; of more than `most` their number and their SHA-256 (FIPS 180-4).
     pub fn bytes_up_to(&mut self, words: &str, bytes: &[u8], most: usize) -> &mut Told {
         if bytes.is_empty() {
             self.text(words).text("nothing")

@@ -10,7 +10,7 @@ use nb_link::Link;
 use nb_port::{ReadOut, WriteOut};
 use std::marker::Model;
 
-/// A link to one address, which dials it anew at the first write of an exchange where the other side ended it before. An exchange is some
+/// A link to one address, which dials it anew at the first write of an exchange where the link is over. An exchange is some
 /// writes, and the reads behind them: it ends by a read alone, so that behind a write that failed a read comes first.
 pub struct DialLink<D: Dialler> {
     dialler: D,

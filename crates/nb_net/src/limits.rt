@@ -3,11 +3,11 @@
 /// How long a link waits, each in milliseconds.
 #[derive(Clone, Copy)]
 pub struct Limits {
-    /// For its first byte.
+    /// From the first read on, for its first byte.
     pub first: u32,
-    /// From the end of a frame on, for the first byte of the next one.
+    /// From the first read behind a frame on, for the first byte of the next one.
     pub between: u32,
-    /// From the first byte of a frame on, for all of it,
+    /// From the first read behind the first bytes of a frame on, for the rest of it,
     pub frame: u32,
     /// and so long more for each [`SPAN`] of bytes that its body has.
     pub more: u32,

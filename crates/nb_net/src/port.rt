@@ -15,7 +15,7 @@ use std::net::TcpListener;
 /// How often one call of a port looks for a connection.
 pub const MAX_TRIES: u32 = u32::MAX;
 
-/// A port over a listener, which gives so many links as it was made with. Where none is left its listener is closed: it is closed
+/// A port over a listener, which gives at most so many links as it was made with. Where none is left its listener is closed: it is closed
 /// before the last one is given.
 pub struct TcpPort<A: Listener> {
     listener: A,

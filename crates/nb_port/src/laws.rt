@@ -18,7 +18,7 @@ pub fn torn_within()
     ensures { TornWithin }
 {}
 
-/// A call in which nothing is written changes nothing of what a stop leaves, neither within it nor after it.
+/// A read, and a sync that failed, changes nothing of what a stop leaves, neither within it nor after it.
 pub fn pauses_change_nothing()
     ensures { PausesChangeNothing }
 {}
@@ -28,8 +28,8 @@ pub fn filled_is_allowed()
     ensures { FilledIsAllowed }
 {}
 
-/// Of the images that are computed, that with the old bytes is the content at the last sync that was done, and that with the
-/// new ones is the content where no write failed.
+/// Of the images that are computed, that with the old bytes is the content at the last sync that was done, or at the start, and
+/// that with the new ones is the content where no write failed.
 pub fn old_and_new()
     ensures old { OldIsKept }
     ensures new { NewIsContent }

@@ -5,8 +5,8 @@
 //! others, and what is set up then, stands in `specs/Settings.antt`; what a script says, or its first bad line, in `specs/Reads.antt`: whether a line is bad
 //! is said by the lines before it, and by nothing that happens. That no text says two things is proved by a function of [`laws`].
 //!
-//! A party is enrolled, and an account funded, exactly where the entry that does so may come next in the house's list (`NextUnder` of `nb_book`) and there
-//! is room for it.
+//! A party is enrolled, and an account funded, exactly where nothing happens before, but that the clock is set, the entry that does so may come next in the
+//! house's list (`NextUnder` of `nb_book`), and there is room for it.
 //!
 //! Left to others: what happens in the world that is set up, and how long a script is at most ([`MAX_SCRIPT`] is what its readers go by).
 //!

@@ -139,7 +139,8 @@ impl<F: PositionalFile + Drop> Disk for FileDisk<F> {
     fn write(&mut self, place: u64, piece: &[u8]) -> DiskOut
         requires small { place + length piece.now < 2 ^ 63 }
         ensures told { result ≡ outs.Failed → Rose self.old.faults self.new.faults }
-        // Exactly the piece stands at its place, and nothing else changed; one that failed changed nothing outside its range.
+        // At a place within the content of a prepared file, or at its end, exactly the piece stands there, and nothing else changed; one that failed
+        // changed nothing outside its range. Of a file that this call prepares the same is said behind some content, that which preparing left.
         ensures bytes { WritesFrom F.content self.old self.new place piece.now result }
         // A prepared file stays prepared.
         ensures kept { self.old.state ≡ FileState.Prepared → self.new.state ≡ FileState.Prepared }

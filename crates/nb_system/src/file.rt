@@ -48,14 +48,14 @@ pub trait PositionalFile {
     /// The folder keeps the file's name.
     ghost named: { Self → Type 0 };
 
-    /// No file has a byte behind place 2^63 - 1.
+    /// No file has a byte at place 2^63 - 1 or behind it.
     ghost fits: { (file : Self) (bytes : List ℕ) → content file ≡ Some bytes → length bytes < 2 ^ 63 };
 
     /// Reads bytes from `place` on to the front of `buf`, not always as many as there are.
     fn read_at(&mut self, place: u64, buf: &mut [u8]) -> FileRead
         requires faithful { faithful self.old }
         requires named { named self.old }
-        // The end of the piece is below 2^63.
+        // The place is below 2^63.
         requires small { place < 2 ^ 63 }
         ensures gives { FileReadGives (content self.old) place (length buf.old) buf.new result }
         ensures content { content self.new ≡ content self.old }
@@ -80,7 +80,7 @@ pub trait PositionalFile {
         // A name that the folder keeps is kept.
         ensures named { result ≡ outs.Done → named self.old → named self.new };
 
-    /// Drops the pages that are kept in memory, so that what is read from then on is what the device has.
+    /// Drops the pages that are kept in memory: once done, of a synced file, what is read from then on is what the device has.
     fn drop_pages(&mut self) -> DiskOut
         ensures durable { result ≡ outs.Done → synced self.old → faithful self.new × (durable self.new ≡ content self.new) };
 

@@ -19,7 +19,7 @@ pub struct TicketAsk {
     pub merchant: PartyId,
     /// The consumer's own number for what it asks, 8 bytes wide. The grant shows it again.
     pub nonce: u64,
-    /// The HMAC-SHA-256 (RFC 2104) of "tick" and all bytes before the tag, under the consumer's key.
+    /// What should be the HMAC-SHA-256 (RFC 2104) of "tick" and all bytes before the tag, under the consumer's key. Reading does not test it.
     pub tag: Tag,
 }
 

@@ -1,7 +1,7 @@
 use crate::PartyId;
 use crate::number::{u32_of, u64_of};
 
-/// The identifier of an order, 16 bytes wide. It keeps a merchant from presenting one order twice.
+/// The identifier of an order, 16 bytes wide. An order is paid or refused at most once under one.
 #[derive(Clone, Copy, PartialEq, Eq, Debug)]
 pub struct Epoid {
     /// The merchant of the order, 4 bytes wide.

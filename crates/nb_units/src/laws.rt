@@ -58,7 +58,8 @@ pub fn epoid_spells_back()
     ensures { law.EpoidSpellsBack }
 {}
 
-/// A law: the limits in numbers, the least and the greatest code of a reason, and the versions with the highest rate.
+/// A law: the most bytes of a memo, a hidden part, an order, a small and a buffer, the least and the greatest code of a reason, and the versions with
+/// the highest rate.
 pub fn limits()
     ensures limits { law.FieldLimitsAre }
     ensures reasons { law.ReasonsAre }

@@ -10,8 +10,8 @@
 //! a field is read exactly where its spelling stands, when each fault comes, and that a stream of bytes has one list of
 //! frames, is proved by the functions of [`laws`] and [`frames`].
 //!
-//! How wide fields are stands in [`width`]; how long a memo is at most is [`MAX_MEMO`], and every other limit is a sum of it and
-//! of widths. [`is_reason`] tests the code of a reason for which an order is refused.
+//! How wide fields are stands in [`width`]; how long a memo is at most is [`MAX_MEMO`], and how long a hidden part, an order, a [`Small`] and
+//! a [`Buffer`] are at most are sums of it and of widths. [`is_reason`] tests the code of a reason for which an order is refused.
 //!
 //! Left to others: in which order fields make an order, an entry or a message, which values each may have, and the reading of
 //! frames from a stream that comes in pieces.

@@ -12,8 +12,8 @@ pub fn sent_in_parts()
     ensures { law.SentInParts }
 {}
 
-/// A law: the frames received of a link that tells its bytes are the first of these, whenever one looks: what waits follows them, and then what is
-/// left of the link.
+/// A law: the frames received, from its first byte on, of a link that tells its bytes to the end are the first of these, whenever one looks: what waits
+/// follows them, and then what is left of the link.
 pub fn received_first()
     ensures { law.ReceivedFirst }
 {}

@@ -8,8 +8,8 @@
 //! What was received is seen as the frames (`specs/Received.antt`), and what was sent as the bytes (`specs/Sent.antt`), two records apart from
 //! each other: neither speaks of the other, so that reads and writes may come in any order. Of each a law says that one part behind another is
 //! one ([`laws::received_in_parts`], [`laws::sent_in_parts`]), and [`laws::received_first`], [`laws::received_all`],
-//! [`laws::received_up_to_a_fault`] that what was received of a link are the first frames of its bytes, and up to its end or a fault all of them,
-//! however they came.
+//! [`laws::received_up_to_a_fault`] that what was received of a link from its first byte on, where it tells its bytes to the end, are the first frames of
+//! these, and up to its end or a fault all of them, however they came.
 //!
 //! Left to others: which frame is wanted of which link, what a frame asks for, and who closes the link.
 //!
