@@ -47,7 +47,7 @@ pub fn house_held_by_nobody()
     ensures { law.HouseHeldByNobody }
 {}
 
-/// At a rate of at most [`MAX_RATE`](nb_units::MAX_RATE) a fee is at most its price, and what it leaves of the price is the rest.
+/// At a rate of at most [`MAX_RATE`](crate::MAX_RATE) a fee is at most its price, and what it leaves of the price is the rest.
 pub fn fee_within_price()
     ensures most { law.FeeWithinPrice }
     ensures rest { law.RestAndFeeArePrice }

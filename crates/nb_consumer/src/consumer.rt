@@ -76,7 +76,7 @@ impl Consumer {
         self.known.numbers()
     }
 
-    /// Whether there is a purchase of this number. Nothing is opened for it.
+    /// Whether there is a purchase of this number.
     pub fn knows(&self, transaction: u64) -> bool
         ensures { result ≡ is_some (purchase_of self.now transaction) }
     {
@@ -123,7 +123,7 @@ impl Consumer {
         self.known.answer(deed)
     }
 
-    /// How far the purchase of this number has come, or `None` where there is none.
+    /// How far the purchase of this number has come, or `None` where there is none. Behind a restart the goods of one that was paid are read for it each time.
     pub fn state(&self, transaction: u64) -> Option<Phase>
         ensures { result ≡ phase_in (purchase_of self.now transaction) }
     {

@@ -175,7 +175,7 @@ impl Knowledge {
         }
     }
 
-    // Whether there is a purchase of this number.
+    // Whether there is no purchase of this number.
     pub(crate) fn is_new(&self, transaction: u64) -> bool
         ensures { result ≡ is_none (state.place_of self.now.purchases transaction) }
     {
@@ -314,7 +314,7 @@ impl Knowledge {
         )
     }
 
-    // A receipt came, with which nothing is opened.
+    // A receipt is read again.
     fn close(&mut self, transaction: u64, receipt: &Signed)
         ensures { self.new ≡ state.remembered self.old (items.Ended transaction receipt.now) }
     {

@@ -11,7 +11,7 @@ pub enum Phase {
     Ordered,
     /// It was paid, and the goods have so many bytes, 8 bytes wide.
     Paid { len: u64 },
-    /// It was refused, for the reason that this code, one byte wide, has in `nb_endorse`.
+    /// It was refused, for the reason that this code, one byte wide, has in `nb_book`.
     Refused { code: u8 },
     /// It was paid, and the key of the receipt does not open the goods.
     Foul,

@@ -55,7 +55,7 @@ impl From<BodyFault> for RecallFault {
     }
 }
 
-// Whether a part passes the tests of its row, and is not the last.
+// Whether a part passes the tests of its row but that of its number, and is not the last.
 fn part_follows(purchase: &Purchase, head: &GoodsHead, part: &[u8], wanting: &Wanting) -> bool
     ensures follows { result ≡ again.part_follows purchase.now head.now part.now wanting.now }
     ensures within { IsTrue result → (length purchase.now.held + length part.now ≤ MAX_SEALED) × (head.now.total ≤ MAX_SEALED) }

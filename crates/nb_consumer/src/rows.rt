@@ -50,7 +50,7 @@ pub(crate) fn field(number: u8, test: bool) -> Result<(), Reason>
 pub(crate) fn is_ticketing(purchase: &Purchase) -> bool
     ensures { result ≡ table.is_ticketing purchase.now.stage }
 {
-    matches!(purchase.unpaid(), Some(Stage::Ticketing))
+    matches!(purchase.stage_unless_paid(), Some(Stage::Ticketing))
 }
 
 // The ticket of a purchase that a price was asked for.
@@ -59,7 +59,7 @@ pub(crate) fn asked(purchase: &Purchase) -> Result<SessionTicket, Reason>
     ensures pass { result ≡ tests.found reasons.State (table.pass_of_asked purchase.now.stage) }
     ensures sound { IfOk result PassKeepsRules }
 {
-    match purchase.unpaid() {
+    match purchase.stage_unless_paid() {
         Some(Stage::Asked { pass }) => Ok(*pass),
         _ => Err(Reason::State),
     }
@@ -78,7 +78,7 @@ pub(crate) fn wanted_as(purchase: &Purchase) -> Result<Wanting, Reason>
     ensures wanting { result ≡ tests.found reasons.State (table.wanting_in purchase.now.stage) }
     ensures sound { IfOk result (λ w. PassKeepsRules w.pass × HeadIsSound w.head) }
 {
-    match purchase.unpaid() {
+    match purchase.stage_unless_paid() {
         Some(Stage::Wanted { pass, price, head }) => Ok(Wanting {
             pass: *pass,
             price: *price,
@@ -101,7 +101,7 @@ pub(crate) fn ordered_as(purchase: &Purchase) -> Result<Owing, Reason>
     ensures owing { result ≡ tests.found reasons.State (table.owing_in purchase.now.stage) }
     ensures sound { IfOk result (λ o. PassKeepsRules o.pass × (length o.order.hidden ≤ MAX_HIDDEN)) }
 {
-    match purchase.unpaid() {
+    match purchase.stage_unless_paid() {
         Some(Stage::Ordered { pass, order, least }) => Ok(Owing {
             pass: *pass,
             order: *order,
@@ -493,7 +493,7 @@ impl Knowledge {
         self.say_again(purchase)
     }
 
-    // The last message of a purchase.
+    // The last message of a purchase; of an order the query of its status.
     fn say_again(&self, purchase: &Purchase) -> Result<Deed, Halt>
         requires { Sound purchase.now }
         ensures row { Gives result (table.unheard self.now.wallet purchase.now purchase.now.stage) }
@@ -501,7 +501,7 @@ impl Knowledge {
     {
         let start = purchase.start();
         let seller = To::Merchant(start.merchant);
-        match purchase.unpaid() {
+        match purchase.stage_unless_paid() {
             Some(Stage::Ticketing) => Ok(Deed::Sends {
                 to: To::Server,
                 message: ticket_request(self.wallet(), start),

@@ -14,8 +14,8 @@
 //! spelled is read as that value, and what was read is spelled as those bytes. Writers append the seal of exactly that
 //! spelling and keep the vector's capacity. Readers give what is sealed, or tell that the bytes are the seal of nothing,
 //! or the place of the first field that fails: `specs/Sealed.antt`. What a refusal that shows numbers or bytes is stands in
-//! `specs/Refusals.antt`, and [`laws::limits`] has the lengths of what is sealed, the labels and the codes of receipts. Where the code, the identifier and the key of a receipt stand
-//! in its bytes is proved by the functions of [`places`].
+//! `specs/Refusals.antt`, and [`laws::limits`] has the lengths of what is sealed, the labels and the codes of receipts. Where the code,
+//! the identifier and the key of a receipt stand in its bytes is proved by the functions of [`places`].
 //!
 //! Left to others: what the order's bytes say and whether it is paid, which code a refused order gets and what its receipt
 //! shows to whom, whose keys these are, which refusal a request gets, and how a reply is spelled in bytes. No memory is

@@ -12,8 +12,9 @@
 //!
 //! Left to others: which goods these are, what they cost, whose keys these are, and how parts travel.
 //!
-//! Not said: that there is no collision and that no two goods get one key, since that SHA-256 and HMAC are hard to find two texts for is no claim
-//! of the proofs; and how much memory and time a call takes: [`parts`], [`opens`] and [`opens_parts`] are given no allocator, and `bench/run` measures the rest.
+//! Not said: that there is memory for goods or a part; that there is no collision and that no two goods get one key, since that SHA-256 and HMAC
+//! are hard to find two texts for is no claim of the proofs; and how much memory and time a call takes: [`parts`], [`opens`] and [`opens_parts`] are
+//! given no allocator, and `bench/run` measures the rest.
 #![tactic(auto)]
 
 mod divided;

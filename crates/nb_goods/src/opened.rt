@@ -49,7 +49,7 @@ fn iv_behind(key: &Secret, stream: &Secret, text: &[u8]) -> [u8; SEAL]
 /// [`MAX_SEALED`](crate::MAX_SEALED). They are read once, chunk by chunk, and no memory is taken.
 pub fn opens_parts(key: &Secret, parts: &[Blob]) -> bool
     requires { length (joined parts.now) ≤ MAX_SEALED }
-    // True: the bytes are some goods, sealed under the key.
+    // True: the parts joined are some goods, sealed under the key.
     ensures opened { IsTrue result → (goods : List ℕ) × OpensTo key.now (joined parts.now) goods }
     ensures refused { result ≡ false → OpensToNothing key.now (joined parts.now) }
 {
@@ -108,8 +108,8 @@ fn push_text(mac: &mut Mac, stream: &Secret, from: usize, text: &[u8])
     push_chunk(mac, stream, from + whole * PUSHED, rest);
 }
 
-// Pushes a text with which a chunk is not full, combined with the keystream from a place on. The keystream is told from a multiple of 4 on, so that up to 3 bytes stand
-// before the text.
+// Pushes a text of at most [`PUSHED`] bytes, combined with the keystream from a place on. The keystream is taken from a multiple of 4 on, so that up to 3 bytes
+// stand before the text.
 fn push_chunk(mac: &mut Mac, stream: &Secret, from: usize, text: &[u8])
     requires short { length text.now ≤ PUSHED }
     requires near { from ≤ MAX_SEALED }

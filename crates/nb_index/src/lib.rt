@@ -6,8 +6,8 @@
 //! [`FixedIndex::new`]: the other calls take none and cannot fail. A put is taken where there are fewer puts than half the slots.
 //!
 //! A key falls on one slot, by the SHA-256 (FIPS 180-4) of the index's own key and the key. That who does not know the index's key cannot
-//! choose keys that all fall on one slot is no claim of the proofs. A slot has the number of the last put that fell on it, and beside each put stands the
-//! number of the one before it at its slot; `find` goes along these.
+//! choose keys that all fall on one slot is no claim of the proofs. A slot has the number of the last put that fell on it, and
+//! beside each put stands the number of the one before it at its slot; `find` goes along these.
 //!
 //! A key can be hashed without its index, by a [`SlotHasher`]. [`FixedIndex::remember`] has the index keep the slot of one key that was hashed so: calls with that key
 //! make no hash until another is kept.

@@ -13,7 +13,7 @@ use Rattle.nb_judge.specs.Ruling.{Rules, RulesByCode, Shows, differs}
 abbrev pub OneRuling : Type 0
 OneRuling = (c : Case) (a b : Ruling) → Rules c a → Rules c b → a ≡ b
 
--- Where the consumer made the order, and a receipt of it is shown, the receipt rules: no other paper can be brought in its place
+-- Where the order has its tag under the consumer's key, and the evidence shows a receipt of it, that receipt rules
 abbrev pub ShownReceiptRules : Type 0
 ShownReceiptRules = (c : Case) (r : Receipt) (ruling : Ruling) → c.order.tag ≡ order_tag c.consumer c.order → Shows c.consumer c.house c.receipt r → differs c r ≡ None
     → Rules c ruling → RulesByCode c r ruling

@@ -45,13 +45,13 @@ RulesByFields c r ruling =
     ((field : ℕ) × (differs c r ≡ Some field) × (ruling ≡ OtherOrder field))
     ⊎ ((differs c r ≡ None) × RulesByCode c r ruling)
 
--- whether the house made a receipt for the consumer
+-- whether the receipt opens under the consumer's key to one with the house's tag
 abbrev pub RulesByReceipt : Case → Ruling → Type 0
 RulesByReceipt c ruling =
     (((r : Receipt) → ¬ Shows c.consumer c.house c.receipt r) × (ruling ≡ NoReceipt (iv_shown c.receipt)))
     ⊎ ((r : Receipt) × Shows c.consumer c.house c.receipt r × RulesByFields c r ruling)
 
--- whether the consumer made the order
+-- whether the order has its tag under the consumer's key
 abbrev pub Rules : Case → Ruling → Type 0
 Rules c ruling =
     ((c.order.tag ≢ order_tag c.consumer c.order) × (ruling ≡ NoOrder c.order.tag))

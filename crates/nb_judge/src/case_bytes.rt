@@ -73,7 +73,7 @@ impl<'a> CaseBytes<'a> {
         }
     }
 
-    // The house made the receipt, for this consumer.
+    // The receipt opens under the consumer's key to one with the house's tag.
     fn rule_by_receipt(&self) -> Ruling
         requires receipt { length self.now.receipt ≤ RECEIPT_BYTES }
         requires sealed { length self.now.sealed ≤ MAX_SEALED }

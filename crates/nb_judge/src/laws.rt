@@ -7,7 +7,8 @@ pub fn one_ruling()
     ensures { law.OneRuling }
 {}
 
-/// A law: where the consumer made the order, and its evidence shows a receipt of it, that receipt rules. The ruling is then none of the first three.
+/// A law: where the order has its tag under the consumer's key, and the evidence shows a receipt of it, that receipt rules. The ruling is then none of
+/// the first three.
 pub fn shown_receipt_rules()
     ensures { law.ShownReceiptRules }
 {}

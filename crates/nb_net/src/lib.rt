@@ -14,9 +14,10 @@
 //! bytes. A port closes its listener before it gives its last link. It gives no link where a look for a connection gave an error of
 //! that connection, or it could not be set up: it counts that and waits for the next one, at most [`MAX_TRIES`] times in one call.
 //!
-//! A link that dials does so where it is made, and at the first write of an exchange over a link that is over. Each call of the system that fails
-//! raises the count of the link's reads, of its writes, or of the port; a write that takes nothing is one that failed, and so is one whose
-//! dial failed. A count stays at 2^64 - 1.
+//! A link that dials does so where it is made, and at the first write of an exchange over a link that is over. A read, a write or an accept of
+//! the system that fails or is interrupted raises the count of the link's reads, of its writes, or of the port; a write that takes nothing is
+//! one that failed, and so is one whose dial failed. A count stays at 2^64 - 1. No count rises where a shutdown, a close or a look whether the
+//! other side ended the link fails, or where a link that dials could not be made.
 //!
 //! Left to others: to bind.
 //!

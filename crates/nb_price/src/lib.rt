@@ -11,8 +11,8 @@
 //!
 //! Left to others: how goods are sealed, who may buy them, and what is paid.
 //!
-//! Not said: that there is memory for goods; how much memory and time a call takes: goods are copied once, into a vector each, and an ordered map finds the place of a number; and that
-//! two readings of a whole shelf agree, which follows item by item from the law on one item.
+//! Not said: that there is memory for goods; how much memory and time a call takes: goods are copied once, into a vector each, and an ordered map finds the
+//! place of a number; and that two readings of a whole shelf agree, which follows item by item from the law on one item.
 #![tactic(auto)]
 
 mod catalogue;

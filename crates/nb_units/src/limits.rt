@@ -1,5 +1,5 @@
-//! How many entries a house may hold, how long its head is, which versions and rates its journal may have, and the most bytes of what parties write. Those of a
-//! hidden part and of an order follow from [`MAX_MEMO`] and the widths of the fields.
+//! How many entries a house may hold, how long its head is, which versions and rates its journal may have, and the most bytes of
+//! what parties write. Those of a hidden part and of an order follow from [`MAX_MEMO`] and the widths of the fields.
 
 use crate::width::{ACCOUNT, DIGEST, EPOID, LENGTH, MONEY, NONCE, PARTY, PRODUCT, SEAL, TAG};
 

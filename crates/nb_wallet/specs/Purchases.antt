@@ -1,4 +1,4 @@
--- What a purchase is seen as, and at what stage it is while nobody asked whether a key opens its goods.
+-- What a purchase is seen as, and what stage a key that was kept gives.
 use Rattle.std.specs.Prelude.{ℕ, List, [], codes, Option, Some, None}
 use Rattle.nb_seal.specs.Seal.{text_in}
 use Rattle.nb_wallet.specs.Stages.{stage_opened}
@@ -18,16 +18,16 @@ pub record Purchase : Type 0 where
 abbrev pub fresh : Start → Purchase
 fresh start = record { start = start; stage = stage.Ticketing; held = [] }
 
--- the stage of a purchase: it is told, or a key was, and the sealed goods say whether it opens them
+-- the stage of a purchase: it is there, or it was paid, and the sealed goods say whether the key opens them
 abbrev pub stage_reached : Reached → List ℕ → Stage
-stage_reached (reached.Told stage) held = stage
-stage_reached (reached.Keyed key) held = stage_opened key (text_in key (codes "good") held)
+stage_reached (reached.At stage) held = stage
+stage_reached (reached.PaidWith key) held = stage_opened key (text_in key (codes "good") held)
 
--- the stage of a purchase that was not paid
-abbrev pub unpaid_stage : Stage → Option Stage
-unpaid_stage (stage.Paid key) = None
-unpaid_stage stage.Foul = None
-unpaid_stage other = Some other
+-- a stage, unless it is that of a purchase that was paid, whether the key of its receipt opens the goods or not
+abbrev pub unless_paid : Stage → Option Stage
+unless_paid (stage.Paid key) = None
+unless_paid stage.Foul = None
+unless_paid other = Some other
 
 -- the goods of a purchase at this stage, with these sealed goods
 abbrev pub goods_of : Stage → List ℕ → Option (List ℕ)

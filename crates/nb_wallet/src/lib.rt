@@ -7,7 +7,7 @@
 //!
 //! A [`Purchase`] is how it was started, how far it has come ([`Stage`]), and the sealed goods that came ([`Held`]). Behind a receipt, a quote, a part,
 //! an order or a status it is at the stage that `specs/Stages.antt` says. Where it is closed with the receipt of a payment, whether the key opens the
-//! goods is looked up as it is asked for. Sealed goods come in parts. One copy of them is held, with the state of their digest, so that no part is hashed
+//! goods is looked up each time. Sealed goods come in parts. One copy of them is held, with the state of their digest, so that no part is hashed
 //! twice.
 //!
 //! What a price is asked for ([`price_text`], its digest [`request_digest`]), and the order of a purchase ([`order_for`]), stand in `specs/Orders.antt`. An
@@ -16,7 +16,7 @@
 //! Left to others: which purchases there are, what is sent and how what comes is opened (`nb_asking`), and what is done at a message.
 //!
 //! Not said: that there is memory for an item, an order or a part; that parts are copied once, held once and hashed once: the clauses see the bytes joined,
-//! and the state of the digest is held beside the parts; when goods are opened.
+//! and the state of the digest is held beside the parts; how often goods are opened.
 #![tactic(auto)]
 
 mod head;

@@ -1,10 +1,10 @@
-ghost use Rattle.std.specs.Prelude.{◌≡◌, ◌≤◌, ℕ, List, length, option_copied, IfOk, OnOk, OnErr};
+ghost use Rattle.std.specs.Prelude.{◌≡◌, ◌≤◌, ℕ, List, length, option_copied, None, IfOk, OnOk, OnErr};
 ghost use Rattle.nb_units.specs.declared.limits.TheConstants.{MAX_HIDDEN};
 ghost use Rattle.nb_wallet.specs.Stages.{end_of};
 ghost use Rattle.nb_wallet.specs.Stages as state;
-ghost use Rattle.nb_wallet.specs.Purchases.{fresh, goods_of, unpaid_stage};
+ghost use Rattle.nb_wallet.specs.Purchases.{fresh, goods_of, unless_paid};
 ghost use Rattle.nb_wallet.specs.Changes.{ChangeFits, StageIsSound, changed_to};
-ghost use Rattle.nb_wallet.specs.declared.purchase.Change.TheVariants as same;
+ghost use Rattle.nb_wallet.specs.declared.purchase.Change.TheVariants as kinds;
 
 use crate::held::Held;
 use crate::item::SessionTicket;
@@ -58,17 +58,18 @@ pub enum Stage {
     Foul,
 }
 
-// How far a purchase has come, as it was told.
+// How far a purchase has come.
 #[derive(Clone, Copy)]
 pub enum Reached {
-    // This far.
-    Told(Stage),
-    // It was paid, and this is the key of the receipt: whether that opens the goods nobody has looked yet.
-    Keyed(Secret),
+    // To this stage.
+    At(Stage),
+    // It was paid, and this is the key of the receipt: whether that opens the goods is looked up each time.
+    PaidWith(Secret),
 }
 
 /// What a consumer knows of one purchase: how it was started, how far it has come, and the sealed goods that came. It is seen as these
-/// (`specs/Purchases.antt`). Whether the key of a receipt opens the goods is looked up where it is asked for.
+/// (`specs/Purchases.antt`). One that ends with what [`end`](Purchase::end) tells stays so; one that is [`closed`](Purchase::close) keeps the key of its
+/// receipt, and whether that opens the goods is looked up each time.
 #[derive(Drop)]
 pub struct Purchase {
     start: Start,
@@ -102,7 +103,7 @@ impl Purchase {
     {
         Purchase {
             start,
-            reached: Reached::Told(Stage::Ticketing),
+            reached: Reached::At(Stage::Ticketing),
             held: Held::new(alloc),
         }
     }
@@ -121,13 +122,13 @@ impl Purchase {
         &self.held
     }
 
-    /// How far it has come. Behind [`close`](Purchase::close) with a key the goods are opened for it, each time, and no memory is taken.
+    /// How far it has come. It takes no memory.
     pub fn stage(&self) -> Stage
         ensures { result ≡ self.now.stage }
     {
         match self.reached {
-            Reached::Told(stage) => stage,
-            Reached::Keyed(key) => {
+            Reached::At(stage) => stage,
+            Reached::PaidWith(key) => {
                 if self.held.opens(&key) {
                     Stage::Paid { key }
                 } else {
@@ -137,36 +138,40 @@ impl Purchase {
         }
     }
 
-    /// How far it has come, where it was not paid. Nothing is opened for it.
-    pub fn unpaid(&self) -> Option<&Stage>
-        ensures { option_copied result ≡ unpaid_stage self.now.stage }
+    /// How far it has come, unless it was paid: whether the key opens the goods or not, it answers `None` then.
+    pub fn stage_unless_paid(&self) -> Option<&Stage>
+        ensures { option_copied result ≡ unless_paid self.now.stage }
     {
         match &self.reached {
-            Reached::Told(Stage::Paid { .. } | Stage::Foul) | Reached::Keyed(_) => None,
-            Reached::Told(stage) => Some(stage),
+            Reached::At(Stage::Paid { .. } | Stage::Foul) | Reached::PaidWith(_) => None,
+            Reached::At(stage) => Some(stage),
         }
     }
 
-    /// The goods, where it was paid and the key of its receipt opens them; else `None`. Answers [`NoMemory`] where there is none for the goods.
+    /// The goods, where it was paid and the key of its receipt opens them; else `None`. Answers [`NoMemory`] where it was paid, and there is none for the
+    /// goods.
     pub fn goods(&self, alloc: Global) -> Result<Option<Blob>, NoMemory>
-        ensures { IfOk result (λ goods. goods ≡ goods_of self.now.stage self.now.held) }
+        // The goods that the key opens.
+        ensures goods { IfOk result (λ goods. goods ≡ goods_of self.now.stage self.now.held) }
+        // Memory is wanted for a purchase that was paid alone.
+        ensures paid { OnErr result (unless_paid self.now.stage ≡ None) }
     {
         match &self.reached {
-            Reached::Told(Stage::Paid { key }) | Reached::Keyed(key) => self.held.open(alloc, key),
-            Reached::Told(_) => Ok(None),
+            Reached::At(Stage::Paid { key }) | Reached::PaidWith(key) => self.held.open(alloc, key),
+            Reached::At(_) => Ok(None),
         }
     }
 
-    /// Ends with a receipt. Nothing is opened for it.
+    /// Ends with a receipt. It takes no memory.
     pub fn close(&mut self, receipt: &Receipt)
-        ensures { self.new ≡ changed_to (state.stage_ended receipt.now self.old.held) same.Same self.old }
+        ensures { self.new ≡ changed_to (state.stage_ended receipt.now self.old.held) kinds.Same self.old }
     {
         self.reached = if receipt.code != PAID_CODE {
-            Reached::Told(Stage::Refused { code: receipt.code })
+            Reached::At(Stage::Refused { code: receipt.code })
         } else {
             match receipt.key {
-                None => Reached::Told(Stage::Foul),
-                Some(key) => Reached::Keyed(key),
+                None => Reached::At(Stage::Foul),
+                Some(key) => Reached::PaidWith(key),
             }
         };
     }
@@ -183,7 +188,7 @@ impl Purchase {
             Change::More(part) => self.held.push(part)?,
             Change::Forgotten => self.held.forget(),
         }
-        self.reached = Reached::Told(stage);
+        self.reached = Reached::At(stage);
         Ok(())
     }
 
